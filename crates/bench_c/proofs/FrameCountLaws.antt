@@ -5,8 +5,8 @@ use Rattle.std.proofs.Math.Seq.{take-add}
 use Rattle.std.proofs.lemmas.List.{take-take, length-take, length-take-le, length-drop}
 use Rattle.std.proofs.lemmas.List.Sums.{sum_by-append}
 use Rattle.hdlc_frames.specs.Framing.{Verdict, frames_of, between_flags, all_but_last, cut}
-use Rattle.hdlc_frames.specs.Deframing.{Kept, feeding_of, kept_of, AddsToFrames}
-use Rattle.hdlc_frames.specs.Laws.{GoesOn}
+use Rattle.hdlc_frames.specs.Deframing.{KeptDeframer, feeding_of, kept_of, AddsToFrames}
+use Rattle.hdlc_frames.specs.Laws.{StreamGoesOn}
 use Rattle.bench_c.specs.FrameCounts.{is_frame, frame_count, found_count}
 
 count_append : (us vs : List Verdict) → frame_count (us ++ vs) ≡ frame_count us + frame_count vs
@@ -24,15 +24,15 @@ used_part stream at end used h =
     let fewer : used ≤ end - at = omega (arith, length-take (end - at) (drop at stream)) in
     ap (λ xs. take at stream ++ xs) (take-take used (end - at) (drop at stream) fewer) ∙ sym (take-add at used stream)
 
-pub kept_on : GoesOn → (stream : List ℕ) (at end used : ℕ) (k new : Kept) → k ≡ kept_of (take at stream) → used ≡ (feeding_of k (take (end - at) (drop at stream))).used → used ≤ length (take (end - at) (drop at stream))
+pub kept_on : StreamGoesOn → (stream : List ℕ) (at end used : ℕ) (k new : KeptDeframer) → k ≡ kept_of (take at stream) → used ≡ (feeding_of k (take (end - at) (drop at stream))).used → used ≤ length (take (end - at) (drop at stream))
     → new ≡ (feeding_of k (take (end - at) (drop at stream))).kept → new ≡ kept_of (take (at + used) stream)
 kept_on goes stream at end used k new kept by within e =
     let piece : List ℕ = take (end - at) (drop at stream) in
-    e ∙ ap (λ (h : Kept). (feeding_of h piece).kept) kept ∙ sym (goes (take at stream) piece).1
-    ∙ ap (λ n. kept_of (take at stream ++ take n piece)) (sym (by ∙ ap (λ (h : Kept). (feeding_of h piece).used) kept))
+    e ∙ ap (λ (h : KeptDeframer). (feeding_of h piece).kept) kept ∙ sym (goes (take at stream) piece).1
+    ∙ ap (λ n. kept_of (take at stream ++ take n piece)) (sym (by ∙ ap (λ (h : KeptDeframer). (feeding_of h piece).used) kept))
     ∙ ap kept_of (used_part stream at end used within)
 
-pub count_on : (stream : List ℕ) (at end used : ℕ) (k : Kept) (v : Option Verdict) (count : ℕ) → k ≡ kept_of (take at stream) → AddsToFrames k (take (end - at) (drop at stream)) used v → used ≤ length (take (end - at) (drop at stream))
+pub count_on : (stream : List ℕ) (at end used : ℕ) (k : KeptDeframer) (v : Option Verdict) (count : ℕ) → k ≡ kept_of (take at stream) → AddsToFrames k (take (end - at) (drop at stream)) used v → used ≤ length (take (end - at) (drop at stream))
     → count ≡ frame_count (frames_of (take at stream)) → count + found_count v ≡ frame_count (frames_of (take (at + used) stream))
 count_on stream at end used k v count kept adds within e =
     ap (λ n. n + found_count v) e ∙ ap (λ n. frame_count (frames_of (take at stream)) + n) (sym (count_listed v)) ∙ sym (count_append (frames_of (take at stream)) (option_to_list v))

@@ -3,7 +3,7 @@
 ghost use Rattle.std.specs.Prelude.{◌≡◌, ◌≤◌, ◌^◌, length, option_map};
 ghost use Rattle.hdlc_fcs.specs.FrameCheck.{sent_bits};
 ghost use Rattle.hdlc_bits.specs.Framing.{frames_of_bits};
-ghost use Rattle.hdlc_bits.specs.Shown.{shown};
+ghost use Rattle.hdlc_bits.specs.Shown.{verdict_of_bits_found};
 ghost use Rattle.bench_c.specs.BitFrameCounts.{frame_count, found_count};
 
 use hdlc_bits::laws::{nothing_is_read, reading_goes_on};
@@ -34,7 +34,7 @@ pub extern "C" fn bench_c_bit_frames(line: &[u8], piece: u32) -> u64
 
 // The number of frames that one call found.
 fn frames_in(found: Option<BitFound<'_>>) -> u64
-    ensures { result ≡ found_count (option_map shown found.entry) }
+    ensures { result ≡ found_count (option_map verdict_of_bits_found found.entry) }
 {
     match found {
         Some(BitFound::Frame { .. }) => 1,

@@ -2,7 +2,7 @@
 
 ghost use Rattle.std.specs.Prelude.{◌≡◌, option_map};
 ghost use Rattle.hdlc_frames.specs.Framing.{frames_of};
-ghost use Rattle.hdlc_frames.specs.Shown.{shown};
+ghost use Rattle.hdlc_frames.specs.Shown.{verdict_of_octets_found};
 ghost use Rattle.bench_c.specs.FrameCounts.{frame_count, found_count};
 
 use hdlc_frames::laws::goes_on;
@@ -30,7 +30,7 @@ pub extern "C" fn bench_c_frames(stream: &[u8], piece: u32) -> u64
 
 // The number of frames that one call found.
 fn frames_in(found: Option<Found<'_>>) -> u64
-    ensures { result ≡ found_count (option_map shown found.entry) }
+    ensures { result ≡ found_count (option_map verdict_of_octets_found found.entry) }
 {
     match found {
         Some(Found::Frame(_)) => 1,

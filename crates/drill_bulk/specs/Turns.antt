@@ -15,8 +15,8 @@ abbrev pub kmac : TripleKey
 kmac = record { first = 0x0123456789abcdef; second = 0x23456789abcdef01; third = 0x456789abcdef0123 }
 
 -- the set-up: engine 1 calls the radio block centre 2
-abbrev pub set_up : List Step
-set_up = Link 1 1 2 kmac (Some kmac) 1 2 ∷ Drain 1 64 ∷ []
+abbrev pub bulk_set_up_steps : List Step
+bulk_set_up_steps = Link 1 1 2 kmac (Some kmac) 1 2 ∷ Drain 1 64 ∷ []
 
 -- who sends the message of a word
 abbrev pub sender : (word : ℕ) → Side
@@ -35,15 +35,15 @@ mishap word =
 
 -- message i is sent, and its frames are passed; T1 expires where it runs, and what it brings is passed; the message is taken, and the
 -- acknowledgement is passed
-abbrev pub turn : (i word : ℕ) → List Step
-turn i word =
+abbrev pub steps_of_bulk_turn : (i word : ℕ) → List Step
+steps_of_bulk_turn i word =
     Send 1 (sender word) (message i word) ∷ mishap word
     ++ Drain 1 1000 ∷ Tick (1000 * (i + 1)) ∷ Drain 1 1000 ∷ Take 1 (other (sender word)) ∷ Drain 1 1000 ∷ []
 
 -- one turn for each word, the first of them turn i
 unfoldable pub turns : (i : ℕ) → (words : List ℕ) → List Step
 turns i [] = []
-turns i (word ∷ words) = turn i word ++ turns (i + 1) words
+turns i (word ∷ words) = steps_of_bulk_turn i word ++ turns (i + 1) words
 
 abbrev pub bulk_steps : (seed count : ℕ) → List Step
-bulk_steps seed count = set_up ++ turns 0 (words_drawn count (seeded seed))
+bulk_steps seed count = bulk_set_up_steps ++ turns 0 (words_drawn count (seeded seed))

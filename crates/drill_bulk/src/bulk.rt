@@ -1,7 +1,7 @@
 ghost use Rattle.std.specs.Prelude.{◌≡◌, ◌++◌, ◌∷◌, [], IfOk, OnOk};
 ghost use Rattle.er_scenario.specs.declared.step.Step.TheVariants.{Drain};
 ghost use Rattle.rand_core.specs.Stream.{next_u32};
-ghost use Rattle.drill_bulk.specs.Turns.{kmac, set_up, sender, message, mishap, turn, turns, bulk_steps};
+ghost use Rattle.drill_bulk.specs.Turns.{kmac, bulk_set_up_steps, sender, message, mishap, steps_of_bulk_turn, turns, bulk_steps};
 ghost use Rattle.drill_bulk.specs.Draws.{words_drawn};
 
 use des_block::TripleKey;
@@ -61,7 +61,7 @@ fn add_mishap(word: u32, steps: &mut Vec<Step>) -> Result<(), NoMemory>
 
 /// The steps of the set-up.
 fn add_set_up(steps: &mut Vec<Step>) -> Result<(), NoMemory>
-    ensures { OnOk result (steps.new.items ≡ steps.old.items ++ set_up) }
+    ensures { OnOk result (steps.new.items ≡ steps.old.items ++ bulk_set_up_steps) }
 {
     steps.push(Step::Link {
         link: LINK,
@@ -92,7 +92,7 @@ fn add_drain(steps: &mut Vec<Step>) -> Result<(), NoMemory>
 
 /// The steps of a message.
 fn add_turn(alloc: Global, index: u32, word: u32, steps: &mut Vec<Step>) -> Result<(), NoMemory>
-    ensures { OnOk result (steps.new.items ≡ steps.old.items ++ turn index word) }
+    ensures { OnOk result (steps.new.items ≡ steps.old.items ++ steps_of_bulk_turn index word) }
 {
     let side = sender(word);
     let text = message(alloc, index, word)?;

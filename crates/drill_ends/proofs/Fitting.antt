@@ -6,11 +6,11 @@ use Rattle.std.proofs.lemmas.Bool.{cond_both, ltb-false}
 use Rattle.std.proofs.lemmas.List.{length-drop, length-take}
 use Rattle.std.proofs.lemmas.Option.{same_Some}
 use Rattle.hdlc_fcs.specs.FrameCheck.{fcs_of}
-use Rattle.hdlc_fcs.specs.Contents.{shortest, address_of, checked_part, body_of}
+use Rattle.hdlc_fcs.specs.Contents.{shortest, address_in_content, checked_part, body_of}
 use Rattle.hdlc_frames.specs.Framing.{Verdict, Frame, TooLong, TooShort, BadFcs, Aborted, longest, check_number, ends_in_escape, unescaped, verdict_on_content, verdict_on, has_octets, between_flags, frames_of}
-use Rattle.hdlc_frames.specs.Deframing.{Kept, feeding_of, stream_of}
+use Rattle.hdlc_frames.specs.Deframing.{KeptDeframer, feeding_of, stream_behind_kept}
 use Rattle.hdlc_frames.specs.declared.found.Found.{Found}
-use Rattle.hdlc_frames.specs.Shown.{shown}
+use Rattle.hdlc_frames.specs.Shown.{verdict_of_octets_found}
 use Rattle.hdlc_selective.specs.Kept.{FitsPlace}
 
 body_short : (content : List ℕ) → length content ≤ 1032 → length (body_of content) ≤ 1032
@@ -23,12 +23,12 @@ unfolding verdict_on_content
 content_fits content =
     cond_both (nat_lt longest (length content)) TooLong
     (if nat_lt (length content) shortest then TooShort else
-    (if fcs_of (checked_part content) == check_number content then Frame (address_of content) (body_of content) else BadFcs)) FitsPlace
+    (if fcs_of (checked_part content) == check_number content then Frame (address_in_content content) (body_of content) else BadFcs)) FitsPlace
     (λ long. tt)
     (λ short. cond_both (nat_lt (length content) shortest) TooShort
-    (if fcs_of (checked_part content) == check_number content then Frame (address_of content) (body_of content) else BadFcs) FitsPlace
+    (if fcs_of (checked_part content) == check_number content then Frame (address_in_content content) (body_of content) else BadFcs) FitsPlace
     (λ few. tt)
-    (λ enough. cond_both (fcs_of (checked_part content) == check_number content) (Frame (address_of content) (body_of content)) BadFcs FitsPlace
+    (λ enough. cond_both (fcs_of (checked_part content) == check_number content) (Frame (address_in_content content) (body_of content)) BadFcs FitsPlace
     (λ intact. body_short content (ltb-false longest (length content) short)) (λ bad. tt)))
 
 verdict_fits : (piece : List ℕ) → FitsPlace (verdict_on piece)
@@ -45,6 +45,6 @@ unfolding frames_of
 stream_fits stream v is = first_fits (filter has_octets (between_flags stream)) v is
 
 -- what feeding a piece gives
-pub found_fits : (k : Kept) (piece : List ℕ) (found : Option Found) (f : Found) → option_map shown found ≡ (feeding_of k piece).verdict → found ≡ Some f → FitsPlace (shown f)
+pub found_fits : (k : KeptDeframer) (piece : List ℕ) (found : Option Found) (f : Found) → option_map verdict_of_octets_found found ≡ (feeding_of k piece).verdict → found ≡ Some f → FitsPlace (verdict_of_octets_found f)
 unfolding feeding_of
-found_fits k piece found f is some = stream_fits (stream_of k ++ piece) (shown f) (sym is ∙ ap (option_map shown) some)
+found_fits k piece found f is some = stream_fits (stream_behind_kept k ++ piece) (verdict_of_octets_found f) (sym is ∙ ap (option_map verdict_of_octets_found) some)

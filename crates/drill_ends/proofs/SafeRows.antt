@@ -6,9 +6,9 @@ use Rattle.er_base.specs.declared.cause.Cause.TheVariants.{NoKey, Au2MacWrong, A
 use Rattle.cbc_mac.specs.Mac.{mac_of}
 use Rattle.session_keys.specs.Session.{session_of}
 use Rattle.sapdu.specs.declared.fault.SaFault.{SaFault}
-use Rattle.sapdu.specs.Spelling.{Pdu, Au1, Au2, Au3, Ar, Dt, Di, read_of}
+use Rattle.sapdu.specs.Spelling.{SafetyPdu, Au1, Au2, Au3, Ar, Dt, Di, read_of}
 use Rattle.sapdu.specs.Messages.{is_message}
-use Rattle.safety_automaton.specs.Safety.{Safety, Phase, Ready, WaitAu1, WaitAu2, WaitAu3, WaitAr, Connected, Released, Received, DataRequest, RefusedLength, SafetyOutcome, SentDt, Refused, same_flag, peer_flag, session_in, au2_text, au3_text, ar_text, message_text, releases, sends_au2, sends_au3, sends_ar, receives_ar, accepts_dt, sends_dt, row, checked, receives, sends, step, sealed_by, verified_by, sent_by}
+use Rattle.safety_automaton.specs.Safety.{Safety, Phase, Ready, WaitAu1, WaitAu2, WaitAu3, WaitAr, Connected, Released, Received, DataRequest, RefusedLength, SafetyOutcome, SentDt, Refused, same_flag, peer_flag, session_in, au2_text, au3_text, ar_text, message_text, releases, sends_au2, sends_au3, sends_ar, receives_ar, accepts_dt, sends_dt, row, checked, step_received_octets, sends, step, sealed_by, verified_by, octets_sent_in_outcome}
 use Rattle.safety_automaton.specs.Reports.{KeptSafe, Report, report_of}
 use Rattle.drill_model.specs.Ends.{outcomes_by}
 use Rattle.drill_ends.specs.declared.told.Told.{Told}
@@ -25,7 +25,7 @@ use Rattle.drill_ends.specs.SafeEnds.{checked_text, told_report, told_sealed, to
 abbrev pub told_of : Safety × SafetyOutcome → List Told
 told_of a =
     (told_report (report_of a.1) (checked_text (verified_by a.1) (session_in a.0.phase)) ++ told_sealed (sealed_by a.1) (session_in a.0.phase))
-    ++ told_written (sent_by a.1)
+    ++ told_written (octets_sent_in_outcome a.1)
 
 abbrev pub IsToldAll : List ℕ → Safety × SafetyOutcome → Type 0
 IsToldAll heard a = AreTold (outcomes_by heard a.1) (told_of a)
@@ -49,7 +49,7 @@ module _ (heard : List ℕ) (key_of : ℕ → ℕ → Option TripleKey) (s : Saf
   accepted : (session : TripleKey) (user verified : List ℕ) → session_in s.phase ≡ Some session → IsToldAll heard (accepts_dt s session user verified)
   accepted session user verified is = rw is (refl, tt)
 
-  rows : (phase : Phase) (pdu : Pdu) → s.phase ≡ phase → IsToldAll heard (row key_of s phase pdu)
+  rows : (phase : Phase) (pdu : SafetyPdu) → s.phase ≡ phase → IsToldAll heard (row key_of s phase pdu)
   rows (Ready peer kmac rb) (Di reason sub) is = (refl, tt)
   rows (WaitAu1 ra) (Di reason sub) is = (refl, tt)
   rows (WaitAu2 peer kmac rb) (Di reason sub) is = (refl, tt)
@@ -78,12 +78,12 @@ module _ (heard : List ℕ) (key_of : ℕ → ℕ → Option TripleKey) (s : Saf
       (accepted session user text (ap session_in is))
   rows phase pdu is = released Unexpected
 
-  of_checked : (answer : Result (Pdu × Bool) SaFault) → IsToldAll heard (checked key_of s answer)
+  of_checked : (answer : Result (SafetyPdu × Bool) SaFault) → IsToldAll heard (checked key_of s answer)
   of_checked (Err fault) = released Malformed
   of_checked (Ok read) =
       unless (same_flag read.1 (peer_flag s)) (releases s WrongDirection) (row key_of s s.phase read.0) (released WrongDirection) (rows s.phase read.0 refl)
 
-  of_receives : (phase : Phase) (octets : List ℕ) → IsToldAll heard (receives key_of s phase octets)
+  of_receives : (phase : Phase) (octets : List ℕ) → IsToldAll heard (step_received_octets key_of s phase octets)
   of_receives (Released release session) octets = tt
   of_receives (Ready peer kmac rb) octets = of_checked (read_of octets)
   of_receives (WaitAu1 ra) octets = of_checked (read_of octets)
@@ -127,14 +127,14 @@ pub received_so : (key_of : ℕ → ℕ → Option TripleKey) (s : Safety) (octe
     (room written held : List ℕ) (none one two list : List Told)
     → new.safety ≡ (step key_of s (Received octets)).0 → report ≡ report_of (step key_of s (Received octets)).1
     → new.sealed ≡ sealed_by (step key_of s (Received octets)).1 → new.verified ≡ verified_by (step key_of s (Received octets)).1
-    → room ≡ [] → written ≡ room ++ sent_by (step key_of s (Received octets)).1 → held ≡ written
+    → room ≡ [] → written ≡ room ++ octets_sent_in_outcome (step key_of s (Received octets)).1 → held ≡ written
     → found ≡ checked_text new.verified (session_in new.safety.phase)
     → none ≡ [] → one ≡ none ++ told_report report found → two ≡ one ++ told_sealed new.sealed (session_in new.safety.phase)
     → list ≡ two ++ told_written held
     → EndWent (code.Safe new) list (OfSafe (step key_of s (Received octets)).0, outcomes_by octets (step key_of s (Received octets)).1)
 received_so key_of s octets new report found' room written held none one two list safety reports seals verifies empty writes holds finds nothing first second third =
     let a : Safety × SafetyOutcome = step key_of s (Received octets) in
-    let held_is : held ≡ sent_by a.1 = holds ∙ writes ∙ ap (λ (xs : List ℕ). xs ++ sent_by a.1) empty in
+    let held_is : held ≡ octets_sent_in_outcome a.1 = holds ∙ writes ∙ ap (λ (xs : List ℕ). xs ++ octets_sent_in_outcome a.1) empty in
     let session : session_in new.safety.phase ≡ session_in a.0.phase = ap (λ (t : Safety). session_in t.phase) safety in
     let checked_is : found' ≡ checked_text (verified_by a.1) (session_in a.0.phase) =
     finds ∙ ap (λ v. checked_text v (session_in new.safety.phase)) verifies ∙ ap (checked_text (verified_by a.1)) session in

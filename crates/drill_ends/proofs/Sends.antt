@@ -1,5 +1,6 @@
 -- A send is Ok exactly where it isn't refused: what an end tells of each event, at each level.
 use Rattle.std.proofs.Common.{◌≡◌, ℕ, zero, suc, ◌+◌, Bool, true, false, if◌then◌else◌, List, [], ◌∷◌, ◌++◌, map, length, length-append, refl, sym, ap, ◌∙◌, subst, arith, Option, Some, None, Ok, Err}
+use Rattle.hdlc_station_model.specs.Receiving.{is_some_octets}
 use Rattle.std.specs.Prelude.{not, is_some, nat_le, ◌&&◌, ◌==◌}
 use Rattle.std.specs.List.{flat_map}
 use Rattle.std.proofs.lemmas.List.Concat.{flat_map-append}
@@ -13,7 +14,7 @@ use Rattle.hdlc_station_model.specs.Events.{said_octets, news, quits, is_late, n
 use Rattle.t70_header.specs.Joining as joining
 use Rattle.x224_class2.specs.Tpdus.{Dr, Dc}
 use Rattle.x224_class2.specs.Refusals.{protocol_error}
-use Rattle.x224_class2.specs.Transport.{Deed, Nothing, Called, Confirmed, Message, Disconnected}
+use Rattle.x224_class2.specs.Transport.{ReceptionDeed, Nothing, Called, Confirmed, Message, Disconnected}
 use Rattle.x224_class2.specs.Transport as transport
 use Rattle.sapdu.specs.Spelling.{di_in}
 use Rattle.sapdu.specs.Messages.{is_message}
@@ -22,38 +23,38 @@ use Rattle.er_base.specs.Causes.{release_of, by_this_end}
 use Rattle.safety_automaton.specs.Keys.{no_keys}
 use Rattle.safety_automaton.specs.Rules.{IsStep, StepsOnly}
 use Rattle.safety_automaton.specs.Reports.{Report, ToldAnswered, ToldConnected, ToldAccepted, ToldReleased, ToldIgnored, report_of}
-use Rattle.safety_automaton.specs.Safety.{Safety, Phase, Ready, WaitAu1, WaitAu2, WaitAu3, WaitAr, Connected, Released, SafetyEvent, ConnectRequest, Received, DataRequest, DisconnectRequest, SafetyOutcome, SentAu1, SentAu2, SentAu3, SentAr, ReceivedAr, AcceptedDt, SentDt, Refused, RefusedLength, ReleasedLocally, ReleasedByPeer, NothingDone, peer_flag, sends_dt, sends as sends_side, sent_by, step}
+use Rattle.safety_automaton.specs.Safety.{Safety, Phase, Ready, WaitAu1, WaitAu2, WaitAu3, WaitAr, Connected, Released, SafetyEvent, ConnectRequest, Received, DataRequest, DisconnectRequest, SafetyOutcome, SentAu1, SentAu2, SentAu3, SentAr, ReceivedAr, AcceptedDt, SentDt, Refused, RefusedLength, ReleasedLocally, ReleasedByPeer, NothingDone, peer_flag, sends_dt, sends as sends_side, octets_sent_in_outcome, step}
 use Rattle.safety_pair_laws.specs.Facts.{Fact, Sent, Sealed, Verified, Connected as ConnectedFact, Accepted, facts_by, heard_in as octets_heard}
 use Rattle.er_end_model.specs.Outcomes.{SendRefusal, RefusedNotConnected, RefusedLength as RefusedLong, RefusedFull}
 use Rattle.er_end_model.specs.Layers.{Spoken, Core, model}
-use Rattle.er_end_model.specs.Steps.{Finds, new_event_at, with_release, hand_tpdu, close_link, send_owed_answer, send_dr, answer_dr, end_after_di, on_safety_release, why_of, with_safety_step, is_some_octets, hand_text, skip_message, Carrier, InCr, InCc, InDt, hand_answer, keep_message, on_safety_report, on_text, on_transport_deed, on_joined_block, is_ready, connect_with_text, on_link_up, on_link_told, on_link_deed, hand_next_tpdu, has_next_tpdu, hand_waiting_tpdus, most_offers, conclude_event, step_start, step_frame, is_connected, refusal_at, refusal_of, on_send, step_send_unless, step_take, step_release, is_spent, di_of, on_expiry, step_tick, normal_disconnect}
+use Rattle.er_end_model.specs.Steps.{Finds, new_event_at, with_release, hand_tpdu, close_link, send_owed_answer, send_dr, answer_dr, end_after_di, on_safety_release, why_of, with_safety_step, hand_text, skip_message, Carrier, InCr, InCc, InDt, hand_answer, keep_message, on_safety_report, on_text, on_transport_deed, on_joined_block, is_ready, connect_with_text, on_link_up, on_link_told, on_link_deed, hand_next_tpdu, has_next_tpdu, hand_waiting_tpdus, most_offers, conclude_event, step_start, step_frame, is_connected, refusal_at, refusal_of, on_send, step_send_unless, step_take, step_release, is_spent, di_of, on_expiry, step_tick, normal_disconnect}
 use Rattle.er_end_model.specs.Ends.{End as Stack, finds_expired}
-use Rattle.drill_model.specs.Outcomes.{Outcome, OfSafety, Handed, Arrived, Up, Took, NothingToTake, Released as ReleasedOut, Frame, Expired, UserReleased, Passed, Lost, Repeated, Altered, Inserted, NothingWaits, IsShort}
+use Rattle.drill_model.specs.Outcomes.{DrillOutcome, OfSafety, Handed, Arrived, Up, Took, NothingToTake, Released as ReleasedOut, Frame, Expired, UserReleased, Passed, Lost, Repeated, Altered, Inserted, NothingWaits, IsShort}
 use Rattle.drill_model.specs.Outcomes as outcome
 use Rattle.drill_model.specs.Kinds.{sent_in}
-use Rattle.drill_model.specs.StationEnds.{if_up, if_arrived, all_arrived, if_released, if_expired, told_by, frames_heard, handed_unless, station_send, station_release, station_tick}
+use Rattle.drill_model.specs.StationEnds.{if_up, if_arrived, all_arrived, if_released, if_expired, outcomes_told_by_station, frames_heard, handed_unless, station_send, station_release, station_tick}
 use Rattle.drill_model.specs.StationEnds as stations
-use Rattle.drill_model.specs.StackEnds.{facts_told, told_at, stack_told, told_unless, told_of_take}
-use Rattle.drill_model.specs.Ends.{End, OfSafe, OfStation, OfStack, EndEvent, Start, Receive, Send, Take, Release as Leave, Tick, safety_event, outcomes_by, safe_end_step, station_end_step, stack_end_step, end_step}
+use Rattle.drill_model.specs.StackEnds.{facts_told, outcomes_told_by_stack, stack_told, told_unless, told_of_take}
+use Rattle.drill_model.specs.Ends.{EndAtLevel, OfSafe, OfStation, OfStack, EndEvent, Start, Receive, Send, Take, Release as Leave, Tick, safety_event, outcomes_by, safe_end_step, station_end_step, stack_end_step, end_step}
 use Rattle.drill_ends.specs.declared.told.Told.{Told}
-use Rattle.drill_ends.specs.Tellings.{IsToldFact, IsTold, EachTold, heard_of, heard_in}
+use Rattle.drill_ends.specs.Tellings.{IsToldFact, IsTold, EachTold, told_outcomes_of, told_outcomes_in}
 use Rattle.drill_ends.specs.SendCounts.{is_refusal, begins_refused, sent_at, SendsAreTold}
 
 -- ---- of outcomes
 
-abbrev pub sent_of : List Outcome → ℕ
+abbrev pub sent_of : List DrillOutcome → ℕ
 sent_of os = length (flat_map sent_in os)
 
-abbrev is_refused : Outcome → Bool
+abbrev is_refused : DrillOutcome → Bool
 is_refused (outcome.Refused refusal) = true
 is_refused o = false
 
-abbrev begins_so : List Outcome → Bool
+abbrev begins_so : List DrillOutcome → Bool
 begins_so [] = false
 begins_so (o ∷ os) = is_refused o
 
 -- how many sends that were Ok an event is, by its outcomes
-abbrev sends_at : EndEvent → List Outcome → ℕ
+abbrev sends_at : EndEvent → List DrillOutcome → ℕ
 sends_at Start os = 0
 sends_at (Receive octets) os = 0
 sends_at (Send octets) os = if begins_so os then 0 else 1
@@ -61,8 +62,8 @@ sends_at Take os = 0
 sends_at (Leave sub) os = 0
 sends_at Tick os = 0
 
-abbrev SendsSo : EndEvent → List Outcome → Type 0
-SendsSo event os = sent_of os ≡ sends_at event (heard_in os)
+abbrev SendsSo : EndEvent → List DrillOutcome → Type 0
+SendsSo event os = sent_of os ≡ sends_at event (told_outcomes_in os)
 
 refused_fact : (fact : Fact) (t : Told) → IsToldFact fact t → is_refusal t ≡ false
 refused_fact (Sent user key text) t is = rw is refl
@@ -71,7 +72,7 @@ refused_fact (Verified heard key text) t is = rw is refl
 refused_fact (ConnectedFact heard connection text) t is = rw is refl
 refused_fact (Accepted heard user key text) t is = rw is refl
 
-refused_alike : (o : Outcome) (t : Told) → IsTold o t → is_refusal t ≡ is_refused o
+refused_alike : (o : DrillOutcome) (t : Told) → IsTold o t → is_refusal t ≡ is_refused o
 refused_alike (OfSafety fact) t is = refused_fact fact t is
 refused_alike (outcome.Refused refusal) t is = rw is.told_is refl
 refused_alike (ReleasedOut release) t is = rw is refl
@@ -82,13 +83,13 @@ refused_alike (Took message) t is = rw is refl
 refused_alike NothingToTake t is = rw is refl
 refused_alike o t is = absurd is
 
-begins_alike : (os : List Outcome) (list : List Told) → EachTold os list → begins_refused list ≡ begins_so os
+begins_alike : (os : List DrillOutcome) (list : List Told) → EachTold os list → begins_refused list ≡ begins_so os
 begins_alike [] [] are = refl
 begins_alike [] (t ∷ list) are = absurd are
 begins_alike (o ∷ os) [] are = absurd are
 begins_alike (o ∷ os) (t ∷ list) are = refused_alike o t are.0
 
-sends_alike : (event : EndEvent) (os : List Outcome) (list : List Told) → EachTold os list → sent_at event list ≡ sends_at event os
+sends_alike : (event : EndEvent) (os : List DrillOutcome) (list : List Told) → EachTold os list → sent_at event list ≡ sends_at event os
 sends_alike (Send octets) os list are = ap (λ (b : Bool). if b then 0 else 1) (begins_alike os list are)
 sends_alike Start os list are = refl
 sends_alike (Receive octets) os list are = refl
@@ -98,7 +99,7 @@ sends_alike Tick os list are = refl
 
 -- ---- what tells of no send
 
-sent_more : (xs ys : List Outcome) → sent_of xs ≡ 0 → sent_of ys ≡ 0 → sent_of (xs ++ ys) ≡ 0
+sent_more : (xs ys : List DrillOutcome) → sent_of xs ≡ 0 → sent_of ys ≡ 0 → sent_of (xs ++ ys) ≡ 0
 sent_more xs ys one two =
     ap length (flat_map-append sent_in xs ys) ∙ length-append (flat_map sent_in xs) (flat_map sent_in ys)
     ∙ two_none (sent_of xs) (sent_of ys) one two
@@ -110,7 +111,7 @@ frames_unsent : (frames : List (List ℕ)) → sent_of (map Frame frames) ≡ 0
 frames_unsent [] = refl
 frames_unsent (frame ∷ frames) = frames_unsent frames
 
-frames_begin : (frames : List (List ℕ)) → begins_so (heard_in (map Frame frames)) ≡ false
+frames_begin : (frames : List (List ℕ)) → begins_so (told_outcomes_in (map Frame frames)) ≡ false
 frames_begin [] = refl
 frames_begin (frame ∷ frames) = refl
 
@@ -118,7 +119,7 @@ released_unsent : (release : Option Release) (frames : List (List ℕ)) → sent
 released_unsent None frames = frames_unsent frames
 released_unsent (Some release) frames = frames_unsent frames
 
-expired_unsent : (b : Bool) (os : List Outcome) → sent_of os ≡ 0 → sent_of (if_expired b ++ os) ≡ 0
+expired_unsent : (b : Bool) (os : List DrillOutcome) → sent_of os ≡ 0 → sent_of (if_expired b ++ os) ≡ 0
 expired_unsent true os none = none
 expired_unsent false os none = none
 
@@ -161,7 +162,7 @@ module _ (key_of : ℕ → ℕ → Option TripleKey) (s : Safety) (event : Safet
 
 -- a send is Ok or refused
 abbrev OneSend : Safety × SafetyOutcome → Type 0
-OneSend a = sent_of (outcomes_by [] a.1) ≡ (if begins_so (heard_in (outcomes_by [] a.1)) then 0 else 1)
+OneSend a = sent_of (outcomes_by [] a.1) ≡ (if begins_so (told_outcomes_in (outcomes_by [] a.1)) then 0 else 1)
 
 unless_one : (b : Bool) (x y : Safety × SafetyOutcome) → OneSend x → OneSend y → OneSend (if not b then x else y)
 unless_one true x y hx hy = hy
@@ -202,7 +203,7 @@ release_unsent : (release : Option Release) → sent_of (if_released release) �
 release_unsent None = refl
 release_unsent (Some release) = refl
 
-station_unsent : (s : Station) → sent_of (told_by s) ≡ 0
+station_unsent : (s : Station) → sent_of (outcomes_told_by_station s) ≡ 0
 station_unsent s =
     sent_more ((if_up s.deed.up ++ all_arrived s.deed) ++ if_released s.deed.released) (map Frame (said_octets s))
     (sent_more (if_up s.deed.up ++ all_arrived s.deed) (if_released s.deed.released)
@@ -211,30 +212,30 @@ station_unsent s =
     (release_unsent s.deed.released))
     (frames_unsent (said_octets s))
 
-begins_more : (xs ys : List Outcome) → begins_so (heard_in xs) ≡ false → begins_so (heard_in ys) ≡ false → begins_so (heard_in (xs ++ ys)) ≡ false
-begins_more xs ys one two = ap begins_so (flat_map-append heard_of xs ys) ∙ either (heard_in xs) (heard_in ys) one two
+begins_more : (xs ys : List DrillOutcome) → begins_so (told_outcomes_in xs) ≡ false → begins_so (told_outcomes_in ys) ≡ false → begins_so (told_outcomes_in (xs ++ ys)) ≡ false
+begins_more xs ys one two = ap begins_so (flat_map-append told_outcomes_of xs ys) ∙ either (told_outcomes_in xs) (told_outcomes_in ys) one two
   where
-    either : (os ps : List Outcome) → begins_so os ≡ false → begins_so ps ≡ false → begins_so (os ++ ps) ≡ false
+    either : (os ps : List DrillOutcome) → begins_so os ≡ false → begins_so ps ≡ false → begins_so (os ++ ps) ≡ false
     either [] ps one two = two
     either (o ∷ os) ps one two = one
 
-arrived_begin : (more : List (List ℕ)) → begins_so (heard_in (map Arrived more)) ≡ false
+arrived_begin : (more : List (List ℕ)) → begins_so (told_outcomes_in (map Arrived more)) ≡ false
 arrived_begin [] = refl
 arrived_begin (payload ∷ more) = refl
 
-up_begins : (up : Bool) → begins_so (heard_in (if_up up)) ≡ false
+up_begins : (up : Bool) → begins_so (told_outcomes_in (if_up up)) ≡ false
 up_begins true = refl
 up_begins false = refl
 
-payload_begins : (payload : Option (List ℕ)) → begins_so (heard_in (if_arrived payload)) ≡ false
+payload_begins : (payload : Option (List ℕ)) → begins_so (told_outcomes_in (if_arrived payload)) ≡ false
 payload_begins None = refl
 payload_begins (Some payload) = refl
 
-release_begins : (release : Option Release) → begins_so (heard_in (if_released release)) ≡ false
+release_begins : (release : Option Release) → begins_so (told_outcomes_in (if_released release)) ≡ false
 release_begins None = refl
 release_begins (Some release) = refl
 
-station_begins : (s : Station) → begins_so (heard_in (told_by s)) ≡ false
+station_begins : (s : Station) → begins_so (told_outcomes_in (outcomes_told_by_station s)) ≡ false
 station_begins s =
     begins_more ((if_up s.deed.up ++ all_arrived s.deed) ++ if_released s.deed.released) (map Frame (said_octets s))
     (begins_more (if_up s.deed.up ++ all_arrived s.deed) (if_released s.deed.released)
@@ -247,10 +248,10 @@ heard_unsent : (selective : Bool) (moment : ℕ) (verdicts : List Verdict) (s : 
 heard_unsent selective moment [] s = refl
 heard_unsent selective moment (verdict ∷ verdicts) s =
     let t : Station = owes (receives_as selective moment verdict s) in
-    sent_more (told_by t) (frames_heard selective moment verdicts (stations.station_and_told t).0).1 (station_unsent t) (heard_unsent selective moment verdicts (stations.station_and_told t).0)
+    sent_more (outcomes_told_by_station t) (frames_heard selective moment verdicts (stations.station_and_told t).0).1 (station_unsent t) (heard_unsent selective moment verdicts (stations.station_and_told t).0)
 
 hands_once : (refusal : Option SendRefusal) (moment : ℕ) (payload : List ℕ) (s : Station)
-    → let os = (handed_unless refusal moment payload s).1 in sent_of os ≡ (if begins_so (heard_in os) then 0 else 1)
+    → let os = (handed_unless refusal moment payload s).1 in sent_of os ≡ (if begins_so (told_outcomes_in os) then 0 else 1)
 hands_once (Some refusal) moment payload s = refl
 hands_once None moment payload s =
     let t : Station = owes (hands moment payload s) in
@@ -263,11 +264,11 @@ quits_unsent false sub s = station_unsent (quits sub s)
 station_sends : (selective : Bool) (moment : ℕ) (s : Station) (stream : List ℕ) (event : EndEvent) → SendsSo event (station_end_step selective moment s stream event).1
 station_sends selective moment s stream Start = station_unsent (owes (begins_station moment s))
 station_sends selective moment s stream (Receive octets) = heard_unsent selective moment (news stream octets) s
-station_sends selective moment s stream (Send payload) = hands_once (stations.refusal_of s payload s.released) moment payload s
+station_sends selective moment s stream (Send payload) = hands_once (stations.payload_refusal_of_station s payload s.released) moment payload s
 station_sends selective moment s stream Take = refl
 station_sends selective moment s stream (Leave sub) = quits_unsent (is_down s.phase) sub s
 station_sends selective moment s stream Tick =
-    expired_unsent (is_late moment s) (told_by (owes (station_ticks moment s))) (station_unsent (owes (station_ticks moment s)))
+    expired_unsent (is_late moment s) (outcomes_told_by_station (owes (station_ticks moment s))) (station_unsent (owes (station_ticks moment s)))
 
 -- ---- level full: what the safety side said in an event
 
@@ -349,15 +350,15 @@ module _ (P : Option Spoken → Type 0) where
           let y : Core = new_event_at model now x in
           let a : Safety × SafetyOutcome = step no_keys y.safe.safety (DisconnectRequest sub) in
           let z : Core = with_safety_step model (DisconnectRequest sub) a y in
-          if_core Said (is_some y.released) y (send_dr model (release_of (User sub)) normal_disconnect (sent_by a.1) z) none
-          (departs_said (release_of (User sub)) normal_disconnect (sent_by a.1) z (others no_keys y.safe.safety (DisconnectRequest sub) tt))
+          if_core Said (is_some y.released) y (send_dr model (release_of (User sub)) normal_disconnect (octets_sent_in_outcome a.1) z) none
+          (departs_said (release_of (User sub)) normal_disconnect (octets_sent_in_outcome a.1) z (others no_keys y.safe.safety (DisconnectRequest sub) tt))
 
       text_said : (finds : Finds) (carrier : Carrier) (text : List ℕ) (x : Core) → Said (on_text model finds carrier text x)
       text_said finds carrier text x =
           let a : Safety × SafetyOutcome = step (finds x.moment) x.safe.safety (Received text) in
-          acts_said carrier (report_of a.1) (sent_by a.1) (with_safety_step model (Received text) a x) (others (finds x.moment) x.safe.safety (Received text) tt)
+          acts_said carrier (report_of a.1) (octets_sent_in_outcome a.1) (with_safety_step model (Received text) a x) (others (finds x.moment) x.safe.safety (Received text) tt)
 
-      does_said : (finds : Finds) (deed : Deed) (x : Core) → Said x → Said (on_transport_deed model finds deed x)
+      does_said : (finds : Finds) (deed : ReceptionDeed) (x : Core) → Said x → Said (on_transport_deed model finds deed x)
       does_said finds Nothing x h = h
       does_said finds (Called user) x h = text_said finds InCr user x
       does_said finds (Confirmed user) x h = text_said finds InCc user x
@@ -365,7 +366,7 @@ module _ (P : Option Spoken → Type 0) where
       does_said finds (Disconnected user) x h = cut_off_said (why_of (di_in user (peer_flag x.safe.safety))) x h
       does_said finds (transport.Refused sub reason) x h = departs_said (by_this_end 2 sub) reason [] x h
 
-      block_said : (finds : Finds) (answer : joining.Answer) (x : Core) → Said x → Said (on_joined_block model finds answer x)
+      block_said : (finds : Finds) (answer : joining.BlockJoiningResult) (x : Core) → Said x → Said (on_joined_block model finds answer x)
       block_said finds (Ok None) x h = h
       block_said finds (Ok (Some tpdu)) x h = does_said finds (model.deed x.upper tpdu) (record x { upper = model.hears x.upper tpdu }) h
       block_said finds (Err fault) x h = departs_said (release_of BlockRefused) protocol_error [] x h
@@ -377,12 +378,12 @@ module _ (P : Option Spoken → Type 0) where
       up_said x h =
           let a : Safety × SafetyOutcome = step no_keys x.safe.safety ConnectRequest in
           let y : Core = with_safety_step model ConnectRequest a x in
-          if_core Said (model.may_connect x.upper && is_ready x.safe.safety.phase) (connect_with_text model (sent_by a.1) y) x
-          (connects_said (sent_by a.1) y (others no_keys x.safe.safety ConnectRequest tt)) h
+          if_core Said (model.may_connect x.upper && is_ready x.safe.safety.phase) (connect_with_text model (octets_sent_in_outcome a.1) y) x
+          (connects_said (octets_sent_in_outcome a.1) y (others no_keys x.safe.safety ConnectRequest tt)) h
 
       link_said : (finds : Finds) (payload : Option (List ℕ)) (up : Bool) (released : Option Release) (x : Core) → Said x → Said (on_link_told model finds payload up released x)
       link_said finds (Some payload) up released x h =
-          let joined = joining.step x.joined payload in block_said finds joined.1 (record x { joined = joined.0 }) h
+          let joined = joining.block_step x.joined payload in block_said finds joined.1 (record x { joined = joined.0 }) h
       link_said finds None true released x h = up_said x h
       link_said finds None false (Some why) x h = h
       link_said finds None false None x h = h
@@ -400,13 +401,13 @@ module _ (P : Option Spoken → Type 0) where
 abbrev Unsent : Option Spoken → Type 0
 Unsent spoke = sent_of (facts_told spoke) ≡ 0
 
-told_unsent : (x : Core) → Unsent x.upper.spoke → sent_of (told_at x) ≡ 0
+told_unsent : (x : Core) → Unsent x.upper.spoke → sent_of (outcomes_told_by_stack x) ≡ 0
 told_unsent x none =
     sent_more (facts_told x.upper.spoke) (if_released x.leaves ++ map Frame (said_octets x.line)) none (released_unsent x.leaves (said_octets x.line))
 
 -- a send that was Ok, before whatever else is told
 abbrev Sends : Option Spoken → Type 0
-Sends spoke = (rest : List Outcome) → (sent_of (facts_told spoke ++ rest) ≡ suc (sent_of rest)) × (begins_so (heard_in (facts_told spoke ++ rest)) ≡ false)
+Sends spoke = (rest : List DrillOutcome) → (sent_of (facts_told spoke ++ rest) ≡ suc (sent_of rest)) × (begins_so (told_outcomes_in (facts_told spoke ++ rest)) ≡ false)
 
 side_sent : (s : Safety) (phase : Phase) (user : List ℕ) → is_connected phase ≡ true → is_message user ≡ true
     → Sends (Some (record { event = DataRequest user; outcome = (sends_side s phase user).1 }))
@@ -432,18 +433,18 @@ sent_once now user x none =
     let z : Core = with_safety_step model (DataRequest user) a y in
     let w : Core = record z { upper = model.sends z.upper user } in
     let may = may_send x.released (is_connected x.safe.safety.phase) user (model.waiting x.upper) none in
-    concludes_said Sends (hand_text model (sent_by a.1) w) (says_said Sends (sent_by a.1) w (side_sent x.safe.safety x.safe.safety.phase user may.0 may.1))
+    concludes_said Sends (hand_text model (octets_sent_in_outcome a.1) w) (says_said Sends (octets_sent_in_outcome a.1) w (side_sent x.safe.safety x.safe.safety.phase user may.0 may.1))
 
 stack_sends_once : (now : ℕ) (user : List ℕ) (x : Core) (refusal : Option SendRefusal) → refusal_of model user x ≡ refusal
-    → let os = told_unless refusal (step_send_unless model refusal now user x) in sent_of os ≡ (if begins_so (heard_in os) then 0 else 1)
+    → let os = told_unless refusal (step_send_unless model refusal now user x) in sent_of os ≡ (if begins_so (told_outcomes_in os) then 0 else 1)
 stack_sends_once now user x (Some refusal) is = refl
 stack_sends_once now user x None is =
     let y : Core = on_send model user (new_event_at model now x) in
-    let rest : List Outcome = if_released y.leaves ++ map Frame (said_octets y.line) in
+    let rest : List DrillOutcome = if_released y.leaves ++ map Frame (said_octets y.line) in
     let once = sent_once now user x is rest in
     once.0 ∙ ap suc (released_unsent y.leaves (said_octets y.line)) ∙ sym (ap (λ (b : Bool). if b then 0 else 1) once.1)
 
-took_unsent : (message : Option (List ℕ)) (os : List Outcome) → sent_of os ≡ 0 → sent_of (told_of_take message ++ os) ≡ 0
+took_unsent : (message : Option (List ℕ)) (os : List DrillOutcome) → sent_of os ≡ 0 → sent_of (told_of_take message ++ os) ≡ 0
 took_unsent None os none = none
 took_unsent (Some message) os none = none
 
@@ -456,21 +457,21 @@ module _ (only : StepsOnly) where
   stack_unsent finds now [] x = refl
   stack_unsent finds now (verdict ∷ verdicts) x =
       let y : Core = step_frame model finds now verdict x in
-      sent_more (told_at y) (stack_told finds now verdicts y) (told_unsent y (comes_said Unsent refl others_unsent finds now verdict x)) (stack_unsent finds now verdicts y)
+      sent_more (outcomes_told_by_stack y) (stack_told finds now verdicts y) (told_unsent y (comes_said Unsent refl others_unsent finds now verdict x)) (stack_unsent finds now verdicts y)
 
   stack_sends_so : (key_of : ℕ → ℕ → Option TripleKey) (now : ℕ) (m : Stack) (event : EndEvent) → SendsSo event (stack_end_step key_of now m event).1
   stack_sends_so key_of now m Start = told_unsent (step_start model now m.core) (starts_said Unsent refl now m.core)
   stack_sends_so key_of now m (Receive octets) = stack_unsent (λ n. key_of) now (stack_news m.stream octets) (new_event_at model now m.core)
   stack_sends_so key_of now m (Send user) = stack_sends_once now user m.core (refusal_of model user m.core) refl
   stack_sends_so key_of now m Take =
-      took_unsent (model.oldest m.core.upper) (told_at (step_take model now m.core)) (told_unsent (step_take model now m.core) (uses_said Unsent refl now m.core))
+      took_unsent (model.oldest m.core.upper) (outcomes_told_by_stack (step_take model now m.core)) (told_unsent (step_take model now m.core) (uses_said Unsent refl now m.core))
   stack_sends_so key_of now m (Leave sub) = told_unsent (step_release model now sub m.core) (leaves_said Unsent refl others_unsent now sub m.core)
   stack_sends_so key_of now m Tick =
-      expired_unsent (finds_expired (new_event_at model now m.core)) (told_at (step_tick model now m.core)) (told_unsent (step_tick model now m.core) (ticks_said Unsent refl now m.core))
+      expired_unsent (finds_expired (new_event_at model now m.core)) (outcomes_told_by_stack (step_tick model now m.core)) (told_unsent (step_tick model now m.core) (ticks_said Unsent refl now m.core))
 
   -- ---- any level
 
-  sends_so : (key_of : ℕ → ℕ → Option TripleKey) (moment : ℕ) (end : End) (event : EndEvent) → SendsSo event (end_step key_of moment end event).1
+  sends_so : (key_of : ℕ → ℕ → Option TripleKey) (moment : ℕ) (end : EndAtLevel) (event : EndEvent) → SendsSo event (end_step key_of moment end event).1
   sends_so key_of moment (OfSafe s) event = safe_sends only key_of s event
   sends_so key_of moment (OfStation selective s stream) event = station_sends selective moment s stream event
   sends_so key_of moment (OfStack m) event = stack_sends_so key_of moment m event
@@ -478,4 +479,4 @@ module _ (only : StepsOnly) where
   -- by what was told
   pub sent_so : SendsAreTold
   sent_so key_of moment end event list are =
-      sends_alike event (heard_in (end_step key_of moment end event).1) list are ∙ sym (sends_so key_of moment end event)
+      sends_alike event (told_outcomes_in (end_step key_of moment end event).1) list are ∙ sym (sends_so key_of moment end event)

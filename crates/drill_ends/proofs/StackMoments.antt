@@ -1,5 +1,6 @@
 -- A stack sees the moment of each call, and keeps it; and how it looks KMACs up matters at that moment alone.
 use Rattle.std.proofs.Common.{◌≡◌, ℕ, zero, suc, ◌≤◌, if◌then◌else◌, true, false, Bool, List, [], refl, ap, arith}
+use Rattle.hdlc_station_model.specs.Receiving.{is_some_octets}
 use Rattle.std.specs.Prelude.{◌&&◌, ◌==◌, max, Option, Some, None, is_some, Ok, Err}
 use Rattle.er_base.specs.declared.release.Release.{Release}
 use Rattle.er_base.specs.declared.cause.Cause.TheVariants.{User, BlockRefused, SetUpTimeSpent}
@@ -9,15 +10,15 @@ use Rattle.hdlc_frames.specs.Framing.{Verdict}
 use Rattle.hdlc_station_model.specs.Stations.{Deed as LinkDeed}
 use Rattle.t70_header.specs.Joining as joining
 use Rattle.x224_class2.specs.Tpdus.{Dr, Dc}
-use Rattle.x224_class2.specs.Transport.{Deed, Nothing, Called, Confirmed, Message, Disconnected}
+use Rattle.x224_class2.specs.Transport.{ReceptionDeed, Nothing, Called, Confirmed, Message, Disconnected}
 use Rattle.x224_class2.specs.Transport as transport
 use Rattle.x224_class2.specs.Refusals.{protocol_error}
 use Rattle.sapdu.specs.Spelling.{di_in}
 use Rattle.safety_automaton.specs.Keys.{no_keys}
 use Rattle.safety_automaton.specs.Reports.{Report, ToldAnswered, ToldConnected, ToldAccepted, ToldReleased, ToldIgnored, report_of}
-use Rattle.safety_automaton.specs.Safety.{Safety, ConnectRequest, Received, DataRequest, DisconnectRequest, SafetyOutcome, peer_flag, sent_by, step}
+use Rattle.safety_automaton.specs.Safety.{Safety, ConnectRequest, Received, DataRequest, DisconnectRequest, SafetyOutcome, peer_flag, octets_sent_in_outcome, step}
 use Rattle.er_end_model.specs.Layers.{Core, model}
-use Rattle.er_end_model.specs.Steps.{Finds, new_event, new_event_at, with_release, hand_tpdu, close_link, send_owed_answer, send_dr, answer_dr, end_after_di, on_safety_release, why_of, with_safety_step, is_some_octets, hand_text, accept_text, skip_message, Carrier, InCr, InCc, InDt, hand_answer, keep_message, on_safety_report, on_text, on_transport_deed, on_joined_block, is_ready, connect_with_text, on_link_up, on_link_told, on_link_deed, hand_next_tpdu, has_next_tpdu, hand_waiting_tpdus, most_offers, conclude_event, step_start, step_frame, step_send_unless, step_take, step_release, is_spent, di_of, on_expiry, step_tick, normal_disconnect}
+use Rattle.er_end_model.specs.Steps.{Finds, new_event, new_event_at, with_release, hand_tpdu, close_link, send_owed_answer, send_dr, answer_dr, end_after_di, on_safety_release, why_of, with_safety_step, hand_text, accept_text, skip_message, Carrier, InCr, InCc, InDt, hand_answer, keep_message, on_safety_report, on_text, on_transport_deed, on_joined_block, is_ready, connect_with_text, on_link_up, on_link_told, on_link_deed, hand_next_tpdu, has_next_tpdu, hand_waiting_tpdus, most_offers, conclude_event, step_start, step_frame, step_send_unless, step_take, step_release, is_spent, di_of, on_expiry, step_tick, normal_disconnect}
 
 -- ---- the moment
 
@@ -65,9 +66,9 @@ module _ (M : ℕ) where
   text_sees : (finds : Finds) (carrier : Carrier) (text : List ℕ) (x : Core) → At x → At (on_text model finds carrier text x)
   text_sees finds carrier text x h =
       let a : Safety × SafetyOutcome = step (finds x.moment) x.safe.safety (Received text) in
-      acts_see carrier (report_of a.1) (sent_by a.1) (with_safety_step model (Received text) a x) h
+      acts_see carrier (report_of a.1) (octets_sent_in_outcome a.1) (with_safety_step model (Received text) a x) h
 
-  does_see : (finds : Finds) (deed : Deed) (x : Core) → At x → At (on_transport_deed model finds deed x)
+  does_see : (finds : Finds) (deed : ReceptionDeed) (x : Core) → At x → At (on_transport_deed model finds deed x)
   does_see finds Nothing x h = h
   does_see finds (Called user) x h = text_sees finds InCr user x h
   does_see finds (Confirmed user) x h = text_sees finds InCc user x h
@@ -75,7 +76,7 @@ module _ (M : ℕ) where
   does_see finds (Disconnected user) x h = cut_off_sees (why_of (di_in user (peer_flag x.safe.safety))) x h
   does_see finds (transport.Refused sub reason) x h = departs_see (by_this_end 2 sub) reason [] x h
 
-  block_sees : (finds : Finds) (answer : joining.Answer) (x : Core) → At x → At (on_joined_block model finds answer x)
+  block_sees : (finds : Finds) (answer : joining.BlockJoiningResult) (x : Core) → At x → At (on_joined_block model finds answer x)
   block_sees finds (Ok None) x h = h
   block_sees finds (Ok (Some tpdu)) x h = does_see finds (model.deed x.upper tpdu) (record x { upper = model.hears x.upper tpdu }) h
   block_sees finds (Err fault) x h = departs_see (release_of BlockRefused) protocol_error [] x h
@@ -84,11 +85,11 @@ module _ (M : ℕ) where
   comes_up_sees x h =
       let a : Safety × SafetyOutcome = step no_keys x.safe.safety ConnectRequest in
       let y : Core = with_safety_step model ConnectRequest a x in
-      if_core At (model.may_connect x.upper && is_ready x.safe.safety.phase) (connect_with_text model (sent_by a.1) y) x
-      (if_core At (is_some_octets (sent_by a.1)) (record y { upper = model.connects y.upper (sent_by a.1) }) y h h) h
+      if_core At (model.may_connect x.upper && is_ready x.safe.safety.phase) (connect_with_text model (octets_sent_in_outcome a.1) y) x
+      (if_core At (is_some_octets (octets_sent_in_outcome a.1)) (record y { upper = model.connects y.upper (octets_sent_in_outcome a.1) }) y h h) h
 
   link_sees : (finds : Finds) (payload : Option (List ℕ)) (up : Bool) (released : Option Release) (x : Core) → At x → At (on_link_told model finds payload up released x)
-  link_sees finds (Some payload) up released x h = block_sees finds (joining.step x.joined payload).1 (record x { joined = (joining.step x.joined payload).0 }) h
+  link_sees finds (Some payload) up released x h = block_sees finds (joining.block_step x.joined payload).1 (record x { joined = (joining.block_step x.joined payload).0 }) h
   link_sees finds None true released x h = comes_up_sees x h
   link_sees finds None false (Some why) x h = h
   link_sees finds None false None x h = h
@@ -131,7 +132,7 @@ sends_see now user x =
     let a : Safety × SafetyOutcome = step no_keys y.safe.safety (DataRequest user) in
     let z : Core = with_safety_step model (DataRequest user) a y in
     let w : Core = record z { upper = model.sends z.upper user } in
-    concludes_see M (hand_text model (sent_by a.1) w) (says_see M (sent_by a.1) w refl)
+    concludes_see M (hand_text model (octets_sent_in_outcome a.1) w) (says_see M (octets_sent_in_outcome a.1) w refl)
 
 pub uses_see : (now : ℕ) (x : Core) → (step_take model now x).moment ≡ max x.moment now
 uses_see now x =
@@ -146,8 +147,8 @@ leaves_see now sub x =
     let y : Core = new_event_at model now x in
     let a : Safety × SafetyOutcome = step no_keys y.safe.safety (DisconnectRequest sub) in
     let z : Core = with_safety_step model (DisconnectRequest sub) a y in
-    if_core M (At M) (is_some y.released) y (send_dr model (release_of (User sub)) normal_disconnect (sent_by a.1) z) refl
-    (departs_see M (release_of (User sub)) normal_disconnect (sent_by a.1) z refl)
+    if_core M (At M) (is_some y.released) y (send_dr model (release_of (User sub)) normal_disconnect (octets_sent_in_outcome a.1) z) refl
+    (departs_see M (release_of (User sub)) normal_disconnect (octets_sent_in_outcome a.1) z refl)
 
 pub ticks_see : (now : ℕ) (x : Core) → (step_tick model now x).moment ≡ max x.moment now
 ticks_see now x =
@@ -163,9 +164,9 @@ module _ (f g : Finds) where
   text_alike : (carrier : Carrier) (text : List ℕ) (x : Core) → f x.moment ≡ g x.moment → on_text model f carrier text x ≡ on_text model g carrier text x
   text_alike carrier text x same =
       ap (λ (key_of : ℕ → ℕ → Option TripleKey).
-      let a = step key_of x.safe.safety (Received text) in on_safety_report model carrier (report_of a.1) (sent_by a.1) (with_safety_step model (Received text) a x)) same
+      let a = step key_of x.safe.safety (Received text) in on_safety_report model carrier (report_of a.1) (octets_sent_in_outcome a.1) (with_safety_step model (Received text) a x)) same
 
-  does_alike : (deed : Deed) (x : Core) → f x.moment ≡ g x.moment → on_transport_deed model f deed x ≡ on_transport_deed model g deed x
+  does_alike : (deed : ReceptionDeed) (x : Core) → f x.moment ≡ g x.moment → on_transport_deed model f deed x ≡ on_transport_deed model g deed x
   does_alike Nothing x same = refl
   does_alike (Called user) x same = text_alike InCr user x same
   does_alike (Confirmed user) x same = text_alike InCc user x same
@@ -173,14 +174,14 @@ module _ (f g : Finds) where
   does_alike (Disconnected user) x same = refl
   does_alike (transport.Refused sub reason) x same = refl
 
-  block_alike : (answer : joining.Answer) (x : Core) → f x.moment ≡ g x.moment → on_joined_block model f answer x ≡ on_joined_block model g answer x
+  block_alike : (answer : joining.BlockJoiningResult) (x : Core) → f x.moment ≡ g x.moment → on_joined_block model f answer x ≡ on_joined_block model g answer x
   block_alike (Ok None) x same = refl
   block_alike (Ok (Some tpdu)) x same = does_alike (model.deed x.upper tpdu) (record x { upper = model.hears x.upper tpdu }) same
   block_alike (Err fault) x same = refl
 
   link_alike : (payload : Option (List ℕ)) (up : Bool) (released : Option Release) (x : Core) → f x.moment ≡ g x.moment
       → on_link_told model f payload up released x ≡ on_link_told model g payload up released x
-  link_alike (Some payload) up released x same = block_alike (joining.step x.joined payload).1 (record x { joined = (joining.step x.joined payload).0 }) same
+  link_alike (Some payload) up released x same = block_alike (joining.block_step x.joined payload).1 (record x { joined = (joining.block_step x.joined payload).0 }) same
   link_alike None true released x same = refl
   link_alike None false (Some why) x same = refl
   link_alike None false None x same = refl

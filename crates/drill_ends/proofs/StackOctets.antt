@@ -7,23 +7,23 @@ use Rattle.er_base.specs.declared.release.Release.{Release}
 use Rattle.hdlc_frames.specs.Framing.{Verdict, frames_of}
 use Rattle.hdlc_frames.specs.Deframing as deframing
 use Rattle.hdlc_frames.specs.Deframing.{feeding_of, used_behind, has_verdicts}
-use Rattle.hdlc_frames.specs.Laws.{KeptStandsForStream, GoesOn}
-use Rattle.safety_automaton.specs.Keys.{Entry, key_at}
+use Rattle.hdlc_frames.specs.Laws.{KeptStandsForStream, StreamGoesOn}
+use Rattle.safety_automaton.specs.Keys.{KmacEntry, key_at}
 use Rattle.er_end_model.specs.Layers.{Core, model}
 use Rattle.er_end_model.specs.Steps.{Finds, new_event, new_event_at, on_frame, step_frame}
 use Rattle.hdlc_station_model.specs.Events.{news}
 use Rattle.er_end_model.specs.Ends.{End as Stack, Come, hears_each}
-use Rattle.drill_model.specs.Outcomes.{Outcome}
-use Rattle.drill_model.specs.StackEnds.{told_at, stack_told, stack_hear}
+use Rattle.drill_model.specs.Outcomes.{DrillOutcome}
+use Rattle.drill_model.specs.StackEnds.{outcomes_told_by_stack, stack_told, stack_hear}
 use Rattle.drill_model.specs.StackReports.{ReportsAt, IsOrderly, CallsReport}
 use Rattle.er_end.specs.KeptEnds.{KEnd, used_of, after_octets}
 use Rattle.er_end.specs.Standing.{EndStands, StepsAlike}
 use Rattle.drill_ends.specs.declared.told.Told.{Told}
 use Rattle.drill_ends.specs.declared.stack_call.Call.{Call}
-use Rattle.drill_ends.specs.Keys.{IsSteady}
+use Rattle.drill_ends.specs.Keys.{AreKeysSteady}
 use Rattle.drill_ends.specs.Tellings.{AreTold}
 use Rattle.drill_ends.specs.KeptStacks.{StandsStack}
-use Rattle.drill_ends.specs.StackEnds.{IsCall, TellsCall, StackDid, StackHeard, StackReads, StackReading}
+use Rattle.drill_ends.specs.StackEnds.{IsKeptCall, TellsCall, StackDid, StackHeard, StackReads, StackReading}
 use Rattle.drill_ends.proofs.StationCalls.{told_append}
 use Rattle.drill_ends.proofs.StationRows.{news_more, news_are}
 use Rattle.drill_ends.proofs.StackMoments.{comes_see, comes_alike, later_once, same_begun, begun_twice, begun_late}
@@ -42,8 +42,8 @@ stack_append : (f : Finds) (now : ℕ) (vs ws : List Verdict) (x : Core) → sta
 stack_append f now [] ws x = refl
 stack_append f now (v ∷ vs) ws x =
     let y : Core = step_frame model f now v x in
-    ap (λ (os : List Outcome). told_at y ++ os) (stack_append f now vs ws y)
-    ∙ sym (append_assoc (told_at y) (stack_told f now vs y) (stack_told f now ws (hears_each f now vs y)))
+    ap (λ (os : List DrillOutcome). outcomes_told_by_stack y ++ os) (stack_append f now vs ws y)
+    ∙ sym (append_assoc (outcomes_told_by_stack y) (stack_told f now vs y) (stack_told f now ws (hears_each f now vs y)))
 
 -- the moment is never below that of the event
 late_max : (m now n : ℕ) → n ≡ max m now → now ≤ n
@@ -69,7 +69,7 @@ begun_hears f now (v ∷ vs) y late = ap (λ (z : Core). new_event model (hears_
 
 begun_told : (f : Finds) (now : ℕ) (ws : List Verdict) (y : Core) → stack_told f now ws (new_event_at model now y) ≡ stack_told f now ws y
 begun_told f now [] y = refl
-begun_told f now (v ∷ vs) y = ap (λ (z : Core). told_at z ++ stack_told f now vs z) (begun_comes f now v y)
+begun_told f now (v ∷ vs) y = ap (λ (z : Core). outcomes_told_by_stack z ++ stack_told f now vs z) (begun_comes f now v y)
 
 -- ---- one call
 
@@ -87,7 +87,7 @@ released_hears f now (v ∷ vs) x why is =
     let y : Core = new_event_at model now x in
     let still : step_frame model f now v y ≡ y = begun_comes f now v x ∙ idle x why is in
     let rest = released_hears f now vs x why is in
-    (ap (hears_each f now vs) still ∙ rest.0, ap (λ (z : Core). told_at z ++ stack_told f now vs z) still ∙ rest.1)
+    (ap (hears_each f now vs) still ∙ rest.0, ap (λ (z : Core). outcomes_told_by_stack z ++ stack_told f now vs z) still ∙ rest.1)
   where
     idle : (x : Core) (why : Release) → x.released ≡ Some why → step_frame model f now v x ≡ new_event_at model now x
     idle x why is = rw is refl
@@ -100,7 +100,7 @@ module _ (calls : CallsReport) (f : Finds) (now : ℕ) (x : Core) (h : IsOrderly
   abbrev Good : List Verdict → Type 0
   Good ws =
       let y = hears_each f now ws (new_event_at model now x) in
-      IsOrderly y × ReportsAt y × (y.moment ≡ max x.moment now) × (stack_told f now ws (new_event_at model now x) ≡ told_at y)
+      IsOrderly y × ReportsAt y × (y.moment ≡ max x.moment now) × (stack_told f now ws (new_event_at model now x) ≡ outcomes_told_by_stack y)
 
   few_good : (ws : List Verdict) → FewClose x ws → Good ws
   few_good ws (inl none) = subst Good (sym none) (begun_orderly now x h, begun_reports now x, refl, refl)
@@ -109,11 +109,11 @@ module _ (calls : CallsReport) (f : Finds) (now : ℕ) (x : Core) (h : IsOrderly
       let z : Core = new_event_at model now x in
       let y : Core = step_frame model f now v z in
       let r = (calls z (begun_orderly now x h)).1 f now v in
-      subst Good (sym one.1) (r.0, r.1, comes_see f now v z ∙ later_once x.moment now, append-nil (told_at y))
+      subst Good (sym one.1) (r.0, r.1, comes_see f now v z ∙ later_once x.moment now, append-nil (outcomes_told_by_stack y))
   few_good ws (inr (inr gone)) =
       let z : Core = new_event_at model now x in
       let idle = released_hears f now ws x gone.0 gone.1 in
-      let at : Core → Type 0 = λ y. IsOrderly y × ReportsAt y × (y.moment ≡ max x.moment now) × ([] ≡ told_at y) in
+      let at : Core → Type 0 = λ y. IsOrderly y × ReportsAt y × (y.moment ≡ max x.moment now) × ([] ≡ outcomes_told_by_stack y) in
       let base : at z = (begun_orderly now x h, begun_reports now x, refl, refl) in
       let there : at (hears_each f now ws z) = subst at (sym idle.0) base in
       (there.0, there.1, there.2, idle.1 ∙ there.3)
@@ -151,7 +151,7 @@ used_some stream (x ∷ xs) some = some_if (has_verdicts (frames_of (stream ++ x
 
 pub call_within : (k : KEnd) (octets : List ℕ) → used_of k octets ≤ length octets
 unfolding used_of feeding_of
-call_within k octets = within_if (is_some k.core.released) (length octets) (used_behind (deframing.stream_of k.deframer) octets) (used_within (deframing.stream_of k.deframer) octets)
+call_within k octets = within_if (is_some k.core.released) (length octets) (used_behind (deframing.stream_behind_kept k.deframer) octets) (used_within (deframing.stream_behind_kept k.deframer) octets)
   where
     within_if : (b : Bool) (n m : ℕ) → m ≤ n → (if b then n else m) ≤ n
     within_if true n m below = omega arith
@@ -160,7 +160,7 @@ call_within k octets = within_if (is_some k.core.released) (length octets) (used
 pub call_moves : (k : KEnd) (octets : List ℕ) → 0 < length octets → 0 < used_of k octets
 unfolding used_of feeding_of
 call_moves k octets some =
-    some_if (is_some k.core.released) (length octets) (used_behind (deframing.stream_of k.deframer) octets) some (used_some (deframing.stream_of k.deframer) octets some)
+    some_if (is_some k.core.released) (length octets) (used_behind (deframing.stream_behind_kept k.deframer) octets) some (used_some (deframing.stream_behind_kept k.deframer) octets some)
   where
     some_if : (b : Bool) (n m : ℕ) → 0 < n → 0 < m → 0 < (if b then n else m)
     some_if true n m x y = x
@@ -171,7 +171,7 @@ unfolding used_of
 live_used k octets live = rw live refl
 
 -- a call closes few frames
-closes_few : GoesOn → (k : KEnd) (n : Stack) (octets : List ℕ) → EndStands k n → FewClose n.core (news n.stream (take (used_of k octets) octets))
+closes_few : StreamGoesOn → (k : KEnd) (n : Stack) (octets : List ℕ) → EndStands k n → FewClose n.core (news n.stream (take (used_of k octets) octets))
 closes_few law k n octets h = by_release n.core.released refl
   where
     of_verdict : (verdict : Option Verdict) (ws : List Verdict) → ws ≡ option_to_list verdict → FewClose n.core ws
@@ -184,7 +184,7 @@ closes_few law k n octets h = by_release n.core.released refl
         let kept_live : k.core.released ≡ None = sym (ap (λ (x : Core). x.released) h.core.same) ∙ live in
         let fed : k.deframer ≡ deframing.kept_of n.stream = h.fed live in
         let used : used_of k octets ≡ (feeding_of (deframing.kept_of n.stream) octets).used =
-        live_used k octets kept_live ∙ ap (λ (d : deframing.Kept). (feeding_of d octets).used) fed in
+        live_used k octets kept_live ∙ ap (λ (d : deframing.KeptDeframer). (feeding_of d octets).used) fed in
         let is : news n.stream (take (used_of k octets) octets) ≡ option_to_list (feeding_of (deframing.kept_of n.stream) octets).verdict =
         ap (λ (u : ℕ). news n.stream (take u octets)) used
         ∙ news_are n.stream (take (feeding_of (deframing.kept_of n.stream) octets).used octets) (option_to_list (feeding_of (deframing.kept_of n.stream) octets).verdict)
@@ -204,13 +204,13 @@ record Read (f : Finds) (now : ℕ) (from : Stack) (octets : List ℕ) (new : KE
   grew : after ≡ before ++ list
   told : AreTold (stack_told f now (news from.stream octets) (new_event_at model now from.core)) list
 
-module _ (steps : StepsAlike) (calls : CallsReport) (law : GoesOn) (keys : List Entry) (steady : IsSteady keys) (now : ℕ) (low : now ≤ latest) where
+module _ (steps : StepsAlike) (calls : CallsReport) (law : StreamGoesOn) (keys : List KmacEntry) (steady : AreKeysSteady keys) (now : ℕ) (low : now ≤ latest) where
   abbrev finds : Finds
   finds n = key_at keys now
 
   reads_once : (old new : KEnd) (from : Stack) (octets : List ℕ) (used : ℕ) (call : Call) (before after : List Told)
       → EndStands old from → IsOrderly from.core → from.core.moment ≤ latest → used ≡ used_of old octets → new ≡ after_octets (key_at keys) now octets old
-      → IsCall call new.core → TellsCall new call before after → Read finds now from (take used octets) new before after
+      → IsKeptCall call new.core → TellsCall new call before after → Read finds now from (take used octets) new before after
   reads_once old new from octets used call before after h orderly most used_is new_is c t =
       let piece : List ℕ = take (used_of old octets) octets in
       let ws : List Verdict = news from.stream piece in
@@ -232,7 +232,7 @@ module _ (steps : StepsAlike) (calls : CallsReport) (law : GoesOn) (keys : List 
         moment = most_max from.core.moment now next.core.moment most low (ap (λ (y : Core). y.moment) alike ∙ good.2);
         list = tells.list;
         grew = tells.grew;
-        told = subst (λ (os : List Outcome). AreTold os tells.list) (ap told_at alike ∙ sym good.3) tells.told;
+        told = subst (λ (os : List DrillOutcome). AreTold os tells.list) (ap outcomes_told_by_stack alike ∙ sym good.3) tells.told;
       })
 
   -- the first call of an event
@@ -250,7 +250,7 @@ module _ (steps : StepsAlike) (calls : CallsReport) (law : GoesOn) (keys : List 
         moment_is = r.moment;
         list = r.list;
         grew = r.grew;
-        told = subst (λ (os : List Outcome). AreTold os r.list) (ap₂ (λ (vs : List Verdict) (x : Core). stack_told finds now vs x) same_news begun) r.told;
+        told = subst (λ (os : List DrillOutcome). AreTold os r.list) (ap₂ (λ (vs : List Verdict) (x : Core). stack_told finds now vs x) same_news begun) r.told;
       }
 
   -- those behind others
@@ -282,12 +282,12 @@ module _ (steps : StepsAlike) (calls : CallsReport) (law : GoesOn) (keys : List 
         moment_is = r.moment;
         list = h.list ++ r.list;
         grew = r.grew ∙ ap (λ (ts : List Told). ts ++ r.list) h.grew ∙ append_assoc before h.list r.list;
-        told = subst (λ (os : List Outcome). AreTold os (h.list ++ r.list)) whole_told
-            (told_append (stack_told finds now vs x) (stack_told finds now ws y) h.list r.list h.told (subst (λ (os : List Outcome). AreTold os r.list) told r.told));
+        told = subst (λ (os : List DrillOutcome). AreTold os (h.list ++ r.list)) whole_told
+            (told_append (stack_told finds now vs x) (stack_told finds now ws y) h.list r.list h.told (subst (λ (os : List DrillOutcome). AreTold os r.list) told r.told));
       }
 
   pub call_reads : KeptStandsForStream → (old new : KEnd) (octets : List ℕ) (used : ℕ) (call : Call) (between after : List Told)
-      → used ≡ used_of old octets → new ≡ after_octets (key_at keys) now octets old → IsCall call new.core → TellsCall new call between after
+      → used ≡ used_of old octets → new ≡ after_octets (key_at keys) now octets old → IsKeptCall call new.core → TellsCall new call between after
       → StackReads keys now old (take used octets) new between after
   call_reads kept_law old new octets used call between after used_is new_is c t = (
     λ m s. reads_first old new m (take used octets) between after s
@@ -298,7 +298,7 @@ module _ (steps : StepsAlike) (calls : CallsReport) (law : GoesOn) (keys : List 
 
 -- ---- a piece with any number of frames
 
-pub reading_goes_on : (keys : List Entry) (now : ℕ) (m : Stack) (old new : KEnd) (octets rest back : List ℕ) (used : ℕ) (before between after : List Told)
+pub reading_goes_on : (keys : List KmacEntry) (now : ℕ) (m : Stack) (old new : KEnd) (octets rest back : List ℕ) (used : ℕ) (before between after : List Told)
     → back ≡ drop used rest → StackReading keys now m octets rest old before between → StackReads keys now old (take used rest) new between after
     → StackReading keys now m octets back new before after
 reading_goes_on keys now m old new octets rest back used before between after back_is r one =
@@ -310,7 +310,7 @@ reading_goes_on keys now m old new octets rest back used before between after ba
       heard = one.1 m r.given before r.heard;
     }
 
-pub reading_begins : (keys : List Entry) (now : ℕ) (m : Stack) (old new : KEnd) (octets back : List ℕ) (used : ℕ) (before after : List Told)
+pub reading_begins : (keys : List KmacEntry) (now : ℕ) (m : Stack) (old new : KEnd) (octets back : List ℕ) (used : ℕ) (before after : List Told)
     → back ≡ drop used octets → StandsStack old m → StackReads keys now old (take used octets) new before after
     → StackReading keys now m octets back new before after
 reading_begins keys now m old new octets back used before after back_is s one =
@@ -320,7 +320,7 @@ reading_begins keys now m old new octets back used before after back_is s one =
       heard = one.0 m s;
     }
 
-pub reading_ends : (keys : List Entry) (now : ℕ) (m : Stack) (new : KEnd) (octets rest : List ℕ) (before after : List Told) → rest ≡ []
+pub reading_ends : (keys : List KmacEntry) (now : ℕ) (m : Stack) (new : KEnd) (octets rest : List ℕ) (before after : List Told) → rest ≡ []
     → StackReading keys now m octets rest new before after → StackDid new before after (stack_hear (λ n. key_at keys now) now octets m)
 reading_ends keys now m new octets rest before after none r =
     let h = r.heard in

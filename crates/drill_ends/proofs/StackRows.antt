@@ -7,11 +7,11 @@ use Rattle.er_end_model.specs.Outcomes.{SendRefusal}
 use Rattle.er_end_model.specs.Layers.{Core, model}
 use Rattle.er_end_model.specs.Steps.{new_event, new_event_at, refusal_of, is_connected, on_start, on_send, step_send_unless, on_take, step_take, on_release, on_tick, step_tick, has_next_tpdu, hand_next_tpdu, hand_waiting_tpdus, most_offers, send_owed_answer, conclude_event}
 use Rattle.er_end_model.specs.Ends.{End as Stack, Start, Send, Take, Leave, Tick, finds_expired}
-use Rattle.drill_model.specs.Outcomes.{Outcome, Took, NothingToTake}
-use Rattle.drill_model.specs.StackEnds.{told_at, stack_start, told_unless, stack_send, told_of_take, stack_take, stack_release, stack_tick}
+use Rattle.drill_model.specs.Outcomes.{DrillOutcome, Took, NothingToTake}
+use Rattle.drill_model.specs.StackEnds.{outcomes_told_by_stack, stack_start, told_unless, stack_send, told_of_take, stack_take, stack_release, stack_tick}
 use Rattle.drill_model.specs.StackReports.{ReportsAt, IsOrderly, CallsReport}
 use Rattle.er_end.specs.Inboxes.{first_in}
-use Rattle.er_end.specs.KeptEnds.{KEnd, after_start, refusal, after_send, after_take, after_release, after_tick, waiting_in}
+use Rattle.er_end.specs.KeptEnds.{KEnd, after_start, refusal_of_send, after_send, after_take, after_release, after_tick, waiting_in}
 use Rattle.er_end.specs.Standing.{EndStands, StepsAlike, over}
 use Rattle.drill_ends.specs.declared.told.Told.{Told}
 use Rattle.drill_ends.specs.declared.told.Told.TheVariants as told
@@ -20,7 +20,7 @@ use Rattle.drill_ends.specs.declared.stack_call.Call.{Call}
 use Rattle.drill_ends.specs.Refusals.{shown_refusal}
 use Rattle.drill_ends.specs.Tellings.{AreTold}
 use Rattle.drill_ends.specs.KeptStacks.{StandsStack}
-use Rattle.drill_ends.specs.StackEnds.{IsCall, TellsCall, StackDid, StackDoes}
+use Rattle.drill_ends.specs.StackEnds.{IsKeptCall, TellsCall, StackDid, StackDoes}
 use Rattle.drill_ends.proofs.StationCalls.{told_append}
 use Rattle.drill_ends.proofs.StationRows.{expired_told}
 use Rattle.drill_ends.proofs.StackMoments.{starts_see, sends_see, uses_see, leaves_see, ticks_see, same_begun}
@@ -51,8 +51,8 @@ led : (old new : KEnd) (m : Stack) (s : StandsStack old m) (now : ℕ) (g : Core
     → EndStands new (record (s.at) { core = g (new_event_at model now s.at.core) })
     → IsOrderly (g (new_event_at model now s.at.core)) × ReportsAt (g (new_event_at model now s.at.core))
     → (g (new_event_at model now s.at.core)).moment ≡ max s.at.core.moment now
-    → IsCall call new.core → TellsCall new call before after
-    → StackDid new before after (record m { core = g (new_event_at model now m.core) }, told_at (g (new_event_at model now m.core)))
+    → IsKeptCall call new.core → TellsCall new call before after
+    → StackDid new before after (record m { core = g (new_event_at model now m.core) }, outcomes_told_by_stack (g (new_event_at model now m.core)))
 led old new m s now g call before after low stands good sees c t =
     let n : Stack = record (s.at) { core = g (new_event_at model now s.at.core) } in
     let tells : Tells n.core before after = call_tells new n call before after stands good.1 c t in
@@ -60,23 +60,23 @@ led old new m s now g call before after low stands good sees c t =
       stands = went old new m s now g low stands good.0 sees;
       list = tells.list;
       grew = tells.grew;
-      told = subst (λ (y : Core). AreTold (told_at (g y)) tells.list) (same_begun now s.at.core m.core s.same) tells.told;
+      told = subst (λ (y : Core). AreTold (outcomes_told_by_stack (g y)) tells.list) (same_begun now s.at.core m.core s.same) tells.told;
     }
 
 module _ (steps : StepsAlike) (calls : CallsReport) where
-  pub starts_so : (old : KEnd) (now : ℕ) (call : Call) (before after : List Told) → now ≤ latest → IsCall call (after_start now old).core
+  pub starts_so : (old : KEnd) (now : ℕ) (call : Call) (before after : List Told) → now ≤ latest → IsKeptCall call (after_start now old).core
       → TellsCall (after_start now old) call before after → StackDoes old (after_start now old) before after (stack_start now)
   starts_so old now call before after low c t m s =
       led old (after_start now old) m s now (on_start model) call before after low (steps now Start old s.at s.stands).0 ((calls s.at.core s.orderly).0 now)
       (starts_see now s.at.core) c t
 
-  pub releases_so : (old : KEnd) (now sub : ℕ) (call : Call) (before after : List Told) → now ≤ latest → IsCall call (after_release now sub old).core
+  pub releases_so : (old : KEnd) (now sub : ℕ) (call : Call) (before after : List Told) → now ≤ latest → IsKeptCall call (after_release now sub old).core
       → TellsCall (after_release now sub old) call before after → StackDoes old (after_release now sub old) before after (stack_release now sub)
   releases_so old now sub call before after low c t m s =
       led old (after_release now sub old) m s now (on_release model sub) call before after low (steps now (Leave sub) old s.at s.stands).0 ((calls s.at.core s.orderly).4 now sub)
       (leaves_see now sub s.at.core) c t
 
-  pub ticks_so : (old : KEnd) (now : ℕ) (call : Call) (before after : List Told) → now ≤ latest → IsCall call (after_tick now old).core
+  pub ticks_so : (old : KEnd) (now : ℕ) (call : Call) (before after : List Told) → now ≤ latest → IsKeptCall call (after_tick now old).core
       → TellsCall (after_tick now old) call before after → StackDoes old (after_tick now old) before after (stack_tick now)
   ticks_so old now call before after low c t m s =
       let d = led old (after_tick now old) m s now (on_tick model) call before after low (steps now Tick old s.at s.stands).0 ((calls s.at.core s.orderly).5 now)
@@ -85,14 +85,14 @@ module _ (steps : StepsAlike) (calls : CallsReport) where
         stands = d.stands;
         list = d.list;
         grew = d.grew;
-        told = expired_told (finds_expired (new_event_at model now m.core)) (told_at (step_tick model now m.core)) d.list d.told;
+        told = expired_told (finds_expired (new_event_at model now m.core)) (outcomes_told_by_stack (step_tick model now m.core)) d.list d.told;
       }
 
   -- ---- a send
 
   module _ (counts : CountsStand) where
-    refused_alike : (k : KEnd) (n : Stack) (user : List ℕ) → EndStands k n → refusal user k ≡ refusal_of model user n.core
-    unfolding refusal
+    refused_alike : (k : KEnd) (n : Stack) (user : List ℕ) → EndStands k n → refusal_of_send user k ≡ refusal_of model user n.core
+    unfolding refusal_of_send
     refused_alike k n user h =
         let same : n.core ≡ over k.core n.core.line n.core.upper = h.core.same in
         let released : k.core.released ≡ n.core.released = sym (ap (λ (x : Core). x.released) same) in
@@ -100,11 +100,11 @@ module _ (steps : StepsAlike) (calls : CallsReport) where
         let waits : length k.core.upper.transport.waiting ≡ model.waiting n.core.upper = (counts k.core.upper.transport n.core.upper.transport h.core.upper.transport).1 in
         rw (released, connected, waits) refl
 
-    refused_here : (old : KEnd) (m : Stack) (user : List ℕ) (s : StandsStack old m) → refusal user old ≡ refusal_of model user m.core
+    refused_here : (old : KEnd) (m : Stack) (user : List ℕ) (s : StandsStack old m) → refusal_of_send user old ≡ refusal_of model user m.core
     refused_here old m user s = refused_alike old s.at user s.stands ∙ ap (refusal_of model user) s.same
 
-    pub sends_so : (old : KEnd) (now : ℕ) (user : List ℕ) (call : Call) (before after : List Told) → now ≤ latest → refusal user old ≡ None
-        → IsCall call (after_send now user old).core → TellsCall (after_send now user old) call before after
+    pub sends_so : (old : KEnd) (now : ℕ) (user : List ℕ) (call : Call) (before after : List Told) → now ≤ latest → refusal_of_send user old ≡ None
+        → IsKeptCall call (after_send now user old).core → TellsCall (after_send now user old) call before after
         → StackDoes old (after_send now user old) before after (stack_send now user)
     sends_so old now user call before after low none c t m s =
         let new : KEnd = after_send now user old in
@@ -116,7 +116,7 @@ module _ (steps : StepsAlike) (calls : CallsReport) where
         (sym there)
         (led old new m s now (on_send model user) call before after low stands ((calls s.at.core s.orderly).2 now user) (sends_see now user s.at.core) c t)
 
-    pub refuses_so : (old : KEnd) (now : ℕ) (user : List ℕ) (why : Refusal) (is : SendRefusal) (before : List Told) → refusal user old ≡ Some is
+    pub refuses_so : (old : KEnd) (now : ℕ) (user : List ℕ) (why : Refusal) (is : SendRefusal) (before : List Told) → refusal_of_send user old ≡ Some is
         → shown_refusal why ≡ is → StackDoes old (after_send now user old) before (before ++ told.Refused why ∷ []) (stack_send now user)
     refuses_so old now user why is before some shown m s =
         let new : KEnd = after_send now user old in
@@ -187,7 +187,7 @@ module _ (steps : StepsAlike) (calls : CallsReport) where
       let stands : EndStands new n = (steps now Take old s.at s.stands).0 in
       let same : n.core ≡ over new.core n.core.line n.core.upper = stands.core.same in
       let quiet : Untold n.core = uses_untold now s.at.core in
-      let c : IsCall call new.core = record {
+      let c : IsKeptCall call new.core = record {
         connected = connected ∙ sym quiet.0 ∙ ap (λ (x : Core). x.connected) same;
         accepted = accepted ∙ sym quiet.2 ∙ stands.core.upper.news;
         released = released ∙ sym quiet.1 ∙ ap (λ (x : Core). x.leaves) same;
@@ -201,8 +201,8 @@ module _ (steps : StepsAlike) (calls : CallsReport) where
         stands = d.stands;
         list = told.Took text ∷ d.list;
         grew = d.grew ∙ append_assoc before (told.Took text ∷ []) d.list;
-        told = subst (λ (o : Option (List ℕ)). AreTold (told_of_take o ++ told_at (step_take model now m.core)) (told.Took text ∷ d.list)) (sym there)
-            (told_append (Took text ∷ []) (told_at (step_take model now m.core)) (told.Took text ∷ []) d.list (refl, tt) d.told);
+        told = subst (λ (o : Option (List ℕ)). AreTold (told_of_take o ++ outcomes_told_by_stack (step_take model now m.core)) (told.Took text ∷ d.list)) (sym there)
+            (told_append (Took text ∷ []) (outcomes_told_by_stack (step_take model now m.core)) (told.Took text ∷ []) d.list (refl, tt) d.told);
       }
 
   uses_nothing : (now : ℕ) (x : Core) → model.untaken x.upper ≡ 0 → step_take model now x ≡ new_event_at model now x
@@ -214,11 +214,11 @@ module _ (steps : StepsAlike) (calls : CallsReport) where
       let on_release = none_left s.at.core.upper.accepted s.at.core.upper.used (waiting_in old) s.stands.core.upper.waits none in
       let there : model.oldest m.core.upper ≡ None = sym (ap (λ (x : Core). model.oldest x.upper) s.same) ∙ on_release.0 in
       let untaken : model.untaken m.core.upper ≡ 0 = sym (ap (λ (x : Core). model.untaken x.upper) s.same) ∙ on_release.1 in
-      let quiet : told_at (step_take model now m.core) ≡ [] = ap told_at (uses_nothing now m.core untaken) in
+      let quiet : outcomes_told_by_stack (step_take model now m.core) ≡ [] = ap outcomes_told_by_stack (uses_nothing now m.core untaken) in
       record {
         stands = went old (after_take now old) m s now (on_take model) low (steps now Take old s.at s.stands).0 ((calls s.at.core s.orderly).3 now).0 (uses_see now s.at.core);
         list = told.NothingToTake ∷ [];
         grew = refl;
-        told = subst (λ (o : Option (List ℕ)). AreTold (told_of_take o ++ told_at (step_take model now m.core)) (told.NothingToTake ∷ [])) (sym there)
-            (subst (λ (os : List Outcome). AreTold (NothingToTake ∷ os) (told.NothingToTake ∷ [])) (sym quiet) (refl, tt));
+        told = subst (λ (o : Option (List ℕ)). AreTold (told_of_take o ++ outcomes_told_by_stack (step_take model now m.core)) (told.NothingToTake ∷ [])) (sym there)
+            (subst (λ (os : List DrillOutcome). AreTold (NothingToTake ∷ os) (told.NothingToTake ∷ [])) (sym quiet) (refl, tt));
       }

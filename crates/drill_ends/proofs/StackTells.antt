@@ -4,7 +4,7 @@ use Rattle.er_base.specs.declared.release.Release.{Release}
 use Rattle.des_block.specs.declared.triple_key.TripleKey.{TripleKey}
 use Rattle.hdlc_station_model.specs.Stations.{Station}
 use Rattle.hdlc_station_model.specs.Events.{said_octets}
-use Rattle.safety_automaton.specs.Laws.{keys_of}
+use Rattle.safety_automaton.specs.Laws.{session_keys_of_outcome}
 use Rattle.safety_automaton.specs.Reports.{KeptSafe}
 use Rattle.safety_automaton.specs.Safety.{SafetyOutcome, SentAu1, SentAu2, SentAu3, SentAr, ReceivedAr, AcceptedDt, SentDt, Refused, ReleasedLocally, ReleasedByPeer, NothingDone, sealed_by, verified_by, session_in}
 use Rattle.safety_pair_laws.specs.Facts.{heard_in, facts_by}
@@ -12,7 +12,7 @@ use Rattle.er_end_model.specs.Layers.{Spoken, Core}
 use Rattle.er_end_model.specs.Ends.{End as Stack}
 use Rattle.drill_model.specs.Outcomes.{OfSafety, Frame as FrameOut}
 use Rattle.drill_model.specs.StationEnds.{if_released}
-use Rattle.drill_model.specs.StackEnds.{facts_told, told_at}
+use Rattle.drill_model.specs.StackEnds.{facts_told, outcomes_told_by_stack}
 use Rattle.drill_model.specs.StackReports.{peer_by, user_by, Reports, ReportsAt}
 use Rattle.er_end.specs.KeptEnds.{KEnd}
 use Rattle.er_end.specs.Standing.{EndStands, over}
@@ -21,7 +21,7 @@ use Rattle.drill_ends.specs.declared.stack_call.Call.{Call}
 use Rattle.drill_ends.specs.Tellings.{AreTold}
 use Rattle.drill_ends.specs.SafeEnds.{checked_text, told_sealed}
 use Rattle.drill_ends.specs.StationEnds.{told_released, told_frames}
-use Rattle.drill_ends.specs.StackEnds.{IsCall, told_checked, told_safety, TellsCall}
+use Rattle.drill_ends.specs.StackEnds.{IsKeptCall, told_checked, told_safety, TellsCall}
 use Rattle.drill_ends.proofs.StationCalls.{told_append, released_told, frames_told}
 
 -- ---- the step of the safety side
@@ -30,7 +30,7 @@ abbrev told_by_step : (sealed verified : Option (List ℕ)) → (connected : Opt
 told_by_step sealed verified connected news session = told_checked connected news (checked_text verified session) ++ told_sealed sealed session
 
 step_told : (heard : List ℕ) (o : SafetyOutcome) (sealed verified : Option (List ℕ)) (connected : Option ℕ) (news : Option (List ℕ)) (session : Option TripleKey)
-    → sealed ≡ sealed_by o → verified ≡ verified_by o → connected ≡ peer_by o → news ≡ user_by o → ((key : TripleKey) → keys_of o ≡ Some key → session ≡ Some key)
+    → sealed ≡ sealed_by o → verified ≡ verified_by o → connected ≡ peer_by o → news ≡ user_by o → ((key : TripleKey) → session_keys_of_outcome o ≡ Some key → session ≡ Some key)
     → AreTold (map OfSafety (facts_by heard o)) (told_by_step sealed verified connected news session)
 step_told heard (SentAu1 octets) sealed verified connected news session s v c n k = rw (s, v) tt
 step_told heard (SentAu2 key text octets) sealed verified connected news session s v c n k = rw (s, v, k key refl) (refl, tt)
@@ -60,9 +60,9 @@ facts_are_told (Some s) safe connected news r =
 pub record Tells (x : Core) (before now : List Told) : Type 0 where
   pub list : List Told
   pub grew : now ≡ before ++ list
-  pub told : AreTold (told_at x) list
+  pub told : AreTold (outcomes_told_by_stack x) list
 
-pub call_tells : (k : KEnd) (m : Stack) (call : Call) (before now : List Told) → EndStands k m → ReportsAt m.core → IsCall call k.core → TellsCall k call before now
+pub call_tells : (k : KEnd) (m : Stack) (call : Call) (before now : List Told) → EndStands k m → ReportsAt m.core → IsKeptCall call k.core → TellsCall k call before now
     → Tells m.core before now
 call_tells k m call before now h r c t =
     let line : Station = m.core.line in

@@ -12,31 +12,31 @@ use Rattle.hdlc_station_model.specs.Stations.{Station, Deed, no_deed, settled}
 use Rattle.hdlc_station_model.specs.Sending.{waiting}
 use Rattle.hdlc_station_model.specs.Calls.{closes, hands, finishes}
 use Rattle.hdlc_station_model.specs.Events.{said_octets, quits}
-use Rattle.hdlc_balanced.specs.Kept.{texts}
+use Rattle.hdlc_balanced.specs.Kept.{octets_of_sent_frames}
 use Rattle.er_end_model.specs.Outcomes.{RefusedFull}
-use Rattle.drill_model.specs.Outcomes.{Outcome, Arrived, Frame as FrameOut}
-use Rattle.drill_model.specs.StationEnds.{if_up, if_arrived, all_arrived, if_released, told_by, station_and_told, refusal_of, handed_unless}
+use Rattle.drill_model.specs.Outcomes.{DrillOutcome, Arrived, Frame as FrameOut}
+use Rattle.drill_model.specs.StationEnds.{if_up, if_arrived, all_arrived, if_released, outcomes_told_by_station, station_and_told, payload_refusal_of_station, handed_unless}
 use Rattle.drill_ends.specs.declared.told.Told.{Told}
 use Rattle.drill_ends.specs.declared.told.Told.TheVariants as told
 use Rattle.drill_ends.specs.declared.refusal.Refusal.TheVariants as refusal
-use Rattle.drill_ends.specs.Tellings.{EachTold, AreTold, heard_of, heard_in}
+use Rattle.drill_ends.specs.Tellings.{EachTold, AreTold, told_outcomes_of, told_outcomes_in}
 use Rattle.drill_ends.specs.declared.either_station.EitherStation.{EitherStation}
 use Rattle.drill_ends.specs.declared.either_station.EitherStation.TheVariants as either
-use Rattle.drill_ends.specs.EitherStations.{Keeps, StandsInCall}
+use Rattle.drill_ends.specs.EitherStations.{KeepsStationOfKind, StandsInCall}
 use Rattle.drill_ends.specs.KeptStations.{StandsQuiet}
 use Rattle.drill_ends.specs.StationEnds.{told_up, told_arrived, told_payloads, told_released, told_deed, told_frames, TellsFrames, CallDid}
 
 -- ---- what is told one behind another
 
-each_append : (os ps : List Outcome) (ts us : List Told) → EachTold os ts → EachTold ps us → EachTold (os ++ ps) (ts ++ us)
+each_append : (os ps : List DrillOutcome) (ts us : List Told) → EachTold os ts → EachTold ps us → EachTold (os ++ ps) (ts ++ us)
 each_append [] ps [] us a b = b
 each_append [] ps (t ∷ ts) us a b = absurd a
 each_append (o ∷ os) ps [] us a b = absurd a
 each_append (o ∷ os) ps (t ∷ ts) us a b = (a.0, each_append os ps ts us a.1 b)
 
-pub told_append : (os ps : List Outcome) (ts us : List Told) → AreTold os ts → AreTold ps us → AreTold (os ++ ps) (ts ++ us)
+pub told_append : (os ps : List DrillOutcome) (ts us : List Told) → AreTold os ts → AreTold ps us → AreTold (os ++ ps) (ts ++ us)
 told_append os ps ts us a b =
-    subst (λ (xs : List Outcome). EachTold xs (ts ++ us)) (sym (flat_map-append heard_of os ps)) (each_append (heard_in os) (heard_in ps) ts us a b)
+    subst (λ (xs : List DrillOutcome). EachTold xs (ts ++ us)) (sym (flat_map-append told_outcomes_of os ps)) (each_append (told_outcomes_in os) (told_outcomes_in ps) ts us a b)
 
 -- ---- one call
 
@@ -64,7 +64,7 @@ pub frames_told : (calling extended : Bool) (frames : List Frame) → AreTold (m
 frames_told calling extended [] = tt
 frames_told calling extended (f ∷ frames) = (refl, frames_told calling extended frames)
 
-call_told : (t : Station) → AreTold (told_by t) (told_deed t.deed ++ told_frames t.calling t.extended t.said)
+call_told : (t : Station) → AreTold (outcomes_told_by_station t) (told_deed t.deed ++ told_frames t.calling t.extended t.said)
 call_told t =
     told_append ((if_up t.deed.up ++ all_arrived t.deed) ++ if_released t.deed.released) (map FrameOut (said_octets t))
     (told_deed t.deed) (told_frames t.calling t.extended t.said)
@@ -74,7 +74,7 @@ call_told t =
     (frames_told t.calling t.extended t.said)
 
 -- what is kept says nothing of the call
-keeps_settled : (k : EitherStation) (selective : Bool) (s : Station) → Keeps k selective s → Keeps k selective (settled s)
+keeps_settled : (k : EitherStation) (selective : Bool) (s : Station) → KeepsStationOfKind k selective s → KeepsStationOfKind k selective (settled s)
 keeps_settled (either.GoBack k) true s h = absurd h
 keeps_settled (either.GoBack k) false s h = h
 keeps_settled (either.Selective k) true s h = record { core = h.core; behind = h.behind; no_gap = h.no_gap }
@@ -88,7 +88,7 @@ module _ (selective : Bool) where
     order = h.order;
     given = h.given;
     deed = h.deed;
-    text = empty ∙ sym (ap (texts s.calling s.extended) h.said);
+    text = empty ∙ sym (ap (octets_of_sent_frames s.calling s.extended) h.said);
   }
 
   -- and behind it: what the call told, and then its frames
@@ -122,7 +122,7 @@ nothing_told before = sym (append-nil before)
 
 -- ---- the user releases
 
-keeps_quit : (k : EitherStation) (selective : Bool) (sub : ℕ) (s : Station) → Keeps k selective (closes s) → Keeps k selective (quits sub s)
+keeps_quit : (k : EitherStation) (selective : Bool) (sub : ℕ) (s : Station) → KeepsStationOfKind k selective (closes s) → KeepsStationOfKind k selective (quits sub s)
 keeps_quit (either.GoBack k) true sub s h = absurd h
 keeps_quit (either.GoBack k) false sub s h = h
 keeps_quit (either.Selective k) true sub s h = record { core = h.core; behind = h.behind; no_gap = h.no_gap }
@@ -136,31 +136,31 @@ quit_stands selective k room sub s h =
 -- ---- the user sends
 
 sends_if : (s : Station) (payload : List ℕ) → nat_le 1 (length payload) ≡ true → nat_le (length payload) 1026 ≡ true
-    → refusal_of s payload None ≡ (if nat_lt (waiting s) 16 then None else Some (RefusedFull (waiting s)))
+    → payload_refusal_of_station s payload None ≡ (if nat_lt (waiting s) 16 then None else Some (RefusedFull (waiting s)))
 sends_if s payload some few = rw (some, few) refl
 
-pub none_refused : (s : Station) (payload : List ℕ) → 1 ≤ length payload → length payload ≤ 1026 → waiting s < 16 → refusal_of s payload None ≡ None
+pub none_refused : (s : Station) (payload : List ℕ) → 1 ≤ length payload → length payload ≤ 1026 → waiting s < 16 → payload_refusal_of_station s payload None ≡ None
 none_refused s payload some few less =
     sends_if s payload (le-leb 1 (length payload) some) (le-leb (length payload) 1026 few)
     ∙ ap (λ (b : Bool). if b then None else Some (RefusedFull (waiting s))) (lt-ltb (waiting s) 16 less)
 
 pub full_refused : (s : Station) (payload : List ℕ) (n : ℕ) → 1 ≤ length payload → length payload ≤ 1026 → waiting s ≡ 16 → n ≡ 16
-    → refusal_of s payload None ≡ Some (RefusedFull n)
+    → payload_refusal_of_station s payload None ≡ Some (RefusedFull n)
 full_refused s payload n some few many is =
     sends_if s payload (le-leb 1 (length payload) some) (le-leb (length payload) 1026 few)
     ∙ ap (λ (m : ℕ). if nat_lt m 16 then None else Some (RefusedFull m)) many
     ∙ ap (λ (m : ℕ). Some (RefusedFull m)) (sym is)
 
 module _ (selective : Bool) where
-  pub hand_did : (k : EitherStation) (s : Station) (payload : List ℕ) (now : ℕ) (before after : List Told) → refusal_of s payload None ≡ None
-      → CallDid k selective before after (station_and_told (finishes (hands now payload s))) → CallDid k selective before after (handed_unless (refusal_of s payload None) now payload s)
+  pub hand_did : (k : EitherStation) (s : Station) (payload : List ℕ) (now : ℕ) (before after : List Told) → payload_refusal_of_station s payload None ≡ None
+      → CallDid k selective before after (station_and_told (finishes (hands now payload s))) → CallDid k selective before after (handed_unless (payload_refusal_of_station s payload None) now payload s)
   hand_did k s payload now before after none d =
       subst (λ o. CallDid k selective before after (handed_unless o now payload s)) (sym none)
       (record { stands = d.stands; list = d.list; grew = d.grew; told = d.told })
 
-  pub full_did : (old k : EitherStation) (s : Station) (payload : List ℕ) (now n : ℕ) (before after : List Told) → refusal_of s payload None ≡ Some (RefusedFull n)
+  pub full_did : (old k : EitherStation) (s : Station) (payload : List ℕ) (now n : ℕ) (before after : List Told) → payload_refusal_of_station s payload None ≡ Some (RefusedFull n)
       → StandsQuiet old selective s → k ≡ old → after ≡ before ++ told.Refused (refusal.Full n) ∷ []
-      → CallDid k selective before after (handed_unless (refusal_of s payload None) now payload s)
+      → CallDid k selective before after (handed_unless (payload_refusal_of_station s payload None) now payload s)
   full_did old k s payload now n before after some h same grew =
       subst (λ o. CallDid k selective before after (handed_unless o now payload s)) (sym some)
       (record {

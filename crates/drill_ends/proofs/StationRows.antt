@@ -4,7 +4,7 @@ use Rattle.std.proofs.lemmas.List.{drop_at, take-append-drop}
 use Rattle.er_base.specs.declared.release.Release.{Release}
 use Rattle.hdlc_frames.specs.Framing.{Verdict, frames_of}
 use Rattle.hdlc_frames.specs.Deframing as frames
-use Rattle.hdlc_frames.specs.Laws.{KeptStandsForStream, GoesOn}
+use Rattle.hdlc_frames.specs.Laws.{KeptStandsForStream, StreamGoesOn}
 use Rattle.hdlc_station_model.specs.Stations.{Station, Deed, no_deed, settled, is_down}
 use Rattle.hdlc_station_model.specs.Calls.{starts, hands, finishes, ticks}
 use Rattle.hdlc_station_model.specs.Selective.{receives_as}
@@ -13,15 +13,15 @@ use Rattle.hdlc_pair_laws.specs.Keeping.{FramesGive}
 use Rattle.hdlc_station_model.specs.Reports.{newer, is_release, TellsRelease, ReleasesAreTold, KeepsRelease, FinishKeepsRelease}
 use Rattle.hdlc_station_model.specs.Events.{news, is_late}
 use Rattle.er_end_model.specs.Outcomes.{SendRefusal}
-use Rattle.drill_model.specs.Outcomes.{Outcome}
-use Rattle.drill_model.specs.StationEnds.{station_and_told, station_start, frames_heard, refusal_of, handed_unless, station_send, if_expired, station_tick}
+use Rattle.drill_model.specs.Outcomes.{DrillOutcome}
+use Rattle.drill_model.specs.StationEnds.{station_and_told, station_start, frames_heard, payload_refusal_of_station, handed_unless, station_send, if_expired, station_tick}
 use Rattle.drill_ends.specs.declared.told.Told.{Told}
 use Rattle.drill_ends.specs.declared.station_end.StationEnd.{StationEnd}
 use Rattle.drill_ends.specs.declared.either_station.EitherStation.{EitherStation}
 use Rattle.drill_ends.specs.Tellings.{AreTold}
 use Rattle.drill_ends.specs.KeptStations.{StandsQuiet, StandsStation}
 use Rattle.drill_model.specs.Ends.{station_end}
-use Rattle.drill_ends.specs.StationEnds.{CallDid, CallDoes, CallTells, StationDid, StationDoes, StationReads, Reading, StationWent}
+use Rattle.drill_ends.specs.StationEnds.{CallDid, CallDoes, CallTells, StationDid, StationDoes, StationReads, IsWithinReading, StationWent}
 use Rattle.drill_ends.proofs.StationCalls.{told_append}
 
 -- ---- releases
@@ -68,7 +68,7 @@ joined k selective t stream h reads known = record { station = h; reads = reads;
 -- ---- events that give no octets
 
 -- what a call did, at an end
-at_end : (k : StationEnd) (selective : Bool) (stream : List ℕ) (before now : List Told) (a : Station × List Outcome) → CallDid k.station selective before now a
+at_end : (k : StationEnd) (selective : Bool) (stream : List ℕ) (before now : List Told) (a : Station × List DrillOutcome) → CallDid k.station selective before now a
     → k.deframer ≡ frames.kept_of stream → Known k.released a.0 → StationDid k selective stream before now a
 at_end k selective stream before now a d reads known =
     record { stands = joined k selective a.0 stream d.stands reads known; list = d.list; grew = d.grew; told = d.told }
@@ -81,7 +81,7 @@ starts_so laws law old k moment before now call selective s stream h =
     at_end (record old { station = k }) selective stream before now (station_and_told t) d.0 h.reads
     (known_told old.released old.released None s t (known_of old selective s stream h) (told_finished law s (starts moment s) (laws moment s h.station.deed).2) d.1 refl)
 
-pub expired_told : (expired : Bool) (outcomes : List Outcome) (list : List Told) → AreTold outcomes list → AreTold (if_expired expired ++ outcomes) list
+pub expired_told : (expired : Bool) (outcomes : List DrillOutcome) (list : List Told) → AreTold outcomes list → AreTold (if_expired expired ++ outcomes) list
 expired_told true outcomes list a = a
 expired_told false outcomes list a = a
 
@@ -110,27 +110,27 @@ hand_known laws law hand old moment payload selective s stream h None =
     ((law t).deed ∙ (hand moment payload s).2 ∙ h.station.deed)
 
 pub sends_so : ReleasesAreTold → FinishKeepsRelease → HandsKeep → (old : StationEnd) (k : EitherStation) (moment : ℕ) (payload : List ℕ) (before now : List Told) → old.released ≡ None
-    → ((selective : Bool) → CallDoes selective old.station k before now (λ s. handed_unless (refusal_of s payload None) moment payload s))
+    → ((selective : Bool) → CallDoes selective old.station k before now (λ s. handed_unless (payload_refusal_of_station s payload None) moment payload s))
     → StationDoes old (record old { station = k }) before now (station_send moment payload)
 sends_so laws law hand old k moment payload before now none call selective s stream h =
     let unreleased : s.released ≡ None = sym h.released ∙ none in
-    subst (λ r. StationDid (record old { station = k }) selective stream before now (handed_unless (refusal_of s payload r) moment payload s)) (sym unreleased)
-    (at_end (record old { station = k }) selective stream before now (handed_unless (refusal_of s payload None) moment payload s) (call selective s h.station) h.reads
-    (hand_known laws law hand old moment payload selective s stream h (refusal_of s payload None)))
+    subst (λ r. StationDid (record old { station = k }) selective stream before now (handed_unless (payload_refusal_of_station s payload r) moment payload s)) (sym unreleased)
+    (at_end (record old { station = k }) selective stream before now (handed_unless (payload_refusal_of_station s payload None) moment payload s) (call selective s h.station) h.reads
+    (hand_known laws law hand old moment payload selective s stream h (payload_refusal_of_station s payload None)))
 
 -- ---- octets
 
-pub reads_on : GoesOn → (old new : frames.Kept) (piece : List ℕ) (used : ℕ) (stream : List ℕ) → old ≡ frames.kept_of stream → used ≡ (frames.feeding_of old piece).used
+pub reads_on : StreamGoesOn → (old new : frames.KeptDeframer) (piece : List ℕ) (used : ℕ) (stream : List ℕ) → old ≡ frames.kept_of stream → used ≡ (frames.feeding_of old piece).used
     → new ≡ (frames.feeding_of old piece).kept → new ≡ frames.kept_of (stream ++ take used piece)
 reads_on law old new piece used stream reads used_is new_is =
-    new_is ∙ ap (λ (k : frames.Kept). (frames.feeding_of k piece).kept) reads ∙ sym (law stream piece).1
-    ∙ ap (λ (n : ℕ). frames.kept_of (stream ++ take n piece)) (sym (used_is ∙ ap (λ (k : frames.Kept). (frames.feeding_of k piece).used) reads))
+    new_is ∙ ap (λ (k : frames.KeptDeframer). (frames.feeding_of k piece).kept) reads ∙ sym (law stream piece).1
+    ∙ ap (λ (n : ℕ). frames.kept_of (stream ++ take n piece)) (sym (used_is ∙ ap (λ (k : frames.KeptDeframer). (frames.feeding_of k piece).used) reads))
 
 pub news_are : (stream octets : List ℕ) (vs : List Verdict) → frames_of (stream ++ octets) ≡ frames_of stream ++ vs → news stream octets ≡ vs
 news_are stream octets vs is = ap (drop (length (frames_of stream))) is ∙ drop_at (frames_of stream) vs (length (frames_of stream)) refl
 
 -- octets in which no frame closes
-pub none_heard : (old : StationEnd) (d : frames.Kept) (moment : ℕ) (selective : Bool) (s : Station) (stream octets : List ℕ) (before : List Told) → StandsStation old selective s stream
+pub none_heard : (old : StationEnd) (d : frames.KeptDeframer) (moment : ℕ) (selective : Bool) (s : Station) (stream octets : List ℕ) (before : List Told) → StandsStation old selective s stream
     → d ≡ frames.kept_of (stream ++ octets) → frames_of (stream ++ octets) ≡ frames_of stream ++ []
     → StationDid (record old { deframer = d }) selective (stream ++ octets) before before (frames_heard selective moment (news stream octets) s)
 none_heard old d moment selective s stream octets before h reads is =
@@ -138,7 +138,7 @@ none_heard old d moment selective s stream octets before h reads is =
     (record { stands = joined (record old { deframer = d }) selective s (stream ++ octets) h.station reads (known_of old selective s stream h); list = []; grew = sym (append-nil before); told = tt })
 
 -- octets up to the end of a frame
-pub one_heard : FramesGive → FinishKeepsRelease → (old : StationEnd) (k : EitherStation) (d : frames.Kept) (released new : Option Release) (moment : ℕ) (verdict : Verdict)
+pub one_heard : FramesGive → FinishKeepsRelease → (old : StationEnd) (k : EitherStation) (d : frames.KeptDeframer) (released new : Option Release) (moment : ℕ) (verdict : Verdict)
     (selective : Bool) (s : Station) (stream octets : List ℕ) (before now : List Told) → StandsStation old selective s stream
     → d ≡ frames.kept_of (stream ++ octets) → frames_of (stream ++ octets) ≡ frames_of stream ++ verdict ∷ []
     → CallTells selective old.station k before now released (λ s. finishes (receives_as selective moment verdict s)) → new ≡ newer released old.released
@@ -152,7 +152,7 @@ one_heard laws law old k d released new moment verdict selective s stream octets
           (known_told old.released new released s t (known_of old selective s stream h) (told_finished law s (receives_as selective moment verdict s) (laws selective moment verdict s h.station.deed).release) e.1 kept);
       list = e.0.list;
       grew = e.0.grew;
-      told = subst (λ (os : List Outcome). AreTold os e.0.list) (sym (append-nil (station_and_told t).1)) e.0.told;
+      told = subst (λ (os : List DrillOutcome). AreTold os e.0.list) (sym (append-nil (station_and_told t).1)) e.0.told;
     })
 
 -- ---- a piece with any number of frames
@@ -164,13 +164,13 @@ frames_heard-append selective moment (v ∷ vs) ws s =
     let a = station_and_told (finishes (receives_as selective moment v s)) in
     let b = frames_heard selective moment vs a.0 in
     let c = frames_heard selective moment ws b.0 in
-    ap (λ (p : Station × List Outcome). (p.0, a.1 ++ p.1)) (frames_heard-append selective moment vs ws a.0)
-    ∙ ap (λ (os : List Outcome). (c.0, os)) (sym (append_assoc a.1 b.1 c.1))
+    ap (λ (p : Station × List DrillOutcome). (p.0, a.1 ++ p.1)) (frames_heard-append selective moment vs ws a.0)
+    ∙ ap (λ (os : List DrillOutcome). (c.0, os)) (sym (append_assoc a.1 b.1 c.1))
 
 pub news_more : KeptStandsForStream → (stream xs ys : List ℕ) → news stream (xs ++ ys) ≡ news stream xs ++ news (stream ++ xs) ys
 news_more law stream xs ys =
-    let f : List Verdict = frames_of (frames.stream_of (frames.kept_of stream) ++ xs) in
-    let g : List Verdict = frames_of (frames.stream_of (frames.kept_of (stream ++ xs)) ++ ys) in
+    let f : List Verdict = frames_of (frames.stream_behind_kept (frames.kept_of stream) ++ xs) in
+    let g : List Verdict = frames_of (frames.stream_behind_kept (frames.kept_of (stream ++ xs)) ++ ys) in
     let first : frames_of (stream ++ xs) ≡ frames_of stream ++ f = (law stream xs).1.0 in
     let second : frames_of ((stream ++ xs) ++ ys) ≡ frames_of (stream ++ xs) ++ g = (law (stream ++ xs) ys).1.0 in
     news_are stream (xs ++ ys) (f ++ g)
@@ -178,7 +178,7 @@ news_more law stream xs ys =
     ∙ sym (ap (λ (vs : List Verdict). vs ++ news (stream ++ xs) ys) (news_are stream xs f first) ∙ ap (λ (vs : List Verdict). f ++ vs) (news_are (stream ++ xs) ys g second))
 
 pub reading_begins : (selective : Bool) (moment : ℕ) (k : StationEnd) (s : Station) (stream octets : List ℕ) (before : List Told) → StandsStation k selective s stream
-    → Reading selective moment s stream octets octets k before before
+    → IsWithinReading selective moment s stream octets octets k before before
 reading_begins selective moment k s stream octets before h = record {
   at = s;
   given = stream;
@@ -189,24 +189,24 @@ reading_begins selective moment k s stream octets before h = record {
 }
 
 pub reading_goes_on : KeptStandsForStream → (selective : Bool) (moment : ℕ) (old new : StationEnd) (s : Station) (stream octets rest back : List ℕ) (used : ℕ) (before between now : List Told)
-    → back ≡ drop used rest → Reading selective moment s stream octets rest old before between → StationReads moment old (take used rest) new between now
-    → Reading selective moment s stream octets back new before now
+    → back ≡ drop used rest → IsWithinReading selective moment s stream octets rest old before between → StationReads moment old (take used rest) new between now
+    → IsWithinReading selective moment s stream octets back new before now
 reading_goes_on law selective moment old new s stream octets rest back used before between now back_is r one =
     let taken : List ℕ = take used rest in
     let d = one selective r.at r.given r.did.stands in
-    let a : Station × List Outcome = frames_heard selective moment (news r.given taken) r.at in
+    let a : Station × List DrillOutcome = frames_heard selective moment (news r.given taken) r.at in
     let whole' : taken ++ back ≡ rest = ap (λ (xs : List ℕ). taken ++ xs) back_is ∙ take-append-drop used rest in
     let split : frames_heard selective moment (news r.given rest) r.at ≡ frames_heard selective moment (news r.given taken ++ news (r.given ++ taken) back) r.at =
     ap (λ (vs : List Verdict). frames_heard selective moment vs r.at) (ap (news r.given) (sym whole') ∙ news_more law r.given taken back) in
-    let b : Station × List Outcome = frames_heard selective moment (news (r.given ++ taken) back) a.0 in
+    let b : Station × List DrillOutcome = frames_heard selective moment (news (r.given ++ taken) back) a.0 in
     record {
       at = a.0;
       given = r.given ++ taken;
       came = r.came ++ a.1;
       whole = append_assoc r.given taken back ∙ ap (λ (xs : List ℕ). r.given ++ xs) whole' ∙ r.whole;
       leads = r.leads
-          ∙ ap (λ (p : Station × List Outcome). (p.0, r.came ++ p.1)) (split ∙ frames_heard-append selective moment (news r.given taken) (news (r.given ++ taken) back) r.at)
-          ∙ ap (λ (os : List Outcome). (b.0, os)) (sym (append_assoc r.came a.1 b.1));
+          ∙ ap (λ (p : Station × List DrillOutcome). (p.0, r.came ++ p.1)) (split ∙ frames_heard-append selective moment (news r.given taken) (news (r.given ++ taken) back) r.at)
+          ∙ ap (λ (os : List DrillOutcome). (b.0, os)) (sym (append_assoc r.came a.1 b.1));
       did = record {
         stands = d.stands;
         list = r.did.list ++ d.list;
@@ -219,18 +219,18 @@ pub nothing_new : (stream : List ℕ) → news stream [] ≡ []
 nothing_new stream = news_are stream [] [] (ap frames_of (append-nil stream) ∙ sym (append-nil (frames_of stream)))
 
 pub reading_ends : (selective : Bool) (moment : ℕ) (k : StationEnd) (s : Station) (stream octets rest : List ℕ) (before now : List Told) → rest ≡ []
-    → Reading selective moment s stream octets rest k before now → StationDid k selective (stream ++ octets) before now (frames_heard selective moment (news stream octets) s)
+    → IsWithinReading selective moment s stream octets rest k before now → StationDid k selective (stream ++ octets) before now (frames_heard selective moment (news stream octets) s)
 reading_ends selective moment k s stream octets rest before now none r =
     let given : r.given ≡ stream ++ octets = sym (append-nil r.given) ∙ ap (λ (xs : List ℕ). r.given ++ xs) (sym none) ∙ r.whole in
     let left : frames_heard selective moment (news r.given rest) r.at ≡ (r.at, []) =
     ap (λ (vs : List Verdict). frames_heard selective moment vs r.at) (ap (news r.given) none ∙ nothing_new r.given) in
     let all : frames_heard selective moment (news stream octets) s ≡ (r.at, r.came) =
-    r.leads ∙ ap (λ (p : Station × List Outcome). (p.0, r.came ++ p.1)) left ∙ ap (λ (os : List Outcome). (r.at, os)) (append-nil r.came) in
+    r.leads ∙ ap (λ (p : Station × List DrillOutcome). (p.0, r.came ++ p.1)) left ∙ ap (λ (os : List DrillOutcome). (r.at, os)) (append-nil r.came) in
     subst (λ (xs : List ℕ). StationDid k selective xs before now (frames_heard selective moment (news stream octets) s)) given
-    (subst (λ (p : Station × List Outcome). StationDid k selective r.given before now p) (sym all) r.did)
+    (subst (λ (p : Station × List DrillOutcome). StationDid k selective r.given before now p) (sym all) r.did)
 
 -- ---- an event
 
-pub went_so : (new : StationEnd) (selective : Bool) (stream : List ℕ) (before now : List Told) (a : Station × List Outcome) → StationDid new selective stream before now a
+pub went_so : (new : StationEnd) (selective : Bool) (stream : List ℕ) (before now : List Told) (a : Station × List DrillOutcome) → StationDid new selective stream before now a
     → StationWent new before now (station_end selective stream a)
 went_so new selective stream before now a d = record { at = a.0; given = stream; selective = selective; is = refl; stands = d.stands; list = d.list; grew = d.grew; told = d.told }

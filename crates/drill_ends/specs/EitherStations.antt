@@ -3,7 +3,7 @@ use Rattle.std.specs.Prelude.{◌≡◌, ◌==◌, ℕ, ◌*◌, ◌≤◌, Bool
 use Rattle.er_base.specs.Stored.{Stored}
 use Rattle.er_settings.specs.Values.{Settings}
 use Rattle.hdlc_station_model.specs.Stations.{Station, Deed, made, no_deed}
-use Rattle.hdlc_balanced.specs.Kept.{kept_of, texts}
+use Rattle.hdlc_balanced.specs.Kept.{kept_of, octets_of_sent_frames}
 use Rattle.hdlc_selective.specs.Kept.{SelectiveKept, IsBehind}
 use Rattle.drill_ends.specs.declared.either_station.EitherStation.{EitherStation}
 use Rattle.drill_ends.specs.declared.either_station.EitherStation.TheVariants as either
@@ -28,35 +28,35 @@ pub record KeepsSelective (k : SelectiveKept) (s : Station) : Type 0 where
   pub no_gap : s.gap ≡ false
 
 -- the code keeps so of a station of this kind
-abbrev pub Keeps : EitherStation → (selective : Bool) → Station → Type 0
-Keeps (either.GoBack k) true s = ⊥
-Keeps (either.GoBack k) false s = k ≡ kept_of s
-Keeps (either.Selective k) true s = KeepsSelective k s
-Keeps (either.Selective k) false s = ⊥
+abbrev pub KeepsStationOfKind : EitherStation → (selective : Bool) → Station → Type 0
+KeepsStationOfKind (either.GoBack k) true s = ⊥
+KeepsStationOfKind (either.GoBack k) false s = k ≡ kept_of s
+KeepsStationOfKind (either.Selective k) true s = KeepsSelective k s
+KeepsStationOfKind (either.Selective k) false s = ⊥
 
 -- what holds of each station of the model that the code keeps
 abbrev pub ShownOf : EitherStation → (Station → Type 0) → Type 0
-ShownOf k P = (selective : Bool) (s : Station) → Keeps k selective s → s.acked ≤ s.sent → s.sent ≤ length s.handed → P s
+ShownOf k P = (selective : Bool) (s : Station) → KeepsStationOfKind k selective s → s.acked ≤ s.sent → s.sent ≤ length s.handed → P s
 
 -- ---- a part of a call
 
 -- within a call: the code keeps this station, it had `before` when the call began, and told d so far
 pub record StandsInCall (k : EitherStation) (selective : Bool) (before : List ℕ) (out : Stored) (d : Deed) (s : Station) : Type 0 where
-  pub keeps : Keeps k selective s
+  pub keeps : KeepsStationOfKind k selective s
   pub order : s.acked ≤ s.sent
   pub given : s.sent ≤ length s.handed
   pub deed : s.deed ≡ d
-  pub text : out.items ≡ before ++ texts s.calling s.extended s.said
+  pub text : out.items ≡ before ++ octets_of_sent_frames s.calling s.extended s.said
 
 -- a part of a call that does what a step of the model does
-abbrev pub Does : EitherStation → Stored → EitherStation → Stored → (Station → Station) → Type 0
-Does old out new out' step =
+abbrev pub FollowsStationStep : EitherStation → Stored → EitherStation → Stored → (Station → Station) → Type 0
+FollowsStationStep old out new out' step =
     (selective : Bool) (s : Station) (before : List ℕ) (d : Deed) → StandsInCall old selective before out d s
     → StandsInCall new selective before out' d (step s)
 
 -- a part of a call that tells something, where nothing was told before
-abbrev pub Says : EitherStation → Stored → EitherStation → Stored → Deed → (Station → Station) → Type 0
-Says old out new out' told step =
+abbrev pub TellsEitherStationDeed : EitherStation → Stored → EitherStation → Stored → Deed → (Station → Station) → Type 0
+TellsEitherStationDeed old out new out' told step =
     (selective : Bool) (s : Station) (before : List ℕ) → StandsInCall old selective before out no_deed s
     → StandsInCall new selective before out' told (step s)
 

@@ -1,7 +1,7 @@
 -- Contract: an end of a link as the code keeps it, whatever its level.
 use Rattle.std.specs.Prelude.{◌≡◌, List}
-use Rattle.drill_model.specs.Outcomes.{Outcome}
-use Rattle.drill_model.specs.Ends.{End, OfSafe, OfStation, OfStack}
+use Rattle.drill_model.specs.Outcomes.{DrillOutcome}
+use Rattle.drill_model.specs.Ends.{EndAtLevel, OfSafe, OfStation, OfStack}
 use Rattle.drill_ends.specs.declared.told.Told.{Told}
 use Rattle.drill_ends.specs.declared.drill_end.DrillEnd.{DrillEnd}
 use Rattle.drill_ends.specs.declared.drill_end.DrillEnd.TheVariants as code
@@ -10,7 +10,7 @@ use Rattle.drill_ends.specs.KeptStations.{StandsStation}
 use Rattle.drill_ends.specs.KeptStacks.{StandsStack}
 
 -- an end of the code stands where an end of the model does
-abbrev pub StandsEnd : DrillEnd → End → Type 0
+abbrev pub StandsEnd : DrillEnd → EndAtLevel → Type 0
 StandsEnd (code.Safe kept) (OfSafe s) = kept.safety ≡ s
 StandsEnd (code.Safe kept) (OfStation selective s stream) = ⊥
 StandsEnd (code.Station kept) (OfSafe s) = ⊥
@@ -22,6 +22,6 @@ StandsEnd (code.Stack kept) (OfStation selective s stream) = ⊥
 StandsEnd (code.Stack kept) (OfStack m) = StandsStack kept m
 
 -- an end went on so, and told its outcomes
-pub record EndWent (new : DrillEnd) (list : List Told) (a : End × List Outcome) : Type 0 where
+pub record EndWent (new : DrillEnd) (list : List Told) (a : EndAtLevel × List DrillOutcome) : Type 0 where
   pub stands : StandsEnd new a.0
   pub told : AreTold a.1 list

@@ -2,8 +2,8 @@
 use Rattle.std.specs.Prelude.{ℕ, List, [], ◌∷◌, Option, Some, None}
 use Rattle.des_block.specs.declared.triple_key.TripleKey.{TripleKey}
 use Rattle.safety_automaton.specs.Reports.{KeptSafe, Report, ToldAnswered, ToldConnected, ToldAccepted, ToldReleased, ToldIgnored}
-use Rattle.drill_model.specs.Outcomes.{Outcome}
-use Rattle.drill_model.specs.Ends.{End}
+use Rattle.drill_model.specs.Outcomes.{DrillOutcome}
+use Rattle.drill_model.specs.Ends.{EndAtLevel}
 use Rattle.drill_ends.specs.declared.told.Told.{Told}
 use Rattle.drill_ends.specs.declared.told.Told.TheVariants as told
 use Rattle.drill_ends.specs.declared.safe_end.Checked.{Checked}
@@ -11,7 +11,7 @@ use Rattle.drill_ends.specs.declared.drill_end.DrillEnd.TheVariants as code
 use Rattle.drill_ends.specs.KeptEnds.{EndWent}
 
 -- a side went on so, and told its outcomes
-abbrev pub SafeWent : KeptSafe → List Told → End × List Outcome → Type 0
+abbrev pub SafeWent : KeptSafe → List Told → EndAtLevel × List DrillOutcome → Type 0
 SafeWent new list a = EndWent (code.Safe new) list a
 
 -- a text that verified and its keys, where there are both

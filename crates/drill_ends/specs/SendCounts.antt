@@ -2,7 +2,7 @@
 use Rattle.std.specs.Prelude.{ℕ, ◌≡◌, Bool, true, false, if◌then◌else◌, List, [], ◌∷◌, Option, length}
 use Rattle.std.specs.List.{flat_map}
 use Rattle.des_block.specs.declared.triple_key.TripleKey.{TripleKey}
-use Rattle.drill_model.specs.Ends.{End, EndEvent, Start, Receive, Send, Take, Release, Tick, end_step}
+use Rattle.drill_model.specs.Ends.{EndAtLevel, EndEvent, Start, Receive, Send, Take, Release, Tick, end_step}
 use Rattle.drill_model.specs.Kinds.{sent_in}
 use Rattle.drill_ends.specs.declared.told.Told.{Told}
 use Rattle.drill_ends.specs.declared.told.Told.TheVariants as told
@@ -37,5 +37,5 @@ sent_at Tick list = 0
 
 -- what an end tells of an event has as many sends that were Ok as its outcomes have
 abbrev pub SendsAreTold : Type 0
-SendsAreTold = (key_of : ℕ → ℕ → Option TripleKey) (moment : ℕ) (end : End) (event : EndEvent) (list : List Told)
+SendsAreTold = (key_of : ℕ → ℕ → Option TripleKey) (moment : ℕ) (end : EndAtLevel) (event : EndEvent) (list : List Told)
     → AreTold (end_step key_of moment end event).1 list → sent_at event list ≡ length (flat_map sent_in (end_step key_of moment end event).1)

@@ -1,15 +1,15 @@
 -- Representation: what an end of level full of the code tells of an event; no claim rests on it.
 use Rattle.std.specs.Prelude.{ℕ, ◌≡◌, ◌≤◌, Bool, List, [], ◌∷◌, ◌++◌, Option, Some, None}
 use Rattle.des_block.specs.declared.triple_key.TripleKey.{TripleKey}
-use Rattle.safety_automaton.specs.Keys.{Entry, key_at}
+use Rattle.safety_automaton.specs.Keys.{KmacEntry, key_at}
 use Rattle.safety_automaton.specs.Safety.{session_in}
 use Rattle.hdlc_station_model.specs.Frames.{Frame}
 use Rattle.hdlc_station_model.specs.Events.{news}
-use Rattle.hdlc_balanced.specs.Kept.{texts}
+use Rattle.hdlc_balanced.specs.Kept.{octets_of_sent_frames}
 use Rattle.er_end_model.specs.Layers.{model}
 use Rattle.er_end_model.specs.Steps.{new_event, new_event_at}
 use Rattle.er_end_model.specs.Ends.{End as Stack, hears_each}
-use Rattle.drill_model.specs.Outcomes.{Outcome}
+use Rattle.drill_model.specs.Outcomes.{DrillOutcome}
 use Rattle.drill_model.specs.StackEnds.{stack_told, stack_start, stack_hear, stack_send, stack_take, stack_release, stack_tick}
 use Rattle.drill_model.specs.StackReports.{IsOrderly}
 use Rattle.drill_model.specs.Ends.{EndEvent, stack_end_step}
@@ -31,7 +31,7 @@ use Rattle.drill_ends.specs.KeptEnds.{EndWent}
 -- ---- a call
 
 -- what is kept of a call is what it shows
-pub record IsCall (call : Call) (x : KCore) : Type 0 where
+pub record IsKeptCall (call : Call) (x : KCore) : Type 0 where
   pub connected : call.connected ≡ x.connected
   pub accepted : call.accepted ≡ kept.news x.upper
   pub released : call.released ≡ x.leaves
@@ -52,20 +52,20 @@ told_safety k call =
 
 abbrev pub TellsCall : KEnd → Call → List Told → List Told → Type 0
 TellsCall k call before now =
-    (calling extended : Bool) (frames : List Frame) → call.out ≡ texts calling extended frames
+    (calling extended : Bool) (frames : List Frame) → call.out ≡ octets_of_sent_frames calling extended frames
     → now ≡ before ++ (told_safety k call ++ (told_released call.released ++ told_frames calling extended frames))
 
 -- ---- an event
 
 -- a stack went on so, and told its outcomes
-pub record StackDid (new : KEnd) (before now : List Told) (a : Stack × List Outcome) : Type 0 where
+pub record StackDid (new : KEnd) (before now : List Told) (a : Stack × List DrillOutcome) : Type 0 where
   pub stands : StandsStack new a.0
   pub list : List Told
   pub grew : now ≡ before ++ list
   pub told : AreTold a.1 list
 
 -- wherever the stack stands
-abbrev pub StackDoes : KEnd → KEnd → List Told → List Told → (Stack → Stack × List Outcome) → Type 0
+abbrev pub StackDoes : KEnd → KEnd → List Told → List Told → (Stack → Stack × List DrillOutcome) → Type 0
 StackDoes old new before now moves = (m : Stack) → StandsStack old m → StackDid new before now (moves m)
 
 -- ---- octets
@@ -85,17 +85,17 @@ pub record StackHeard (key_of : ℕ → ℕ → Option TripleKey) (moment : ℕ)
   pub told : AreTold (stack_told (λ n. key_of) moment (news m.stream given) (new_event_at model moment m.core)) list
 
 -- a call that reads octets: the first of an event, and those behind others
-abbrev pub StackReads : List Entry → (moment : ℕ) → KEnd → List ℕ → KEnd → List Told → List Told → Type 0
+abbrev pub StackReads : List KmacEntry → (moment : ℕ) → KEnd → List ℕ → KEnd → List Told → List Told → Type 0
 StackReads keys moment old octets new between now =
     ((m : Stack) → StandsStack old m → StackHeard (key_at keys moment) moment m octets new between now)
     × ((m : Stack) (given : List ℕ) (before : List Told) → StackHeard (key_at keys moment) moment m given old before between
     → StackHeard (key_at keys moment) moment m (given ++ octets) new before now)
 
-abbrev pub StackHears : List Entry → (moment : ℕ) → KEnd → List ℕ → KEnd → List Told → List Told → Type 0
+abbrev pub StackHears : List KmacEntry → (moment : ℕ) → KEnd → List ℕ → KEnd → List Told → List Told → Type 0
 StackHears keys moment old octets new before now = StackDoes old new before now (stack_hear (λ n. key_at keys moment) moment octets)
 
 -- in the midst of it: some octets were given, and with what is left they are all
-pub record StackReading (keys : List Entry) (moment : ℕ) (m : Stack) (octets rest : List ℕ) (k : KEnd) (before now : List Told) : Type 0 where
+pub record StackReading (keys : List KmacEntry) (moment : ℕ) (m : Stack) (octets rest : List ℕ) (k : KEnd) (before now : List Told) : Type 0 where
   pub given : List ℕ
   pub whole : given ++ rest ≡ octets
   pub heard : StackHeard (key_at keys moment) moment m given k before now
@@ -103,7 +103,7 @@ pub record StackReading (keys : List Entry) (moment : ℕ) (m : Stack) (octets r
 -- ---- any event
 
 -- what an event does to a stack
-abbrev pub stack_moves : List Entry → (moment : ℕ) → EndEvent → Stack → Stack × List Outcome
+abbrev pub stack_moves : List KmacEntry → (moment : ℕ) → EndEvent → Stack → Stack × List DrillOutcome
 stack_moves keys moment event.Start m = stack_start moment m
 stack_moves keys moment (event.Receive octets) m = stack_hear (λ n. key_at keys moment) moment octets m
 stack_moves keys moment (event.Send user) m = stack_send moment user m
@@ -111,6 +111,6 @@ stack_moves keys moment event.Take m = stack_take moment m
 stack_moves keys moment (event.Release sub) m = stack_release moment sub m
 stack_moves keys moment event.Tick m = stack_tick moment m
 
-abbrev pub StackAnswers : List Entry → (moment : ℕ) → KEnd → EndEvent → KEnd → List Told → Type 0
+abbrev pub StackAnswers : List KmacEntry → (moment : ℕ) → KEnd → EndEvent → KEnd → List Told → Type 0
 StackAnswers keys moment old event new list =
     (m : Stack) → StandsStack old m → EndWent (code.Stack new) list (stack_end_step (key_at keys moment) moment m event)

@@ -3,7 +3,7 @@ use Rattle.std.specs.Prelude.{◌≡◌, List, [], ◌∷◌}
 use Rattle.std.specs.List.{flat_map}
 use Rattle.safety_pair_laws.specs.Facts.{Fact, Sent, Sealed, Verified, Connected, Accepted}
 use Rattle.er_end_model.specs.Outcomes.{SendRefusal}
-use Rattle.drill_model.specs.Outcomes.{Outcome, OfSafety, Handed, Arrived, Up, Took, NothingToTake, Refused, Released, Frame, Expired, UserReleased, Passed, Lost, Repeated, Altered, Inserted, NothingWaits, IsShort}
+use Rattle.drill_model.specs.Outcomes.{DrillOutcome, OfSafety, Handed, Arrived, Up, Took, NothingToTake, Refused, Released, Frame, Expired, UserReleased, Passed, Lost, Repeated, Altered, Inserted, NothingWaits, IsShort}
 use Rattle.drill_ends.specs.declared.refusal.Refusal.{Refusal}
 use Rattle.drill_ends.specs.declared.told.Told.{Told}
 use Rattle.drill_ends.specs.declared.told.Told.TheVariants as told
@@ -24,7 +24,7 @@ pub record IsToldRefusal (refusal : SendRefusal) (t : Told) : Type 0 where
   pub is : refusal ≡ shown_refusal refused
 
 -- what is told of an outcome of an end; no end that is built has the others
-abbrev pub IsTold : Outcome → Told → Type 0
+abbrev pub IsTold : DrillOutcome → Told → Type 0
 IsTold (OfSafety fact) t = IsToldFact fact t
 IsTold (Refused refusal) t = IsToldRefusal refusal t
 IsTold (Released release) t = t ≡ told.Released release
@@ -45,36 +45,36 @@ IsTold NothingWaits t = ⊥
 IsTold (IsShort found) t = ⊥
 
 -- nothing is told of an outcome of an end that is neither marked nor printed nor queued
-abbrev pub heard_of : Outcome → List Outcome
-heard_of (OfSafety fact) = OfSafety fact ∷ []
-heard_of (Refused refusal) = Refused refusal ∷ []
-heard_of (Released release) = Released release ∷ []
-heard_of (Frame octets) = Frame octets ∷ []
-heard_of (Handed payload) = []
-heard_of (Arrived payload) = Arrived payload ∷ []
-heard_of Up = Up ∷ []
-heard_of (Took message) = Took message ∷ []
-heard_of NothingToTake = NothingToTake ∷ []
-heard_of Expired = []
-heard_of (UserReleased sub) = UserReleased sub ∷ []
-heard_of (Passed octets) = Passed octets ∷ []
-heard_of Lost = Lost ∷ []
-heard_of Repeated = Repeated ∷ []
-heard_of Altered = Altered ∷ []
-heard_of Inserted = Inserted ∷ []
-heard_of NothingWaits = NothingWaits ∷ []
-heard_of (IsShort found) = IsShort found ∷ []
+abbrev pub told_outcomes_of : DrillOutcome → List DrillOutcome
+told_outcomes_of (OfSafety fact) = OfSafety fact ∷ []
+told_outcomes_of (Refused refusal) = Refused refusal ∷ []
+told_outcomes_of (Released release) = Released release ∷ []
+told_outcomes_of (Frame octets) = Frame octets ∷ []
+told_outcomes_of (Handed payload) = []
+told_outcomes_of (Arrived payload) = Arrived payload ∷ []
+told_outcomes_of Up = Up ∷ []
+told_outcomes_of (Took message) = Took message ∷ []
+told_outcomes_of NothingToTake = NothingToTake ∷ []
+told_outcomes_of Expired = []
+told_outcomes_of (UserReleased sub) = UserReleased sub ∷ []
+told_outcomes_of (Passed octets) = Passed octets ∷ []
+told_outcomes_of Lost = Lost ∷ []
+told_outcomes_of Repeated = Repeated ∷ []
+told_outcomes_of Altered = Altered ∷ []
+told_outcomes_of Inserted = Inserted ∷ []
+told_outcomes_of NothingWaits = NothingWaits ∷ []
+told_outcomes_of (IsShort found) = IsShort found ∷ []
 
-abbrev pub heard_in : List Outcome → List Outcome
-heard_in outcomes = flat_map heard_of outcomes
+abbrev pub told_outcomes_in : List DrillOutcome → List DrillOutcome
+told_outcomes_in outcomes = flat_map told_outcomes_of outcomes
 
 -- each of these outcomes is told, in their order
-abbrev pub EachTold : List Outcome → List Told → Type 0
+abbrev pub EachTold : List DrillOutcome → List Told → Type 0
 EachTold [] [] = Unit {0}
 EachTold [] (t ∷ ts) = ⊥
 EachTold (o ∷ os) [] = ⊥
 EachTold (o ∷ os) (t ∷ ts) = IsTold o t × EachTold os ts
 
 -- what an end tells of its outcomes
-abbrev pub AreTold : List Outcome → List Told → Type 0
-AreTold outcomes list = EachTold (heard_in outcomes) list
+abbrev pub AreTold : List DrillOutcome → List Told → Type 0
+AreTold outcomes list = EachTold (told_outcomes_in outcomes) list

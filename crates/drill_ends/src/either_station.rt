@@ -4,7 +4,7 @@ ghost use Rattle.std.specs.Prelude.{◌≡◌, ◌++◌, ◌≤◌, length, map,
 ghost use Rattle.hdlc_balanced.specs.Told.{deed_of};
 ghost use Rattle.hdlc_selective.specs.Places.{lent};
 ghost use Rattle.drill_ends.specs.declared.told.Told.TheVariants as told_is;
-ghost use Rattle.drill_ends.specs.EitherStations.{let_through, let_by, made_by, Keeps};
+ghost use Rattle.drill_ends.specs.EitherStations.{let_through, let_by, made_by, KeepsStationOfKind};
 ghost use Rattle.drill_ends.specs.StationEnds.{told_payloads};
 
 use crate::station_plan::StationPlan;
@@ -60,7 +60,7 @@ pub fn tell_run(
 impl EitherStation {
     /// The calling station of a link, or the called one.
     pub fn new(alloc: Global, calling: bool, plan: &StationPlan) -> Result<EitherStation, NoMemory>
-        ensures keeps { IfOk result (λ k. Keeps k plan.now.selective (made_by calling plan.now.settings)) }
+        ensures keeps { IfOk result (λ k. KeepsStationOfKind k plan.now.selective (made_by calling plan.now.settings)) }
         ensures through { IfOk result (λ k. let_through k ≡ let_by plan.now.selective plan.now.settings.window) }
     {
         let settings = &plan.settings;

@@ -1,5 +1,5 @@
 ghost use Rattle.std.specs.Prelude.{◌≡◌};
-ghost use Rattle.drill_ends.specs.Keys.{entries_of, IsSteady};
+ghost use Rattle.drill_ends.specs.Keys.{key_entries_of_pair, AreKeysSteady};
 
 use des_block::TripleKey;
 use safety_automaton::KeyFinder;
@@ -16,25 +16,25 @@ pub struct OneKey {
 
 impl Model for OneKey {
     ghost use Rattle.std.specs.Prelude.{List};
-    ghost use Rattle.safety_automaton.specs.Keys.{Entry};
-    ghost use Rattle.drill_ends.specs.Keys.{entries_of};
+    ghost use Rattle.safety_automaton.specs.Keys.{KmacEntry};
+    ghost use Rattle.drill_ends.specs.Keys.{key_entries_of_pair};
 
-    ghost Value = { List Entry };
+    ghost Value = { List KmacEntry };
 
-    ghost view = { λ k. entries_of k.engine k.rbc k.kmac };
+    ghost view = { λ k. key_entries_of_pair k.engine k.rbc k.kmac };
 }
 
 impl OneKey {
     /// The KMAC of an engine and a radio block centre, by their ETCS numbers, if there is one.
     pub fn new(engine: u32, rbc: u32, kmac: Option<TripleKey>) -> OneKey
-        ensures { result ≡ entries_of engine rbc kmac }
+        ensures { result ≡ key_entries_of_pair engine rbc kmac }
     {
         OneKey { engine, rbc, kmac }
     }
 
     /// The key is found alike at any two moments.
     pub fn is_steady(&self)
-        ensures { IsSteady self.now }
+        ensures { AreKeysSteady self.now }
     {
         let _kmac = self.kmac;
     }

@@ -1,6 +1,6 @@
 ghost use Rattle.std.specs.Prelude.{◌≡◌};
 ghost use Rattle.safety_automaton.specs.Reports.{refusal_view};
-ghost use Rattle.drill_model.specs.Ends.{refusal_of};
+ghost use Rattle.drill_model.specs.Ends.{send_refusal_from_safety};
 ghost use Rattle.er_end.specs.Shown.{refusal_view as stack_view};
 ghost use Rattle.drill_ends.specs.Refusals.{shown_refusal};
 
@@ -24,7 +24,7 @@ pub enum Refusal {
 impl Refusal {
     /// Why a side of a safe connection refuses.
     pub fn of_side(refused: SealRefused) -> Refusal
-        ensures { shown_refusal result ≡ refusal_of (refusal_view refused) }
+        ensures { shown_refusal result ≡ send_refusal_from_safety (refusal_view refused) }
     {
         match refused {
             SealRefused::Released(release) => Refusal::Released(release),

@@ -5,7 +5,7 @@ ghost use Rattle.er_end.specs.KeptLayers.{KCore};
 ghost use Rattle.er_end.specs.Shown.{Shows};
 ghost use Rattle.safety_automaton.specs.Safety.{session_in};
 ghost use Rattle.drill_ends.specs.SafeEnds.{checked_text, told_sealed};
-ghost use Rattle.drill_ends.specs.StackEnds.{IsCall, TellsCall, told_checked};
+ghost use Rattle.drill_ends.specs.StackEnds.{IsKeptCall, TellsCall, told_checked};
 
 use crate::safe_end::Checked;
 use crate::telling::{copied, tell_frames, tell_released};
@@ -27,7 +27,7 @@ pub struct Call {
 impl Call {
     /// What these deeds tell.
     pub fn of(alloc: Global, deeds: &Deeds) -> Result<Call, NoMemory>
-        ensures { IfOk result (λ call. (x : KCore) → Shows deeds.now x → IsCall call x) }
+        ensures { IfOk result (λ call. (x : KCore) → Shows deeds.now x → IsKeptCall call x) }
     {
         let out = copied(alloc, deeds.out)?;
         let Some(accepted) = deeds.accepted else {

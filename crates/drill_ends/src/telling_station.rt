@@ -1,13 +1,13 @@
 //! A station whose calls tell what they did.
 
 ghost use Rattle.std.specs.Prelude.{◌≡◌, ◌≤◌, Bool, None, Some, IfOk, OnOk};
-ghost use Rattle.hdlc_frames.specs.Shown.{shown};
+ghost use Rattle.hdlc_frames.specs.Shown.{verdict_of_octets_found};
 ghost use Rattle.hdlc_station_model.specs.Calls.{starts, finishes, ticks};
 ghost use Rattle.hdlc_station_model.specs.Selective.{receives_as};
 ghost use Rattle.hdlc_station_model.specs.Events.{quits};
 ghost use Rattle.hdlc_selective.specs.Kept.{FitsPlace};
-ghost use Rattle.drill_model.specs.StationEnds.{refusal_of, handed_unless};
-ghost use Rattle.drill_ends.specs.EitherStations.{Keeps, let_by, made_by};
+ghost use Rattle.drill_model.specs.StationEnds.{payload_refusal_of_station, handed_unless};
+ghost use Rattle.drill_ends.specs.EitherStations.{KeepsStationOfKind, let_by, made_by};
 ghost use Rattle.drill_ends.specs.StationEnds.{CallDoes, CallTells};
 
 use crate::either_station::{EitherStation, tell_arrived, tell_run};
@@ -62,7 +62,7 @@ fn let_by(selective: bool, window: u8) -> usize
 impl TellingStation {
     /// The calling station of a link, or the called one.
     pub fn new(alloc: Global, calling: bool, plan: &StationPlan) -> Result<TellingStation, NoMemory>
-        ensures { IfOk result (λ k. Keeps k plan.now.selective (made_by calling plan.now.settings)) }
+        ensures { IfOk result (λ k. KeepsStationOfKind k plan.now.selective (made_by calling plan.now.settings)) }
     {
         let station = EitherStation::new(alloc, calling, plan)?;
         let through = let_by(plan.selective, plan.settings.window);
@@ -102,9 +102,9 @@ impl TellingStation {
         found: &Found,
         told: &mut VecDeque<Told>,
     ) -> Result<Option<Release>, NoMemory>
-        requires { FitsPlace (shown found.now) }
+        requires { FitsPlace (verdict_of_octets_found found.now) }
         ensures { IfOk result (λ released. (selective : Bool) → CallTells selective self.old self.new told.old.items told.new.items released
-            (λ s. finishes (receives_as selective now (shown found.now) s))) }
+            (λ s. finishes (receives_as selective now (verdict_of_octets_found found.now) s))) }
     {
         self.room.clear();
         match &mut self.station {
@@ -138,7 +138,7 @@ impl TellingStation {
         told: &mut VecDeque<Told>,
     ) -> Result<(), NoMemory>
         ensures { OnOk result ((selective : Bool) → CallDoes selective self.old self.new told.old.items told.new.items
-            (λ s. handed_unless (refusal_of s payload.now None) now payload.now s)) }
+            (λ s. handed_unless (payload_refusal_of_station s payload.now None) now payload.now s)) }
     {
         self.room.clear();
         match &mut self.station {

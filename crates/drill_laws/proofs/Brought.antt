@@ -16,13 +16,13 @@ use Rattle.hdlc_station_model.specs.Stations.{made}
 use Rattle.er_end_model.specs.Ends.{Call, Answer}
 use Rattle.er_end_model.specs.Ends as stacks
 use Rattle.er_end_model.specs.Hearing.{EventsGive}
-use Rattle.drill_model.specs.Outcomes.{Outcome, OfSafety, NothingWaits, UserReleased, Passed, Lost, Repeated, Altered, Inserted, IsShort, Occurrence, at_end}
-use Rattle.drill_model.specs.Ends.{End, OfStation, OfStack, EndEvent, Start, Receive, end_step}
+use Rattle.drill_model.specs.Outcomes.{DrillOutcome, OfSafety, NothingWaits, UserReleased, Passed, Lost, Repeated, Altered, Inserted, IsShort, Occurrence, at_end}
+use Rattle.drill_model.specs.Ends.{EndAtLevel, OfStation, OfStack, EndEvent, Start, Receive, end_step}
 use Rattle.drill_model.specs.Ends as event
 use Rattle.hdlc_station_model.specs.Lines.{altered}
 use Rattle.drill_model.specs.Waiting.{LineChange, Lose, Repeat, Alter, Put, change_first}
 use Rattle.drill_model.specs.Links.{Link, LinkOpening, OfPair, OfStations, OfStacks, end_of, key_on, waiting_of, with_waiting, give, link_of, joined_pair, opened_link, LinkStep, Send, Pass, Change, Take, Release, Tick, pass, link_step, link_run, life}
-use Rattle.drill_model.specs.Worlds.{Plan, link_at, history_on, world_run}
+use Rattle.drill_model.specs.Worlds.{DrillPlan, link_at, history_on, world_run}
 use Rattle.drill_model.specs.Kinds.{passed_in, deliveries}
 use Rattle.drill_model.specs.Hearing.{heard_by, passed_of, IsHeard, WasBrought, HeardIsBrought}
 use Rattle.drill_model.specs.Growth.{HistoryGrows, HistoryOfOwn, HistoryOfOther}
@@ -55,11 +55,11 @@ none_if : (b : Bool) (passed : List (List ℕ)) → passed ≡ [] → (if b then
 none_if true passed none = ap (flat_map (λ octets. octets)) none
 none_if false passed none = refl
 
-none_passed : (P : List ℕ → Type 0) (side at : Side) (os : List Outcome) → AllHear P os → passed_of side (map (at_end at) os) ≡ []
+none_passed : (P : List ℕ → Type 0) (side at : Side) (os : List DrillOutcome) → AllHear P os → passed_of side (map (at_end at) os) ≡ []
 none_passed P side at [] h = refl
 none_passed P side at (o ∷ os) h = ap₂ (λ (xs ys : List ℕ). xs ++ ys) (none_if (is_side side at) (passed_in o) h.0.0) (none_passed P side at os h.1)
 
-passed_still : (P : List ℕ → Type 0) (side at : Side) (history : List Occurrence) (os : List Outcome) → AllHear P os
+passed_still : (P : List ℕ → Type 0) (side at : Side) (history : List Occurrence) (os : List DrillOutcome) → AllHear P os
     → passed_of side (history ++ map (at_end at) os) ≡ passed_of side history
 passed_still P side at history os h =
     passed_more side history (map (at_end at) os) ∙ ap (λ (xs : List ℕ). passed_of side history ++ xs) (none_passed P side at os h) ∙ append-nil (passed_of side history)
@@ -145,7 +145,7 @@ step_same l (Tick moment) = (refl, refl)
 
 -- ---- changes of what waits
 
-deaf_if : (b : Bool) (x y : List (List ℕ) × List Outcome) → AllHear Nothing x.1 → AllHear Nothing y.1 → AllHear Nothing (if b then x else y).1
+deaf_if : (b : Bool) (x y : List (List ℕ) × List DrillOutcome) → AllHear Nothing x.1 → AllHear Nothing y.1 → AllHear Nothing (if b then x else y).1
 deaf_if true x y hx hy = hx
 deaf_if false x y hx hy = hy
 
@@ -167,8 +167,8 @@ streams_by : (l m : Link) (history more : List Occurrence) → m.e ≡ l.e → m
     → Streams l history → Streams m more
 streams_by l m history more e r from_r from_e h =
     record {
-      e = subst (StreamIs m.e) (sym from_r) (subst (λ (end : End). StreamIs end (passed_of R history)) (sym e) h.e);
-      r = subst (StreamIs m.r) (sym from_e) (subst (λ (end : End). StreamIs end (passed_of E history)) (sym r) h.r);
+      e = subst (StreamIs m.e) (sym from_r) (subst (λ (end : EndAtLevel). StreamIs end (passed_of R history)) (sym e) h.e);
+      r = subst (StreamIs m.r) (sym from_e) (subst (λ (end : EndAtLevel). StreamIs end (passed_of E history)) (sym r) h.r);
     }
 
 waiting_streams : (l : Link) (history : List Occurrence) (side : Side) (frames : List (List ℕ)) → Streams l history → Streams (with_waiting l side frames) history
@@ -176,7 +176,7 @@ waiting_streams l history E frames h = record { e = h.e; r = h.r }
 waiting_streams l history R frames h = record { e = h.e; r = h.r }
 
 -- occurrences that are no passes
-quiet_streams : (P : List ℕ → Type 0) (l : Link) (history : List Occurrence) (side : Side) (os : List Outcome) → AllHear P os → Streams l history
+quiet_streams : (P : List ℕ → Type 0) (l : Link) (history : List Occurrence) (side : Side) (os : List DrillOutcome) → AllHear P os → Streams l history
     → Streams l (history ++ map (at_end side) os)
 quiet_streams P l history side os quiet h =
     streams_by l l history (history ++ map (at_end side) os) refl refl (passed_still P R side history os quiet) (passed_still P E side history os quiet) h
@@ -195,7 +195,7 @@ joined_stacks settings moment engine rbc ke kr ra rb =
 
 module _ (only : StepsOnly) (gives : EventsGive) where
   -- an event that brings no octets
-  abbrev told_by : Link → Side → EndEvent → List Outcome
+  abbrev told_by : Link → Side → EndEvent → List DrillOutcome
   told_by l side e = (end_step (key_on l.opening) l.moment (end_of l side) e).1
 
   given_deaf : (l : Link) (side : Side) (e : EndEvent) → IsNoReceive e → AllHear Nothing (told_by l side e)
@@ -204,7 +204,7 @@ module _ (only : StepsOnly) (gives : EventsGive) where
   give_streams : (l : Link) (history : List Occurrence) (side : Side) (e : EndEvent) → IsNoReceive e → Streams l history
       → Streams (give l side e).0 (history ++ (give l side e).1)
   give_streams l history E e none h =
-      let os : List Outcome = told_by l E e in
+      let os : List DrillOutcome = told_by l E e in
       let quiet : AllHear Nothing os = given_deaf l E e none in
       record {
         e = subst (StreamIs (end_step (key_on l.opening) l.moment l.e e).0) (sym (passed_still Nothing R E history os quiet))
@@ -212,7 +212,7 @@ module _ (only : StepsOnly) (gives : EventsGive) where
         r = subst (StreamIs l.r) (sym (passed_still Nothing E E history os quiet)) h.r;
       }
   give_streams l history R e none h =
-      let os : List Outcome = told_by l R e in
+      let os : List DrillOutcome = told_by l R e in
       let quiet : AllHear Nothing os = given_deaf l R e none in
       record {
         e = subst (StreamIs l.e) (sym (passed_still Nothing R R history os quiet)) h.e;
@@ -242,7 +242,7 @@ module _ (only : StepsOnly) (gives : EventsGive) where
       → Streams (give l (other side) (Receive frame)).0 ((history ++ at_end side (Passed frame) ∷ []) ++ (give l (other side) (Receive frame)).1)
   receive_streams l history E frame h =
       let base : List Occurrence = history ++ at_end E (Passed frame) ∷ [] in
-      let os : List Outcome = told_by l R (Receive frame) in
+      let os : List DrillOutcome = told_by l R (Receive frame) in
       let P : List ℕ → Type 0 = IsHeard (key_on l.opening) l.moment l.r (passed_of E history) frame in
       let quiet : AllHear P os = given_hears l history E frame h in
       record {
@@ -252,7 +252,7 @@ module _ (only : StepsOnly) (gives : EventsGive) where
       }
   receive_streams l history R frame h =
       let base : List Occurrence = history ++ at_end R (Passed frame) ∷ [] in
-      let os : List Outcome = told_by l E (Receive frame) in
+      let os : List DrillOutcome = told_by l E (Receive frame) in
       let P : List ℕ → Type 0 = IsHeard (key_on l.opening) l.moment l.e (passed_of R history) frame in
       let quiet : AllHear P os = given_hears l history R frame h in
       record {
@@ -273,7 +273,7 @@ module _ (only : StepsOnly) (gives : EventsGive) where
   step_streams l history (Send side octets) h = give_streams l history side (event.Send octets) tt h
   step_streams l history (Pass side) h = pass_streams l history side (waiting_of l side) h
   step_streams l history (Change side change) h =
-      let a : List (List ℕ) × List Outcome = change_first change (waiting_of l side) in
+      let a : List (List ℕ) × List DrillOutcome = change_first change (waiting_of l side) in
       quiet_streams Nothing (with_waiting l side a.0) history side a.1 (changes_deaf change (waiting_of l side)) (waiting_streams l history side a.0 h)
   step_streams l history (Take side) h = give_streams l history side event.Take tt h
   step_streams l history (Release side sub) h =
@@ -296,14 +296,14 @@ module _ (only : StepsOnly) (gives : EventsGive) where
     P = HeardAt settings at opening
 
     -- occurrences that speak of no octets
-    along_deaf : (seen : List Occurrence) (side : Side) (os : List Outcome) → AllHear Nothing os → Along P seen (map (at_end side) os)
+    along_deaf : (seen : List Occurrence) (side : Side) (os : List DrillOutcome) → AllHear Nothing os → Along P seen (map (at_end side) os)
     along_deaf seen side [] h = tt
     along_deaf seen side (o ∷ os) h = ((λ heard is. absurd (h.0.1 heard is)), along_deaf (seen ++ at_end side o ∷ []) side os h.1)
 
     give_deaf : (l : Link) (seen : List Occurrence) (side : Side) (e : EndEvent) → IsNoReceive e → Along P seen (give l side e).1
     give_deaf l seen side e none = along_deaf seen side (told_by l side e) (given_deaf l side e none)
 
-    deliveries_more : (xs : List Occurrence) (side : Side) (o : Outcome) → flat_map (λ (x : Occurrence). passed_in x.outcome) xs ≡ [] → passed_in o ≡ []
+    deliveries_more : (xs : List Occurrence) (side : Side) (o : DrillOutcome) → flat_map (λ (x : Occurrence). passed_in x.outcome) xs ≡ [] → passed_in o ≡ []
         → flat_map (λ (x : Occurrence). passed_in x.outcome) (xs ++ at_end side o ∷ []) ≡ []
     deliveries_more xs side o none quiet =
         flat_map-append (λ (x : Occurrence). passed_in x.outcome) xs (at_end side o ∷ [])
@@ -312,7 +312,7 @@ module _ (only : StepsOnly) (gives : EventsGive) where
     -- what came of a frame that was passed to this side
     along_brought : (own : List LinkStep) (l : Link) (history : List Occurrence) → life settings at opening own ≡ (l, history) → l.opening ≡ opening
         → (side : Side) (frame : List ℕ) (later : List Occurrence) → flat_map (λ (x : Occurrence). passed_in x.outcome) later ≡ []
-        → (os : List Outcome) → AllHear (IsHeard (key_on l.opening) l.moment (end_of l side) (passed_of (other side) history) frame) os
+        → (os : List DrillOutcome) → AllHear (IsHeard (key_on l.opening) l.moment (end_of l side) (passed_of (other side) history) frame) os
         → Along P ((history ++ at_end (other side) (Passed frame) ∷ []) ++ later) (map (at_end side) os)
     along_brought own l history is opens side frame later none [] h = tt
     along_brought own l history is opens side frame later none (o ∷ os) h =
@@ -331,7 +331,7 @@ module _ (only : StepsOnly) (gives : EventsGive) where
               (along_brought own l history is opens side frame (later ++ at_end side o ∷ []) (deliveries_more later side o none h.0.0) os h.1),
         )
 
-    nothing_told : (o : Outcome) → heard_told o ≡ None → (seen : List Occurrence) (side : Side) → P seen (at_end side o)
+    nothing_told : (o : DrillOutcome) → heard_told o ≡ None → (seen : List Occurrence) (side : Side) → P seen (at_end side o)
     nothing_told o none seen side = λ heard is. no_some heard (sym none ∙ is)
       where
         no_some : (heard : List ℕ) → None ≡ Some heard → Brought settings at opening seen side heard
@@ -342,14 +342,14 @@ module _ (only : StepsOnly) (gives : EventsGive) where
     pass_along own l history is opens h side [] = (nothing_told NothingWaits refl history side, tt)
     pass_along own l history is opens h E (frame ∷ frames) =
         let base : List Occurrence = history ++ at_end E (Passed frame) ∷ [] in
-        let os : List Outcome = told_by l R (Receive frame) in (
+        let os : List DrillOutcome = told_by l R (Receive frame) in (
           nothing_told (Passed frame) refl history E,
           subst (λ (seen : List Occurrence). Along P seen (map (at_end R) os)) (append-nil base)
               (along_brought own l history is opens R frame [] refl os (given_hears l history E frame h)),
         )
     pass_along own l history is opens h R (frame ∷ frames) =
         let base : List Occurrence = history ++ at_end R (Passed frame) ∷ [] in
-        let os : List Outcome = told_by l E (Receive frame) in (
+        let os : List DrillOutcome = told_by l E (Receive frame) in (
           nothing_told (Passed frame) refl history R,
           subst (λ (seen : List Occurrence). Along P seen (map (at_end E) os)) (append-nil base)
               (along_brought own l history is opens E frame [] refl os (given_hears l history R frame h)),
@@ -446,7 +446,7 @@ module _ (only : StepsOnly) (gives : EventsGive) where
       (subst (λ (o : LinkOpening). Brought settings l.opened_at o before side heard) (sym h.opening_is)
       (subst (λ (n : ℕ). Brought settings n h.opening before side heard) (sym h.at_is) here))
 
-  stands_at : HistoryGrows → HistoryOfOwn → HistoryOfOther → (plan : Plan) (steps : List Step) (n : ℕ) (l : Link) → link_at (world_run plan steps).0 n ≡ Some l
+  stands_at : HistoryGrows → HistoryOfOwn → HistoryOfOther → (plan : DrillPlan) (steps : List Step) (n : ℕ) (l : Link) → link_at (world_run plan steps).0 n ≡ Some l
       → Stands plan.settings l (history_on n (world_run plan steps).1)
   stands_at grow own others plan steps n l at =
       let lives : AtPlace (Stands plan.settings) (link_at (world_run plan steps).0 n) (history_on n (world_run plan steps).1) =
@@ -454,10 +454,10 @@ module _ (only : StepsOnly) (gives : EventsGive) where
       subst (λ (place : Option Link). AtPlace (Stands plan.settings) place (history_on n (world_run plan steps).1)) at lives
 
   -- the streams of a link of a world
-  pub streams_at : HistoryGrows → HistoryOfOwn → HistoryOfOther → (plan : Plan) (steps : List Step) (n : ℕ) (l : Link) → link_at (world_run plan steps).0 n ≡ Some l
+  pub streams_at : HistoryGrows → HistoryOfOwn → HistoryOfOther → (plan : DrillPlan) (steps : List Step) (n : ℕ) (l : Link) → link_at (world_run plan steps).0 n ≡ Some l
       → Streams l (history_on n (world_run plan steps).1)
   streams_at grow own others plan steps n l at = (stands_at grow own others plan steps n l at).streams
 
-  pub heard_is_brought : HistoryGrows → HistoryOfOwn → HistoryOfOther → (plan : Plan) (steps : List Step) → HeardIsBrought plan steps
+  pub heard_is_brought : HistoryGrows → HistoryOfOwn → HistoryOfOther → (plan : DrillPlan) (steps : List Step) → HeardIsBrought plan steps
   heard_is_brought grow own others plan steps n l at before after side fact heard split told =
       heard_at plan.settings l (history_on n (world_run plan steps).1) (stands_at grow own others plan steps n l at) before after side fact heard split told

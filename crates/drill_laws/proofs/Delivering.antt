@@ -14,7 +14,7 @@ use Rattle.safety_automaton.specs.Rules.{IsStep, StepsOnly}
 use Rattle.safety_pair_laws.specs.Facts.{SideFact, MarkedFact, at_side, is_side, facts_of, marked}
 use Rattle.safety_pair_laws.specs.Openings.{PairOpening, Agrees, key_for}
 use Rattle.safety_pair_laws.specs.Talks.{answer}
-use Rattle.safety_pair_laws.specs.Deliveries.{sent_of, accepted_of, Flow, under_way, delivered, Flows, Delivers, FitsOpening, IsComplete, HasFlowed, FlowsDeliver}
+use Rattle.safety_pair_laws.specs.Deliveries.{sent_of, accepted_of, Flow, under_way, delivered, Flows, Delivers, FitsOpening, IsFlowComplete, HasFlowed, FlowsDeliver}
 use Rattle.safety_pair_laws.specs.Messages.{set_up_sapdus}
 use Rattle.safety_pair_laws.specs.Messages as pair
 use Rattle.drill_model.specs.Outcomes.{Occurrence}
@@ -215,7 +215,7 @@ module _ (only : StepsOnly) where
       let bounded : f.deliveries ≤ most_of o f = has.bounded in
       let D : LinkOpening → Type 0 = λ p. IsEmpty p l → IsDelivered p history l in
       let done : D (OfPair o) = λ empty.
-      let complete : IsComplete f = has.complete (sym v.from_e_is ∙ empty.0) (sym v.from_r_is ∙ empty.1) in
+      let complete : IsFlowComplete f = has.complete (sym v.from_e_is ∙ empty.0) (sym v.from_r_is ∙ empty.1) in
       record {
         e_connected = subst IsConnectedEnd (sym v.e_is) complete.e_connected;
         r_connected = subst IsConnectedEnd (sym v.r_is) complete.r_connected;

@@ -16,14 +16,14 @@ use Rattle.hdlc_station_model.specs.Stations.{Station, settled}
 use Rattle.hdlc_station_model.specs.Calls.{finishes}
 use Rattle.hdlc_station_model.specs.Selective.{receives_as}
 use Rattle.hdlc_station_model.specs.Events.{news}
-use Rattle.hdlc_pair_laws.specs.Links.{Link as Pair}
-use Rattle.hdlc_pair_laws.specs.Steps.{run}
-use Rattle.hdlc_pair_laws.specs.Laws.{IsNarrow, Opening, Delivery, DeliveriesBound, FewWait}
+use Rattle.hdlc_pair_laws.specs.Links.{StationLink as Pair}
+use Rattle.hdlc_pair_laws.specs.Steps.{station_link_run}
+use Rattle.hdlc_pair_laws.specs.Laws.{IsNarrow, StationLinkOpening, Delivery, DeliveriesBound, FewWait}
 use Rattle.hdlc_pair_laws.specs.Laws as of_pair
 use Rattle.safety_pair_laws.specs.Facts.{SideFact, MarkedFact, marked}
-use Rattle.drill_model.specs.Outcomes.{Outcome, Passed, Occurrence, at_end}
-use Rattle.drill_model.specs.StationEnds.{told_by, frames_heard}
-use Rattle.drill_model.specs.Ends.{End, OfStation, EndEvent, end_step}
+use Rattle.drill_model.specs.Outcomes.{DrillOutcome, Passed, Occurrence, at_end}
+use Rattle.drill_model.specs.StationEnds.{outcomes_told_by_station, frames_heard}
+use Rattle.drill_model.specs.Ends.{EndAtLevel, OfStation, EndEvent, end_step}
 use Rattle.drill_model.specs.Ends as event
 use Rattle.drill_model.specs.Links.{Link, LinkOpening, OfStations, end_of, waiting_of, with_waiting, with_answer, give, key_on, Pass, pass, link_step}
 use Rattle.hdlc_station_model.specs.Lines.{next_of}
@@ -38,7 +38,7 @@ use Rattle.drill_laws.proofs.Losing.{pair_opening, not_false}
 
 -- ---- a delivery hands down no payload and disturbs nothing
 
-pub record Hears (os : List Outcome) : Type 0 where
+pub record Hears (os : List DrillOutcome) : Type 0 where
   pub taken : List (List ℕ)
   pub releases : List Release
   pub says : Says os [] taken releases false false 0
@@ -51,7 +51,7 @@ frames_hear selective moment (v ∷ vs) s =
     record {
       taken = all_taken t.deed ++ rest.taken;
       releases = option_to_list t.deed.released ++ rest.releases;
-      says = says_append (told_by t) (frames_heard selective moment vs (settled t)).1 [] [] (all_taken t.deed) rest.taken (option_to_list t.deed.released) rest.releases
+      says = says_append (outcomes_told_by_station t) (frames_heard selective moment vs (settled t)).1 [] [] (all_taken t.deed) rest.taken (option_to_list t.deed.released) rest.releases
           false false false false 0 0 (says_told t) rest.says;
     }
 
@@ -66,7 +66,7 @@ or_false : (b : Bool) → (b || false) ≡ b
 or_false true = refl
 or_false false = refl
 
-quiet_of : (side : Side) (history : List Occurrence) (os : List Outcome) (taken : List (List ℕ)) (releases : List Release) (passes : ℕ)
+quiet_of : (side : Side) (history : List Occurrence) (os : List DrillOutcome) (taken : List (List ℕ)) (releases : List Release) (passes : ℕ)
     → Says os [] taken releases false false passes → Quiet history (history ++ map (at_end side) os) passes
 quiet_of E history os taken releases passes says =
     let g = grows_of E history os [] taken releases false false passes says in
@@ -91,8 +91,8 @@ quiet_then a b c m n x y =
 
 heard_at : (l : Link) (to : Side) (selective : Bool) (s : Station) (stream frame : List ℕ) → end_of l to ≡ OfStation selective s stream
     → (give l to (event.Receive frame)).1 ≡ map (at_end to) (frames_heard selective l.moment (news stream frame) s).1
-heard_at l E selective s stream frame is = ap (λ (end : End). (with_answer l E (end_step (key_on l.opening) l.moment end (event.Receive frame))).1) is
-heard_at l R selective s stream frame is = ap (λ (end : End). (with_answer l R (end_step (key_on l.opening) l.moment end (event.Receive frame))).1) is
+heard_at l E selective s stream frame is = ap (λ (end : EndAtLevel). (with_answer l E (end_step (key_on l.opening) l.moment end (event.Receive frame))).1) is
+heard_at l R selective s stream frame is = ap (λ (end : EndAtLevel). (with_answer l R (end_step (key_on l.opening) l.moment end (event.Receive frame))).1) is
 
 end_stays : (l : Link) (side to : Side) (frames : List (List ℕ)) → end_of (with_waiting l side frames) to ≡ end_of l to
 end_stays l E E frames = refl
@@ -107,7 +107,7 @@ pass_heard l history side selective s stream frame frames is =
     let first : List Occurrence = at_end side (Passed frame) ∷ [] in
     let m : Link = with_waiting l side frames in
     let x : List Occurrence = (give m (other side) (event.Receive frame)).1 in
-    let os : List Outcome = (frames_heard selective m.moment (news stream frame) s).1 in
+    let os : List DrillOutcome = (frames_heard selective m.moment (news stream frame) s).1 in
     let given : x ≡ map (at_end (other side)) os = heard_at m (other side) selective s stream frame (end_stays l side (other side) frames ∙ is) in
     let h = frames_hear selective m.moment (news stream frame) s in
     let a : Quiet history (history ++ first) 1 =
@@ -129,19 +129,19 @@ pass_quiet l history p R frame frames v is =
 
 module _ (laws : StationLaws) (delivers : Delivery) (deliveries_bound : DeliveriesBound) (few : FewWait) (settings : Settings) (selective : Bool) (bounded : AreBounded settings)
     (narrow : IsNarrow selective (settings.modulo == 128) settings.window) where
-  abbrev opening_at : ℕ → Opening
+  abbrev opening_at : ℕ → StationLinkOpening
   opening_at moment = pair_opening settings selective moment bounded narrow
 
   abbrev most_of : List Occurrence → ℕ
   most_of history = 2 + 2 * (length (sent_by E history) + length (sent_by R history))
 
   free_of : (l : Link) (history : List Occurrence) (w : IsWired settings selective l history) → is_disturbed history ≡ false
-      → (run (wired settings selective w.moment) w.steps).loss_free ≡ true
-  free_of l history w none = not_false (run (wired settings selective w.moment) w.steps).loss_free (sym w.sees.free ∙ none)
+      → (station_link_run (wired settings selective w.moment) w.steps).loss_free ≡ true
+  free_of l history w none = not_false (station_link_run (wired settings selective w.moment) w.steps).loss_free (sym w.sees.free ∙ none)
 
   bounded_by : (l : Link) (history : List Occurrence) → IsWired settings selective l history → is_disturbed history ≡ false → deliveries history ≤ most_of history
   bounded_by l history w none =
-      let p : Pair = run (wired settings selective w.moment) w.steps in
+      let p : Pair = station_link_run (wired settings selective w.moment) w.steps in
       let most : of_pair.deliveries (wired settings selective w.moment) w.steps ≤ 2 + 2 * (length p.e.handed + length p.r.handed) =
       deliveries_bound (opening_at w.moment) w.steps (free_of l history w none) in
       let e : length (sent_by E history) ≡ length p.e.handed = ap length w.sees.sent_e in
@@ -152,7 +152,7 @@ module _ (laws : StationLaws) (delivers : Delivery) (deliveries_bound : Deliveri
   -- too many frames never wait
   roomy : (l : Link) (history : List Occurrence) → IsWired settings selective l history → is_disturbed history ≡ false → overfull_side l ≡ None
   roomy l history w none =
-      let p : Pair = run (wired settings selective w.moment) w.steps in
+      let p : Pair = station_link_run (wired settings selective w.moment) w.steps in
       let waits = few (opening_at w.moment) w.steps (free_of l history w none) in
       let e : length l.from_e ≡ length p.from_e = ap length w.sees.from_e_is in
       let r : length l.from_r ≡ length p.from_r = ap length w.sees.from_r_is in
@@ -173,7 +173,7 @@ module _ (laws : StationLaws) (delivers : Delivery) (deliveries_bound : Deliveri
   none_left l history w none enough side [] is = is
   none_left l history w none enough side (frame ∷ frames) is =
       let a : Link × List Occurrence = link_step l (Pass side) in
-      let q = pass_quiet l history (run (wired settings selective w.moment) w.steps) side frame frames w.sees is in
+      let q = pass_quiet l history (station_link_run (wired settings selective w.moment) w.steps) side frame frames w.sees is in
       let after : deliveries (history ++ a.1) ≤ most_of (history ++ a.1) =
       bounded_by a.0 (history ++ a.1) (wired_steps laws settings selective l history (Pass side) w) (q.disturbed ∙ none) in
       let e : length (sent_by E (history ++ a.1)) ≡ length (sent_by E history) = ap length q.sent_e in
@@ -193,7 +193,7 @@ module _ (laws : StationLaws) (delivers : Delivery) (deliveries_bound : Deliveri
       → Nothing (others (link_step l (Pass side)).0).link
   passes_empty most others each l history w none enough side frame frames is =
       let a : Link × List Occurrence = link_step l (Pass side) in
-      let q = pass_quiet l history (run (wired settings selective w.moment) w.steps) side frame frames w.sees is in
+      let q = pass_quiet l history (station_link_run (wired settings selective w.moment) w.steps) side frame frames w.sees is in
       let e : length (sent_by E (history ++ a.1)) ≡ length (sent_by E history) = ap length q.sent_e in
       let r : length (sent_by R (history ++ a.1)) ≡ length (sent_by R history) = ap length q.sent_r in
       let count : deliveries (history ++ a.1) ≡ deliveries history + 1 = q.count in
@@ -219,13 +219,13 @@ module _ (laws : StationLaws) (delivers : Delivery) (deliveries_bound : Deliveri
 
   -- ---- what is delivered
 
-  connected : (end : End) (selective : Bool) (s : Station) (stream : List ℕ) → end ≡ OfStation selective s stream → s.phase ≡ Up → IsConnectedEnd end
+  connected : (end : EndAtLevel) (selective : Bool) (s : Station) (stream : List ℕ) → end ≡ OfStation selective s stream → s.phase ≡ Up → IsConnectedEnd end
   connected end selective s stream is up = subst IsConnectedEnd (sym is) up
 
   all_payloads : (l : Link) (history : List Occurrence) → IsWired settings selective l history → is_disturbed history ≡ false → Nothing l → HasAllPayloads history l
   all_payloads l history w none empty =
       let v = w.sees in
-      let p : Pair = run (wired settings selective w.moment) w.steps in
+      let p : Pair = station_link_run (wired settings selective w.moment) w.steps in
       let d = delivers (opening_at w.moment) w.steps (free_of l history w none) (sym v.from_e_is ∙ empty.0, sym v.from_r_is ∙ empty.1) in
       record {
         e_up = connected l.e p.selective p.e p.read_e v.e_is d.0;

@@ -12,12 +12,12 @@ use Rattle.er_scenario.specs.declared.step.Step.TheVariants as does
 use Rattle.safety_automaton.specs.Rules.{StepsOnly}
 use Rattle.safety_pair_laws.specs.Facts.{Fact, Sent, Sealed, Verified, Connected, Accepted, is_side}
 use Rattle.safety_pair_laws.specs.Messages as pair
-use Rattle.drill_model.specs.Outcomes.{Outcome, OfSafety, Handed, Arrived, Up, Took, NothingToTake, Refused, Released, Frame, Expired, UserReleased, Passed, Lost, Repeated, Altered, Inserted, NothingWaits, IsShort, Occurrence}
+use Rattle.drill_model.specs.Outcomes.{DrillOutcome, OfSafety, Handed, Arrived, Up, Took, NothingToTake, Refused, Released, Frame, Expired, UserReleased, Passed, Lost, Repeated, Altered, Inserted, NothingWaits, IsShort, Occurrence}
 use Rattle.drill_model.specs.Links.{Link, waiting_of, Pass, link_step}
-use Rattle.drill_model.specs.Worlds.{Plan, World, Came, link_at, history_on, world_step, world_run}
+use Rattle.drill_model.specs.Worlds.{DrillPlan, World, Came, link_at, history_on, world_step, world_run}
 use Rattle.drill_model.specs.Kinds.{sent_in, sent_by, is_disorder, is_disturbance}
 use Rattle.drill_model.specs.Growth.{FactsGrow, HistoryGrows, HistoryOfOwn, HistoryOfOther, RunGrows}
-use Rattle.drill_model.specs.Effects.{Effect, Sends, IsRefused, Passes, Loses, Repeats, Alters, Inserts, Releases, Expires, effect_of, effect_in, Effects, effects_in, HasRunOut, At, of_first, of_alter, of_copy, OfTick, TickEffects, of_passes, HasEffects, StepsHaveEffects, IsPartOf, Nothing, LeavesOut, TakesIn, text_of, SendsAreSteps, disorders, disturbs, NoneRunsOut, QuietKeepsOrder, QuietIsLossFree, Steps}
+use Rattle.drill_model.specs.Effects.{Effect, Sends, IsRefused, Passes, Loses, Repeats, Alters, Inserts, Releases, Expires, effect_of, effect_in, Effects, effects_in, HasRunOut, At, of_first, of_alter, of_copy, OfTick, TickEffects, of_passes, HasEffects, StepsHaveEffects, IsPartOf, Nothing, LeavesOut, TakesIn, texts_sent_by_step, SendsAreSteps, disorders, disturbs, NoneRunsOut, QuietKeepsOrder, QuietIsLossFree, Steps}
 use Rattle.drill_laws.proofs.Openings.{numbered}
 use Rattle.drill_laws.proofs.StepEffects.{effects_append}
 use Rattle.drill_laws.proofs.WorldEffects.{brought, step_effects, step_closed}
@@ -48,7 +48,7 @@ fact_sends (Verified heard key text) = refl
 fact_sends (Connected heard connection text) = refl
 fact_sends (Accepted heard user key text) = refl
 
-outcome_sends : (o : Outcome) → sent_in o ≡ flat_map sends_in (effect_in o)
+outcome_sends : (o : DrillOutcome) → sent_in o ≡ flat_map sends_in (effect_in o)
 outcome_sends (OfSafety fact) = fact_sends fact
 outcome_sends (Handed payload) = refl
 outcome_sends (Arrived payload) = refl
@@ -88,7 +88,7 @@ history_sends side (o ∷ history) =
     ∙ sym (flat_map-append (sent_at side) (map (λ e. (o.side, e)) (effect_in o.outcome)) (effects_in history))
 
 -- a test of outcomes that is one of their effects
-module _ (f : Outcome → Bool) (g : Effect → Bool) (same : (o : Outcome) → f o ≡ list_any g (effect_in o)) where
+module _ (f : DrillOutcome → Bool) (g : Effect → Bool) (same : (o : DrillOutcome) → f o ≡ list_any g (effect_in o)) where
   at_a_side : (side : Side) (es : List Effect) → list_any g es ≡ list_any (λ (e : Side × Effect). g e.1) (map (λ e. (side, e)) es)
   at_a_side side [] = refl
   at_a_side side (e ∷ es) = ap (λ (b : Bool). g e || b) (at_a_side side es)
@@ -128,7 +128,7 @@ no_fact g sends (Verified heard key text) = refl
 no_fact g sends (Connected heard connection text) = refl
 no_fact g sends (Accepted heard user key text) = refl
 
-outcome_upsets : (o : Outcome) → is_disorder o ≡ list_any upsets (effect_in o)
+outcome_upsets : (o : DrillOutcome) → is_disorder o ≡ list_any upsets (effect_in o)
 outcome_upsets (OfSafety fact) = no_fact upsets (λ octets. refl) fact
 outcome_upsets (Handed payload) = refl
 outcome_upsets (Arrived payload) = refl
@@ -148,7 +148,7 @@ outcome_upsets Inserted = refl
 outcome_upsets NothingWaits = refl
 outcome_upsets (IsShort found) = refl
 
-outcome_troubles : (o : Outcome) → is_disturbance o ≡ list_any troubles (effect_in o)
+outcome_troubles : (o : DrillOutcome) → is_disturbance o ≡ list_any troubles (effect_in o)
 outcome_troubles (OfSafety fact) = no_fact troubles (λ octets. refl) fact
 outcome_troubles (Handed payload) = refl
 outcome_troubles (Arrived payload) = refl
@@ -359,12 +359,12 @@ module _ (side : Side) where
       by_side R E = Nothing
       by_side R R = TakesIn text [] [] Nothing
 
-  step_tells : (w : World) (n : ℕ) (l : Link) (s : Step) (effects : Effects) → HasEffects w n l s effects → Tells (text_of n side s) effects
+  step_tells : (w : World) (n : ℕ) (l : Link) (s : Step) (effects : Effects) → HasEffects w n l s effects → Tells (texts_sent_by_step n side s) effects
   step_tells w n l (does.Fixed m engine rbc ke kr) effects h = mute_tells [] effects (subst Mute (sym h) refl)
   step_tells w n l (does.Link m engine rbc ke kr ra rb) effects h = mute_tells [] effects (subst Mute (sym h) refl)
   step_tells w n l (does.Wire m) effects h = mute_tells [] effects (subst Mute (sym h) refl)
   step_tells w n l (does.Send m s text) effects h =
-      let texts : List (List ℕ) = text_of n side (does.Send m s text) in
+      let texts : List (List ℕ) = texts_sent_by_step n side (does.Send m s text) in
       at_or_none (Tells texts) m n effects _ h (none_of texts)
       (λ e is.
       elim is [
@@ -386,15 +386,15 @@ module _ (side : Side) where
 -- ---- a list of steps
 
 module _ (only : StepsOnly) (facts : FactsGrow) (grow : HistoryGrows) (own : HistoryOfOwn) (other : HistoryOfOther) (runs : RunGrows) where
-  abbrev world : Plan → List Step → World
+  abbrev world : DrillPlan → List Step → World
   world plan steps = (world_run plan steps).0
 
-  pub steps_have_effects : (plan : Plan) (steps : List Step) → StepsHaveEffects plan steps
+  pub steps_have_effects : (plan : DrillPlan) (steps : List Step) → StepsHaveEffects plan steps
   steps_have_effects plan steps before after s n l split is =
       step_effects only grow own other plan (world plan before) n l is (numbered facts plan before n l is) s
 
   -- what a step behind others brings about at link n, whether it is open or not
-  step_brings : (P : Effects → Type 0) (plan : Plan) (before : List Step) (s : Step) (n : ℕ) → P []
+  step_brings : (P : Effects → Type 0) (plan : DrillPlan) (before : List Step) (s : Step) (n : ℕ) → P []
       → ((l : Link) → link_at (world plan before) n ≡ Some l → (effects : Effects) → HasEffects (world plan before) n l s effects → P effects)
       → P (brought only grow own other plan (world plan before) n s)
   step_brings P plan before s n none some = by_place (link_at (world plan before) n) refl
@@ -406,7 +406,7 @@ module _ (only : StepsOnly) (facts : FactsGrow) (grow : HistoryGrows) (own : His
           (step_effects only grow own other plan (world plan before) n l is (numbered facts plan before n l is) s)
 
   -- all effects behind one step more
-  more_effects : (plan : Plan) (before : List Step) (s : Step) (n : ℕ)
+  more_effects : (plan : DrillPlan) (before : List Step) (s : Step) (n : ℕ)
       → effects_in (history_on n (world_run plan (before ++ s ∷ [])).1)
       ≡ effects_in (history_on n (world_run plan before).1) ++ brought only grow own other plan (world plan before) n s
   more_effects plan before s n =
@@ -421,28 +421,28 @@ module _ (only : StepsOnly) (facts : FactsGrow) (grow : HistoryGrows) (own : His
   step_by_step P steps before (s ∷ rest) split now more =
       step_by_step P steps (before ++ s ∷ []) rest (split ∙ sym (append_assoc before (s ∷ []) rest)) (more before s rest split now) more
 
-  pub sends_are_steps : (plan : Plan) (steps : List Step) → SendsAreSteps plan steps
+  pub sends_are_steps : (plan : DrillPlan) (steps : List Step) → SendsAreSteps plan steps
   sends_are_steps plan steps n side =
       let P : List Step → Type 0 = λ early.
-      IsPartOf (sends_by side (effects_in (history_on n (world_run plan early).1))) (flat_map (text_of n side) early) in
+      IsPartOf (sends_by side (effects_in (history_on n (world_run plan early).1))) (flat_map (texts_sent_by_step n side) early) in
       let all : P steps =
       step_by_step P steps [] steps refl Nothing
       (λ early s late split now.
       let more : Effects = brought only grow own other plan (world plan early) n s in
-      let texts : List (List ℕ) = text_of n side s in
+      let texts : List (List ℕ) = texts_sent_by_step n side s in
       let one : IsPartOf (sends_by side more) texts =
       step_brings (λ effects. IsPartOf (sends_by side effects) texts) plan early s n (none_of texts)
       (λ l is effects h. step_tells side (world plan early) n l s effects h) in
-      let both = part_append (sends_by side (effects_in (history_on n (world_run plan early).1))) (flat_map (text_of n side) early) (sends_by side more) texts now one in
+      let both = part_append (sends_by side (effects_in (history_on n (world_run plan early).1))) (flat_map (texts_sent_by_step n side) early) (sends_by side more) texts now one in
       let whole : sends_by side (effects_in (history_on n (world_run plan (early ++ s ∷ [])).1))
       ≡ sends_by side (effects_in (history_on n (world_run plan early).1)) ++ sends_by side more =
       ap (sends_by side) (more_effects plan early s n) ∙ flat_map-append (sent_at side) (effects_in (history_on n (world_run plan early).1)) more in
-      let file : flat_map (text_of n side) (early ++ s ∷ []) ≡ flat_map (text_of n side) early ++ texts =
-      flat_map-append (text_of n side) early (s ∷ []) ∙ ap (λ (xs : List (List ℕ)). flat_map (text_of n side) early ++ xs) (append-nil texts) in
-      subst (λ (xs : List (List ℕ)). IsPartOf xs (flat_map (text_of n side) (early ++ s ∷ []))) (sym whole)
+      let file : flat_map (texts_sent_by_step n side) (early ++ s ∷ []) ≡ flat_map (texts_sent_by_step n side) early ++ texts =
+      flat_map-append (texts_sent_by_step n side) early (s ∷ []) ∙ ap (λ (xs : List (List ℕ)). flat_map (texts_sent_by_step n side) early ++ xs) (append-nil texts) in
+      subst (λ (xs : List (List ℕ)). IsPartOf xs (flat_map (texts_sent_by_step n side) (early ++ s ∷ []))) (sym whole)
       (subst (λ (xs : List (List ℕ)).
       IsPartOf (sends_by side (effects_in (history_on n (world_run plan early).1)) ++ sends_by side more) xs) (sym file) both)) in
-      subst (λ (xs : List (List ℕ)). IsPartOf xs (flat_map (text_of n side) steps)) (sym (history_sends side (history_on n (world_run plan steps).1))) all
+      subst (λ (xs : List (List ℕ)). IsPartOf xs (flat_map (texts_sent_by_step n side) steps)) (sym (history_sends side (history_on n (world_run plan steps).1))) all
 
   -- a test that no step of a list fits
   none_within : (f : Step → Bool) (steps early : List Step) (s : Step) (late : List Step) → steps ≡ early ++ s ∷ late → list_any f steps ≡ false → f s ≡ false
@@ -451,7 +451,7 @@ module _ (only : StepsOnly) (facts : FactsGrow) (grow : HistoryGrows) (own : His
       (or_parts (f s) (list_any f late) (or_parts (list_any f early) (f s || list_any f late) whole).1).0
 
   -- effects that a test doesn't fit, step by step
-  quiet_run : (g : Effect → Bool) (plan : Plan) (steps : List Step) (n : ℕ)
+  quiet_run : (g : Effect → Bool) (plan : DrillPlan) (steps : List Step) (n : ℕ)
       → ((early : List Step) (s : Step) (late : List Step) → steps ≡ early ++ s ∷ late
       → (l : Link) → link_at (world plan early) n ≡ Some l → (effects : Effects) → HasEffects (world plan early) n l s effects → Quiet g effects)
       → Quiet g (effects_in (history_on n (world_run plan steps).1))
@@ -462,7 +462,7 @@ module _ (only : StepsOnly) (facts : FactsGrow) (grow : HistoryGrows) (own : His
       (quiet_append g (effects_in (history_on n (world_run plan early).1)) (brought only grow own other plan (world plan early) n s) now
       (step_brings (Quiet g) plan early s n refl (each early s late split))))
 
-  pub quiet_keeps_order : (plan : Plan) (steps : List Step) → QuietKeepsOrder plan steps
+  pub quiet_keeps_order : (plan : DrillPlan) (steps : List Step) → QuietKeepsOrder plan steps
   quiet_keeps_order plan steps n l is none is_numbered =
       record {
         numbered = is_numbered;
@@ -472,7 +472,7 @@ module _ (only : StepsOnly) (facts : FactsGrow) (grow : HistoryGrows) (own : His
       }
 
   -- at a tick among these no timer had run out
-  keeps_at : (plan : Plan) (steps : List Step) (n : ℕ) → NoneRunsOut plan steps n → (early : List Step) (s : Step) (late : List Step) → steps ≡ early ++ s ∷ late
+  keeps_at : (plan : DrillPlan) (steps : List Step) (n : ℕ) → NoneRunsOut plan steps n → (early : List Step) (s : Step) (late : List Step) → steps ≡ early ++ s ∷ late
       → (l : Link) → link_at (world plan early) n ≡ Some l → Keeps s l
   keeps_at plan steps n none early (does.Tick moment) late split l is = none early late moment l split is
   keeps_at plan steps n none early (does.Fixed m engine rbc ke kr) late split l is = tt
@@ -489,7 +489,7 @@ module _ (only : StepsOnly) (facts : FactsGrow) (grow : HistoryGrows) (own : His
   keeps_at plan steps n none early (does.Release m s sub) late split l is = tt
   keeps_at plan steps n none early (does.Drain m most) late split l is = tt
 
-  pub quiet_is_loss_free : (plan : Plan) (steps : List Step) → QuietIsLossFree plan steps
+  pub quiet_is_loss_free : (plan : DrillPlan) (steps : List Step) → QuietIsLossFree plan steps
   quiet_is_loss_free plan steps n l is none keeps agree =
       record {
         undisturbed = history_tests is_disturbance troubles outcome_troubles (history_on n (world_run plan steps).1)
@@ -500,7 +500,7 @@ module _ (only : StepsOnly) (facts : FactsGrow) (grow : HistoryGrows) (own : His
         agree = agree;
       }
 
-  pub all_steps : (plan : Plan) (steps : List Step) → Steps plan steps
+  pub all_steps : (plan : DrillPlan) (steps : List Step) → Steps plan steps
   all_steps plan steps = record {
     effects = steps_have_effects plan steps;
     sends = sends_are_steps plan steps;

@@ -8,7 +8,7 @@ use Rattle.er_scenario.specs.declared.step.Step.{Step}
 use Rattle.er_scenario.specs.declared.step.Step.TheVariants as does
 use Rattle.drill_model.specs.Growth.{FactsGrow}
 use Rattle.drill_model.specs.Steps.{FitsFields, AllFit}
-use Rattle.drill_model.specs.Worlds.{Plan, fixed_opening, link_opening, wire_opening}
+use Rattle.drill_model.specs.Worlds.{DrillPlan, fixed_opening, link_opening, wire_opening}
 use Rattle.drill_laws.proofs.Viewing.{FitsLinkStep, FitsLinkOpening}
 use Rattle.drill_laws.proofs.Worlds.{OpensFit, StepFits}
 
@@ -32,7 +32,7 @@ wire_fits grow level.Link = tt
 wire_fits grow level.LinkSr = tt
 wire_fits grow level.Full = tt
 
-step_fits : (grow : FactsGrow) (plan : Plan) (s : Step) → FitsFields s → StepFits (FitsLinkOpening grow) (FitsLinkStep grow) plan s
+step_fits : (grow : FactsGrow) (plan : DrillPlan) (s : Step) → FitsFields s → StepFits (FitsLinkOpening grow) (FitsLinkStep grow) plan s
 step_fits grow plan (does.Fixed n engine rbc ke kr) fit = fixed_fits grow plan.level engine rbc ke kr fit.0.0 fit.0.1
 step_fits grow plan (does.Link n engine rbc ke kr ra rb) fit = link_fits grow plan.level engine rbc ke kr ra rb fit.0.0 fit.0.1 fit.1.0 fit.1.1
 step_fits grow plan (does.Wire n) fit = wire_fits grow plan.level
@@ -48,6 +48,6 @@ step_fits grow plan (does.Release n s sub) fit = tt
 step_fits grow plan (does.Tick moment) fit = tt
 step_fits grow plan (does.Drain n most) fit = tt
 
-pub steps_fit : (grow : FactsGrow) (plan : Plan) (steps : List Step) → AllFit steps → AllByRecursion (StepFits (FitsLinkOpening grow) (FitsLinkStep grow) plan) steps
+pub steps_fit : (grow : FactsGrow) (plan : DrillPlan) (steps : List Step) → AllFit steps → AllByRecursion (StepFits (FitsLinkOpening grow) (FitsLinkStep grow) plan) steps
 steps_fit grow plan [] fit = tt
 steps_fit grow plan (s ∷ steps) fit = (step_fits grow plan s fit.0, steps_fit grow plan steps fit.1)

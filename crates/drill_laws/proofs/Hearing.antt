@@ -19,13 +19,13 @@ use Rattle.er_end_model.specs.Outcomes as stack
 use Rattle.er_end_model.specs.Ends.{End as Stack, hears_each, finds_expired}
 use Rattle.er_end_model.specs.Hearing.{FrameGives, EventsGive}
 use Rattle.er_end_model.specs.Outcomes.{SendRefusal}
-use Rattle.drill_model.specs.Outcomes.{Outcome, OfSafety, Handed, Arrived, Up, Took, NothingToTake, Refused, Released, Frame, Expired, UserReleased, Passed, Lost, Repeated, Altered, Inserted, NothingWaits, IsShort}
-use Rattle.drill_model.specs.StationEnds.{if_up, if_arrived, all_arrived, if_released, told_by, station_and_told, frames_heard, handed_unless, station_send, station_release, if_expired, station_tick, station_start}
+use Rattle.drill_model.specs.Outcomes.{DrillOutcome, OfSafety, Handed, Arrived, Up, Took, NothingToTake, Refused, Released, Frame, Expired, UserReleased, Passed, Lost, Repeated, Altered, Inserted, NothingWaits, IsShort}
+use Rattle.drill_model.specs.StationEnds.{if_up, if_arrived, all_arrived, if_released, outcomes_told_by_station, station_and_told, frames_heard, handed_unless, station_send, station_release, if_expired, station_tick, station_start}
 use Rattle.drill_model.specs.StationEnds as on_station
-use Rattle.drill_model.specs.StackEnds.{facts_told, told_at, stack_told, told_unless, told_of_take}
-use Rattle.drill_model.specs.Ends.{End, OfSafe, OfStation, OfStack, EndEvent, Start, Receive, Send, Take, Release as Leave, Tick, refusal_of as refused_as, outcomes_by, station_end_step, stack_end_step, end_step}
+use Rattle.drill_model.specs.StackEnds.{facts_told, outcomes_told_by_stack, stack_told, told_unless, told_of_take}
+use Rattle.drill_model.specs.Ends.{EndAtLevel, OfSafe, OfStation, OfStack, EndEvent, Start, Receive, Send, Take, Release as Leave, Tick, send_refusal_from_safety as refused_as, outcomes_by, station_end_step, stack_end_step, end_step}
 use Rattle.drill_model.specs.Kinds.{passed_in}
-use Rattle.drill_model.specs.Hearing.{heard_by, IsMade, IsHeard}
+use Rattle.drill_model.specs.Hearing.{heard_by, MakesTextOfOctets, IsHeard}
 use Rattle.drill_laws.proofs.Speaking.{Speaks, comes_spoke, sends_spoke, leaves_spoke}
 
 -- ---- lists
@@ -41,7 +41,7 @@ all_implied P Q by (x ∷ xs) h = (by x h.0, all_implied P Q by xs h.1)
 -- ---- outcomes
 
 -- the octets that an outcome says were heard
-abbrev pub heard_told : Outcome → Option (List ℕ)
+abbrev pub heard_told : DrillOutcome → Option (List ℕ)
 heard_told (OfSafety fact) = heard_by fact
 heard_told (Handed payload) = None
 heard_told (Arrived payload) = None
@@ -62,10 +62,10 @@ heard_told NothingWaits = None
 heard_told (IsShort found) = None
 
 -- an outcome is no pass, and the octets that it says were heard are such
-abbrev pub Hears : (List ℕ → Type 0) → Outcome → Type 0
+abbrev pub Hears : (List ℕ → Type 0) → DrillOutcome → Type 0
 Hears P o = (passed_in o ≡ []) × ((heard : List ℕ) → heard_told o ≡ Some heard → P heard)
 
-abbrev pub AllHear : (List ℕ → Type 0) → List Outcome → Type 0
+abbrev pub AllHear : (List ℕ → Type 0) → List DrillOutcome → Type 0
 AllHear P os = AllByRecursion (Hears P) os
 
 abbrev pub Nothing : List ℕ → Type 0
@@ -74,7 +74,7 @@ Nothing heard = ⊥
 no_some : (P : List ℕ → Type 0) (heard : List ℕ) → None ≡ Some heard → P heard
 no_some P heard e = cc
 
-pub silent : (P : List ℕ → Type 0) (o : Outcome) → passed_in o ≡ [] → heard_told o ≡ None → Hears P o
+pub silent : (P : List ℕ → Type 0) (o : DrillOutcome) → passed_in o ≡ [] → heard_told o ≡ None → Hears P o
 silent P o none deaf = (none, λ heard is. no_some P heard (sym deaf ∙ is))
 
 module _ (P : List ℕ → Type 0) where
@@ -111,11 +111,11 @@ module _ (P : List ℕ → Type 0) where
 
   -- ---- levels link and link-sr: a station tells nothing of a safety layer
 
-  station_hears : (s : Station) → AllHear P (told_by s)
+  station_hears : (s : Station) → AllHear P (outcomes_told_by_station s)
   station_hears s =
-      let up : List Outcome = if_up s.deed.up in
-      let arrived : List Outcome = all_arrived s.deed in
-      let left : List Outcome = if_released s.deed.released in
+      let up : List DrillOutcome = if_up s.deed.up in
+      let arrived : List DrillOutcome = all_arrived s.deed in
+      let left : List DrillOutcome = if_released s.deed.released in
       all_append (Hears P) ((up ++ arrived) ++ left) (map Frame (said_octets s))
       (all_append (Hears P) (up ++ arrived) left (all_append (Hears P) up arrived (up_hears s.deed.up)
       (all_append (Hears P) (if_arrived s.deed.payload) (map Arrived s.deed.more) (arrived_hears s.deed.payload) (run_hears s.deed.more))) (released_hears s.deed.released))
@@ -125,25 +125,25 @@ module _ (P : List ℕ → Type 0) where
   heard_frames_hear selective moment [] s = tt
   heard_frames_hear selective moment (verdict ∷ verdicts) s =
       let t : Station = finishes (receives_as selective moment verdict s) in
-      let rest : List Outcome = (frames_heard selective moment verdicts (settled t)).1 in
-      all_append (Hears P) (told_by t) rest (station_hears t) (heard_frames_hear selective moment verdicts (settled t))
+      let rest : List DrillOutcome = (frames_heard selective moment verdicts (settled t)).1 in
+      all_append (Hears P) (outcomes_told_by_station t) rest (station_hears t) (heard_frames_hear selective moment verdicts (settled t))
 
   handed_hears : (refusal : Option SendRefusal) (moment : ℕ) (payload : List ℕ) (s : Station) → AllHear P (handed_unless refusal moment payload s).1
   handed_hears (Some refusal) moment payload s = (silent P (Refused refusal) refl refl, tt)
   handed_hears None moment payload s = (silent P (Handed payload) refl refl, station_hears (finishes (hands moment payload s)))
 
-  left_hears : (down : Bool) (x y : Station × List Outcome) → AllHear P x.1 → AllHear P y.1 → AllHear P (if down then x else y).1
+  left_hears : (down : Bool) (x y : Station × List DrillOutcome) → AllHear P x.1 → AllHear P y.1 → AllHear P (if down then x else y).1
   left_hears true x y hx hy = hx
   left_hears false x y hx hy = hy
 
   station_event_hears : (selective : Bool) (moment : ℕ) (s : Station) (stream : List ℕ) (event : EndEvent) → AllHear P (station_end_step selective moment s stream event).1
   station_event_hears selective moment s stream Start = station_hears (finishes (station_starts moment s))
   station_event_hears selective moment s stream (Receive octets) = heard_frames_hear selective moment (station_news stream octets) s
-  station_event_hears selective moment s stream (Send payload) = handed_hears (on_station.refusal_of s payload s.released) moment payload s
+  station_event_hears selective moment s stream (Send payload) = handed_hears (on_station.payload_refusal_of_station s payload s.released) moment payload s
   station_event_hears selective moment s stream Take = tt
   station_event_hears selective moment s stream (Leave sub) = left_hears (is_down s.phase) (s, []) (station_and_told (quits sub s)) tt (station_hears (quits sub s))
   station_event_hears selective moment s stream Tick =
-      all_append (Hears P) (if_expired (is_late moment s)) (told_by (finishes (station_ticks moment s))) (expired_hears (is_late moment s))
+      all_append (Hears P) (if_expired (is_late moment s)) (outcomes_told_by_station (finishes (station_ticks moment s))) (expired_hears (is_late moment s))
       (station_hears (finishes (station_ticks moment s)))
 
 -- ---- a step of a safety side: what its facts say was heard, the event gave it
@@ -208,7 +208,7 @@ IsNoReceive (Leave sub) = Unit {0}
 IsNoReceive Tick = Unit {0}
 
 -- the stream of a stack is all octets that it was given
-abbrev pub StreamIs : End → List ℕ → Type 0
+abbrev pub StreamIs : EndAtLevel → List ℕ → Type 0
 StreamIs (OfSafe s) octets = Unit {0}
 StreamIs (OfStation selective s stream) octets = Unit {0}
 StreamIs (OfStack m) octets = m.stream ≡ octets
@@ -238,15 +238,15 @@ module _ (only : StepsOnly) (give : EventsGive) (key_of : ℕ → ℕ → Option
       (facts_hear key_of before t a.0 t.outcome refl row)
 
   call_hears : (P : List ℕ → Type 0) (before : Safety) (x : Core) → Speaks key_of before x.upper.spoke x.safe.safety
-      → ((t : Spoken) → x.upper.spoke ≡ Some t → (heard : List ℕ) → t.event ≡ Received heard → P heard) → AllHear P (told_at x)
+      → ((t : Spoken) → x.upper.spoke ≡ Some t → (heard : List ℕ) → t.event ≡ Received heard → P heard) → AllHear P (outcomes_told_by_stack x)
   call_hears P before x speaks by =
       all_append (Hears P) (facts_told x.upper.spoke) (if_released x.leaves ++ map Frame (said_octets x.line))
       (spoke_hears P before x.upper.spoke x.safe.safety speaks by) (rest_hears P x.leaves (said_octets x.line))
 
   -- a call in which the safety side took no step
-  mute_hears : (P : List ℕ → Type 0) (x : Core) → x.upper.spoke ≡ None → AllHear P (told_at x)
+  mute_hears : (P : List ℕ → Type 0) (x : Core) → x.upper.spoke ≡ None → AllHear P (outcomes_told_by_stack x)
   mute_hears P x none =
-      let rest : List Outcome = if_released x.leaves ++ map Frame (said_octets x.line) in
+      let rest : List DrillOutcome = if_released x.leaves ++ map Frame (said_octets x.line) in
       subst (λ (spoke : Option Spoken). AllHear P (facts_told spoke ++ rest)) (sym none) (rest_hears P x.leaves (said_octets x.line))
 
   sends_deaf : (moment : ℕ) (user : List ℕ) (m : Stack) (refusal : Option stack.SendRefusal)
@@ -266,7 +266,7 @@ module _ (only : StepsOnly) (give : EventsGive) (key_of : ℕ → ℕ → Option
   stack_deaf moment m (Send user) none = sends_deaf moment user m (refusal_of model user m.core)
   stack_deaf moment m Take none =
       let message : Option (List ℕ) = model.oldest m.core.upper in
-      all_append (Hears Nothing) (told_of_take message) (told_at (step_take model moment m.core)) (took_hears Nothing message)
+      all_append (Hears Nothing) (told_of_take message) (outcomes_told_by_stack (step_take model moment m.core)) (took_hears Nothing message)
       (mute_hears Nothing (step_take model moment m.core) (give.uses moment m.core))
   stack_deaf moment m (Leave sub) none =
       let x : Core = step_release model moment sub m.core in
@@ -277,7 +277,7 @@ module _ (only : StepsOnly) (give : EventsGive) (key_of : ℕ → ℕ → Option
       other sub heard e = cc
   stack_deaf moment m Tick none =
       let found : Bool = finds_expired (new_event_at model moment m.core) in
-      all_append (Hears Nothing) (if_expired found) (told_at (step_tick model moment m.core)) (expired_hears Nothing found)
+      all_append (Hears Nothing) (if_expired found) (outcomes_told_by_stack (step_tick model moment m.core)) (expired_hears Nothing found)
       (mute_hears Nothing (step_tick model moment m.core) (give.ticks moment m.core))
 
   -- ---- level full: frames come
@@ -291,13 +291,13 @@ module _ (only : StepsOnly) (give : EventsGive) (key_of : ℕ → ℕ → Option
   hears_more moment (v ∷ verdicts) verdict x = hears_more moment verdicts verdict (step_frame model (λ now. key_of) moment v x)
 
   each_hears : (moment : ℕ) (m : Stack) (earlier octets : List ℕ) → m.stream ≡ earlier → (rest first : List Verdict) → news earlier octets ≡ first ++ rest
-      → AllHear (IsMade key_of moment m earlier octets) (stack_told (λ now. key_of) moment rest (behind_each moment first (new_event_at model moment m.core)))
+      → AllHear (MakesTextOfOctets key_of moment m earlier octets) (stack_told (λ now. key_of) moment rest (behind_each moment first (new_event_at model moment m.core)))
   each_hears moment m earlier octets stream [] first split = tt
   each_hears moment m earlier octets stream (v ∷ rest) first split =
-      let P : List ℕ → Type 0 = IsMade key_of moment m earlier octets in
+      let P : List ℕ → Type 0 = MakesTextOfOctets key_of moment m earlier octets in
       let x : Core = behind_each moment first (new_event_at model moment m.core) in
       let y : Core = step_frame model (λ now. key_of) moment v x in
-      let here : AllHear P (told_at y) =
+      let here : AllHear P (outcomes_told_by_stack y) =
       call_hears P x.safe.safety y (comes_spoke key_of x.safe.safety moment v x refl) (λ t is heard e. record {
         stream = stream;
         first = first;
@@ -309,11 +309,11 @@ module _ (only : StepsOnly) (give : EventsGive) (key_of : ℕ → ℕ → Option
       let there : AllHear P (stack_told (λ now. key_of) moment rest y) =
       subst (λ (z : Core). AllHear P (stack_told (λ now. key_of) moment rest z)) (hears_more moment first v (new_event_at model moment m.core))
       (each_hears moment m earlier octets stream rest (first ++ v ∷ []) (split ∙ sym (append_assoc first (v ∷ []) rest))) in
-      all_append (Hears P) (told_at y) (stack_told (λ now. key_of) moment rest y) here there
+      all_append (Hears P) (outcomes_told_by_stack y) (stack_told (λ now. key_of) moment rest y) here there
 
   -- ---- any level
 
-  pub deaf : (moment : ℕ) (end : End) (event : EndEvent) → IsNoReceive event → AllHear Nothing (end_step key_of moment end event).1
+  pub deaf : (moment : ℕ) (end : EndAtLevel) (event : EndEvent) → IsNoReceive event → AllHear Nothing (end_step key_of moment end event).1
   deaf moment (OfSafe s) Start none = safe_deaf s ConnectRequest (λ heard e. cc)
   deaf moment (OfSafe s) (Receive octets) none = absurd none
   deaf moment (OfSafe s) (Send user) none = safe_deaf s (DataRequest user) (λ heard e. cc)
@@ -323,7 +323,7 @@ module _ (only : StepsOnly) (give : EventsGive) (key_of : ℕ → ℕ → Option
   deaf moment (OfStation selective s stream) event none = station_event_hears Nothing selective moment s stream event
   deaf moment (OfStack m) event none = stack_deaf moment m event none
 
-  pub hears : (moment : ℕ) (end : End) (earlier octets : List ℕ) → StreamIs end earlier
+  pub hears : (moment : ℕ) (end : EndAtLevel) (earlier octets : List ℕ) → StreamIs end earlier
       → AllHear (IsHeard key_of moment end earlier octets) (end_step key_of moment end (Receive octets)).1
   hears moment (OfSafe s) earlier octets stream =
       all_implied (Hears (IsGot (Received octets))) (Hears (λ heard. heard ≡ octets)) (λ o h. (h.0, λ heard is. own heard octets (h.1 heard is))) _
@@ -333,11 +333,11 @@ module _ (only : StepsOnly) (give : EventsGive) (key_of : ℕ → ℕ → Option
       own heard octets e = cc
   hears moment (OfStation selective s stream) earlier octets is = station_event_hears Nothing selective moment s stream (Receive octets)
   hears moment (OfStack m) earlier octets stream =
-      subst (λ (before : List ℕ). AllHear (IsMade key_of moment m earlier octets) (stack_told (λ now. key_of) moment (news before octets) (new_event_at model moment m.core)))
+      subst (λ (before : List ℕ). AllHear (MakesTextOfOctets key_of moment m earlier octets) (stack_told (λ now. key_of) moment (news before octets) (new_event_at model moment m.core)))
       (sym stream) (each_hears moment m earlier octets stream (news earlier octets) [] refl)
 
   -- an end goes on with the stream that it had, and what it is given
-  pub keeps_stream : (moment : ℕ) (end : End) (event : EndEvent) (earlier : List ℕ) → IsNoReceive event → StreamIs end earlier
+  pub keeps_stream : (moment : ℕ) (end : EndAtLevel) (event : EndEvent) (earlier : List ℕ) → IsNoReceive event → StreamIs end earlier
       → StreamIs (end_step key_of moment end event).0 earlier
   keeps_stream moment (OfSafe s) Start earlier none stream = tt
   keeps_stream moment (OfSafe s) (Receive octets) earlier none stream = absurd none
@@ -358,7 +358,7 @@ module _ (only : StepsOnly) (give : EventsGive) (key_of : ℕ → ℕ → Option
   keeps_stream moment (OfStack m) (Leave sub) earlier none stream = stream
   keeps_stream moment (OfStack m) Tick earlier none stream = stream
 
-  pub grows_stream : (moment : ℕ) (end : End) (octets earlier : List ℕ) → StreamIs end earlier → StreamIs (end_step key_of moment end (Receive octets)).0 (earlier ++ octets)
+  pub grows_stream : (moment : ℕ) (end : EndAtLevel) (octets earlier : List ℕ) → StreamIs end earlier → StreamIs (end_step key_of moment end (Receive octets)).0 (earlier ++ octets)
   grows_stream moment (OfSafe s) octets earlier stream = tt
   grows_stream moment (OfStation selective s own) octets earlier stream = tt
   grows_stream moment (OfStack m) octets earlier stream = ap (λ (before : List ℕ). before ++ octets) stream

@@ -7,7 +7,7 @@ use Rattle.er_scenario.specs.declared.step.Step.TheVariants as does
 use Rattle.er_settings.specs.Ranges.{AllAllowed}
 use Rattle.drill_model.specs.Links.{LinkOpening, OfPair, OfStations, OfStacks, Link}
 use Rattle.drill_model.specs.Steps.{AllFit}
-use Rattle.drill_model.specs.Worlds.{Plan, link_at, overfull_side, world_run}
+use Rattle.drill_model.specs.Worlds.{DrillPlan, link_at, overfull_side, world_run}
 use Rattle.drill_model.specs.Faults.{AllDone}
 use Rattle.drill_model.specs.Effects.{Steps}
 use Rattle.drill_model.specs.Hearing.{HeardIsBrought}
@@ -22,7 +22,7 @@ take_one_more steps k s at =
     take_more steps k s (slice_get_within steps k s at) ∙ ap (λ (x : Step). take k steps ++ x ∷ []) (get_or_from_slice_get steps k s s at)
 
 -- behind the steps that are done no link is overfull
-room : RoomAlways → (plan : Plan) (steps : List Step) (k : ℕ) → AllDone plan steps k → (n : ℕ) (l : Link)
+room : RoomAlways → (plan : DrillPlan) (steps : List Step) (k : ℕ) → AllDone plan steps k → (n : ℕ) (l : Link)
     → link_at (world_run plan (take k steps)).0 n ≡ Some l → overfull_side l ≡ None
 room law plan steps zero done n l at = absurd (cc)
 room law plan steps (suc k) done n l at =
@@ -54,17 +54,17 @@ first_fit [] (suc k) all = tt
 first_fit (s ∷ steps) (suc k) all = (all.0, first_fit steps k all.1)
 
 abbrev StepsAlways : Type 0
-StepsAlways = (plan : Plan) (steps : List Step) → Steps plan steps
+StepsAlways = (plan : DrillPlan) (steps : List Step) → Steps plan steps
 
 abbrev HeardAlways : Type 0
-HeardAlways = (plan : Plan) (steps : List Step) → HeardIsBrought plan steps
+HeardAlways = (plan : DrillPlan) (steps : List Step) → HeardIsBrought plan steps
 
 abbrev TakesAlways : Type 0
-TakesAlways = (plan : Plan) (steps : List Step) → TakesInOrder plan steps
+TakesAlways = (plan : DrillPlan) (steps : List Step) → TakesInOrder plan steps
 
 abbrev UnforgedAlways : Type 0
 UnforgedAlways =
-    (plan : Plan) (steps : List Step) → AllFit steps → AllAllowed plan.settings → OrderIsUnforged plan steps
+    (plan : DrillPlan) (steps : List Step) → AllFit steps → AllAllowed plan.settings → OrderIsUnforged plan steps
 
 -- the laws of every list of steps
 pub record Laws : Type 0 where
@@ -82,7 +82,7 @@ pub record Laws : Type 0 where
   pub drains : DrainsAlways
 
 -- behind steps, where no link is overfull
-holds_behind : Laws → (plan : Plan) (steps : List Step) → FitsLevel plan.level plan.settings → AllFit steps
+holds_behind : Laws → (plan : DrillPlan) (steps : List Step) → FitsLevel plan.level plan.settings → AllFit steps
     → ((n : ℕ) (l : Link) → link_at (world_run plan steps).0 n ≡ Some l → overfull_side l ≡ None) → Holds plan steps
 holds_behind laws plan steps fits all room = record {
   opens = laws.opens plan steps;

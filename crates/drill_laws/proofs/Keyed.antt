@@ -13,7 +13,7 @@ use Rattle.safety_automaton.specs.Safety.{Safety, Connection, Phase, Ready, Wait
 use Rattle.safety_automaton.specs.Rules.{StaysIdle, AtReceived, AtDisconnect, AtConnect, IsStep}
 use Rattle.safety_pair_laws.specs.Facts.{MarkedFact, at_side, facts_of, is_sealing, was_sealed, mistrusts, marked_from}
 use Rattle.er_end_model.specs.Steps.{is_connected}
-use Rattle.er_end_pair_laws.specs.Phases.{connection_of, IsEngines, IsCentres}
+use Rattle.er_end_pair_laws.specs.Phases.{connection_of, IsEnginesPhase, IsCentres}
 use Rattle.er_end_pair_laws.specs.Ordered.{IsEngine, IsCentre}
 use Rattle.drill_model.specs.StackReports.{user_by}
 use Rattle.drill_laws.proofs.StackWiring.{Numbers}
@@ -42,8 +42,8 @@ module _ (k : Numbers) where
   abbrev pub Centre : Safety → Type 0
   Centre s = IsCentre k.engine k.rbc k.ke k.ra k.rb s
 
-  e_at : (s : Safety) (p : Phase) → Engine s → s.phase ≡ p → IsEngines k.engine k.rbc k.ke k.ra k.rb p
-  e_at s p a is = subst (λ (q : Phase). IsEngines k.engine k.rbc k.ke k.ra k.rb q) is a.is
+  e_at : (s : Safety) (p : Phase) → Engine s → s.phase ≡ p → IsEnginesPhase k.engine k.rbc k.ke k.ra k.rb p
+  e_at s p a is = subst (λ (q : Phase). IsEnginesPhase k.engine k.rbc k.ke k.ra k.rb q) is a.is
 
   r_at : (s : Safety) (p : Phase) → Centre s → s.phase ≡ p → IsCentres k.engine k.rbc k.ke k.ra k.rb p
   r_at s p a is = subst (λ (q : Phase). IsCentres k.engine k.rbc k.ke k.ra k.rb q) is a.is

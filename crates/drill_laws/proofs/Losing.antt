@@ -10,9 +10,9 @@ use Rattle.er_settings.specs.Laws.{AreBounded, AllowedAreBounded}
 use Rattle.hdlc_station_model.specs.Frames.{modulo}
 use Rattle.hdlc_station_model.specs.Lines as line_words
 use Rattle.hdlc_station_model.specs.Lines.{IsPrefix}
-use Rattle.hdlc_pair_laws.specs.Links.{Link as Pair}
-use Rattle.hdlc_pair_laws.specs.Steps.{run}
-use Rattle.hdlc_pair_laws.specs.Laws.{IsNarrow, Opening, Prefix, LosingLineReasons}
+use Rattle.hdlc_pair_laws.specs.Links.{StationLink as Pair}
+use Rattle.hdlc_pair_laws.specs.Steps.{station_link_run}
+use Rattle.hdlc_pair_laws.specs.Laws.{IsNarrow, StationLinkOpening, Prefix, LosingLineReasons}
 use Rattle.hdlc_pair_laws.specs.Laws as of_pair
 use Rattle.drill_model.specs.Outcomes.{Occurrence}
 use Rattle.drill_model.specs.Links.{Link, LinkOpening, OfStations}
@@ -29,7 +29,7 @@ modulo_is n (inl basic) = rw basic refl
 modulo_is n (inr extended) = rw extended refl
 
 abbrev pub pair_opening : (settings : Settings) → (selective : Bool) → (moment : ℕ) → AreBounded settings
-    → IsNarrow selective (settings.modulo == 128) settings.window → Opening
+    → IsNarrow selective (settings.modulo == 128) settings.window → StationLinkOpening
 pair_opening settings selective moment bounded narrow = record {
   selective = selective;
   extended = settings.modulo == 128;
@@ -63,12 +63,12 @@ not_false false e = absurd (cc)
 -- ---- one link
 
 pub kept_of : (settings : Settings) (selective : Bool) (l : Link) (history : List Occurrence) (w : IsWired settings selective l history) → IsOrderKeeping l.opening history
-    → (run (wired settings selective w.moment) w.steps).order_kept ≡ true
-kept_of settings selective l history w keeping = not_false (run (wired settings selective w.moment) w.steps).order_kept (sym w.sees.order ∙ keeping.ordered)
+    → (station_link_run (wired settings selective w.moment) w.steps).order_kept ≡ true
+kept_of settings selective l history w keeping = not_false (station_link_run (wired settings selective w.moment) w.steps).order_kept (sym w.sees.order ∙ keeping.ordered)
 
 -- how the pair of such a link was opened
 abbrev pub opening_at : AllowedAreBounded → (settings : Settings) (selective : Bool) (l : Link) (history : List Occurrence) → IsWired settings selective l history
-    → FitsSettings settings l.opening → (moment : ℕ) → Opening
+    → FitsSettings settings l.opening → (moment : ℕ) → StationLinkOpening
 opening_at bounds settings selective l history w fit moment =
     let kind : l.opening ≡ OfStations selective = kind_of settings selective l history w in
     let bounded : AreBounded settings = bounds settings (allowed_of settings selective l kind fit) in
@@ -81,8 +81,8 @@ pub wired_in_order : Prefix → AllowedAreBounded → (settings : Settings) (sel
     → FitsSettings settings l.opening → IsOrderKeeping l.opening history → IsInOrder history
 wired_in_order law bounds settings selective l history w fit keeping =
     let v = w.sees in
-    let p : Pair = run (wired settings selective w.moment) w.steps in
-    let s : Opening = opening_at bounds settings selective l history w fit w.moment in
+    let p : Pair = station_link_run (wired settings selective w.moment) w.steps in
+    let s : StationLinkOpening = opening_at bounds settings selective l history w fit w.moment in
     let both : line_words.IsPrefix p.r.taken p.e.handed × line_words.IsPrefix p.e.taken p.r.handed = law s w.steps (kept_of settings selective l history w keeping) in
     record {
       at_r = prefix_of (accepted_by R history) (sent_by E history) p.r.taken p.e.handed v.accepted_r v.sent_e both.0;
@@ -103,8 +103,8 @@ pub wired_reasons : LosingLineReasons → AllowedAreBounded → (settings : Sett
     → FitsSettings settings l.opening → IsOrderKeeping l.opening history → AllByRecursion (IsLosingLineReason l.opening) (releases_in history)
 wired_reasons law bounds settings selective l history w fit keeping =
     let v = w.sees in
-    let p : Pair = run (wired settings selective w.moment) w.steps in
-    let s : Opening = opening_at bounds settings selective l history w fit w.moment in
+    let p : Pair = station_link_run (wired settings selective w.moment) w.steps in
+    let s : StationLinkOpening = opening_at bounds settings selective l history w fit w.moment in
     let both : of_pair.IsLosingLineRelease p.e.released × of_pair.IsLosingLineRelease p.r.released = law s w.steps (kept_of settings selective l history w keeping) in
     subst (λ (o : LinkOpening). AllByRecursion (IsLosingLineReason o) (releases_in history)) (sym (kind_of settings selective l history w))
     (all_reasons selective p (releases_in history) both.0 both.1 v.releases)

@@ -7,7 +7,7 @@ use Rattle.er_scenario.specs.declared.step.Step.{Step}
 use Rattle.er_scenario.specs.declared.step.Step.TheVariants as does
 use Rattle.drill_model.specs.Outcomes.{Occurrence}
 use Rattle.drill_model.specs.Links.{Link, LinkStep, Pass, Take, Tick, link_step}
-use Rattle.drill_model.specs.Worlds.{Plan, World, Came, On, Drained, link_at, with_link, history_on, at_link, next_side, overfull_side, Drain, drain, drain_on, drain_link, tick_each_link, world_step, world_run}
+use Rattle.drill_model.specs.Worlds.{DrillPlan, World, Came, On, Drained, link_at, with_link, history_on, at_link, next_side, overfull_side, Drain, drain, drain_on, drain_link, tick_each_link, world_step, world_run}
 use Rattle.drill_model.specs.Recovery.{IsPassOrTake, ArePassesAndTakes}
 use Rattle.drill_model.specs.Growth.{HistoryGrows, HistoryOfOwn, HistoryOfOther, FactsGrow, RunGrows}
 use Rattle.drill_laws.proofs.Openings.{numbered}
@@ -45,12 +45,12 @@ some_same : (l m : Link) → Some l ≡ Some m → l ≡ m
 some_same l m e = cc
 
 -- P of link n behind these steps and of what came at it
-pub record At (P : Link → List Occurrence → Type 0) (plan : Plan) (steps : List Step) (n : ℕ) : Type 0 where
+pub record At (P : Link → List Occurrence → Type 0) (plan : DrillPlan) (steps : List Step) (n : ℕ) : Type 0 where
   pub link : Link
   pub is : link_at (world_run plan steps).0 n ≡ Some link
   pub holds : P link (history_on n (world_run plan steps).1)
 
-pub of_link : (P : Link → List Occurrence → Type 0) (plan : Plan) (steps : List Step) (n : ℕ) (l : Link) → link_at (world_run plan steps).0 n ≡ Some l → At P plan steps n
+pub of_link : (P : Link → List Occurrence → Type 0) (plan : DrillPlan) (steps : List Step) (n : ℕ) (l : Link) → link_at (world_run plan steps).0 n ≡ Some l → At P plan steps n
     → P l (history_on n (world_run plan steps).1)
 of_link P plan steps n l is h =
     subst (λ (m : Link). P m (history_on n (world_run plan steps).1)) (some_same h.link l (sym h.is ∙ is)) h.holds
@@ -139,12 +139,12 @@ module _ (grow : HistoryGrows) (own : HistoryOfOwn) (other : HistoryOfOther) whe
   -- ---- behind the steps of a list
 
   -- link n behind these steps, and what came at it
-  pub record Stands (plan : Plan) (steps : List Step) (n : ℕ) (l : Link) (history : List Occurrence) : Type 0 where
+  pub record Stands (plan : DrillPlan) (steps : List Step) (n : ℕ) (l : Link) (history : List Occurrence) : Type 0 where
     pub link : link_at (world_run plan steps).0 n ≡ Some l
     pub came : history_on n (world_run plan steps).1 ≡ history
 
   module _ (runs : RunGrows) where
-    one_more : (plan : Plan) (steps : List Step) (s : Step) (n : ℕ) (l : Link) (history : List Occurrence) (a : Link × List Occurrence)
+    one_more : (plan : DrillPlan) (steps : List Step) (s : Step) (n : ℕ) (l : Link) (history : List Occurrence) (a : Link × List Occurrence)
         → Stands plan steps n l history → Leads n (world_step plan (world_run plan steps).0 s) a → Stands plan (steps ++ s ∷ []) n a.0 (history ++ a.1)
     one_more plan steps s n l history a was step =
         let before : World × List Came = world_run plan steps in
@@ -155,7 +155,7 @@ module _ (grow : HistoryGrows) (own : HistoryOfOwn) (other : HistoryOfOther) whe
               ∙ ap₂ (λ (xs ys : List Occurrence). xs ++ ys) was.came step.came;
         }
 
-    pub stands_ticked : FactsGrow → (plan : Plan) (steps : List Step) (n moment : ℕ) (l : Link) (history : List Occurrence) → Stands plan steps n l history
+    pub stands_ticked : FactsGrow → (plan : DrillPlan) (steps : List Step) (n moment : ℕ) (l : Link) (history : List Occurrence) → Stands plan steps n l history
         → (world_run plan steps).0.moment ≤ moment
         → Stands plan (steps ++ does.Tick moment ∷ []) n (link_step l (Tick moment)).0 (history ++ (link_step l (Tick moment)).1)
     stands_ticked facts plan steps n moment l history was on =
@@ -171,7 +171,7 @@ module _ (grow : HistoryGrows) (own : HistoryOfOwn) (other : HistoryOfOther) whe
 
     -- ---- passes and takes
 
-    goes_on : (P : Link → List Occurrence → Type 0) (plan : Plan) (steps : List Step) (s : Step) (n : ℕ) (l : Link) (a : Link × List Occurrence)
+    goes_on : (P : Link → List Occurrence → Type 0) (plan : DrillPlan) (steps : List Step) (s : Step) (n : ℕ) (l : Link) (a : Link × List Occurrence)
         → link_at (world_run plan steps).0 n ≡ Some l → Leads n (world_step plan (world_run plan steps).0 s) a → P a.0 (history_on n (world_run plan steps).1 ++ a.1)
         → At P plan (steps ++ s ∷ []) n
     goes_on P plan steps s n l a is step p =
@@ -188,7 +188,7 @@ module _ (grow : HistoryGrows) (own : HistoryOfOwn) (other : HistoryOfOther) whe
         subst (λ (j : ℕ). Leads n (drain_link w j most (link_at w j)) ((drain most l).link, (drain most l).came)) (sym e) (drain_leads w n most l is)
 
     module _ (P : Link → List Occurrence → Type 0) (passes : KeptByPasses P) (takes : KeptByTakes P) where
-      one_given : (plan : Plan) (steps : List Step) (s : Step) (n : ℕ) → IsPassOrTake n s → At P plan steps n → At P plan (steps ++ s ∷ []) n
+      one_given : (plan : DrillPlan) (steps : List Step) (s : Step) (n : ℕ) → IsPassOrTake n s → At P plan steps n → At P plan (steps ++ s ∷ []) n
       one_given plan steps (does.Fixed m engine rbc ke kr) n is h = absurd is
       one_given plan steps (does.Link m engine rbc ke kr ra rb) n is h = absurd is
       one_given plan steps (does.Wire m) n is h = absurd is
@@ -210,20 +210,20 @@ module _ (grow : HistoryGrows) (own : HistoryOfOwn) (other : HistoryOfOther) whe
           goes_on P plan steps (does.Drain m most) n h.link ((drain most h.link).link, (drain most h.link).came) h.is (drain_leads_at (world_run plan steps).0 m n most h.link is h.is)
           (drain_keeps P passes most h.link (history_on n (world_run plan steps).1) h.holds)
 
-      all_given : (plan : Plan) (before steps : List Step) (n : ℕ) → ArePassesAndTakes n steps → At P plan before n → At P plan (before ++ steps) n
+      all_given : (plan : DrillPlan) (before steps : List Step) (n : ℕ) → ArePassesAndTakes n steps → At P plan before n → At P plan (before ++ steps) n
       all_given plan before [] n are h = subst (λ (xs : List Step). At P plan xs n) (sym (append-nil before)) h
       all_given plan before (s ∷ steps) n are h =
           subst (λ (xs : List Step). At P plan xs n) (append_assoc before (s ∷ []) steps)
           (all_given plan (before ++ s ∷ []) steps n are.1 (one_given plan before s n are.0 h))
 
       -- P of a link, and of what it is behind passes and takes
-      pub given : (plan : Plan) (before first : List Step) (n : ℕ) (l m : Link) → link_at (world_run plan before).0 n ≡ Some l → ArePassesAndTakes n first
+      pub given : (plan : DrillPlan) (before first : List Step) (n : ℕ) (l m : Link) → link_at (world_run plan before).0 n ≡ Some l → ArePassesAndTakes n first
           → link_at (world_run plan (before ++ first)).0 n ≡ Some m → P l (history_on n (world_run plan before).1) → P m (history_on n (world_run plan (before ++ first)).1)
       given plan before first n l m is are there p =
           of_link P plan (before ++ first) n m there (all_given plan before first n are (record { link = l; is = is; holds = p }))
 
       -- P of a link behind a tick, and of what it is behind passes and takes then
-      pub mended : FactsGrow → (plan : Plan) (before first : List Step) (moment : ℕ) (second : List Step) (n : ℕ) (m k : Link)
+      pub mended : FactsGrow → (plan : DrillPlan) (before first : List Step) (moment : ℕ) (second : List Step) (n : ℕ) (m k : Link)
           → link_at (world_run plan (before ++ first)).0 n ≡ Some m → (world_run plan (before ++ first)).0.moment ≤ moment → ArePassesAndTakes n second
           → link_at (world_run plan (before ++ first ++ does.Tick moment ∷ second)).0 n ≡ Some k
           → (let t = link_step m (Tick moment) in P t.0 (history_on n (world_run plan (before ++ first)).1 ++ t.1))

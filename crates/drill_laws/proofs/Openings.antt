@@ -10,9 +10,9 @@ use Rattle.safety_pair_laws.specs.Openings.{OfFixed, OfKeys}
 use Rattle.drill_model.specs.declared.world_fault.WorldFault.{WorldFault}
 use Rattle.drill_model.specs.Waiting.{Lose, Repeat, Alter, Put}
 use Rattle.drill_model.specs.Links.{Link, LinkOpening, OfPair, OfStations, OfStacks, opened_link, waiting_of, LinkStep, Send, Pass, Change, Take, Release, Tick, link_step}
-use Rattle.drill_model.specs.Worlds.{Plan, World, Came, new_world, is_link, link_at, with_link, went_on, fixed_opening, link_opening, wire_opening, open_link, at_link, next_side, overfull_side, Drain, drain, drain_on, drain_link, copy_frame, copy_between, tick_each_link, tick_world, world_step, world_run_from, world_run}
-use Rattle.drill_model.specs.Faults.{or_else, refusal, overfull_fault, overfull_at, first_overfull, overfull_of}
-use Rattle.drill_model.specs.Claims.{named, opening_by, or_opening, opening_of}
+use Rattle.drill_model.specs.Worlds.{DrillPlan, World, Came, new_world, is_link, link_at, with_link, went_on, fixed_opening, link_opening, wire_opening, open_link, at_link, next_side, overfull_side, Drain, drain, drain_on, drain_link, copy_frame, copy_between, tick_each_link, tick_world, world_step, world_run_from, world_run}
+use Rattle.drill_model.specs.Faults.{or_else, refusal_of_step, overfull_fault, overfull_at, first_overfull, overfull_of}
+use Rattle.drill_model.specs.Claims.{opening_where_link_named, opening_by, or_opening, opening_of}
 use Rattle.drill_laws.specs.Laws.{OpensAlways, RoomAlways}
 use Rattle.drill_model.specs.Growth.{FactsGrow, RunGrows}
 use Rattle.drill_laws.proofs.Viewing.{step_opening}
@@ -101,13 +101,13 @@ module _ (grow : FactsGrow) where
   opened_is settings moment (OfStations selective) = refl
   opened_is settings moment (OfStacks engine rbc ke kr ra rb) = refl
 
-  named_other : (n m : ℕ) (opening : Option LinkOpening) → (n ≡ m → ⊥) → named n m opening ≡ None
+  named_other : (n m : ℕ) (opening : Option LinkOpening) → (n ≡ m → ⊥) → opening_where_link_named n m opening ≡ None
   named_other n m opening apart = let differs : (m == n) ≡ false = ne_eqb m n (λ e. apart (sym e)) in rw differs refl
 
-  named_same : (n m : ℕ) (opening : Option LinkOpening) (b : Bool) → n ≡ m → is_link m ≡ b → named n m opening ≡ (if b then opening else None)
+  named_same : (n m : ℕ) (opening : Option LinkOpening) (b : Bool) → n ≡ m → is_link m ≡ b → opening_where_link_named n m opening ≡ (if b then opening else None)
   named_same n m opening b e link = let same : (m == n) ≡ true = eq-eqb m n (sym e) in rw (same, link) refl
 
-  named_none : (n m : ℕ) → named n m None ≡ None
+  named_none : (n m : ℕ) → opening_where_link_named n m None ≡ None
   named_none n m =
       elim (cases_Bool ((m == n) && is_link m)) [
         | inl yes_named ↦ rw yes_named refl
@@ -115,18 +115,18 @@ module _ (grow : FactsGrow) where
       ]
 
   -- a place stays as it was
-  stays : (w : World) (n m : ℕ) (l : Link) (opening : Option LinkOpening) → link_at w m ≡ Some l → opening_in w n ≡ or_opening (opening_in w n) (named n m opening)
+  stays : (w : World) (n m : ℕ) (l : Link) (opening : Option LinkOpening) → link_at w m ≡ Some l → opening_in w n ≡ or_opening (opening_in w n) (opening_where_link_named n m opening)
   stays w n m l opening is =
       elim (cases_eq n m) [
         | inl e ↦
             let here : opening_in w n ≡ Some l.opening = ap (option_map (λ (x : Link). x.opening)) (ap (link_at w) e ∙ is) in
-            here ∙ sym (ap (λ (o : Option LinkOpening). or_opening o (named n m opening)) here)
+            here ∙ sym (ap (λ (o : Option LinkOpening). or_opening o (opening_where_link_named n m opening)) here)
         | inr apart ↦ sym (ap (or_opening (opening_in w n)) (named_other n m opening apart) ∙ or_none (opening_in w n))
       ]
 
   -- a number that wasn't opened, of a link or not
-  opens_new : (plan : Plan) (w : World) (n m : ℕ) (opening : LinkOpening) → link_at w m ≡ None → (b : Bool) → is_link m ≡ b
-      → opening_in (if b then went_on w m (opened_link plan.settings w.moment opening) else (w, [])).0 n ≡ or_opening (opening_in w n) (named n m (Some opening))
+  opens_new : (plan : DrillPlan) (w : World) (n m : ℕ) (opening : LinkOpening) → link_at w m ≡ None → (b : Bool) → is_link m ≡ b
+      → opening_in (if b then went_on w m (opened_link plan.settings w.moment opening) else (w, [])).0 n ≡ or_opening (opening_in w n) (opening_where_link_named n m (Some opening))
   opens_new plan w n m opening is true link =
       let f : Option Link → Option LinkOpening = option_map (λ (x : Link). x.opening) in
       let k : Link = (opened_link plan.settings w.moment opening).0 in
@@ -144,8 +144,8 @@ module _ (grow : FactsGrow) where
         | inr apart ↦ sym (ap (or_opening (opening_in w n)) (named_other n m (Some opening) apart) ∙ or_none (opening_in w n))
       ]
 
-  opens : (plan : Plan) (w : World) (n m : ℕ) (place : Option Link) (opening : Option LinkOpening) → link_at w m ≡ place
-      → opening_in (open_link plan w m place opening).0 n ≡ or_opening (opening_in w n) (named n m opening)
+  opens : (plan : DrillPlan) (w : World) (n m : ℕ) (place : Option Link) (opening : Option LinkOpening) → link_at w m ≡ place
+      → opening_in (open_link plan w m place opening).0 n ≡ or_opening (opening_in w n) (opening_where_link_named n m opening)
   opens plan w n m (Some l) opening is = stays w n m l opening is
   opens plan w n m None None is = sym (ap (or_opening (opening_in w n)) (named_none n m) ∙ or_none (opening_in w n))
   opens plan w n m None (Some opening) is = opens_new plan w n m opening is (is_link m) refl
@@ -153,7 +153,7 @@ module _ (grow : FactsGrow) where
   same_or : (o p : Option LinkOpening) → o ≡ p → o ≡ or_opening p None
   same_or o p same = same ∙ sym (or_none p)
 
-  step_opens : (plan : Plan) (w : World) (n : ℕ) (s : Step) → opening_in (world_step plan w s).0 n ≡ or_opening (opening_in w n) (opening_by plan n s)
+  step_opens : (plan : DrillPlan) (w : World) (n : ℕ) (s : Step) → opening_in (world_step plan w s).0 n ≡ or_opening (opening_in w n) (opening_by plan n s)
   step_opens plan w n (does.Fixed m engine rbc ke kr) = opens plan w n m (link_at w m) (fixed_opening plan.level engine rbc ke kr) refl
   step_opens plan w n (does.Link m engine rbc ke kr ra rb) = opens plan w n m (link_at w m) (link_opening plan.level engine rbc ke kr ra rb) refl
   step_opens plan w n (does.Wire m) = opens plan w n m (link_at w m) (wire_opening plan.level) refl
@@ -169,7 +169,7 @@ module _ (grow : FactsGrow) where
   step_opens plan w n (does.Tick moment) = same_or _ (opening_in w n) (ticked_openings w moment n)
   step_opens plan w n (does.Drain m most) = same_or _ (opening_in w n) (drain_openings w m most (link_at w m) refl n)
 
-  run_opens : (plan : Plan) (w : World) (n : ℕ) (steps : List Step)
+  run_opens : (plan : DrillPlan) (w : World) (n : ℕ) (steps : List Step)
       → opening_in (world_run_from plan w steps).0 n ≡ or_opening (opening_in w n) (opening_of plan n steps)
   run_opens plan w n [] = sym (or_none (opening_in w n))
   run_opens plan w n (s ∷ steps) =
@@ -184,20 +184,20 @@ module _ (grow : FactsGrow) where
   -- ---- room
 
   -- a number that isn't that of a link is never opened
-  never_by : (n m : ℕ) (opening : Option LinkOpening) → is_link n ≡ false → named n m opening ≡ None
+  never_by : (n m : ℕ) (opening : Option LinkOpening) → is_link n ≡ false → opening_where_link_named n m opening ≡ None
   never_by n m opening not_link =
       elim (cases_eq n m) [
         | inl e ↦ named_same n m opening false e (ap is_link (sym e) ∙ not_link)
         | inr apart ↦ named_other n m opening apart
       ]
 
-  never_opened : (plan : Plan) (n : ℕ) (s : Step) → is_link n ≡ false → opening_by plan n s ≡ None
+  never_opened : (plan : DrillPlan) (n : ℕ) (s : Step) → is_link n ≡ false → opening_by plan n s ≡ None
   never_opened plan n (does.Fixed m engine rbc ke kr) not_link = never_by n m (fixed_opening plan.level engine rbc ke kr) not_link
   never_opened plan n (does.Link m engine rbc ke kr ra rb) not_link = never_by n m (link_opening plan.level engine rbc ke kr ra rb) not_link
   never_opened plan n (does.Wire m) not_link = never_by n m (wire_opening plan.level) not_link
   never_opened plan n s not_link = refl
 
-  never_of : (plan : Plan) (n : ℕ) (steps : List Step) → is_link n ≡ false → opening_of plan n steps ≡ None
+  never_of : (plan : DrillPlan) (n : ℕ) (steps : List Step) → is_link n ≡ false → opening_of plan n steps ≡ None
   never_of plan n [] not_link = refl
   never_of plan n (s ∷ steps) not_link = ap₂ or_opening (never_opened plan n s not_link) (never_of plan n steps not_link)
 
@@ -232,7 +232,7 @@ module _ (grow : FactsGrow) where
   unopened (Some k) l is none = cc
 
   -- a link that is open has the number of a link
-  pub numbered : (plan : Plan) (steps : List Step) (n : ℕ) (l : Link) → link_at (world_run plan steps).0 n ≡ Some l → is_link n ≡ true
+  pub numbered : (plan : DrillPlan) (steps : List Step) (n : ℕ) (l : Link) → link_at (world_run plan steps).0 n ≡ Some l → is_link n ≡ true
   numbered plan steps n l is =
       elim (cases_Bool (is_link n)) [
         | inl link ↦ link
@@ -247,7 +247,7 @@ module _ (grow : FactsGrow) where
       let w : World = (world_run plan before).0 in
       let v : World = (world_step plan w s).0 in
       let here : link_at v n ≡ Some l = ap (λ (a : World × List Came). link_at a.0 n) (sym (run_grows plan before s)) ∙ is in
-      let roomy : overfull_of v ≡ None = (later_none (refusal w s) (overfull_of v) none).1 in
+      let roomy : overfull_of v ≡ None = (later_none (refusal_of_step w s) (overfull_of v) none).1 in
       let link : is_link n ≡ true = numbered plan (before ++ s ∷ []) n l is in
       let parts : (nat_lt 0 n ≡ true) × (nat_lt n 65 ≡ true) = and_parts (nat_lt 0 n) (nat_lt n 65) link in
       let least : 0 < n = ltb-true 0 n parts.0 in

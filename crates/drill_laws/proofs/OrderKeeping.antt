@@ -9,7 +9,7 @@ use Rattle.hdlc_pair_laws.specs.Laws.{Prefix, LosingLineReasons}
 use Rattle.drill_model.specs.Outcomes.{Occurrence}
 use Rattle.drill_model.specs.Links.{Link}
 use Rattle.drill_model.specs.Steps.{AllFit}
-use Rattle.drill_model.specs.Worlds.{Plan, link_at, history_on, world_run}
+use Rattle.drill_model.specs.Worlds.{DrillPlan, link_at, history_on, world_run}
 use Rattle.drill_model.specs.Kinds.{IsNumbered, IsOrderKeeping}
 use Rattle.drill_laws.specs.Laws.{FitsSettings, FitsSteps, InOrderAlways, LosingLineReasonsAlways}
 use Rattle.drill_model.specs.Growth.{FactsGrow, HistoryGrows, HistoryOfOwn, HistoryOfOther}
@@ -31,19 +31,19 @@ abbrev numbers_of : (l : Link) (history : List Occurrence) → IsStackTalk l his
 numbers_of l history t = record { engine = t.engine; rbc = t.rbc; ke = t.ke; kr = t.kr; ra = t.ra; rb = t.rb }
 
 module _ (laws : StationLaws) (stacks : StackLaws) (bounds : AllowedAreBounded) (facts : FactsGrow) (grow : HistoryGrows) (own : HistoryOfOwn) (other : HistoryOfOther) where
-  stands_at : (plan : Plan) (steps : List Step) (n : ℕ) (l : Link) → link_at (world_run plan steps).0 n ≡ Some l
+  stands_at : (plan : DrillPlan) (steps : List Step) (n : ℕ) (l : Link) → link_at (world_run plan steps).0 n ≡ Some l
       → Either plan.settings (Speaks facts) l (history_on n (world_run plan steps).1)
   stands_at plan steps n l is =
       subst (λ (place : Option Link). AtPlace (Either plan.settings (Speaks facts)) place (history_on n (world_run plan steps).1)) is
       (world_stands laws facts grow own other plan steps n)
 
-  stack_at : (plan : Plan) (steps : List Step) (n : ℕ) (l : Link) → link_at (world_run plan steps).0 n ≡ Some l
+  stack_at : (plan : DrillPlan) (steps : List Step) (n : ℕ) (l : Link) → link_at (world_run plan steps).0 n ≡ Some l
       → (t : IsStackTalk l (history_on n (world_run plan steps).1)) → FitsSteps steps l.opening → IsStacked plan.settings l (history_on n (world_run plan steps).1)
   stack_at plan steps n l is t fit =
       let all : AllFit steps = subst (FitsSteps steps) t.opening_is fit in
       stacked_at stacks facts grow own other plan steps all n l is (numbers_of l (history_on n (world_run plan steps).1) t) t.opening_is
 
-  allowed_at : (plan : Plan) (l : Link) (history : List Occurrence) → IsStackTalk l history → FitsSettings plan.settings l.opening → AllAllowed plan.settings
+  allowed_at : (plan : DrillPlan) (l : Link) (history : List Occurrence) → IsStackTalk l history → FitsSettings plan.settings l.opening → AllAllowed plan.settings
   allowed_at plan l history t fit = subst (FitsSettings plan.settings) t.opening_is fit
 
   pub in_order_always : Prefix → InOrderAlways

@@ -10,12 +10,12 @@ use Rattle.er_settings.specs.Ranges.{AllAllowed}
 use Rattle.er_scenario.specs.declared.step.Step.{Step}
 use Rattle.safety_pair_laws.specs.Facts.{SideFact, marked}
 use Rattle.safety_pair_laws.specs.Openings.{PairOpening, OfFixed, OfKeys}
-use Rattle.er_end_pair_laws.specs.Openings.{Opening}
-use Rattle.er_end_pair_laws.specs.Links.{Link as Pair}
+use Rattle.er_end_pair_laws.specs.Openings.{EndLinkOpening}
+use Rattle.er_end_pair_laws.specs.Links.{EndLink as Pair}
 use Rattle.er_end_pair_laws.specs.Ordered.{InStepWhileOrdered}
 use Rattle.drill_model.specs.Outcomes.{Occurrence}
 use Rattle.drill_model.specs.Links.{Link, LinkOpening, OfPair, OfStations, OfStacks, opened_link, LinkStep, link_step}
-use Rattle.drill_model.specs.Worlds.{Plan, link_at, history_on, world_run}
+use Rattle.drill_model.specs.Worlds.{DrillPlan, link_at, history_on, world_run}
 use Rattle.drill_model.specs.Kinds.{is_disorder, is_disordered, IsNumbered, EndsAgree}
 use Rattle.drill_model.specs.Claims.{IsUnforged, OrderIsUnforged}
 use Rattle.drill_model.specs.Steps.{AllFit}
@@ -47,7 +47,7 @@ module _ (laws : StackLaws) (while_ordered : InStepWhileOrdered) (facts : FactsG
   known_at : (settings : Settings) (l : Link) (history : List Occurrence) (t : IsStacked settings l history) → AllAllowed settings → t.k.kr ≡ Some t.k.ke
       → is_disordered history ≡ false → KnownAt t.k (pair_of settings l history t)
   known_at settings l history t allowed same ordered =
-      let s : Opening = pair_opening settings l history t allowed in
+      let s : EndLinkOpening = pair_opening settings l history t allowed in
       let p : Pair = pair_of settings l history t in
       let kept : p.order_kept ≡ true = not_false p.order_kept (sym t.sees.order ∙ ordered) in
       let prefix = laws.prefix s t.steps t.fit kept in
@@ -124,7 +124,7 @@ module _ (laws : StackLaws) (while_ordered : InStepWhileOrdered) (facts : FactsG
 
   -- ---- worlds
 
-  module _ (stations : StationLaws) (grow : HistoryGrows) (own : HistoryOfOwn) (other : HistoryOfOther) (plan : Plan) (steps : List Step) (fit : AllFit steps) (allowed : AllAllowed plan.settings) where
+  module _ (stations : StationLaws) (grow : HistoryGrows) (own : HistoryOfOwn) (other : HistoryOfOther) (plan : DrillPlan) (steps : List Step) (fit : AllFit steps) (allowed : AllAllowed plan.settings) where
     abbrev came : ℕ → List Occurrence
     came n = history_on n (world_run plan steps).1
 

@@ -14,12 +14,12 @@ use Rattle.hdlc_station_model.specs.Calls.{starts, hands, finishes, ticks}
 use Rattle.hdlc_station_model.specs.Selective.{receives_as}
 use Rattle.hdlc_station_model.specs.Events.{said_octets, news, quits, is_late}
 use Rattle.er_end_model.specs.Outcomes.{SendRefusal}
-use Rattle.drill_model.specs.Outcomes.{Outcome, Arrived, Frame, Occurrence, facts_at, facts_in}
-use Rattle.drill_model.specs.StationEnds.{if_up, if_arrived, if_released, told_by, station_and_told, frames_heard, heard_parts, refusal_of, handed_unless, station_release, if_expired}
+use Rattle.drill_model.specs.Outcomes.{DrillOutcome, Arrived, Frame, Occurrence, facts_at, facts_in}
+use Rattle.drill_model.specs.StationEnds.{if_up, if_arrived, if_released, outcomes_told_by_station, station_and_told, frames_heard, heard_parts, payload_refusal_of_station, handed_unless, station_release, if_expired}
 use Rattle.drill_model.specs.Ends.{OfSafe, OfStation, OfStack, EndEvent, safety_event, outcomes_by, safe_end_step, station_end_step}
 use Rattle.drill_model.specs.Ends as event
 use Rattle.drill_model.specs.Worlds.{Came, On, Drained, history_at, history_on, facts_on}
-use Rattle.drill_model.specs.Marks.{MarkedOccurrence, MarkedOn, mark_of, marks_behind, mark_came, marks_from}
+use Rattle.drill_model.specs.Marks.{MarkedOccurrence, MarkedOn, occurrence_with_mark, marks_behind, mark_came, marks_from}
 use Rattle.drill_model.specs.Texts.{place_of}
 use Rattle.drill_model.specs.Printing.{marks_at, marks_on, PrintedAsMarked, IsRising, station_parts, LinesInOrder}
 use Rattle.drill_model.specs.Growth.{HistoryGrows, FactsGrow}
@@ -68,17 +68,17 @@ module _ (marks_grow : MarksGrow) (grow : HistoryGrows) (facts_grow : FactsGrow)
       let others : marks_on n (marks_from next came) ≡ marks_behind (marked (facts_on n next)) (history_on n came) = printed_behind n next came in
       elim (cases_eq m n) [
         | inl e ↦
-            let first : marks_at n (mark_came seen (On m o)) ≡ mark_of before o ∷ [] =
-            mark_own n m (mark_of (marked (facts_on m seen)) o) e
-            ∙ ap (λ (i : ℕ). mark_of (marked (facts_on i seen)) o ∷ []) e in
+            let first : marks_at n (mark_came seen (On m o)) ≡ occurrence_with_mark before o ∷ [] =
+            mark_own n m (occurrence_with_mark (marked (facts_on m seen)) o) e
+            ∙ ap (λ (i : ℕ). occurrence_with_mark (marked (facts_on i seen)) o ∷ []) e in
             let rest : marks_behind (marked (facts_on n next)) (history_on n came)
             ≡ marks_behind (before ++ marked_from before (facts_at o.side o.outcome)) (history_on n came) =
             ap (λ (ms : List MarkedFact). marks_behind ms (history_on n came)) (facts_own n m seen o e) in
             ap (λ (xs : List MarkedOccurrence). xs ++ marks_on n (marks_from next came)) first
-            ∙ ap (λ (xs : List MarkedOccurrence). mark_of before o ∷ xs) (others ∙ rest)
+            ∙ ap (λ (xs : List MarkedOccurrence). occurrence_with_mark before o ∷ xs) (others ∙ rest)
             ∙ ap (λ (h : List Occurrence). marks_behind before (h ++ history_on n came)) (sym (at_own n m o e))
         | inr apart ↦
-            let first : marks_at n (mark_came seen (On m o)) ≡ [] = mark_other n m (mark_of (marked (facts_on m seen)) o) apart in
+            let first : marks_at n (mark_came seen (On m o)) ≡ [] = mark_other n m (occurrence_with_mark (marked (facts_on m seen)) o) apart in
             let none : history_on n (On m o ∷ []) ≡ [] = one_other n m o apart in
             ap (λ (xs : List MarkedOccurrence). xs ++ marks_on n (marks_from next came)) first
             ∙ others
@@ -144,27 +144,27 @@ rising_deed true None more released frames = rising_run 1 more released frames (
 rising_deed false (Some p) more released frames = rising_run 3 more released frames (omega arith)
 rising_deed false None more released frames = only_run more released frames
 
-rising_told : (t : Station) → IsRising (flat_map place_of (told_by t))
+rising_told : (t : Station) → IsRising (flat_map place_of (outcomes_told_by_station t))
 rising_told t = rising_deed t.deed.up t.deed.payload t.deed.more t.deed.released (said_octets t)
 
 rising_sends : (refusal : Option SendRefusal) (moment : ℕ) (payload : List ℕ) (s : Station) → IsRising (flat_map place_of (handed_unless refusal moment payload s).1)
 rising_sends (Some refusal) moment payload s = tt
 rising_sends None moment payload s = rising_told (finishes (hands moment payload s))
 
-rising_expired : (late : Bool) (t : Station) → IsRising (flat_map place_of (if_expired late ++ told_by t))
+rising_expired : (late : Bool) (t : Station) → IsRising (flat_map place_of (if_expired late ++ outcomes_told_by_station t))
 rising_expired true t = rising_told t
 rising_expired false t = rising_told t
 
 rising_releases : (sub : ℕ) (s : Station) → IsRising (flat_map place_of (station_release sub s).1)
 rising_releases sub s =
-    cond_both (is_down s.phase) (s, []) (station_and_told (quits sub s)) (λ (a : Station × List Outcome). IsRising (flat_map place_of a.1)) (λ e. tt) (λ e. rising_told (quits sub s))
+    cond_both (is_down s.phase) (s, []) (station_and_told (quits sub s)) (λ (a : Station × List DrillOutcome). IsRising (flat_map place_of a.1)) (λ e. tt) (λ e. rising_told (quits sub s))
 
 parts_are : (selective : Bool) (moment : ℕ) (verdicts : List Verdict) (s : Station)
-    → flat_map (λ (part : List Outcome). part) (heard_parts selective moment verdicts s) ≡ (frames_heard selective moment verdicts s).1
+    → flat_map (λ (part : List DrillOutcome). part) (heard_parts selective moment verdicts s) ≡ (frames_heard selective moment verdicts s).1
 parts_are selective moment [] s = refl
 parts_are selective moment (v ∷ vs) s =
     let t : Station = finishes (receives_as selective moment v s) in
-    ap (λ (xs : List Outcome). told_by t ++ xs) (parts_are selective moment vs (settled t))
+    ap (λ (xs : List DrillOutcome). outcomes_told_by_station t ++ xs) (parts_are selective moment vs (settled t))
 
 rising_parts : (selective : Bool) (moment : ℕ) (verdicts : List Verdict) (s : Station)
     → AllByRecursion (λ part. IsRising (flat_map place_of part)) (heard_parts selective moment verdicts s)
@@ -173,17 +173,17 @@ rising_parts selective moment (v ∷ vs) s =
     let t : Station = finishes (receives_as selective moment v s) in
     (rising_told t, rising_parts selective moment vs (settled t))
 
-abbrev IsOrdered : List (List Outcome) → List Outcome → Type 0
-IsOrdered parts outcomes = (flat_map (λ (part : List Outcome). part) parts ≡ outcomes) × AllByRecursion (λ part. IsRising (flat_map place_of part)) parts
+abbrev IsOrdered : List (List DrillOutcome) → List DrillOutcome → Type 0
+IsOrdered parts outcomes = (flat_map (λ (part : List DrillOutcome). part) parts ≡ outcomes) × AllByRecursion (λ part. IsRising (flat_map place_of part)) parts
 
-one_part : (outcomes : List Outcome) → IsRising (flat_map place_of outcomes) → IsOrdered (outcomes ∷ []) outcomes
+one_part : (outcomes : List DrillOutcome) → IsRising (flat_map place_of outcomes) → IsOrdered (outcomes ∷ []) outcomes
 one_part outcomes rising = (append-nil outcomes, (rising, tt))
 
 ordered_station : (selective : Bool) (moment : ℕ) (s : Station) (stream : List ℕ) (event : EndEvent)
     → IsOrdered (station_parts selective moment s stream event) (station_end_step selective moment s stream event).1
 ordered_station selective moment s stream event.Start = one_part _ (rising_told (finishes (starts moment s)))
 ordered_station selective moment s stream (event.Receive octets) = (parts_are selective moment (news stream octets) s, rising_parts selective moment (news stream octets) s)
-ordered_station selective moment s stream (event.Send payload) = one_part _ (rising_sends (refusal_of s payload s.released) moment payload s)
+ordered_station selective moment s stream (event.Send payload) = one_part _ (rising_sends (payload_refusal_of_station s payload s.released) moment payload s)
 ordered_station selective moment s stream event.Take = one_part [] tt
 ordered_station selective moment s stream (event.Release sub) = one_part _ (rising_releases sub s)
 ordered_station selective moment s stream event.Tick = one_part _ (rising_expired (is_late moment s) (finishes (ticks moment s)))

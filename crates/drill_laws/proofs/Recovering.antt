@@ -5,19 +5,19 @@ use Rattle.er_settings.specs.Ranges.{AllAllowed}
 use Rattle.er_settings.specs.Laws.{AllowedAreBounded}
 use Rattle.er_scenario.specs.declared.step.Step.{Step}
 use Rattle.er_scenario.specs.declared.step.Step.TheVariants as does
-use Rattle.hdlc_pair_laws.specs.Links.{Link as Pair}
-use Rattle.hdlc_pair_laws.specs.Steps.{happens, run}
+use Rattle.hdlc_pair_laws.specs.Links.{StationLink as Pair}
+use Rattle.hdlc_pair_laws.specs.Steps.{link_behind_step, station_link_run}
 use Rattle.hdlc_pair_laws.specs.Steps as on_pair
-use Rattle.hdlc_pair_laws.specs.Laws.{Opening, after}
+use Rattle.hdlc_pair_laws.specs.Laws.{StationLinkOpening, after}
 use Rattle.hdlc_pair_laws.specs.Recovery.{Recovery, PassesBound}
-use Rattle.er_end_pair_laws.specs.Links.{Link as Ends}
-use Rattle.er_end_pair_laws.specs.Steps.{run as ends_run}
+use Rattle.er_end_pair_laws.specs.Links.{EndLink as Ends}
+use Rattle.er_end_pair_laws.specs.Steps.{end_link_run as ends_run}
 use Rattle.er_end_pair_laws.specs.Steps as on_ends
 use Rattle.er_end_pair_laws.specs.Recovery as of_ends
 use Rattle.drill_model.specs.Outcomes.{Occurrence}
 use Rattle.drill_model.specs.Links.{Link, LinkOpening, OfStations}
 use Rattle.drill_model.specs.Steps.{AllFit}
-use Rattle.drill_model.specs.Worlds.{Plan, link_at, history_on, world_run}
+use Rattle.drill_model.specs.Worlds.{DrillPlan, link_at, history_on, world_run}
 use Rattle.drill_model.specs.Recovery.{IsLive, GoOn, NoneWaits, IsRepairable, AreStations, ArePassesAndTakes}
 use Rattle.drill_laws.specs.Laws.{FitsSettings, FitsSteps, RepairsAlways, DrainsAlways}
 use Rattle.drill_model.specs.Claims.{IsEmpty, IsDelivered}
@@ -36,10 +36,10 @@ use Rattle.drill_laws.proofs.StackRepairing as of_stacks
 
 module _ (laws : StationLaws) (bounds : AllowedAreBounded) (facts : FactsGrow) (grow : HistoryGrows) (own : HistoryOfOwn) (other : HistoryOfOther) where
   -- a link whose ends are live is a pair of stations, or one of stacks
-  abbrev Kind : Plan → Link → List Occurrence → Type 0
+  abbrev Kind : DrillPlan → Link → List Occurrence → Type 0
   Kind plan l history = ((selective : Bool) × IsWired plan.settings selective l history) ⊎ ((k : Numbers) × (l.opening ≡ opening_of k))
 
-  kind_at : (plan : Plan) (steps : List Step) (n : ℕ) (l : Link) → link_at (world_run plan steps).0 n ≡ Some l → IsLive l.e
+  kind_at : (plan : DrillPlan) (steps : List Step) (n : ℕ) (l : Link) → link_at (world_run plan steps).0 n ≡ Some l → IsLive l.e
       → Kind plan l (history_on n (world_run plan steps).1)
   kind_at plan steps n l is live =
       let at : Either plan.settings (Speaks facts) l (history_on n (world_run plan steps).1) =
@@ -60,12 +60,12 @@ module _ (laws : StationLaws) (bounds : AllowedAreBounded) (facts : FactsGrow) (
       let history : List Occurrence = history_on n (world_run plan steps).1 in
       elim (kind_at plan steps n l is repairable.e_live) [
         | inl w ↦
-            let s : Opening = opening_at bounds plan.settings w.0 l history w.1 fit w.1.moment in
+            let s : StationLinkOpening = opening_at bounds plan.settings w.0 l history w.1 fit w.1.moment in
             pair_drains laws l history s w.1.steps w.1.sees (kept_of plan.settings w.0 l history w.1 repairable.ordered) repairable law plan refl
         | inr t ↦ absurd (subst AreStations t.1 stations)
       ]
 
-  module _ (runs : RunGrows) (plan : Plan) (before : List Step) (n : ℕ) (first : List Step) (moment : ℕ) (second : List Step) (l m k : Link) where
+  module _ (runs : RunGrows) (plan : DrillPlan) (before : List Step) (n : ℕ) (first : List Step) (moment : ℕ) (second : List Step) (l m k : Link) where
     abbrev begun : List Step
     begun = before ++ first
 
@@ -80,16 +80,16 @@ module _ (laws : StationLaws) (bounds : AllowedAreBounded) (facts : FactsGrow) (
         (later : ArePassesAndTakes n second) (at_end : link_at (world_run plan all).0 n ≡ Some k) (empty : IsEmpty k.opening k) where
       stations_repair : Recovery → (selective : Bool) → IsWired plan.settings selective l (came before) → FitsSettings plan.settings l.opening → IsDelivered k.opening (came all) k
       stations_repair law selective w fit =
-          let s : Opening = opening_at bounds plan.settings selective l (came before) w fit w.moment in
+          let s : StationLinkOpening = opening_at bounds plan.settings selective l (came before) w fit w.moment in
           let p : Pair = after s w.steps in
           let a : Passed p m (came begun) =
           given grow own other runs (Passed p) (passes_kept laws p) (takes_kept laws p) plan before first n l m is are there (record { steps = []; passes = tt; sees = w.sees }) in
-          let q : Pair = run p a.steps in
-          let r : Pair = happens (on_pair.Tick (max q.moment moment)) q in
+          let q : Pair = station_link_run p a.steps in
+          let r : Pair = link_behind_step (on_pair.Tick (max q.moment moment)) q in
           let c : Passed r k (came all) =
           mended grow own other runs (Passed r) (passes_kept laws r) (takes_kept laws r) facts plan before first moment second n m k there on later at_end
           (tick_kept laws m (came begun) q moment a.sees) in
-          let opening : k.opening ≡ OfStations (run r c.steps).selective = c.sees.opening_is in
+          let opening : k.opening ≡ OfStations (station_link_run r c.steps).selective = c.sees.opening_is in
           let waits : NoneWaits k = subst (λ (o : LinkOpening). IsEmpty o k) opening empty in
           subst (λ (o : LinkOpening). IsDelivered o (came all) k) (sym opening)
           (pair_repairs laws l (came before) s w.steps w.sees (kept_of plan.settings selective l (came before) w repairable.ordered) repairable law m k (came begun) (came all) a none
@@ -102,7 +102,7 @@ module _ (laws : StationLaws) (bounds : AllowedAreBounded) (facts : FactsGrow) (
           given grow own other runs (of_stacks.Given t.k p) (of_stacks.passes_kept stacks.only stacks.calls t.k p) (of_stacks.takes_kept stacks.only stacks.calls t.k p) plan before first n
           l m is are there (record { steps = []; are = tt; sees = t.sees }) in
           let q : Ends = ends_run (finds_of t.k) p a.steps in
-          let r : Ends = on_ends.link_step (finds_of t.k) (on_ends.Tick moment) q in
+          let r : Ends = on_ends.end_link_step (finds_of t.k) (on_ends.Tick moment) q in
           let c : of_stacks.Given t.k r k (came all) =
           mended grow own other runs (of_stacks.Given t.k r) (of_stacks.passes_kept stacks.only stacks.calls t.k r) (of_stacks.takes_kept stacks.only stacks.calls t.k r) facts plan before
           first moment second n m k there on later at_end (of_stacks.tick_kept stacks.only stacks.calls t.k m (came begun) q moment a.sees) in

@@ -10,10 +10,10 @@ use Rattle.er_scenario.specs.declared.step.Step.TheVariants as does
 use Rattle.er_settings.specs.Values.{Settings}
 use Rattle.er_settings.specs.Ranges.{AllAllowed}
 use Rattle.drill_model.specs.Links.{LinkOpening, Link}
-use Rattle.drill_model.specs.Worlds.{Plan, is_link, link_at, fixed_opening, link_opening, wire_opening, world_run}
+use Rattle.drill_model.specs.Worlds.{DrillPlan, is_link, link_at, fixed_opening, link_opening, wire_opening, world_run}
 use Rattle.drill_model.specs.Headline.{FitsLevel}
 use Rattle.drill_laws.specs.Laws.{OpensAlways, FitsSettings}
-use Rattle.drill_model.specs.Claims.{named, opening_by, or_opening, opening_of}
+use Rattle.drill_model.specs.Claims.{opening_where_link_named, opening_by, or_opening, opening_of}
 
 -- where there is an opening, the settings fit it
 abbrev Fit : Settings → Option LinkOpening → Type 0
@@ -46,14 +46,14 @@ wire_fit level.Link settings fits = fits
 wire_fit level.Full settings fits = tt
 wire_fit level.LinkSr settings fits = fits
 
-named_fit : (settings : Settings) (n m : ℕ) (opening : Option LinkOpening) → Fit settings opening → Fit settings (named n m opening)
+named_fit : (settings : Settings) (n m : ℕ) (opening : Option LinkOpening) → Fit settings opening → Fit settings (opening_where_link_named n m opening)
 named_fit settings n m opening fit =
     elim (cases_Bool ((m == n) && is_link m)) [
       | inl t ↦ rw t fit
       | inr f ↦ rw f tt
     ]
 
-step_fit : (plan : Plan) (n : ℕ) (s : Step) → FitsLevel plan.level plan.settings → Fit plan.settings (opening_by plan n s)
+step_fit : (plan : DrillPlan) (n : ℕ) (s : Step) → FitsLevel plan.level plan.settings → Fit plan.settings (opening_by plan n s)
 step_fit plan n (does.Fixed m engine rbc ke kr) fits =
     named_fit plan.settings n m (fixed_opening plan.level engine rbc ke kr) (fixed_fit plan.level plan.settings engine rbc ke kr)
 step_fit plan n (does.Link m engine rbc ke kr ra rb) fits =
@@ -76,13 +76,13 @@ either_fit : (settings : Settings) (first later : Option LinkOpening) → Fit se
 either_fit settings None later of_first of_later = of_later
 either_fit settings (Some opening) later of_first of_later = of_first
 
-steps_fit : (plan : Plan) (n : ℕ) (steps : List Step) → FitsLevel plan.level plan.settings → Fit plan.settings (opening_of plan n steps)
+steps_fit : (plan : DrillPlan) (n : ℕ) (steps : List Step) → FitsLevel plan.level plan.settings → Fit plan.settings (opening_of plan n steps)
 steps_fit plan n [] fits = tt
 steps_fit plan n (s ∷ steps) fits =
     either_fit plan.settings (opening_by plan n s) (opening_of plan n steps) (step_fit plan n s fits) (steps_fit plan n steps fits)
 
 -- of each link that was opened
-pub settings_fit : OpensAlways → (plan : Plan) (steps : List Step) → FitsLevel plan.level plan.settings
+pub settings_fit : OpensAlways → (plan : DrillPlan) (steps : List Step) → FitsLevel plan.level plan.settings
     → (n : ℕ) (l : Link) → link_at (world_run plan steps).0 n ≡ Some l → FitsSettings plan.settings l.opening
 settings_fit opens plan steps fits n l at =
     subst (Fit plan.settings) (sym (opens plan steps n) ∙ ap (option_map (λ (x : Link). x.opening)) at) (steps_fit plan n steps fits)

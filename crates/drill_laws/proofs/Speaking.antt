@@ -1,5 +1,6 @@
 -- In an event at a stack the safety side takes at most one step, and what the stack tells are the facts of that step.
 use Rattle.std.proofs.Common.{◌≡◌, ℕ, zero, suc, if◌then◌else◌, true, false, Bool, List, [], ◌∷◌, ◌++◌, map, refl, sym, ap, subst, ◌∙◌, append-nil, append_assoc}
+use Rattle.hdlc_station_model.specs.Receiving.{is_some_octets}
 use Rattle.std.specs.Prelude.{◌&&◌, ◌==◌, Option, Some, None, is_some, Ok, Err}
 use Rattle.std.proofs.lemmas.List.{map-append}
 use Rattle.er_base.specs.declared.release.Release.{Release}
@@ -13,23 +14,23 @@ use Rattle.hdlc_station_model.specs.Stations.{Deed as LinkDeed}
 use Rattle.hdlc_station_model.specs.Events.{said_octets, news}
 use Rattle.t70_header.specs.Joining as joining
 use Rattle.x224_class2.specs.Tpdus.{Dr, Dc}
-use Rattle.x224_class2.specs.Transport.{Deed, Nothing, Called, Confirmed, Message, Disconnected}
+use Rattle.x224_class2.specs.Transport.{ReceptionDeed, Nothing, Called, Confirmed, Message, Disconnected}
 use Rattle.x224_class2.specs.Transport as transport
 use Rattle.x224_class2.specs.Refusals.{protocol_error}
 use Rattle.sapdu.specs.Spelling.{di_in}
 use Rattle.safety_automaton.specs.Reports.{Report, ToldAnswered, ToldConnected, ToldAccepted, ToldReleased, ToldIgnored, report_of}
-use Rattle.safety_automaton.specs.Safety.{Safety, SafetyEvent, ConnectRequest, Received, DataRequest, DisconnectRequest, SafetyOutcome, peer_flag, sent_by, step}
+use Rattle.safety_automaton.specs.Safety.{Safety, SafetyEvent, ConnectRequest, Received, DataRequest, DisconnectRequest, SafetyOutcome, peer_flag, octets_sent_in_outcome, step}
 use Rattle.safety_pair_laws.specs.Facts.{Fact, SideFact, at_side, facts_of}
 use Rattle.safety_pair_laws.specs.Openings.{PairOpening, Pair, key_for, safety_of, with_safety}
 use Rattle.safety_pair_laws.specs.Talks.{Talks, Goes}
 use Rattle.er_end_model.specs.Outcomes.{SendRefusal}
 use Rattle.er_end_model.specs.Layers.{Spoken, Core, model}
-use Rattle.er_end_model.specs.Steps.{Finds, new_event_at, with_release, hand_tpdu, close_link, send_owed_answer, send_dr, answer_dr, end_after_di, on_safety_release, why_of, with_safety_step, is_some_octets, hand_text, accept_text, skip_message, Carrier, InCr, InCc, InDt, hand_answer, keep_message, on_safety_report, on_text, on_transport_deed, on_joined_block, is_ready, connect_with_text, on_link_up, on_link_told, on_link_deed, hand_next_tpdu, has_next_tpdu, hand_waiting_tpdus, most_offers, conclude_event, step_start, step_frame, refusal_of, step_send_unless, step_take, step_release, is_spent, di_of, on_expiry, step_tick, normal_disconnect}
+use Rattle.er_end_model.specs.Steps.{Finds, new_event_at, with_release, hand_tpdu, close_link, send_owed_answer, send_dr, answer_dr, end_after_di, on_safety_release, why_of, with_safety_step, hand_text, accept_text, skip_message, Carrier, InCr, InCc, InDt, hand_answer, keep_message, on_safety_report, on_text, on_transport_deed, on_joined_block, is_ready, connect_with_text, on_link_up, on_link_told, on_link_deed, hand_next_tpdu, has_next_tpdu, hand_waiting_tpdus, most_offers, conclude_event, step_start, step_frame, refusal_of, step_send_unless, step_take, step_release, is_spent, di_of, on_expiry, step_tick, normal_disconnect}
 use Rattle.er_end_model.specs.Ends.{End as Stack, hears_each, finds_expired}
-use Rattle.drill_model.specs.Outcomes.{Outcome, OfSafety, Refused, Frame, at_end, facts_in}
+use Rattle.drill_model.specs.Outcomes.{DrillOutcome, OfSafety, Refused, Frame, at_end, facts_in}
 use Rattle.drill_model.specs.Growth.{FactsGrow}
 use Rattle.drill_model.specs.StationEnds.{if_released, if_expired}
-use Rattle.drill_model.specs.StackEnds.{facts_told, told_at, stack_told, stack_start, stack_hear, told_unless, stack_send, told_of_take, stack_take, stack_release, stack_tick}
+use Rattle.drill_model.specs.StackEnds.{facts_told, outcomes_told_by_stack, stack_told, stack_start, stack_hear, told_unless, stack_send, told_of_take, stack_take, stack_release, stack_tick}
 
 -- ---- one step at most
 
@@ -103,9 +104,9 @@ module _ (key_of : ℕ → ℕ → Option TripleKey) (before : Safety) where
   text_spoke : (carrier : Carrier) (text : List ℕ) (x : Core) → Silent x → Spoke (on_text model finds carrier text x)
   text_spoke carrier text x h =
       let a : Safety × SafetyOutcome = step key_of x.safe.safety (Received text) in
-      acts_spoke carrier (report_of a.1) (sent_by a.1) (with_safety_step model (Received text) a x) (steps_spoke (Received text) x h)
+      acts_spoke carrier (report_of a.1) (octets_sent_in_outcome a.1) (with_safety_step model (Received text) a x) (steps_spoke (Received text) x h)
 
-  does_spoke : (deed : Deed) (x : Core) → Silent x → Spoke (on_transport_deed model finds deed x)
+  does_spoke : (deed : ReceptionDeed) (x : Core) → Silent x → Spoke (on_transport_deed model finds deed x)
   does_spoke Nothing x h = silent x h
   does_spoke (Called user) x h = text_spoke InCr user x h
   does_spoke (Confirmed user) x h = text_spoke InCc user x h
@@ -113,7 +114,7 @@ module _ (key_of : ℕ → ℕ → Option TripleKey) (before : Safety) where
   does_spoke (Disconnected user) x h = cut_off_spoke (why_of (di_in user (peer_flag x.safe.safety))) x (silent x h)
   does_spoke (transport.Refused sub reason) x h = departs_spoke (by_this_end 2 sub) reason [] x (silent x h)
 
-  block_spoke : (answer : joining.Answer) (x : Core) → Silent x → Spoke (on_joined_block model finds answer x)
+  block_spoke : (answer : joining.BlockJoiningResult) (x : Core) → Silent x → Spoke (on_joined_block model finds answer x)
   block_spoke (Ok None) x h = silent x h
   block_spoke (Ok (Some tpdu)) x h = does_spoke (model.deed x.upper tpdu) (record x { upper = model.hears x.upper tpdu }) h
   block_spoke (Err fault) x h = departs_spoke (release_of BlockRefused) protocol_error [] x (silent x h)
@@ -123,12 +124,12 @@ module _ (key_of : ℕ → ℕ → Option TripleKey) (before : Safety) where
       let a : Safety × SafetyOutcome = step key_of x.safe.safety ConnectRequest in
       let y : Core = with_safety_step model ConnectRequest a x in
       let now : Spoke y = steps_spoke ConnectRequest x h in
-      if_core Spoke (model.may_connect x.upper && is_ready x.safe.safety.phase) (connect_with_text model (sent_by a.1) y) x
-      (if_core Spoke (is_some_octets (sent_by a.1)) (record y { upper = model.connects y.upper (sent_by a.1) }) y now now) (silent x h)
+      if_core Spoke (model.may_connect x.upper && is_ready x.safe.safety.phase) (connect_with_text model (octets_sent_in_outcome a.1) y) x
+      (if_core Spoke (is_some_octets (octets_sent_in_outcome a.1)) (record y { upper = model.connects y.upper (octets_sent_in_outcome a.1) }) y now now) (silent x h)
 
   link_spoke : (payload : Option (List ℕ)) (up : Bool) (released : Option Release) (x : Core) → Silent x → Spoke (on_link_told model finds payload up released x)
   link_spoke (Some payload) up released x h =
-      block_spoke (joining.step x.joined payload).1 (record x { joined = (joining.step x.joined payload).0 }) h
+      block_spoke (joining.block_step x.joined payload).1 (record x { joined = (joining.block_step x.joined payload).0 }) h
   link_spoke None true released x h = comes_up_spoke x h
   link_spoke None false (Some why) x h = silent x h
   link_spoke None false None x h = silent x h
@@ -162,7 +163,7 @@ module _ (key_of : ℕ → ℕ → Option TripleKey) (before : Safety) where
       let y : Core = new_event_at model now x in
       let a : Safety × SafetyOutcome = step key_of y.safe.safety (DataRequest user) in
       let z : Core = with_safety_step model (DataRequest user) a y in
-      concludes_spoke _ (says_spoke (sent_by a.1) (record z { upper = model.sends z.upper user }) (steps_spoke (DataRequest user) y (refl, same)))
+      concludes_spoke _ (says_spoke (octets_sent_in_outcome a.1) (record z { upper = model.sends z.upper user }) (steps_spoke (DataRequest user) y (refl, same)))
 
   pub uses_silent : (now : ℕ) (x : Core) → x.safe.safety ≡ before → Spoke (step_take model now x)
   uses_silent now x same =
@@ -175,8 +176,8 @@ module _ (key_of : ℕ → ℕ → Option TripleKey) (before : Safety) where
       let y : Core = new_event_at model now x in
       let a : Safety × SafetyOutcome = step key_of y.safe.safety (DisconnectRequest sub) in
       let z : Core = with_safety_step model (DisconnectRequest sub) a y in
-      if_core Spoke (is_some y.released) y (send_dr model (release_of (User sub)) normal_disconnect (sent_by a.1) z) same
-      (departs_spoke (release_of (User sub)) normal_disconnect (sent_by a.1) z (steps_spoke (DisconnectRequest sub) y (refl, same)))
+      if_core Spoke (is_some y.released) y (send_dr model (release_of (User sub)) normal_disconnect (octets_sent_in_outcome a.1) z) same
+      (departs_spoke (release_of (User sub)) normal_disconnect (octets_sent_in_outcome a.1) z (steps_spoke (DisconnectRequest sub) y (refl, same)))
 
   time_spoke : (why : Option Release) (x : Core) → Spoke x → Spoke (on_expiry model why x)
   time_spoke (Some why) x h = h
@@ -195,7 +196,7 @@ module _ (key_of : ℕ → ℕ → Option TripleKey) (before : Safety) where
 -- ---- what two sides say
 
 -- what is told at a side as it goes on so is a part of what the two say
-abbrev pub Tells : PairOpening → Side → (before : Safety) → List Outcome → (after : Safety) → Type 0
+abbrev pub Tells : PairOpening → Side → (before : Safety) → List DrillOutcome → (after : Safety) → Type 0
 Tells opening side before os after =
     (facts : List SideFact) (pair : Pair) → safety_of pair side ≡ before → Talks opening facts pair
     → Talks opening (facts ++ facts_in (map (at_end side) os)) (with_safety pair side after)
@@ -214,15 +215,15 @@ of_with pair E s = refl
 of_with pair R s = refl
 
 module _ (grow : FactsGrow) (opening : PairOpening) (side : Side) where
-  pub facts_append : (xs ys : List Outcome) → facts_in (map (at_end side) (xs ++ ys)) ≡ facts_in (map (at_end side) xs) ++ facts_in (map (at_end side) ys)
+  pub facts_append : (xs ys : List DrillOutcome) → facts_in (map (at_end side) (xs ++ ys)) ≡ facts_in (map (at_end side) xs) ++ facts_in (map (at_end side) ys)
   facts_append xs ys = ap facts_in (map-append (at_end side) xs ys) ∙ grow (map (at_end side) xs) (map (at_end side) ys)
 
-  pub tells_silent : (s : Safety) (os : List Outcome) → facts_in (map (at_end side) os) ≡ [] → Tells opening side s os s
+  pub tells_silent : (s : Safety) (os : List DrillOutcome) → facts_in (map (at_end side) os) ≡ [] → Tells opening side s os s
   tells_silent s os none facts pair is talks =
       subst (λ (p : Pair). Talks opening (facts ++ facts_in (map (at_end side) os)) p) (same_pair pair side s is)
       (subst (λ (fs : List SideFact). Talks opening (facts ++ fs) pair) (sym none) (subst (λ (fs : List SideFact). Talks opening fs pair) (sym (append-nil facts)) talks))
 
-  pub tells_then : (s t u : Safety) (os ps : List Outcome) → Tells opening side s os t → Tells opening side t ps u → Tells opening side s (os ++ ps) u
+  pub tells_then : (s t u : Safety) (os ps : List DrillOutcome) → Tells opening side s os t → Tells opening side t ps u → Tells opening side s (os ++ ps) u
   tells_then s t u os ps first second facts pair is talks =
       let fs : List SideFact = facts_in (map (at_end side) os) in
       let gs : List SideFact = facts_in (map (at_end side) ps) in
@@ -259,7 +260,7 @@ module _ (grow : FactsGrow) (opening : PairOpening) (side : Side) where
       subst (λ (x : Safety). Talks opening (facts ++ facts_in (map (at_end side) (facts_told (Some a)))) (with_safety pair side x)) after
       (subst (λ (fs : List SideFact). Talks opening (facts ++ fs) (with_safety pair side b.0)) told now)
 
-  pub told_tell : (s : Safety) (x : Core) → Spoke (key_for opening) s x → Tells opening side s (told_at x) x.safe.safety
+  pub told_tell : (s : Safety) (x : Core) → Spoke (key_for opening) s x → Tells opening side s (outcomes_told_by_stack x) x.safe.safety
   told_tell s x h =
       tells_then s x.safe.safety x.safe.safety (facts_told x.upper.spoke) (if_released x.leaves ++ map Frame (said_octets x.line))
       (facts_tell s x.upper.spoke x.safe.safety h)
@@ -274,11 +275,11 @@ module _ (grow : FactsGrow) (opening : PairOpening) (side : Side) where
   each_tells moment [] x = tells_silent x.safe.safety [] refl
   each_tells moment (verdict ∷ verdicts) x =
       let y : Core = step_frame model (λ now. key_for opening) moment verdict x in
-      tells_then x.safe.safety y.safe.safety _ (told_at y) (stack_told (λ now. key_for opening) moment verdicts y)
+      tells_then x.safe.safety y.safe.safety _ (outcomes_told_by_stack y) (stack_told (λ now. key_for opening) moment verdicts y)
       (told_tell x.safe.safety y (comes_spoke (key_for opening) x.safe.safety moment verdict x refl)) (each_tells moment verdicts y)
 
   -- of an event that leads from a stack to this one
-  abbrev pub StackTells : Stack → Stack × List Outcome → Type 0
+  abbrev pub StackTells : Stack → Stack × List DrillOutcome → Type 0
   StackTells m a = Tells opening side m.core.safe.safety a.1 a.0.core.safe.safety
 
   pub begins_tells : (moment : ℕ) (m : Stack) → StackTells m (stack_start moment m)
@@ -306,7 +307,7 @@ module _ (grow : FactsGrow) (opening : PairOpening) (side : Side) where
       let s : Safety = m.core.safe.safety in
       let x : Core = step_take model moment m.core in
       let message : Option (List ℕ) = model.oldest m.core.upper in
-      tells_then s s x.safe.safety (told_of_take message) (told_at x) (tells_silent s (told_of_take message) (took_silent message))
+      tells_then s s x.safe.safety (told_of_take message) (outcomes_told_by_stack x) (tells_silent s (told_of_take message) (took_silent message))
       (told_tell s x (uses_silent (key_for opening) s moment m.core refl))
 
   pub releases_tells : (moment sub : ℕ) (m : Stack) → StackTells m (stack_release moment sub m)
@@ -322,5 +323,5 @@ module _ (grow : FactsGrow) (opening : PairOpening) (side : Side) where
       let s : Safety = m.core.safe.safety in
       let x : Core = step_tick model moment m.core in
       let found : Bool = finds_expired (new_event_at model moment m.core) in
-      tells_then s s x.safe.safety (if_expired found) (told_at x) (tells_silent s (if_expired found) (expired_silent found))
+      tells_then s s x.safe.safety (if_expired found) (outcomes_told_by_stack x) (tells_silent s (if_expired found) (expired_silent found))
       (told_tell s x (ticks_spoke (key_for opening) s moment m.core refl))

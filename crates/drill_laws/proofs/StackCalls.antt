@@ -19,11 +19,11 @@ use Rattle.er_end_model.specs.Outcomes.{SendRefusal}
 use Rattle.er_end_model.specs.Layers.{Spoken, Core, model}
 use Rattle.er_end_model.specs.Steps.{new_event_at, with_release, hand_tpdu, close_link, send_owed_answer, send_dr, hand_next_tpdu, has_next_tpdu, hand_waiting_tpdus, most_offers, conclude_event, step_start, step_frame, refusal_of, step_send_unless, step_take, is_spent, di_of, on_expiry, step_tick, normal_disconnect}
 use Rattle.er_end_model.specs.Ends.{hears_each}
-use Rattle.drill_model.specs.Outcomes.{Outcome, Frame, at_end, facts_in}
+use Rattle.drill_model.specs.Outcomes.{DrillOutcome, Frame, at_end, facts_in}
 use Rattle.drill_model.specs.Growth.{FactsGrow}
 use Rattle.drill_model.specs.StationEnds.{if_released, if_expired}
-use Rattle.drill_model.specs.StackEnds.{facts_told, told_at, stack_told, told_unless, told_of_take}
-use Rattle.drill_model.specs.StackReports.{user_in}
+use Rattle.drill_model.specs.StackEnds.{facts_told, outcomes_told_by_stack, stack_told, told_unless, told_of_take}
+use Rattle.drill_model.specs.StackReports.{user_octets_spoken}
 use Rattle.drill_model.specs.Kinds.{sent_in, accepted_in}
 use Rattle.drill_laws.proofs.Speaking.{Speaks, Spoke, comes_spoke, sends_spoke, uses_silent, facts_append, facts_of_facts, rest_silent, expired_silent, took_silent}
 use Rattle.drill_laws.proofs.StackSaying.{sent_in_step, call_sent, call_accepted}
@@ -82,13 +82,13 @@ facts_spoken None = []
 facts_spoken (Some s) = facts_of s.event s.outcome
 
 -- outcomes tell this step, or none
-pub record Tells (spoke : Option Spoken) (os : List Outcome) : Type 0 where
+pub record Tells (spoke : Option Spoken) (os : List DrillOutcome) : Type 0 where
   pub facts_are : (side : Side) → facts_in (map (at_end side) os) ≡ map (at_side side) (facts_spoken spoke)
   pub sent_is : flat_map sent_in os ≡ sent_in_step spoke
-  pub accepted_is : flat_map accepted_in os ≡ option_to_list (user_in spoke)
+  pub accepted_is : flat_map accepted_in os ≡ option_to_list (user_octets_spoken spoke)
 
 -- a side that looks KMACs up so took the step that the outcomes tell
-pub record Calls (key_of : ℕ → ℕ → Option TripleKey) (before : Safety) (os : List Outcome) (after : Safety) : Type 0 where
+pub record Calls (key_of : ℕ → ℕ → Option TripleKey) (before : Safety) (os : List DrillOutcome) (after : Safety) : Type 0 where
   pub spoke : Option Spoken
   pub speaks : Speaks key_of before spoke after
   pub tells : Tells spoke os
@@ -98,7 +98,7 @@ module _ (grow : FactsGrow) (opening : PairOpening) where
   told_facts side None = refl
   told_facts side (Some s) = facts_of_facts grow opening side (facts_of s.event s.outcome)
 
-  pub told_tells : (x : Core) → Tells x.upper.spoke (told_at x)
+  pub told_tells : (x : Core) → Tells x.upper.spoke (outcomes_told_by_stack x)
   told_tells x = record {
     facts_are = λ side.
         facts_append grow opening side (facts_told x.upper.spoke) (if_released x.leaves ++ map Frame (said_octets x.line))
@@ -109,7 +109,7 @@ module _ (grow : FactsGrow) (opening : PairOpening) where
   }
 
   -- behind outcomes that tell nothing of this
-  pub tells_behind : (spoke : Option Spoken) (first os : List Outcome) → ((side : Side) → facts_in (map (at_end side) first) ≡ []) → flat_map sent_in first ≡ []
+  pub tells_behind : (spoke : Option Spoken) (first os : List DrillOutcome) → ((side : Side) → facts_in (map (at_end side) first) ≡ []) → flat_map sent_in first ≡ []
       → flat_map accepted_in first ≡ [] → Tells spoke os → Tells spoke (first ++ os)
   tells_behind spoke first os facts sent accepted h = record {
     facts_are = λ side. facts_append grow opening side first os ∙ ap₂ (λ (fs gs : List SideFact). fs ++ gs) (facts side) (h.facts_are side);
@@ -120,7 +120,7 @@ module _ (grow : FactsGrow) (opening : PairOpening) where
   -- ---- the events
 
   module _ (key_of : ℕ → ℕ → Option TripleKey) where
-    told_calls : (before : Safety) (x : Core) → Spoke key_of before x → Calls key_of before (told_at x) x.safe.safety
+    told_calls : (before : Safety) (x : Core) → Spoke key_of before x → Calls key_of before (outcomes_told_by_stack x) x.safe.safety
     told_calls before x h = record { spoke = x.upper.spoke; speaks = h; tells = told_tells x }
 
     sends_call_at : (moment : ℕ) (user : List ℕ) (x : Core) (o : Option SendRefusal)
@@ -142,7 +142,7 @@ module _ (grow : FactsGrow) (opening : PairOpening) where
     took_none None = (refl, refl)
     took_none (Some message) = (refl, refl)
 
-    pub takes_call : (moment : ℕ) (x : Core) → Calls key_of x.safe.safety (told_of_take (model.oldest x.upper) ++ told_at (step_take model moment x)) (step_take model moment x).safe.safety
+    pub takes_call : (moment : ℕ) (x : Core) → Calls key_of x.safe.safety (told_of_take (model.oldest x.upper) ++ outcomes_told_by_stack (step_take model moment x)) (step_take model moment x).safe.safety
     takes_call moment x =
         let y : Core = step_take model moment x in
         let message : Option (List ℕ) = model.oldest x.upper in
@@ -150,7 +150,7 @@ module _ (grow : FactsGrow) (opening : PairOpening) where
         record {
           spoke = y.upper.spoke;
           speaks = uses_silent key_of x.safe.safety moment x refl;
-          tells = tells_behind y.upper.spoke (told_of_take message) (told_at y) (λ side. took_silent grow opening side message) none.0 none.1 (told_tells y);
+          tells = tells_behind y.upper.spoke (told_of_take message) (outcomes_told_by_stack y) (λ side. took_silent grow opening side message) none.0 none.1 (told_tells y);
         }
 
     -- one frame
@@ -159,7 +159,7 @@ module _ (grow : FactsGrow) (opening : PairOpening) where
     hears_call moment [] x one = absurd cc
     hears_call moment (v ∷ []) x one =
         let y : Core = step_frame model (λ now. key_of) moment v x in
-        subst (λ (os : List Outcome). Calls key_of x.safe.safety os y.safe.safety) (sym (append-nil (told_at y)))
+        subst (λ (os : List DrillOutcome). Calls key_of x.safe.safety os y.safe.safety) (sym (append-nil (outcomes_told_by_stack y)))
         (told_calls x.safe.safety y (comes_spoke key_of x.safe.safety moment v x refl))
     hears_call moment (v ∷ w ∷ more) x one = absurd cc
 
@@ -168,12 +168,12 @@ module _ (grow : FactsGrow) (opening : PairOpening) where
   expired_none true = (refl, refl)
   expired_none false = (refl, refl)
 
-  pub ticks_tell : (b : Bool) (x : Core) → x.upper.spoke ≡ None → Tells None (if_expired b ++ told_at x)
+  pub ticks_tell : (b : Bool) (x : Core) → x.upper.spoke ≡ None → Tells None (if_expired b ++ outcomes_told_by_stack x)
   ticks_tell b x none =
       let e = expired_none b in
-      tells_behind None (if_expired b) (told_at x) (λ side. expired_silent grow opening side b) e.0 e.1
-      (subst (λ (o : Option Spoken). Tells o (told_at x)) none (told_tells x))
+      tells_behind None (if_expired b) (outcomes_told_by_stack x) (λ side. expired_silent grow opening side b) e.0 e.1
+      (subst (λ (o : Option Spoken). Tells o (outcomes_told_by_stack x)) none (told_tells x))
 
   -- nor does a start
-  pub starts_tell : (x : Core) → x.upper.spoke ≡ None → Tells None (told_at x)
-  starts_tell x none = subst (λ (o : Option Spoken). Tells o (told_at x)) none (told_tells x)
+  pub starts_tell : (x : Core) → x.upper.spoke ≡ None → Tells None (outcomes_told_by_stack x)
+  starts_tell x none = subst (λ (o : Option Spoken). Tells o (outcomes_told_by_stack x)) none (told_tells x)

@@ -1,5 +1,6 @@
 -- An event that releases a stack hands no message to its transport, gives no CC, and in it the safety side seals and verifies nothing.
 use Rattle.std.proofs.Common.{◌≡◌, ◌⊎◌, inl, inr, ℕ, zero, suc, ◌+◌, ◌-◌, length, if◌then◌else◌, true, false, Bool, List, [], ◌∷◌, ◌++◌, refl, ap, ◌∙◌}
+use Rattle.hdlc_station_model.specs.Receiving.{is_some_octets}
 use Rattle.std.specs.Prelude.{◌&&◌, ◌==◌, not, nat_lt, nat_le, Option, Some, None, is_some, Result, Ok, Err}
 use Rattle.er_base.specs.declared.release.Release.{Release}
 use Rattle.er_base.specs.declared.cause.Cause.TheVariants.{User, BlockRefused, SetUpTimeSpent}
@@ -7,24 +8,24 @@ use Rattle.er_base.specs.Causes.{release_of, by_this_end}
 use Rattle.hdlc_frames.specs.Framing.{Verdict}
 use Rattle.hdlc_station_model.specs.Stations.{Deed as LinkDeed}
 use Rattle.t70_header.specs.Joining as joining
-use Rattle.x224_tpdu.specs.Spelling.{Pdu, connection_request, connection_confirm, disconnect_request, disconnect_confirm, data_tpdu, acknowledgement, tpdu_error}
+use Rattle.x224_tpdu.specs.Spelling.{TransportPdu, connection_request, connection_confirm, disconnect_request, disconnect_confirm, data_tpdu, acknowledgement, tpdu_error}
 use Rattle.x224_tpdu.specs.declared.fault.TpFault.{TpFault}
 use Rattle.x224_tpdu.specs.Function.{reading}
 use Rattle.x224_class2.specs.Segments.{Segment, text_so_far}
-use Rattle.x224_class2.specs.Tpdus.{Given, Dr, Dc}
-use Rattle.x224_class2.specs.Transport.{Transport, Deed, Nothing, Called, Confirmed, Message, Disconnected, is_new, is_calling, is_open, is_over, refusal, on_request, on_confirm, on_disconnect, is_expected, on_data, number_named, on_named, on_acknowledgement, on_reading, reception, turn_of, next_tpdu, tpdu_at, Turn, Rest, Opening, Acknowledgement, Data}
+use Rattle.x224_class2.specs.Tpdus.{GivenTpdu, Dr, Dc}
+use Rattle.x224_class2.specs.Transport.{Transport, ReceptionDeed, Nothing, Called, Confirmed, Message, Disconnected, is_new, is_calling, is_open, is_over, refusal_of_tpdu, on_request, on_confirm, on_disconnect, is_expected, on_data, number_named, on_named, on_acknowledgement, on_reading, reception, turn_of, next_tpdu, tpdu_at, TpduTurn, Rest, Opening, Acknowledgement, Data}
 use Rattle.x224_class2.specs.Transport as transport
 use Rattle.x224_class2.specs.Refusals.{protocol_error, tpdu_refused, message_too_long}
 use Rattle.sapdu.specs.Spelling.{di_in}
 use Rattle.safety_automaton.specs.Keys.{no_keys}
 use Rattle.safety_automaton.specs.Rules.{StepsOnly, IsStep}
 use Rattle.safety_automaton.specs.Reports.{report_of}
-use Rattle.safety_automaton.specs.Safety.{Safety, SafetyEvent, ConnectRequest, Received, DataRequest, DisconnectRequest, SafetyOutcome, SentAu1, SentAu2, SentAu3, SentAr, ReceivedAr, AcceptedDt, SentDt, ReleasedLocally, ReleasedByPeer, NothingDone, peer_flag, sent_by, step}
+use Rattle.safety_automaton.specs.Safety.{Safety, SafetyEvent, ConnectRequest, Received, DataRequest, DisconnectRequest, SafetyOutcome, SentAu1, SentAu2, SentAu3, SentAr, ReceivedAr, AcceptedDt, SentDt, ReleasedLocally, ReleasedByPeer, NothingDone, peer_flag, octets_sent_in_outcome, step}
 use Rattle.safety_automaton.specs.Safety as safety
 use Rattle.safety_pair_laws.specs.Facts.{facts_of}
 use Rattle.er_end_model.specs.Outcomes.{SendRefusal}
 use Rattle.er_end_model.specs.Layers.{Spoken, Core, model}
-use Rattle.er_end_model.specs.Steps.{Finds, new_event_at, with_release, hand_tpdu, close_link, send_owed_answer, send_dr, answer_dr, end_after_di, on_safety_release, why_of, with_safety_step, is_some_octets, hand_text, accept_text, skip_message, Carrier, InCr, InCc, InDt, hand_answer, keep_message, on_safety_report, on_text, on_transport_deed, on_joined_block, is_ready, connect_with_text, on_link_up, on_link_told, on_link_deed, hand_next_tpdu, has_next_tpdu, hand_waiting_tpdus, most_offers, conclude_event, step_start, step_frame, refusal_of, step_send_unless, step_take, step_release, is_spent, di_of, on_expiry, step_tick, normal_disconnect}
+use Rattle.er_end_model.specs.Steps.{Finds, new_event_at, with_release, hand_tpdu, close_link, send_owed_answer, send_dr, answer_dr, end_after_di, on_safety_release, why_of, with_safety_step, hand_text, accept_text, skip_message, Carrier, InCr, InCc, InDt, hand_answer, keep_message, on_safety_report, on_text, on_transport_deed, on_joined_block, is_ready, connect_with_text, on_link_up, on_link_told, on_link_deed, hand_next_tpdu, has_next_tpdu, hand_waiting_tpdus, most_offers, conclude_event, step_start, step_frame, refusal_of, step_send_unless, step_take, step_release, is_spent, di_of, on_expiry, step_tick, normal_disconnect}
 use Rattle.er_end_pair_laws.specs.Ordered.{is_cc, begins_with_cc}
 use Rattle.drill_laws.proofs.StackCalls.{facts_spoken}
 
@@ -33,32 +34,32 @@ use Rattle.drill_laws.proofs.StackCalls.{facts_spoken}
 abbrev SameOf : Transport → Transport → Type 0
 SameOf t u = (u.segments ≡ t.segments) × (u.gave ≡ t.gave)
 
-same_if : (t : Transport) (b : Bool) (x y : Transport × Deed) → SameOf t x.0 → SameOf t y.0 → SameOf t (if b then x else y).0
+same_if : (t : Transport) (b : Bool) (x y : Transport × ReceptionDeed) → SameOf t x.0 → SameOf t y.0 → SameOf t (if b then x else y).0
 same_if t true x y hx hy = hx
 same_if t false x y hx hy = hy
 
-refused_same : (t : Transport) (sub reason : ℕ) → SameOf t (refusal t sub reason).0
+refused_same : (t : Transport) (sub reason : ℕ) → SameOf t (refusal_of_tpdu t sub reason).0
 refused_same t sub reason = (refl, refl)
 
 named_same : (t : Transport) (credit : ℕ) (named : Option ℕ) → SameOf t (on_named t credit named).0
 named_same t credit None = (refl, refl)
-named_same t credit (Some n) = same_if t (nat_lt (n + credit) t.edge) (refusal t tpdu_refused protocol_error) _ (refl, refl) (refl, refl)
+named_same t credit (Some n) = same_if t (nat_lt (n + credit) t.edge) (refusal_of_tpdu t tpdu_refused protocol_error) _ (refl, refl) (refl, refl)
 
-reading_same : (t : Transport) (read : Result Pdu TpFault) → SameOf t (on_reading t read).0
+reading_same : (t : Transport) (read : Result TransportPdu TpFault) → SameOf t (on_reading t read).0
 reading_same t (Ok (connection_request credit dst src size user)) =
-    same_if t (not t.is_caller && is_new t.stage && (dst == 0) && (src == 1)) _ (refusal t tpdu_refused protocol_error) (refl, refl) (refl, refl)
+    same_if t (not t.is_caller && is_new t.stage && (dst == 0) && (src == 1)) _ (refusal_of_tpdu t tpdu_refused protocol_error) (refl, refl) (refl, refl)
 reading_same t (Ok (connection_confirm credit dst src size user)) =
-    same_if t (is_calling t.stage && (dst == 1) && (src == 1) && nat_le size t.size) _ (refusal t tpdu_refused protocol_error) (refl, refl) (refl, refl)
+    same_if t (is_calling t.stage && (dst == 1) && (src == 1) && nat_le size t.size) _ (refusal_of_tpdu t tpdu_refused protocol_error) (refl, refl) (refl, refl)
 reading_same t (Ok (disconnect_request dst src reason user)) =
-    same_if t (not (is_new t.stage) && (dst == 1) && (src == 1)) _ (refusal t tpdu_refused protocol_error) (refl, refl) (refl, refl)
+    same_if t (not (is_new t.stage) && (dst == 1) && (src == 1)) _ (refusal_of_tpdu t tpdu_refused protocol_error) (refl, refl) (refl, refl)
 reading_same t (Ok (disconnect_confirm dst src)) = (refl, refl)
 reading_same t (Ok (data_tpdu dst last number user)) =
     let text : List ℕ = text_so_far t.contents ++ user in
-    let got : Transport × Deed = (record t { contents = t.contents ++ (last, user) ∷ [] }, if last then Message text else Nothing) in
-    same_if t (not (is_expected t dst number user)) (refusal t tpdu_refused protocol_error) (if nat_lt 1032 (length text) then refusal t message_too_long protocol_error else got) (refl, refl)
-    (same_if t (nat_lt 1032 (length text)) (refusal t message_too_long protocol_error) got (refl, refl) (refl, refl))
+    let got : Transport × ReceptionDeed = (record t { contents = t.contents ++ (last, user) ∷ [] }, if last then Message text else Nothing) in
+    same_if t (not (is_expected t dst number user)) (refusal_of_tpdu t tpdu_refused protocol_error) (if nat_lt 1032 (length text) then refusal_of_tpdu t message_too_long protocol_error else got) (refl, refl)
+    (same_if t (nat_lt 1032 (length text)) (refusal_of_tpdu t message_too_long protocol_error) got (refl, refl) (refl, refl))
 reading_same t (Ok (acknowledgement credit dst number)) =
-    same_if t (is_open t.stage && (dst == 1)) (on_named t credit (number_named t.acked (t.given - t.acked) number)) (refusal t tpdu_refused protocol_error)
+    same_if t (is_open t.stage && (dst == 1)) (on_named t credit (number_named t.acked (t.given - t.acked) number)) (refusal_of_tpdu t tpdu_refused protocol_error)
     (named_same t credit (number_named t.acked (t.given - t.acked) number)) (refl, refl)
 reading_same t (Ok (tpdu_error dst cause)) = (refl, refl)
 reading_same t (Err fault) = (refl, refl)
@@ -67,7 +68,7 @@ reception_same : (t : Transport) (tpdu : List ℕ) → SameOf t (reception t tpd
 reception_same t tpdu = same_if t (is_over t.stage) (t, Nothing) (on_reading t (reading tpdu)) (refl, refl) (reading_same t (reading tpdu))
 
 -- a TPDU that is no CC
-other_more : (gave : List Given) (tpdu : Given) → is_cc tpdu ≡ false → begins_with_cc (gave ++ tpdu ∷ []) ≡ begins_with_cc gave
+other_more : (gave : List GivenTpdu) (tpdu : GivenTpdu) → is_cc tpdu ≡ false → begins_with_cc (gave ++ tpdu ∷ []) ≡ begins_with_cc gave
 other_more [] tpdu other = other
 other_more (g ∷ gave) tpdu other = refl
 
@@ -103,7 +104,7 @@ module _ (S : List Segment) (C : Bool) where
 
   -- ---- releases
 
-  gives_calm : (tpdu : Given) (x : Core) → is_cc tpdu ≡ false → Calm x → Calm (hand_tpdu model tpdu x)
+  gives_calm : (tpdu : GivenTpdu) (x : Core) → is_cc tpdu ≡ false → Calm x → Calm (hand_tpdu model tpdu x)
   gives_calm tpdu x other h =
       record { segments_are = h.segments_are; cc_is = other_more x.upper.transport.gave tpdu other ∙ h.cc_is; none = h.none }
 
@@ -166,7 +167,7 @@ module _ (S : List Segment) (C : Bool) where
   -- ---- a text comes
 
   abbrev told : (carrier : Carrier) (event : SafetyEvent) (next : Safety) (outcome : SafetyOutcome) → Core → Core
-  told carrier event next outcome x = on_safety_report model carrier (report_of outcome) (sent_by outcome) (with_safety_step model event (next, outcome) x)
+  told carrier event next outcome x = on_safety_report model carrier (report_of outcome) (octets_sent_in_outcome outcome) (with_safety_step model event (next, outcome) x)
 
   -- a step of the safety side that has no facts
   spoken_calm : (event : SafetyEvent) (next : Safety) (outcome : SafetyOutcome) (x : Core) → facts_of event outcome ≡ [] → Fresh x
@@ -184,7 +185,7 @@ module _ (S : List Segment) (C : Bool) where
   acts_ended carrier text next (AcceptedDt session user verified) x h =
       inl (keeps_live carrier user (with_safety_step model (Received text) (next, AcceptedDt session user verified) x) h.live)
   acts_ended carrier text next (SentDt session user sealed octets) x h = inl h.live
-  acts_ended carrier text next (safety.Refused refusal) x h = inl h.live
+  acts_ended carrier text next (safety.Refused refusal_of_tpdu) x h = inl h.live
   acts_ended carrier text next (ReleasedLocally why octets) x h =
       inr (parts_calm why octets (with_safety_step model (Received text) (next, ReleasedLocally why octets) x) (spoken_calm (Received text) next (ReleasedLocally why octets) x refl h))
   acts_ended carrier text next (ReleasedByPeer why) x h =
@@ -197,7 +198,7 @@ module _ (S : List Segment) (C : Bool) where
         let a : Safety × SafetyOutcome = step (finds x.moment) x.safe.safety (Received text) in
         acts_ended carrier text a.0 a.1 x h
 
-    does_ended : (deed : Deed) (x : Core) → Fresh x → Ended (on_transport_deed model finds deed x)
+    does_ended : (deed : ReceptionDeed) (x : Core) → Fresh x → Ended (on_transport_deed model finds deed x)
     does_ended Nothing x h = inl h.live
     does_ended (Called user) x h = text_ended InCr user x h
     does_ended (Confirmed user) x h = text_ended InCc user x h
@@ -205,7 +206,7 @@ module _ (S : List Segment) (C : Bool) where
     does_ended (Disconnected user) x h = inr (cut_off_calm (why_of (di_in user (peer_flag x.safe.safety))) x (calm x h))
     does_ended (transport.Refused sub reason) x h = inr (departs_calm (by_this_end 2 sub) reason [] x (calm x h))
 
-    block_ended : (answer : joining.Answer) (x : Core) → Fresh x → Ended (on_joined_block model finds answer x)
+    block_ended : (answer : joining.BlockJoiningResult) (x : Core) → Fresh x → Ended (on_joined_block model finds answer x)
     block_ended (Ok None) x h = inl h.live
     block_ended (Ok (Some tpdu)) x h =
         let same = reception_same x.upper.transport tpdu in
@@ -217,12 +218,12 @@ module _ (S : List Segment) (C : Bool) where
     comes_up_ended x h =
         let a : Safety × SafetyOutcome = step no_keys x.safe.safety ConnectRequest in
         let y : Core = with_safety_step model ConnectRequest a x in
-        if_core Ended (model.may_connect x.upper && is_ready x.safe.safety.phase) (connect_with_text model (sent_by a.1) y) x
-        (inl (if_core Live (is_some_octets (sent_by a.1)) (record y { upper = model.connects y.upper (sent_by a.1) }) y h.live h.live)) (inl h.live)
+        if_core Ended (model.may_connect x.upper && is_ready x.safe.safety.phase) (connect_with_text model (octets_sent_in_outcome a.1) y) x
+        (inl (if_core Live (is_some_octets (octets_sent_in_outcome a.1)) (record y { upper = model.connects y.upper (octets_sent_in_outcome a.1) }) y h.live h.live)) (inl h.live)
 
     link_ended : (payload : Option (List ℕ)) (up : Bool) (released : Option Release) (x : Core) → Fresh x → Ended (on_link_told model finds payload up released x)
     link_ended (Some payload) up released x h =
-        block_ended (joining.step x.joined payload).1 (record x { joined = (joining.step x.joined payload).0 })
+        block_ended (joining.block_step x.joined payload).1 (record x { joined = (joining.block_step x.joined payload).0 })
         (record { live = h.live; segments_are = h.segments_are; cc_is = h.cc_is; silent = h.silent })
     link_ended None true released x h = comes_up_ended x h
     link_ended None false (Some why) x h = inr (same_calm x (with_release why x) refl (calm x h))
@@ -261,7 +262,7 @@ comes_ended finds now verdict x =
 
 -- a send, by whether it is refused
 pub sends_ended : (now : ℕ) (user : List ℕ) (x : Core) (o : Option SendRefusal) → refusal_of model user x ≡ o → (step_send_unless model o now user x).released ≡ x.released
-sends_ended now user x (Some refusal) is = refl
+sends_ended now user x (Some refusal_of_tpdu) is = refl
 sends_ended now user x None is =
     let S : List Segment = x.upper.transport.segments in
     let C : Bool = begins_with_cc x.upper.transport.gave in
@@ -269,9 +270,9 @@ sends_ended now user x None is =
     let a : Safety × SafetyOutcome = step no_keys y.safe.safety (DataRequest user) in
     let z : Core = with_safety_step model (DataRequest user) a y in
     let w : Core = record z { upper = model.sends z.upper user } in
-    let said : (hand_text model (sent_by a.1) w).released ≡ x.released =
-    if_core (λ v. v.released ≡ x.released) (is_some_octets (sent_by a.1) && model.may_hand w.upper) (record w { upper = model.hands_message w.upper (sent_by a.1) }) w refl refl in
-    concluded (hand_text model (sent_by a.1) w) ∙ said
+    let said : (hand_text model (octets_sent_in_outcome a.1) w).released ≡ x.released =
+    if_core (λ v. v.released ≡ x.released) (is_some_octets (octets_sent_in_outcome a.1) && model.may_hand w.upper) (record w { upper = model.hands_message w.upper (octets_sent_in_outcome a.1) }) w refl refl in
+    concluded (hand_text model (octets_sent_in_outcome a.1) w) ∙ said
   where
     concluded : (v : Core) → (conclude_event model v).released ≡ v.released
     concluded v = if_core (λ u. u.released ≡ v.released) (is_some v.released) v (send_owed_answer model (hand_waiting_tpdus model most_offers v)) refl (offers_released [] false most_offers v)
@@ -294,8 +295,8 @@ leaves_ended only now sub x =
     let a : Safety × SafetyOutcome = step no_keys y.safe.safety (DisconnectRequest sub) in
     let z : Core = with_safety_step model (DisconnectRequest sub) a y in
     let none : facts_of (DisconnectRequest sub) a.1 ≡ [] = no_facts y.safe.safety a.0 a.1 sub (only no_keys y.safe.safety (DisconnectRequest sub)) in
-    unless x (send_dr model (release_of (User sub)) normal_disconnect (sent_by a.1) z) y x.released refl refl refl refl refl
-    (λ live. inr (departs_calm S C (release_of (User sub)) normal_disconnect (sent_by a.1) z (record { segments_are = refl; cc_is = refl; none = none })))
+    unless x (send_dr model (release_of (User sub)) normal_disconnect (octets_sent_in_outcome a.1) z) y x.released refl refl refl refl refl
+    (λ live. inr (departs_calm S C (release_of (User sub)) normal_disconnect (octets_sent_in_outcome a.1) z (record { segments_are = refl; cc_is = refl; none = none })))
   where
     not_received : (sub : ℕ) (octets : List ℕ) → DisconnectRequest sub ≡ Received octets → ⊥
     not_received sub octets e = cc
@@ -311,7 +312,7 @@ leaves_ended only now sub x =
     no_facts s next (ReceivedAr c verified) sub r = absurd (not_received sub r.received.octets r.received.event_is)
     no_facts s next (AcceptedDt session user verified) sub r = absurd (not_received sub r.received.octets r.received.event_is)
     no_facts s next (SentDt session user sealed octets) sub r = absurd (not_data sub user r.event_is)
-    no_facts s next (safety.Refused refusal) sub r = refl
+    no_facts s next (safety.Refused refusal_of_tpdu) sub r = refl
     no_facts s next (ReleasedLocally why octets) sub r = refl
     no_facts s next (ReleasedByPeer why) sub r = refl
     no_facts s next NothingDone sub r = refl

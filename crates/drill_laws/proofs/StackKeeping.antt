@@ -1,5 +1,6 @@
 -- What an event at a stack leaves of the count of messages that its user took; and no event but a send tells of a message that was sent.
 use Rattle.std.proofs.Common.{◌≡◌, ℕ, zero, suc, ◌+◌, ◌-◌, ◌==◌, if◌then◌else◌, true, false, Bool, List, [], ◌∷◌, length, refl}
+use Rattle.hdlc_station_model.specs.Receiving.{is_some_octets}
 use Rattle.std.specs.Prelude.{◌&&◌, Option, Some, None, is_some, Ok, Err}
 use Rattle.er_base.specs.declared.release.Release.{Release}
 use Rattle.er_base.specs.declared.cause.Cause.TheVariants.{User, BlockRefused, SetUpTimeSpent}
@@ -9,16 +10,16 @@ use Rattle.hdlc_frames.specs.Framing.{Verdict}
 use Rattle.hdlc_station_model.specs.Stations.{Deed as LinkDeed}
 use Rattle.t70_header.specs.Joining as joining
 use Rattle.x224_class2.specs.Tpdus.{Dr, Dc}
-use Rattle.x224_class2.specs.Transport.{Deed, Nothing, Called, Confirmed, Message, Disconnected}
+use Rattle.x224_class2.specs.Transport.{ReceptionDeed, Nothing, Called, Confirmed, Message, Disconnected}
 use Rattle.x224_class2.specs.Transport as transport
 use Rattle.x224_class2.specs.Refusals.{protocol_error}
 use Rattle.sapdu.specs.Spelling.{di_in}
 use Rattle.safety_automaton.specs.Keys.{no_keys}
 use Rattle.safety_automaton.specs.Rules.{StepsOnly}
 use Rattle.safety_automaton.specs.Reports.{Report, ToldAnswered, ToldConnected, ToldAccepted, ToldReleased, ToldIgnored, report_of}
-use Rattle.safety_automaton.specs.Safety.{Safety, SafetyEvent, ConnectRequest, Received, DataRequest, DisconnectRequest, SafetyOutcome, peer_flag, sent_by, step}
+use Rattle.safety_automaton.specs.Safety.{Safety, SafetyEvent, ConnectRequest, Received, DataRequest, DisconnectRequest, SafetyOutcome, peer_flag, octets_sent_in_outcome, step}
 use Rattle.er_end_model.specs.Layers.{Core, model}
-use Rattle.er_end_model.specs.Steps.{Finds, new_event_at, with_release, hand_tpdu, close_link, send_owed_answer, send_dr, answer_dr, end_after_di, on_safety_release, why_of, with_safety_step, is_some_octets, hand_text, accept_text, skip_message, Carrier, InCr, InCc, InDt, hand_answer, keep_message, on_safety_report, on_text, on_transport_deed, on_joined_block, is_ready, connect_with_text, on_link_up, on_link_told, on_link_deed, hand_next_tpdu, has_next_tpdu, hand_waiting_tpdus, most_offers, conclude_event, step_start, step_frame, is_connected, refusal_of, step_send_unless, step_take, step_release, is_spent, di_of, on_expiry, step_tick, normal_disconnect}
+use Rattle.er_end_model.specs.Steps.{Finds, new_event_at, with_release, hand_tpdu, close_link, send_owed_answer, send_dr, answer_dr, end_after_di, on_safety_release, why_of, with_safety_step, hand_text, accept_text, skip_message, Carrier, InCr, InCc, InDt, hand_answer, keep_message, on_safety_report, on_text, on_transport_deed, on_joined_block, is_ready, connect_with_text, on_link_up, on_link_told, on_link_deed, hand_next_tpdu, has_next_tpdu, hand_waiting_tpdus, most_offers, conclude_event, step_start, step_frame, is_connected, refusal_of, step_send_unless, step_take, step_release, is_spent, di_of, on_expiry, step_tick, normal_disconnect}
 use Rattle.drill_laws.proofs.StackSaying.{sent_in_step, sent_by_step, no_send, unrefused, send_step}
 
 if_core : (P : Core → Type 0) (b : Bool) (x y : Core) → P x → P y → P (if b then x else y)
@@ -91,10 +92,10 @@ module _ (only : StepsOnly) where
   text_keeps : (U : ℕ) (finds : Finds) (carrier : Carrier) (text : List ℕ) (x : Core) → Still U x → Keeps U [] (on_text model finds carrier text x)
   text_keeps U finds carrier text x h =
       let a : Safety × SafetyOutcome = step (finds x.moment) x.safe.safety (Received text) in
-      acts_keep U [] carrier (report_of a.1) (sent_by a.1) (with_safety_step model (Received text) a x)
+      acts_keep U [] carrier (report_of a.1) (octets_sent_in_outcome a.1) (with_safety_step model (Received text) a x)
       (h.0, sends_none (finds x.moment) x.safe.safety (Received text) (λ user e. cc))
 
-  does_keep : (U : ℕ) (finds : Finds) (deed : Deed) (x : Core) → Still U x → Keeps U [] (on_transport_deed model finds deed x)
+  does_keep : (U : ℕ) (finds : Finds) (deed : ReceptionDeed) (x : Core) → Still U x → Keeps U [] (on_transport_deed model finds deed x)
   does_keep U finds Nothing x h = h
   does_keep U finds (Called user) x h = text_keeps U finds InCr user x h
   does_keep U finds (Confirmed user) x h = text_keeps U finds InCc user x h
@@ -102,7 +103,7 @@ module _ (only : StepsOnly) where
   does_keep U finds (Disconnected user) x h = cut_off_keeps U [] (why_of (di_in user (peer_flag x.safe.safety))) x h
   does_keep U finds (transport.Refused sub reason) x h = departs_keep U [] (by_this_end 2 sub) reason [] x h
 
-  block_keeps : (U : ℕ) (finds : Finds) (answer : joining.Answer) (x : Core) → Still U x → Keeps U [] (on_joined_block model finds answer x)
+  block_keeps : (U : ℕ) (finds : Finds) (answer : joining.BlockJoiningResult) (x : Core) → Still U x → Keeps U [] (on_joined_block model finds answer x)
   block_keeps U finds (Ok None) x h = h
   block_keeps U finds (Ok (Some tpdu)) x h = does_keep U finds (model.deed x.upper tpdu) (record x { upper = model.hears x.upper tpdu }) h
   block_keeps U finds (Err fault) x h = departs_keep U [] (release_of BlockRefused) protocol_error [] x h
@@ -112,12 +113,12 @@ module _ (only : StepsOnly) where
       let a : Safety × SafetyOutcome = step no_keys x.safe.safety ConnectRequest in
       let y : Core = with_safety_step model ConnectRequest a x in
       let now : Keeps U [] y = (h.0, sends_none no_keys x.safe.safety ConnectRequest (λ user e. cc)) in
-      if_core (Keeps U []) (model.may_connect x.upper && is_ready x.safe.safety.phase) (connect_with_text model (sent_by a.1) y) x
-      (if_core (Keeps U []) (is_some_octets (sent_by a.1)) (record y { upper = model.connects y.upper (sent_by a.1) }) y now now) h
+      if_core (Keeps U []) (model.may_connect x.upper && is_ready x.safe.safety.phase) (connect_with_text model (octets_sent_in_outcome a.1) y) x
+      (if_core (Keeps U []) (is_some_octets (octets_sent_in_outcome a.1)) (record y { upper = model.connects y.upper (octets_sent_in_outcome a.1) }) y now now) h
 
   link_keeps : (U : ℕ) (finds : Finds) (payload : Option (List ℕ)) (up : Bool) (why : Option Release) (x : Core) → Still U x
       → Keeps U [] (on_link_told model finds payload up why x)
-  link_keeps U finds (Some payload) up why x h = block_keeps U finds (joining.step x.joined payload).1 (record x { joined = (joining.step x.joined payload).0 }) h
+  link_keeps U finds (Some payload) up why x h = block_keeps U finds (joining.block_step x.joined payload).1 (record x { joined = (joining.block_step x.joined payload).0 }) h
   link_keeps U finds None true why x h = comes_up_keeps U x h
   link_keeps U finds None false (Some why) x h = h
   link_keeps U finds None false None x h = h
@@ -141,8 +142,8 @@ module _ (only : StepsOnly) where
       let y : Core = new_event_at model now x in
       let a : Safety × SafetyOutcome = step no_keys y.safe.safety (DisconnectRequest sub) in
       let z : Core = with_safety_step model (DisconnectRequest sub) a y in
-      if_core (Keeps x.upper.used []) (is_some y.released) y (send_dr model (release_of (User sub)) normal_disconnect (sent_by a.1) z) (refl, refl)
-      (departs_keep x.upper.used [] (release_of (User sub)) normal_disconnect (sent_by a.1) z
+      if_core (Keeps x.upper.used []) (is_some y.released) y (send_dr model (release_of (User sub)) normal_disconnect (octets_sent_in_outcome a.1) z) (refl, refl)
+      (departs_keep x.upper.used [] (release_of (User sub)) normal_disconnect (octets_sent_in_outcome a.1) z
       (refl, sends_none no_keys y.safe.safety (DisconnectRequest sub) (λ user e. cc)))
 
   pub ticks_keep : (now : ℕ) (x : Core) → Keeps x.upper.used [] (step_tick model now x)
@@ -171,4 +172,4 @@ sends_keep now user x none =
     let a : Safety × SafetyOutcome = step no_keys y.safe.safety (DataRequest user) in
     let z : Core = record (with_safety_step model (DataRequest user) a y) { upper = model.sends (with_safety_step model (DataRequest user) a y).upper user } in
     let h : Keeps x.upper.used (user ∷ []) z = (refl, send_step y.safe.safety y.safe.safety.phase user on_safety_release.1.0 on_safety_release.1.1) in
-    concludes_keep x.upper.used (user ∷ []) (hand_text model (sent_by a.1) z) (says_keep x.upper.used (user ∷ []) (sent_by a.1) z h)
+    concludes_keep x.upper.used (user ∷ []) (hand_text model (octets_sent_in_outcome a.1) z) (says_keep x.upper.used (user ∷ []) (octets_sent_in_outcome a.1) z h)

@@ -15,17 +15,17 @@ use Rattle.safety_pair_laws.specs.Messages.{IsConnectedPhase}
 use Rattle.er_end_model.specs.Steps.{is_connected}
 use Rattle.er_end_model.specs.Ends.{End as Stack}
 use Rattle.er_end_model.specs.Bounds as end_bounds_words
-use Rattle.er_end_pair_laws.specs.Openings.{Opening, Agree}
-use Rattle.er_end_pair_laws.specs.Links.{Link as Pair}
-use Rattle.er_end_pair_laws.specs.Steps.{run}
+use Rattle.er_end_pair_laws.specs.Openings.{EndLinkOpening, Agree}
+use Rattle.er_end_pair_laws.specs.Links.{EndLink as Pair}
+use Rattle.er_end_pair_laws.specs.Steps.{end_link_run}
 use Rattle.er_end_pair_laws.specs.Laws.{Prefix, OneFrame, LosingLineReasons, InStep, Delivery, DeliveryBound, DrainEmpties}
 use Rattle.er_end_pair_laws.specs.Laws as of_pair
 use Rattle.er_end_pair_laws.specs.Reasons as of_pair_reasons
 use Rattle.drill_model.specs.Outcomes.{Occurrence}
 use Rattle.drill_model.specs.StackReports.{OpensOrderly, CallsReport}
-use Rattle.drill_model.specs.Ends.{End, OfStack}
+use Rattle.drill_model.specs.Ends.{EndAtLevel, OfStack}
 use Rattle.drill_model.specs.Links.{Link, LinkOpening, OfPair, OfStations, OfStacks, opened_link, LinkStep, Send, Pass, Change, Take, Release as ReleaseStep, Tick}
-use Rattle.drill_model.specs.Worlds.{Plan, Drain, drain, link_at, history_on, world_run}
+use Rattle.drill_model.specs.Worlds.{DrillPlan, Drain, drain, link_at, history_on, world_run}
 use Rattle.drill_model.specs.Kinds.{releases_in, is_disturbed, IsOrderKeeping, IsLossFree, EndsAgree, deliveries, bound}
 use Rattle.drill_model.specs.Claims.{IsInOrder, IsLosingLineReason, IsConnectedEnd, HasTakenAll, HasAll, IsEmpty, IsDelivered, IsUnforged}
 use Rattle.drill_model.specs.Claims as claim
@@ -54,7 +54,7 @@ pub record StackLaws : Type 0 where
 
 -- ---- the pair's opening
 
-abbrev pub pair_opening : (settings : Settings) (l : Link) (history : List Occurrence) → IsStacked settings l history → AllAllowed settings → Opening
+abbrev pub pair_opening : (settings : Settings) (l : Link) (history : List Occurrence) → IsStacked settings l history → AllAllowed settings → EndLinkOpening
 pair_opening settings l history t allowed = record {
   settings = settings;
   engine = t.k.engine;
@@ -73,7 +73,7 @@ pair_opening settings l history t allowed = record {
 
 -- the pair behind the steps
 abbrev pub pair_of : (settings : Settings) (l : Link) (history : List Occurrence) → IsStacked settings l history → Pair
-pair_of settings l history t = run (finds_of t.k) (paired settings t.k t.moment) t.steps
+pair_of settings l history t = end_link_run (finds_of t.k) (paired settings t.k t.moment) t.steps
 
 -- the radio block centre finds the engine's KMAC
 pub agrees : (k : Numbers) → k.kr ≡ Some k.ke → (now : ℕ) → finds_of k now k.engine k.rbc ≡ Some k.ke
@@ -85,7 +85,7 @@ agrees k same now =
 -- ---- a line that only loses and repeats
 
 module _ (settings : Settings) (l : Link) (history : List Occurrence) (t : IsStacked settings l history) (allowed : AllAllowed settings) where
-  abbrev s : Opening
+  abbrev s : EndLinkOpening
   s = pair_opening settings l history t allowed
 
   abbrev p : Pair
@@ -130,7 +130,7 @@ module _ (settings : Settings) (l : Link) (history : List Occurrence) (t : IsSta
   bound_is : bound settings l.opening history ≡ of_pair.bound settings p
   bound_is =
       ap (λ (o : LinkOpening). bound settings o history) t.sees.opening_is
-      ∙ ap₂ (λ (xs ys : List (List ℕ)). 14 + 4 * (end_bounds_words.segments_of settings xs + end_bounds_words.segments_of settings ys)) t.sees.sent_e t.sees.sent_r
+      ∙ ap₂ (λ (xs ys : List (List ℕ)). 14 + 4 * (end_bounds_words.count_of_all_segments settings xs + end_bounds_words.count_of_all_segments settings ys)) t.sees.sent_e t.sees.sent_r
 
   connected_phase : (phase : Phase) → is_connected phase ≡ true → IsConnectedPhase phase
   connected_phase (Ready peer kmac rb) e = absurd (cc)
@@ -141,10 +141,10 @@ module _ (settings : Settings) (l : Link) (history : List Occurrence) (t : IsSta
   connected_phase (Connected peer session) e = tt
   connected_phase (Released release session) e = absurd (cc)
 
-  pub connected_end : (end : End) (m : Stack) → end ≡ OfStack m → is_connected m.core.safe.safety.phase ≡ true → IsConnectedEnd end
+  pub connected_end : (end : EndAtLevel) (m : Stack) → end ≡ OfStack m → is_connected m.core.safe.safety.phase ≡ true → IsConnectedEnd end
   connected_end end m is e = subst IsConnectedEnd (sym is) (connected_phase m.core.safe.safety.phase e)
 
-  pub taken_of : (end : End) (m : Stack) → end ≡ OfStack m → HasTakenAll end → m.core.upper.used ≡ length m.core.upper.accepted
+  pub taken_of : (end : EndAtLevel) (m : Stack) → end ≡ OfStack m → HasTakenAll end → m.core.upper.used ≡ length m.core.upper.accepted
   taken_of end m is taken = subst HasTakenAll is taken
 
   pub stacked_delivers : StackLaws → IsLossFree l.opening history → IsUnforged history → claim.Delivers settings history l
@@ -224,7 +224,7 @@ module _ (laws : StackLaws) (facts : FactsGrow) where
       }
 
   -- a link of two stacks in a world whose steps fit their fields
-  pub stacked_at : HistoryGrows → HistoryOfOwn → HistoryOfOther → (plan : Plan) (steps : List Step) → AllFit steps → (n : ℕ) (l : Link)
+  pub stacked_at : HistoryGrows → HistoryOfOwn → HistoryOfOther → (plan : DrillPlan) (steps : List Step) → AllFit steps → (n : ℕ) (l : Link)
       → link_at (world_run plan steps).0 n ≡ Some l → (k : Numbers) → l.opening ≡ opening_of k
       → IsStacked plan.settings l (history_on n (world_run plan steps).1)
   stacked_at grow own other plan steps fit n l at k is =

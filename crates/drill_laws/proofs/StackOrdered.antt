@@ -22,14 +22,14 @@ use Rattle.hdlc_station_model.specs.Events.{news}
 use Rattle.hdlc_station_model.specs.Lines.{IsPrefix}
 use Rattle.er_end_model.specs.Ends.{End as Stack, Call, Answer, opened as stack_opened, hears_each, finds_expired}
 use Rattle.er_end_model.specs.Ends as on_end
-use Rattle.er_end_pair_laws.specs.Links.{Link as Pair, end_of}
+use Rattle.er_end_pair_laws.specs.Links.{EndLink as Pair, end_of}
 use Rattle.er_end_pair_laws.specs.Laws.{IsOneFrame}
 use Rattle.er_end_pair_laws.specs.Ordered.{begins_with_cc, HasConfirmed, HasSaid, Knows, IsJoined, AreOrdered}
-use Rattle.drill_model.specs.Outcomes.{Outcome, NothingWaits, UserReleased, Passed, Occurrence, at_end, facts_in}
+use Rattle.drill_model.specs.Outcomes.{DrillOutcome, NothingWaits, UserReleased, Passed, Occurrence, at_end, facts_in}
 use Rattle.drill_model.specs.Growth.{FactsGrow}
-use Rattle.drill_model.specs.StackEnds.{told_at, stack_told, told_unless, told_of_take}
-use Rattle.drill_model.specs.StackReports.{IsOrderly, OpensOrderly, CallsReport, user_in}
-use Rattle.drill_model.specs.Ends.{End, OfStack, EndEvent, Receive, stack_end_step, end_step}
+use Rattle.drill_model.specs.StackEnds.{outcomes_told_by_stack, stack_told, told_unless, told_of_take}
+use Rattle.drill_model.specs.StackReports.{IsOrderly, OpensOrderly, CallsReport, user_octets_spoken}
+use Rattle.drill_model.specs.Ends.{EndAtLevel, OfStack, EndEvent, Receive, stack_end_step, end_step}
 use Rattle.drill_model.specs.Ends as event
 use Rattle.drill_model.specs.Waiting.{change_first}
 use Rattle.drill_model.specs.Links.{Link, LinkOpening, key_on, waiting_of, with_waiting, with_answer, link_of, opened_stacks, LinkStep, Send, Pass, Change, Take, Release as ReleaseStep, Tick, pass, link_step}
@@ -200,7 +200,7 @@ module _ (k : Numbers) where
   news_r M spoke = marked_from M (map (at_side R) (facts_spoken spoke))
 
   abbrev CameTo : (text_of : List ℕ → List ℕ) → List MarkedFact → Option Spoken → Type 0
-  CameTo text_of M spoke = AllByRecursion (λ user. Sealed (text_of user) M) (option_to_list (user_in spoke))
+  CameTo text_of M spoke = AllByRecursion (λ user. Sealed (text_of user) M) (option_to_list (user_octets_spoken spoke))
 
   -- a step of the engine's side behind which its end is live
   e_lives : (only : StepsOnly) (x y r : Core) (M : List MarkedFact) (s : Spoken) → Speaks (key_of k) x.safe.safety (Some s) y.safe.safety → x.released ≡ None → y.released ≡ None
@@ -332,7 +332,7 @@ module _ (grow : FactsGrow) (marks : MarksGrow) (only : StepsOnly) (reports : Ca
   opening : PairOpening
   opening = OfKeys k.engine k.rbc k.ke k.kr k.ra k.rb
 
-  record Event (x y : Core) (os : List Outcome) : Type 0 where
+  record Event (x y : Core) (os : List DrillOutcome) : Type 0 where
     pub spoke : Option Spoken
     pub speaks : Speaks (key_of k) x.safe.safety spoke y.safe.safety
     pub tells : Tells spoke os
@@ -345,7 +345,7 @@ module _ (grow : FactsGrow) (marks : MarksGrow) (only : StepsOnly) (reports : Ca
   ]
 
   -- a call, with what it told
-  called : (x y : Core) → Spoke (key_of k) x.safe.safety y → EndsCalmly x y → Event x y (told_at y)
+  called : (x y : Core) → Spoke (key_of k) x.safe.safety y → EndsCalmly x y → Event x y (outcomes_told_by_stack y)
   called x y speaks ends = record { spoke = y.upper.spoke; speaks = speaks; tells = told_tells grow opening y; ends = ends_so x y y.upper.spoke refl ends }
 
   -- an end that nothing was done to
@@ -388,15 +388,15 @@ module _ (grow : FactsGrow) (marks : MarksGrow) (only : StepsOnly) (reports : Ca
       record {
         spoke = y.upper.spoke;
         speaks = comes_spoke (key_of k) x.safe.safety moment v x refl;
-        tells = subst (Tells y.upper.spoke) (sym (append-nil (told_at y))) (told_tells grow opening y);
+        tells = subst (Tells y.upper.spoke) (sym (append-nil (outcomes_told_by_stack y))) (told_tells grow opening y);
         ends = ends_so x y y.upper.spoke refl (comes_ended (λ now. key_of k) moment v x);
       }
   heard_event moment (v ∷ w ∷ more) x one = absurd cc
 
   abbrev next_of : (moment : ℕ) → EndEvent → Stack → Stack
-  next_of moment given m = (on_end.step moment (as_given only reports (key_of k) given) m).0
+  next_of moment given m = (on_end.step_event moment (as_given only reports (key_of k) given) m).0
 
-  abbrev told_of : (moment : ℕ) → EndEvent → Stack → List Outcome
+  abbrev told_of : (moment : ℕ) → EndEvent → Stack → List DrillOutcome
   told_of moment given m = (stack_end_step (key_of k) moment m given).1
 
   event_at : (moment : ℕ) (m : Stack) (given : EndEvent) → OneFrame m given → Event m.core (next_of moment given m).core (told_of moment given m)
@@ -423,7 +423,7 @@ module _ (grow : FactsGrow) (marks : MarksGrow) (only : StepsOnly) (reports : Ca
       record {
         spoke = y.upper.spoke;
         speaks = uses_silent (key_of k) m.core.safe.safety moment m.core refl;
-        tells = tells_behind grow opening y.upper.spoke (told_of_take message) (told_at y) (λ side. took_silent grow opening side message) none.0 none.1 (told_tells grow opening y);
+        tells = tells_behind grow opening y.upper.spoke (told_of_take message) (outcomes_told_by_stack y) (λ side. took_silent grow opening side message) none.0 none.1 (told_tells grow opening y);
         ends = ends_so m.core y y.upper.spoke refl (uses_ended moment m.core);
       }
   event_at moment m (event.Release sub) one =
@@ -464,10 +464,10 @@ module _ (grow : FactsGrow) (marks : MarksGrow) (only : StepsOnly) (reports : Ca
     pub r_is : l.r ≡ OfStack r
 
   gives_e : (l : Link) (e r : Stack) (given : EndEvent) → Stands l e r → drill.give l E given ≡ with_answer l E (stack_end_step (key_of k) l.moment e given)
-  gives_e l e r given s = ap₂ (λ (o : LinkOpening) (end : End). with_answer l E (end_step (key_on o) l.moment end given)) s.opening_is s.e_is
+  gives_e l e r given s = ap₂ (λ (o : LinkOpening) (end : EndAtLevel). with_answer l E (end_step (key_on o) l.moment end given)) s.opening_is s.e_is
 
   gives_r : (l : Link) (e r : Stack) (given : EndEvent) → Stands l e r → drill.give l R given ≡ with_answer l R (stack_end_step (key_of k) l.moment r given)
-  gives_r l e r given s = ap₂ (λ (o : LinkOpening) (end : End). with_answer l R (end_step (key_on o) l.moment end given)) s.opening_is s.r_is
+  gives_r l e r given s = ap₂ (λ (o : LinkOpening) (end : EndAtLevel). with_answer l R (end_step (key_on o) l.moment end given)) s.opening_is s.r_is
 
   stands_e : (l : Link) (e r : Stack) (given : EndEvent) → Stands l e r → Stands (drill.give l E given).0 (next_of l.moment given e) r
   stands_e l e r given s =
@@ -500,11 +500,11 @@ module _ (grow : FactsGrow) (marks : MarksGrow) (only : StepsOnly) (reports : Ca
   given_e l e r history given s one orderly engine after prefix h =
       let M : List MarkedFact = marks_of history in
       let next : Stack = next_of l.moment given e in
-      let os : List Outcome = told_of l.moment given e in
+      let os : List DrillOutcome = told_of l.moment given e in
       let v : Event e.core next.core os = event_at l.moment e given one in
       let d = (stack_does only reports (key_of k) l.moment e given orderly).says in
       let P : List ℕ → Type 0 = λ user. IsSealed (key k) (text_r k user) M in
-      let came : AllByRecursion P (option_to_list (user_in v.spoke)) =
+      let came : AllByRecursion P (option_to_list (user_octets_spoken v.spoke)) =
       subst (AllByRecursion P) v.tells.accepted_is
       (accepted_all P e.core.upper.accepted next.core.upper.accepted r.core.upper.sent (flat_map accepted_in os) d.accepted_is prefix h.at_r.sent) in
       let sent : next.core.upper.sent ≡ e.core.upper.sent ++ sent_in_step v.spoke = d.sent_is ∙ ap (λ (us : List (List ℕ)). e.core.upper.sent ++ us) v.tells.sent_is in
@@ -522,11 +522,11 @@ module _ (grow : FactsGrow) (marks : MarksGrow) (only : StepsOnly) (reports : Ca
   given_r l e r history given s one orderly centre after prefix h =
       let M : List MarkedFact = marks_of history in
       let next : Stack = next_of l.moment given r in
-      let os : List Outcome = told_of l.moment given r in
+      let os : List DrillOutcome = told_of l.moment given r in
       let v : Event r.core next.core os = event_at l.moment r given one in
       let d = (stack_does only reports (key_of k) l.moment r given orderly).says in
       let P : List ℕ → Type 0 = λ user. IsSealed (key k) (text_e k user) M in
-      let came : AllByRecursion P (option_to_list (user_in v.spoke)) =
+      let came : AllByRecursion P (option_to_list (user_octets_spoken v.spoke)) =
       subst (AllByRecursion P) v.tells.accepted_is
       (accepted_all P r.core.upper.accepted next.core.upper.accepted e.core.upper.sent (flat_map accepted_in os) d.accepted_is prefix h.at_e.sent) in
       let sent : next.core.upper.sent ≡ r.core.upper.sent ++ sent_in_step v.spoke = d.sent_is ∙ ap (λ (us : List (List ℕ)). r.core.upper.sent ++ us) v.tells.sent_is in

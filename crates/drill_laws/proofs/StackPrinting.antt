@@ -13,9 +13,9 @@ use Rattle.er_end_model.specs.Layers.{Spoken, Core, model}
 use Rattle.er_end_model.specs.Steps.{Finds, new_event_at, hand_next_tpdu, has_next_tpdu, hand_waiting_tpdus, most_offers, send_owed_answer, conclude_event, step_frame, refusal_of, step_take}
 use Rattle.er_end_model.specs.Ends.{End as Stack, finds_expired}
 use Rattle.er_end_model.specs.Ends as stacks
-use Rattle.drill_model.specs.Outcomes.{Outcome, OfSafety, Frame}
+use Rattle.drill_model.specs.Outcomes.{DrillOutcome, OfSafety, Frame}
 use Rattle.drill_model.specs.StationEnds.{if_released, if_expired}
-use Rattle.drill_model.specs.StackEnds.{facts_told, told_at, behind, stack_parts, stack_told, told_unless, told_of_take}
+use Rattle.drill_model.specs.StackEnds.{facts_told, outcomes_told_by_stack, stack_behind_event, stack_parts, stack_told, told_unless, told_of_take}
 use Rattle.drill_model.specs.Ends.{EndEvent, Start, stack_end_step}
 use Rattle.drill_model.specs.Ends as event
 use Rattle.drill_model.specs.Texts.{place_of}
@@ -59,19 +59,19 @@ rising_spoke : (spoke : Option Spoken) (released : Option Release) (frames : Lis
 rising_spoke None released frames = rising_rest released frames
 rising_spoke (Some s) released frames = rising_facts (heard_in s.event) s.outcome released frames
 
-rising_told : (x : Core) → IsRising (flat_map place_of (told_at x))
+rising_told : (x : Core) → IsRising (flat_map place_of (outcomes_told_by_stack x))
 rising_told x = rising_spoke x.upper.spoke x.leaves (said_octets x.line)
 
 -- ---- octets
 
 each_rising : (finds : Finds) (moment : ℕ) (verdicts : List Verdict) (x : Core)
-    → (flat_map (λ (part : List Outcome). part) (stack_parts finds moment verdicts x) ≡ stack_told finds moment verdicts x)
-    × AllByRecursion (λ (part : List Outcome). IsRising (flat_map place_of part)) (stack_parts finds moment verdicts x)
+    → (flat_map (λ (part : List DrillOutcome). part) (stack_parts finds moment verdicts x) ≡ stack_told finds moment verdicts x)
+    × AllByRecursion (λ (part : List DrillOutcome). IsRising (flat_map place_of part)) (stack_parts finds moment verdicts x)
 each_rising finds moment [] x = (refl, tt)
 each_rising finds moment (verdict ∷ verdicts) x =
     let y : Core = step_frame model finds moment verdict x in
     let rest = each_rising finds moment verdicts y in
-    (ap (λ (os : List Outcome). told_at y ++ os) rest.0, (rising_told y, rest.1))
+    (ap (λ (os : List DrillOutcome). outcomes_told_by_stack y ++ os) rest.0, (rising_told y, rest.1))
 
 -- ---- a take
 
@@ -104,22 +104,22 @@ rising_unless : (refusal : Option SendRefusal) (x : Core) → IsRising (flat_map
 rising_unless (Some refusal) x = tt
 rising_unless None x = rising_told x
 
-rising_expired : (b : Bool) (x : Core) → IsRising (flat_map place_of (if_expired b ++ told_at x))
+rising_expired : (b : Bool) (x : Core) → IsRising (flat_map place_of (if_expired b ++ outcomes_told_by_stack x))
 rising_expired true x = rising_told x
 rising_expired false x = rising_told x
 
-one_part : (os : List Outcome) → IsRising (flat_map place_of os)
-    → (flat_map (λ (part : List Outcome). part) (os ∷ []) ≡ os) × AllByRecursion (λ (part : List Outcome). IsRising (flat_map place_of part)) (os ∷ [])
+one_part : (os : List DrillOutcome) → IsRising (flat_map place_of os)
+    → (flat_map (λ (part : List DrillOutcome). part) (os ∷ []) ≡ os) × AllByRecursion (λ (part : List DrillOutcome). IsRising (flat_map place_of part)) (os ∷ [])
 one_part os rising = (append-nil os, (rising, tt))
 
 pub stack_in_order : (key_of : ℕ → ℕ → Option TripleKey) (moment : ℕ) (m : Stack) (event : EndEvent)
     → (flat_map (λ part. part) (parts_of_stack key_of moment m event) ≡ (stack_end_step key_of moment m event).1)
     × AllByRecursion (λ part. IsRising (flat_map place_of part)) (parts_of_stack key_of moment m event)
-stack_in_order key_of moment m Start = one_part _ (rising_told (behind moment stacks.Start m).core)
+stack_in_order key_of moment m Start = one_part _ (rising_told (stack_behind_event moment stacks.Start m).core)
 stack_in_order key_of moment m (event.Receive octets) = each_rising (λ now. key_of) moment (news m.stream octets) (new_event_at model moment m.core)
-stack_in_order key_of moment m (event.Send user) = one_part _ (rising_unless (refusal_of model user m.core) (behind moment (stacks.Send user) m).core)
+stack_in_order key_of moment m (event.Send user) = one_part _ (rising_unless (refusal_of model user m.core) (stack_behind_event moment (stacks.Send user) m).core)
 stack_in_order key_of moment m event.Take =
     let x : Core = step_take model moment m.core in
     one_part _ (rising_took (model.oldest m.core.upper) x.upper.spoke x.leaves (said_octets x.line) (none_used moment m.core))
-stack_in_order key_of moment m (event.Release sub) = one_part _ (rising_told (behind moment (stacks.Leave sub) m).core)
-stack_in_order key_of moment m event.Tick = one_part _ (rising_expired (finds_expired (new_event_at model moment m.core)) (behind moment stacks.Tick m).core)
+stack_in_order key_of moment m (event.Release sub) = one_part _ (rising_told (stack_behind_event moment (stacks.Leave sub) m).core)
+stack_in_order key_of moment m event.Tick = one_part _ (rising_expired (finds_expired (new_event_at model moment m.core)) (stack_behind_event moment stacks.Tick m).core)

@@ -4,9 +4,9 @@ use Rattle.er_settings.specs.Values.{Settings}
 use Rattle.er_settings.specs.Ranges.{AllAllowed}
 use Rattle.safety_automaton.specs.Rules.{StepsOnly}
 use Rattle.er_end_model.specs.Steps.{Finds}
-use Rattle.er_end_pair_laws.specs.Openings.{Opening, Agree}
-use Rattle.er_end_pair_laws.specs.Links.{Link as Pair}
-use Rattle.er_end_pair_laws.specs.Steps.{run}
+use Rattle.er_end_pair_laws.specs.Openings.{EndLinkOpening, Agree}
+use Rattle.er_end_pair_laws.specs.Links.{EndLink as Pair}
+use Rattle.er_end_pair_laws.specs.Steps.{end_link_run}
 use Rattle.er_end_pair_laws.specs.Steps as on_pair
 use Rattle.er_end_pair_laws.specs.Laws as of_pair
 use Rattle.er_end_pair_laws.specs.Recovery as of_recovery
@@ -23,17 +23,17 @@ use Rattle.drill_laws.proofs.StackLaws.{pair_opening, pair_of, agrees, kept, con
 
 -- passes and takes of the pair lead to this
 pub record Given (k : Numbers) (p : Pair) (l : Link) (history : List Occurrence) : Type 0 where
-  pub steps : List on_pair.LinkStep
+  pub steps : List on_pair.EndLinkStep
   pub are : of_recovery.ArePassesAndTakes steps
-  pub sees : Sees k l history (run (finds_of k) p steps)
+  pub sees : Sees k l history (end_link_run (finds_of k) p steps)
 
-one_more : (xs : List on_pair.LinkStep) (s : on_pair.LinkStep) → of_recovery.ArePassesAndTakes xs → of_recovery.IsPassOrTake s → of_recovery.ArePassesAndTakes (xs ++ s ∷ [])
+one_more : (xs : List on_pair.EndLinkStep) (s : on_pair.EndLinkStep) → of_recovery.ArePassesAndTakes xs → of_recovery.IsPassOrTake s → of_recovery.ArePassesAndTakes (xs ++ s ∷ [])
 one_more [] s are is = (is, tt)
 one_more (x ∷ xs) s are is = (are.0, one_more xs s are.1 is)
 
 module _ (only : StepsOnly) (reports : CallsReport) where
-  goes_given : (k : Numbers) (p : Pair) (l m : Link) (history begun : List Occurrence) (s : on_pair.LinkStep) (a : Given k p l history) → of_recovery.IsPassOrTake s
-      → Sees k m begun (on_pair.link_step (finds_of k) s (run (finds_of k) p a.steps)) → Given k p m begun
+  goes_given : (k : Numbers) (p : Pair) (l m : Link) (history begun : List Occurrence) (s : on_pair.EndLinkStep) (a : Given k p l history) → of_recovery.IsPassOrTake s
+      → Sees k m begun (on_pair.end_link_step (finds_of k) s (end_link_run (finds_of k) p a.steps)) → Given k p m begun
   goes_given k p l m history begun s a is v =
       record {
         steps = a.steps ++ s ∷ [];
@@ -44,27 +44,27 @@ module _ (only : StepsOnly) (reports : CallsReport) where
   pub passes_kept : (k : Numbers) (p : Pair) → KeptByPasses (Given k p)
   passes_kept k p l history side a =
       let x : Link × List Occurrence = link_step l (Pass side) in
-      goes_given k p l x.0 history (history ++ x.1) (on_pair.Pass side) a tt (one_pass_sees only reports k l history (run (finds_of k) p a.steps) side a.sees)
+      goes_given k p l x.0 history (history ++ x.1) (on_pair.Pass side) a tt (one_pass_sees only reports k l history (end_link_run (finds_of k) p a.steps) side a.sees)
 
   pub takes_kept : (k : Numbers) (p : Pair) → KeptByTakes (Given k p)
   takes_kept k p l history side a =
       let x : Link × List Occurrence = link_step l (Take side) in
-      goes_given k p l x.0 history (history ++ x.1) (on_pair.Take side) a tt (take_sees only reports k l history (run (finds_of k) p a.steps) side a.sees)
+      goes_given k p l x.0 history (history ++ x.1) (on_pair.Take side) a tt (take_sees only reports k l history (end_link_run (finds_of k) p a.steps) side a.sees)
 
   pub tick_kept : (k : Numbers) (l : Link) (history : List Occurrence) (p : Pair) (moment : ℕ) → Sees k l history p
-      → (let t = link_step l (Tick moment) in Given k (on_pair.link_step (finds_of k) (on_pair.Tick moment) p) t.0 (history ++ t.1))
+      → (let t = link_step l (Tick moment) in Given k (on_pair.end_link_step (finds_of k) (on_pair.Tick moment) p) t.0 (history ++ t.1))
   tick_kept k l history p moment v = record { steps = []; are = tt; sees = tick_sees only reports k l history p moment v }
 
 -- ---- one link, seen as the pair behind its steps
 
-run_then : (finds : Finds) (p : Pair) (xs zs : List on_pair.LinkStep) (s : on_pair.LinkStep) → run finds p (xs ++ s ∷ zs) ≡ run finds (on_pair.link_step finds s (run finds p xs)) zs
+run_then : (finds : Finds) (p : Pair) (xs zs : List on_pair.EndLinkStep) (s : on_pair.EndLinkStep) → end_link_run finds p (xs ++ s ∷ zs) ≡ end_link_run finds (on_pair.end_link_step finds s (end_link_run finds p xs)) zs
 run_then finds p [] zs s = refl
-run_then finds p (x ∷ xs) zs s = run_then finds (on_pair.link_step finds x p) xs zs s
+run_then finds p (x ∷ xs) zs s = run_then finds (on_pair.end_link_step finds x p) xs zs s
 
-run_through : (finds : Finds) (p : Pair) (xs ys zs : List on_pair.LinkStep) (s : on_pair.LinkStep)
-    → run finds p (xs ++ ys ++ s ∷ zs) ≡ run finds (on_pair.link_step finds s (run finds (run finds p xs) ys)) zs
+run_through : (finds : Finds) (p : Pair) (xs ys zs : List on_pair.EndLinkStep) (s : on_pair.EndLinkStep)
+    → end_link_run finds p (xs ++ ys ++ s ∷ zs) ≡ end_link_run finds (on_pair.end_link_step finds s (end_link_run finds (end_link_run finds p xs) ys)) zs
 run_through finds p [] ys zs s = run_then finds p ys zs s
-run_through finds p (x ∷ xs) ys zs s = run_through finds (on_pair.link_step finds x p) xs ys zs s
+run_through finds p (x ∷ xs) ys zs s = run_through finds (on_pair.end_link_step finds x p) xs ys zs s
 
 live_pair : (k : Numbers) (l : Link) (history : List Occurrence) (p : Pair) → Sees k l history p → IsRepairable history l → of_recovery.AreLive p
 live_pair k l history p v repairable = (subst IsLive v.e_is repairable.e_live, subst IsLive v.r_is repairable.r_live)
@@ -104,16 +104,16 @@ module _ (only : StepsOnly) (reports : CallsReport) (settings : Settings) (l : L
 
   -- behind passes and takes, a tick, and passes and takes
   pub stacks_repair : of_recovery.Recovery → (m k : Link) (begun all : List Occurrence) (a : Given t.k before m begun) → NoneWaits m → (moment : ℕ) → GoOn moment m
-      → Given t.k (on_pair.link_step (finds_of t.k) (on_pair.Tick moment) (run (finds_of t.k) before a.steps)) k all → IsEmpty k.opening k → HasAll all k
+      → Given t.k (on_pair.end_link_step (finds_of t.k) (on_pair.Tick moment) (end_link_run (finds_of t.k) before a.steps)) k all → IsEmpty k.opening k → HasAll all k
   stacks_repair law m k begun all a none moment go_on c empty =
-      let s : Opening = pair_opening settings l history t allowed in
+      let s : EndLinkOpening = pair_opening settings l history t allowed in
       let finds : Finds = finds_of t.k in
       let opened : Pair = paired settings t.k t.moment in
-      let q : Pair = run finds before a.steps in
-      let z : Pair = run finds (on_pair.link_step finds (on_pair.Tick moment) q) c.steps in
+      let q : Pair = end_link_run finds before a.steps in
+      let z : Pair = end_link_run finds (on_pair.end_link_step finds (on_pair.Tick moment) q) c.steps in
       let agree : Agree s = agrees t.k (subst EndsAgree t.sees.opening_is repairable.agree) in
-      let one : of_pair.after s (t.steps ++ a.steps) ≡ q = run_append only reports finds opened t.steps a.steps in
-      let whole : of_pair.after s (t.steps ++ a.steps ++ on_pair.Tick moment ∷ c.steps) ≡ z = run_through finds opened t.steps a.steps c.steps (on_pair.Tick moment) in
+      let one : of_pair.end_link_after s (t.steps ++ a.steps) ≡ q = run_append only reports finds opened t.steps a.steps in
+      let whole : of_pair.end_link_after s (t.steps ++ a.steps ++ on_pair.Tick moment ∷ c.steps) ≡ z = run_through finds opened t.steps a.steps c.steps (on_pair.Tick moment) in
       recovered k all z c.sees
       (subst of_recovery.IsRecovered whole
       (law s t.steps t.fit agree (kept settings l history t allowed repairable.ordered) (live_pair t.k l history before t.sees repairable) a.steps a.are

@@ -4,9 +4,9 @@ use Rattle.er_base.specs.declared.side.Side.TheVariants.{E, R}
 use Rattle.er_settings.specs.Ranges.{AllAllowed}
 use Rattle.er_end_model.specs.Hearing.{EventsGive}
 use Rattle.drill_model.specs.Outcomes.{Occurrence}
-use Rattle.drill_model.specs.Ends.{End}
+use Rattle.drill_model.specs.Ends.{EndAtLevel}
 use Rattle.drill_model.specs.Links.{Link}
-use Rattle.drill_model.specs.Worlds.{Plan, history_on, world_run}
+use Rattle.drill_model.specs.Worlds.{DrillPlan, history_on, world_run}
 use Rattle.drill_model.specs.Growth.{FactsGrow, HistoryGrows, HistoryOfOwn, HistoryOfOther}
 use Rattle.drill_model.specs.Hearing.{passed_of}
 use Rattle.drill_laws.specs.Stacks.{IsPair, StacksRun}
@@ -16,7 +16,7 @@ use Rattle.drill_laws.proofs.StackWiring.{Numbers}
 use Rattle.drill_laws.proofs.StackWired.{IsStacked}
 use Rattle.drill_laws.proofs.StackLaws.{StackLaws, pair_opening, stacked_at}
 
-pair_is : (plan : Plan) (l : Link) (history : List Occurrence) → AllAllowed plan.settings → IsStacked plan.settings l history → Streams l history
+pair_is : (plan : DrillPlan) (l : Link) (history : List Occurrence) → AllAllowed plan.settings → IsStacked plan.settings l history → Streams l history
     → IsPair plan.settings l history
 pair_is plan l history allowed t streams =
     let v = t.sees in
@@ -33,8 +33,8 @@ pair_is plan l history allowed t streams =
       accepted_e = v.accepted_e;
       accepted_r = v.accepted_r;
       ordered = v.order;
-      stream_e = subst (λ (end : End). StreamIs end (passed_of R history)) v.e_is streams.e;
-      stream_r = subst (λ (end : End). StreamIs end (passed_of E history)) v.r_is streams.r;
+      stream_e = subst (λ (end : EndAtLevel). StreamIs end (passed_of R history)) v.e_is streams.e;
+      stream_r = subst (λ (end : EndAtLevel). StreamIs end (passed_of E history)) v.r_is streams.r;
     }
 
 pub stacks_run : StackLaws → EventsGive → FactsGrow → HistoryGrows → HistoryOfOwn → HistoryOfOther → StacksRun

@@ -1,5 +1,6 @@
 -- What an event at a stack says of the messages that it sent and accepted, and of its release.
 use Rattle.std.proofs.Common.{◌≡◌, ◌⊎◌, inl, inr, ℕ, zero, suc, if◌then◌else◌, true, false, Bool, ◌||◌, List, [], ◌∷◌, ◌++◌, map, length, refl, sym, ap, ap₂, subst, ◌∙◌, append-nil}
+use Rattle.hdlc_station_model.specs.Receiving.{is_some_octets}
 use Rattle.std.specs.Prelude.{◌&&◌, ◌==◌, not, nat_le, Option, Some, None, is_some, Ok, Err}
 use Rattle.std.specs.List.{flat_map, list_any, AllByRecursion}
 use Rattle.std.specs.Option.{option_to_list}
@@ -14,7 +15,7 @@ use Rattle.hdlc_station_model.specs.Stations.{Deed as LinkDeed}
 use Rattle.hdlc_station_model.specs.Events.{said_octets}
 use Rattle.t70_header.specs.Joining as joining
 use Rattle.x224_class2.specs.Tpdus.{Dr, Dc}
-use Rattle.x224_class2.specs.Transport.{Deed, Nothing, Called, Confirmed, Message, Disconnected}
+use Rattle.x224_class2.specs.Transport.{ReceptionDeed, Nothing, Called, Confirmed, Message, Disconnected}
 use Rattle.x224_class2.specs.Transport as transport
 use Rattle.x224_class2.specs.Refusals.{protocol_error}
 use Rattle.sapdu.specs.Spelling.{di_in}
@@ -22,17 +23,17 @@ use Rattle.sapdu.specs.Messages.{is_message}
 use Rattle.safety_automaton.specs.Keys.{no_keys}
 use Rattle.safety_automaton.specs.Rules.{StepsOnly, IsStep}
 use Rattle.safety_automaton.specs.Reports.{Report, ToldAnswered, ToldConnected, ToldAccepted, ToldReleased, ToldIgnored, report_of}
-use Rattle.safety_automaton.specs.Safety.{Safety, Phase, Ready, WaitAu1, WaitAu2, WaitAu3, WaitAr, Connected, SafetyEvent, ConnectRequest, Received, DataRequest, DisconnectRequest, SafetyOutcome, SentAu1, SentAu2, SentAu3, SentAr, ReceivedAr, AcceptedDt, SentDt, ReleasedLocally, ReleasedByPeer, NothingDone, peer_flag, sent_by, step}
+use Rattle.safety_automaton.specs.Safety.{Safety, Phase, Ready, WaitAu1, WaitAu2, WaitAu3, WaitAr, Connected, SafetyEvent, ConnectRequest, Received, DataRequest, DisconnectRequest, SafetyOutcome, SentAu1, SentAu2, SentAu3, SentAr, ReceivedAr, AcceptedDt, SentDt, ReleasedLocally, ReleasedByPeer, NothingDone, peer_flag, octets_sent_in_outcome, step}
 use Rattle.safety_automaton.specs.Safety as safety
 use Rattle.safety_automaton.specs.Safety.{sends as sends_side}
 use Rattle.safety_pair_laws.specs.Facts.{Fact, heard_in, facts_by, facts_of}
 use Rattle.er_end_model.specs.Outcomes.{RefusedNotConnected, RefusedLength, RefusedFull}
 use Rattle.er_end_model.specs.Layers.{Spoken, Core, model}
-use Rattle.er_end_model.specs.Steps.{Finds, new_event_at, with_release, hand_tpdu, close_link, send_owed_answer, send_dr, answer_dr, end_after_di, on_safety_release, why_of, with_safety_step, is_some_octets, hand_text, accept_text, skip_message, Carrier, InCr, InCc, InDt, hand_answer, keep_message, on_safety_report, on_text, on_transport_deed, on_joined_block, is_ready, connect_with_text, on_link_up, on_link_told, on_link_deed, hand_next_tpdu, has_next_tpdu, hand_waiting_tpdus, most_offers, conclude_event, step_start, step_frame, is_connected, refusal_at, refusal_of, step_send_unless, step_take, step_release, is_spent, di_of, on_expiry, step_tick, normal_disconnect}
-use Rattle.drill_model.specs.Outcomes.{Outcome, OfSafety, Released, Frame}
+use Rattle.er_end_model.specs.Steps.{Finds, new_event_at, with_release, hand_tpdu, close_link, send_owed_answer, send_dr, answer_dr, end_after_di, on_safety_release, why_of, with_safety_step, hand_text, accept_text, skip_message, Carrier, InCr, InCc, InDt, hand_answer, keep_message, on_safety_report, on_text, on_transport_deed, on_joined_block, is_ready, connect_with_text, on_link_up, on_link_told, on_link_deed, hand_next_tpdu, has_next_tpdu, hand_waiting_tpdus, most_offers, conclude_event, step_start, step_frame, is_connected, refusal_at, refusal_of, step_send_unless, step_take, step_release, is_spent, di_of, on_expiry, step_tick, normal_disconnect}
+use Rattle.drill_model.specs.Outcomes.{DrillOutcome, OfSafety, Released, Frame}
 use Rattle.drill_model.specs.StationEnds.{if_released}
-use Rattle.drill_model.specs.StackEnds.{facts_told, told_at}
-use Rattle.drill_model.specs.StackReports.{user_by, user_in, ReportsAt}
+use Rattle.drill_model.specs.StackEnds.{facts_told, outcomes_told_by_stack}
+use Rattle.drill_model.specs.StackReports.{user_by, user_octets_spoken, ReportsAt}
 use Rattle.drill_model.specs.Kinds.{sent_in, accepted_in, released_in, passed_in, is_disorder, is_disturbance}
 
 -- ---- a step of the safety side that sends no message
@@ -157,9 +158,9 @@ module _ (A S : List (List ℕ)) where
         let key_of : ℕ → ℕ → Option TripleKey = finds x.moment in
         let a : Safety × SafetyOutcome = step key_of x.safe.safety (Received text) in
         let none : sent_by_step a.1 ≡ [] = no_send key_of x.safe.safety (Received text) a.0 a.1 (λ user e. cc) (only key_of x.safe.safety (Received text)) in
-        acts_grow carrier (report_of a.1) (sent_by a.1) (with_safety_step model (Received text) a x) h.2 (stepped (Received text) a x none h)
+        acts_grow carrier (report_of a.1) (octets_sent_in_outcome a.1) (with_safety_step model (Received text) a x) h.2 (stepped (Received text) a x none h)
 
-    does_grow : (finds : Finds) (deed : Deed) (x : Core) → Still x → Grows (on_transport_deed model finds deed x)
+    does_grow : (finds : Finds) (deed : ReceptionDeed) (x : Core) → Still x → Grows (on_transport_deed model finds deed x)
     does_grow finds Nothing x h = still_grows x h
     does_grow finds (Called user) x h = text_grows finds InCr user x h
     does_grow finds (Confirmed user) x h = text_grows finds InCc user x h
@@ -167,7 +168,7 @@ module _ (A S : List (List ℕ)) where
     does_grow finds (Disconnected user) x h = cut_off_grows (why_of (di_in user (peer_flag x.safe.safety))) x (still_grows x h)
     does_grow finds (transport.Refused sub reason) x h = departs_grow (by_this_end 2 sub) reason [] x (still_grows x h)
 
-    block_grows : (finds : Finds) (answer : joining.Answer) (x : Core) → Still x → Grows (on_joined_block model finds answer x)
+    block_grows : (finds : Finds) (answer : joining.BlockJoiningResult) (x : Core) → Still x → Grows (on_joined_block model finds answer x)
     block_grows finds (Ok None) x h = still_grows x h
     block_grows finds (Ok (Some tpdu)) x h = does_grow finds (model.deed x.upper tpdu) (record x { upper = model.hears x.upper tpdu }) h
     block_grows finds (Err fault) x h = departs_grow (release_of BlockRefused) protocol_error [] x (still_grows x h)
@@ -178,11 +179,11 @@ module _ (A S : List (List ℕ)) where
         let y : Core = with_safety_step model ConnectRequest a x in
         let none : sent_by_step a.1 ≡ [] = no_send no_keys x.safe.safety ConnectRequest a.0 a.1 (λ user e. cc) (only no_keys x.safe.safety ConnectRequest) in
         let now : Grows y = stepped ConnectRequest a x none h in
-        if_core Grows (model.may_connect x.upper && is_ready x.safe.safety.phase) (connect_with_text model (sent_by a.1) y) x
-        (if_core Grows (is_some_octets (sent_by a.1)) (record y { upper = model.connects y.upper (sent_by a.1) }) y now now) (still_grows x h)
+        if_core Grows (model.may_connect x.upper && is_ready x.safe.safety.phase) (connect_with_text model (octets_sent_in_outcome a.1) y) x
+        (if_core Grows (is_some_octets (octets_sent_in_outcome a.1)) (record y { upper = model.connects y.upper (octets_sent_in_outcome a.1) }) y now now) (still_grows x h)
 
     link_grows : (finds : Finds) (payload : Option (List ℕ)) (up : Bool) (why : Option Release) (x : Core) → Still x → Grows (on_link_told model finds payload up why x)
-    link_grows finds (Some payload) up why x h = block_grows finds (joining.step x.joined payload).1 (record x { joined = (joining.step x.joined payload).0 }) h
+    link_grows finds (Some payload) up why x h = block_grows finds (joining.block_step x.joined payload).1 (record x { joined = (joining.block_step x.joined payload).0 }) h
     link_grows finds None true why x h = comes_up_grows x h
     link_grows finds None false (Some why) x h = ended x why (still_grows x h)
     link_grows finds None false None x h = still_grows x h
@@ -244,8 +245,8 @@ leaves_went only now sub x =
     let A : List (List ℕ) = x.upper.accepted in
     let S : List (List ℕ) = x.upper.sent in
     let none : sent_by_step a.1 ≡ [] = no_send no_keys y.safe.safety (DisconnectRequest sub) a.0 a.1 (λ user e. cc) (only no_keys y.safe.safety (DisconnectRequest sub)) in
-    unless_released (Went x) y.released y (send_dr model (release_of (User sub)) normal_disconnect (sent_by a.1) z)
-    (λ live. inl (live, departs_grow A S (release_of (User sub)) normal_disconnect (sent_by a.1) z (stepped A S (DisconnectRequest sub) a y none (begun_still now x live))))
+    unless_released (Went x) y.released y (send_dr model (release_of (User sub)) normal_disconnect (octets_sent_in_outcome a.1) z)
+    (λ live. inl (live, departs_grow A S (release_of (User sub)) normal_disconnect (octets_sent_in_outcome a.1) z (stepped A S (DisconnectRequest sub) a y none (begun_still now x live))))
     (λ why is. inr (rested now x))
 
 pub ticks_went : (now : ℕ) (x : Core) → Went x (step_tick model now x)
@@ -330,22 +331,22 @@ sends_went now user x none =
       sent_is = ap (λ (xs : List (List ℕ)). S ++ xs) (sym step_sent);
       release_is = sym on_safety_release.0;
     } in
-    inl (on_safety_release.0, concludes_grow A S (hand_text model (sent_by a.1) z) (says_grow A S (sent_by a.1) z h))
+    inl (on_safety_release.0, concludes_grow A S (hand_text model (octets_sent_in_outcome a.1) z) (says_grow A S (octets_sent_in_outcome a.1) z h))
 
 -- ---- what a call tells
 
-frames_none : {A : Type 0} (f : Outcome → List A) → ((octets : List ℕ) → f (Frame octets) ≡ []) → (frames : List (List ℕ)) → flat_map f (map Frame frames) ≡ []
+frames_none : {A : Type 0} (f : DrillOutcome → List A) → ((octets : List ℕ) → f (Frame octets) ≡ []) → (frames : List (List ℕ)) → flat_map f (map Frame frames) ≡ []
 frames_none f none [] = refl
 frames_none {A} f none (x ∷ xs) = ap₂ (λ (a b : List A). a ++ b) (none x) (frames_none f none xs)
 
 -- a word that says nothing of frames, and this of the release
-rest_says : {A : Type 0} (f : Outcome → List A) → ((octets : List ℕ) → f (Frame octets) ≡ []) → (released : Option Release) (frames : List (List ℕ))
+rest_says : {A : Type 0} (f : DrillOutcome → List A) → ((octets : List ℕ) → f (Frame octets) ≡ []) → (released : Option Release) (frames : List (List ℕ))
     → flat_map f (if_released released ++ map Frame frames) ≡ flat_map f (if_released released)
 rest_says f none None frames = frames_none f none frames
 rest_says {A} f none (Some r) frames = ap (λ (xs : List A). f (Released r) ++ xs) (frames_none f none frames)
 
-told_says : {A : Type 0} (f : Outcome → List A) → ((octets : List ℕ) → f (Frame octets) ≡ []) → (x : Core)
-    → flat_map f (told_at x) ≡ flat_map f (facts_told x.upper.spoke) ++ flat_map f (if_released x.leaves)
+told_says : {A : Type 0} (f : DrillOutcome → List A) → ((octets : List ℕ) → f (Frame octets) ≡ []) → (x : Core)
+    → flat_map f (outcomes_told_by_stack x) ≡ flat_map f (facts_told x.upper.spoke) ++ flat_map f (if_released x.leaves)
 told_says {A} f none x =
     flat_map-append f (facts_told x.upper.spoke) (if_released x.leaves ++ map Frame (said_octets x.line))
     ∙ ap (λ (xs : List A). flat_map f (facts_told x.upper.spoke) ++ xs) (rest_says f none x.leaves (said_octets x.line))
@@ -376,7 +377,7 @@ step_accepted_is heard (ReleasedLocally release octets) = refl
 step_accepted_is heard (ReleasedByPeer release) = refl
 step_accepted_is heard NothingDone = refl
 
-facts_none : {A : Type 0} (f : Outcome → List A) → ((fact : Fact) → f (OfSafety fact) ≡ []) → (fs : List Fact) → flat_map f (map OfSafety fs) ≡ []
+facts_none : {A : Type 0} (f : DrillOutcome → List A) → ((fact : Fact) → f (OfSafety fact) ≡ []) → (fs : List Fact) → flat_map f (map OfSafety fs) ≡ []
 facts_none f none [] = refl
 facts_none {A} f none (x ∷ xs) = ap₂ (λ (a b : List A). a ++ b) (none x) (facts_none f none xs)
 
@@ -384,11 +385,11 @@ sent_told : (spoke : Option Spoken) → flat_map sent_in (facts_told spoke) ≡ 
 sent_told None = refl
 sent_told (Some s) = step_sent_is (heard_in s.event) s.outcome
 
-accepted_told : (spoke : Option Spoken) → flat_map accepted_in (facts_told spoke) ≡ option_to_list (user_in spoke)
+accepted_told : (spoke : Option Spoken) → flat_map accepted_in (facts_told spoke) ≡ option_to_list (user_octets_spoken spoke)
 accepted_told None = refl
 accepted_told (Some s) = step_accepted_is (heard_in s.event) s.outcome
 
-pub spoke_none : {A : Type 0} (f : Outcome → List A) → ((fact : Fact) → f (OfSafety fact) ≡ []) → (spoke : Option Spoken) → flat_map f (facts_told spoke) ≡ []
+pub spoke_none : {A : Type 0} (f : DrillOutcome → List A) → ((fact : Fact) → f (OfSafety fact) ≡ []) → (spoke : Option Spoken) → flat_map f (facts_told spoke) ≡ []
 spoke_none f none None = refl
 spoke_none f none (Some s) = facts_none f none (facts_of s.event s.outcome)
 
@@ -409,8 +410,8 @@ releases_told None = refl
 releases_told (Some why) = refl
 
 -- no call tells of disorder or disturbance
-all_false : (f : Outcome → Bool) → ((fact : Fact) → f (OfSafety fact) ≡ false) → ((r : Release) → f (Released r) ≡ false) → ((octets : List ℕ) → f (Frame octets) ≡ false)
-    → (x : Core) → list_any f (told_at x) ≡ false
+all_false : (f : DrillOutcome → Bool) → ((fact : Fact) → f (OfSafety fact) ≡ false) → ((r : Release) → f (Released r) ≡ false) → ((octets : List ℕ) → f (Frame octets) ≡ false)
+    → (x : Core) → list_any f (outcomes_told_by_stack x) ≡ false
 all_false f facts release frame x =
     list_any-append f (facts_told x.upper.spoke) (if_released x.leaves ++ map Frame (said_octets x.line))
     ∙ ap₂ (λ (a b : Bool). a || b) (of_spoke x.upper.spoke) (list_any-append f (if_released x.leaves) (map Frame (said_octets x.line)) ∙ ap₂ (λ (a b : Bool). a || b) (of_release x.leaves) (of_frames (said_octets x.line)))
@@ -432,7 +433,7 @@ all_false f facts release frame x =
     of_frames (y ∷ ys) = ap₂ (λ (a b : Bool). a || b) (frame y) (of_frames ys)
 
 -- what outcomes say, of a core before and a core after
-pub record Says (before after : Core) (os : List Outcome) (late : Bool) : Type 0 where
+pub record Says (before after : Core) (os : List DrillOutcome) (late : Bool) : Type 0 where
   pub sent_is : after.upper.sent ≡ before.upper.sent ++ flat_map sent_in os
   pub accepted_is : after.upper.accepted ≡ before.upper.accepted ++ flat_map accepted_in os
   pub releases : AllByRecursion (λ r. after.released ≡ Some r) (flat_map released_in os)
@@ -445,24 +446,24 @@ all_left : (left released : Option Release) → left ≡ released → AllByRecur
 all_left None released is = tt
 all_left (Some r) released is = (sym is, tt)
 
-pub call_sent : (x : Core) → flat_map sent_in (told_at x) ≡ sent_in_step x.upper.spoke
+pub call_sent : (x : Core) → flat_map sent_in (outcomes_told_by_stack x) ≡ sent_in_step x.upper.spoke
 call_sent x =
     told_says sent_in (λ octets. refl) x ∙ ap₂ (λ (a b : List (List ℕ)). a ++ b) (sent_told x.upper.spoke) (no_release_sent x.leaves) ∙ append-nil (sent_in_step x.upper.spoke)
 
-pub call_accepted : (x : Core) → flat_map accepted_in (told_at x) ≡ option_to_list (user_in x.upper.spoke)
+pub call_accepted : (x : Core) → flat_map accepted_in (outcomes_told_by_stack x) ≡ option_to_list (user_octets_spoken x.upper.spoke)
 call_accepted x =
     told_says accepted_in (λ octets. refl) x ∙ ap₂ (λ (a b : List (List ℕ)). a ++ b) (accepted_told x.upper.spoke) (no_release_accepted x.leaves)
-    ∙ append-nil (option_to_list (user_in x.upper.spoke))
+    ∙ append-nil (option_to_list (user_octets_spoken x.upper.spoke))
 
-call_releases : (x : Core) → flat_map released_in (told_at x) ≡ option_to_list x.leaves
+call_releases : (x : Core) → flat_map released_in (outcomes_told_by_stack x) ≡ option_to_list x.leaves
 call_releases x =
     told_says released_in (λ octets. refl) x ∙ ap₂ (λ (a b : List Release). a ++ b) (spoke_none released_in (λ fact. refl) x.upper.spoke) (releases_told x.leaves)
 
-call_passes : (x : Core) → flat_map passed_in (told_at x) ≡ []
+call_passes : (x : Core) → flat_map passed_in (outcomes_told_by_stack x) ≡ []
 call_passes x =
     told_says passed_in (λ octets. refl) x ∙ ap₂ (λ (a b : List (List ℕ)). a ++ b) (spoke_none passed_in (λ fact. refl) x.upper.spoke) (no_release_passed x.leaves)
 
-pub call_says : (before x : Core) → Went before x → ReportsAt x → Says before x (told_at x) false
+pub call_says : (before x : Core) → Went before x → ReportsAt x → Says before x (outcomes_told_by_stack x) false
 call_says before x (inl went) r =
     let h = went.1 in
     record {
@@ -484,7 +485,7 @@ call_says before x (inr h) r =
       sent_is = h.sent_is ∙ sym (append-nil before.upper.sent)
           ∙ ap (λ (ys : List (List ℕ)). before.upper.sent ++ ys) (sym (call_sent x ∙ ap sent_in_step h.spoke_is));
       accepted_is = h.accepted_is ∙ sym (append-nil before.upper.accepted)
-          ∙ ap (λ (ys : List (List ℕ)). before.upper.accepted ++ ys) (sym (call_accepted x ∙ ap (λ (o : Option Spoken). option_to_list (user_in o)) h.spoke_is));
+          ∙ ap (λ (ys : List (List ℕ)). before.upper.accepted ++ ys) (sym (call_accepted x ∙ ap (λ (o : Option Spoken). option_to_list (user_octets_spoken o)) h.spoke_is));
       releases = subst (λ (rs : List Release). AllByRecursion (λ (y : Release). x.released ≡ Some y) rs) (sym (call_releases x ∙ ap (λ (o : Option Release). option_to_list o) h.left_is)) tt;
       stays = λ y is. h.released_is ∙ is;
       disorder_is = all_false is_disorder (λ fact. refl) (λ y. refl) (λ octets. refl) x;

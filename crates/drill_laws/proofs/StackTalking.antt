@@ -11,8 +11,8 @@ use Rattle.safety_pair_laws.specs.Openings.{PairOpening, OfKeys, Pair, key_for, 
 use Rattle.safety_pair_laws.specs.Talks.{Talks, Begins}
 use Rattle.er_end_model.specs.Ends.{End as Stack, Call, Answer}
 use Rattle.er_end_model.specs.Ends as stacks
-use Rattle.drill_model.specs.Outcomes.{Outcome, NothingWaits, UserReleased, Passed, Occurrence, at_end, facts_in}
-use Rattle.drill_model.specs.Ends.{End, OfStack, EndEvent, Start, stack_end, stack_end_step, end_step}
+use Rattle.drill_model.specs.Outcomes.{DrillOutcome, NothingWaits, UserReleased, Passed, Occurrence, at_end, facts_in}
+use Rattle.drill_model.specs.Ends.{EndAtLevel, OfStack, EndEvent, Start, stack_end, stack_end_step, end_step}
 use Rattle.drill_model.specs.Ends as event
 use Rattle.drill_model.specs.StackEnds.{stack_start, stack_hear, stack_send, stack_take, stack_release, stack_tick}
 use Rattle.drill_model.specs.Waiting.{LineChange, change_first}
@@ -44,7 +44,7 @@ module _ (grow : FactsGrow) where
   stack_at l history t R = t.r
 
   -- a stack that went on so
-  stack_answered : (l : Link) (history : List Occurrence) (t : IsStackTalk l history) (side : Side) (a : Stack × List Outcome)
+  stack_answered : (l : Link) (history : List Occurrence) (t : IsStackTalk l history) (side : Side) (a : Stack × List DrillOutcome)
       → Tells (opening_of l history t) side (stack_at l history t side).core.safe.safety a.1 a.0.core.safe.safety
       → IsStackTalk (with_answer l side (stack_end a)).0 (history ++ (with_answer l side (stack_end a)).1)
   stack_answered l history t E a tells =
@@ -101,8 +101,8 @@ module _ (grow : FactsGrow) where
 
   answers_so : (l : Link) (history : List Occurrence) (t : IsStackTalk l history) (side : Side) (event : EndEvent)
       → give l side event ≡ with_answer l side (stack_end_step (key_for (opening_of l history t)) l.moment (stack_at l history t side) event)
-  answers_so l history t E event = ap₂ (λ (o : LinkOpening) (end : End). with_answer l E (end_step (key_on o) l.moment end event)) t.opening_is t.e_is
-  answers_so l history t R event = ap₂ (λ (o : LinkOpening) (end : End). with_answer l R (end_step (key_on o) l.moment end event)) t.opening_is t.r_is
+  answers_so l history t E event = ap₂ (λ (o : LinkOpening) (end : EndAtLevel). with_answer l E (end_step (key_on o) l.moment end event)) t.opening_is t.e_is
+  answers_so l history t R event = ap₂ (λ (o : LinkOpening) (end : EndAtLevel). with_answer l R (end_step (key_on o) l.moment end event)) t.opening_is t.r_is
 
   pub stack_give : (l : Link) (history : List Occurrence) (side : Side) (event : EndEvent) → IsStackTalk l history
       → IsStackTalk (give l side event).0 (history ++ (give l side event).1)

@@ -21,12 +21,12 @@ use Rattle.hdlc_station_model.specs.Events.{news}
 use Rattle.hdlc_station_model.specs.Lines.{IsPrefix}
 use Rattle.er_end_model.specs.Ends.{End as Stack, Event, Call, Answer, opened as stack_opened, finds_expired}
 use Rattle.er_end_model.specs.Ends as on_end
-use Rattle.er_end_pair_laws.specs.Links.{Link as Pair, end_of}
+use Rattle.er_end_pair_laws.specs.Links.{EndLink as Pair, end_of}
 use Rattle.er_end_pair_laws.specs.Laws.{IsOneFrame}
-use Rattle.drill_model.specs.Outcomes.{Outcome, NothingWaits, UserReleased, Passed, Occurrence, at_end, facts_in}
+use Rattle.drill_model.specs.Outcomes.{DrillOutcome, NothingWaits, UserReleased, Passed, Occurrence, at_end, facts_in}
 use Rattle.drill_model.specs.Growth.{FactsGrow}
-use Rattle.drill_model.specs.StackReports.{IsOrderly, OpensOrderly, CallsReport, user_in}
-use Rattle.drill_model.specs.Ends.{End, OfStack, EndEvent, Receive, stack_end_step, end_step}
+use Rattle.drill_model.specs.StackReports.{IsOrderly, OpensOrderly, CallsReport, user_octets_spoken}
+use Rattle.drill_model.specs.Ends.{EndAtLevel, OfStack, EndEvent, Receive, stack_end_step, end_step}
 use Rattle.drill_model.specs.Ends as event
 use Rattle.drill_model.specs.Waiting.{change_first}
 use Rattle.drill_model.specs.Links.{Link, LinkOpening, key_on, waiting_of, with_waiting, with_answer, link_of, opened_stacks, LinkStep, Send, Pass, Change, Take, Release, Tick, pass, link_step}
@@ -112,14 +112,14 @@ module _ (grow : FactsGrow) (marks : MarksGrow) (only : StepsOnly) (reports : Ca
       (subst (λ (n : Safety). IsStep (key_of k) before s.event n a.1) (sym h.1) (only (key_of k) before s.event))
 
   spoken_e : (e next r : Safety) (se sr : List (List ℕ)) (seen : List MarkedFact) (spoke : Option Spoken) → Speaks (key_of k) e spoke next → InStep k e r → InStep k next r
-      → AllByRecursion (λ user. IsSealed (key k) (text_r k user) seen) (option_to_list (user_in spoke)) → IsSound k e r se sr seen
+      → AllByRecursion (λ user. IsSealed (key k) (text_r k user) seen) (option_to_list (user_octets_spoken spoke)) → IsSound k e r se sr seen
       → IsSound k next r (se ++ sent_in_step spoke) sr (seen ++ marked_from seen (map (at_side E) (facts_spoken spoke)))
   spoken_e e next r se sr seen None same before after came h = same_e k e next r se sr seen same h
   spoken_e e next r se sr seen (Some s) speaks before after came h =
       e_steps k (key_of k) e next r se sr seen s.event s.outcome (row_of e next s speaks) before after came h
 
   spoken_r : (e r next : Safety) (se sr : List (List ℕ)) (seen : List MarkedFact) (spoke : Option Spoken) → Speaks (key_of k) r spoke next → InStep k e r → InStep k e next
-      → AllByRecursion (λ user. IsSealed (key k) (text_e k user) seen) (option_to_list (user_in spoke)) → IsSound k e r se sr seen
+      → AllByRecursion (λ user. IsSealed (key k) (text_e k user) seen) (option_to_list (user_octets_spoken spoke)) → IsSound k e r se sr seen
       → IsSound k e next se (sr ++ sent_in_step spoke) (seen ++ marked_from seen (map (at_side R) (facts_spoken spoke)))
   spoken_r e r next se sr seen None same before after came h = same_r k e r next se sr seen same h
   spoken_r e r next se sr seen (Some s) speaks before after came h =
@@ -127,7 +127,7 @@ module _ (grow : FactsGrow) (marks : MarksGrow) (only : StepsOnly) (reports : Ca
 
   -- ---- an event at a stack that tells these outcomes
 
-  e_told : (e next r : Stack) (history : List Occurrence) (os : List Outcome) (spoke : Option Spoken) → Tells spoke os
+  e_told : (e next r : Stack) (history : List Occurrence) (os : List DrillOutcome) (spoke : Option Spoken) → Tells spoke os
       → next.core.upper.sent ≡ e.core.upper.sent ++ flat_map sent_in os
       → IsSound k next.core.safe.safety r.core.safe.safety (e.core.upper.sent ++ sent_in_step spoke) r.core.upper.sent
       (marked (facts_in history) ++ marked_from (marked (facts_in history)) (map (at_side E) (facts_spoken spoke)))
@@ -140,7 +140,7 @@ module _ (grow : FactsGrow) (marks : MarksGrow) (only : StepsOnly) (reports : Ca
       (subst (λ (us : List (List ℕ)). IsSound k next.core.safe.safety r.core.safe.safety us r.core.upper.sent (M ++ marked_from M (map (at_side E) (facts_spoken spoke))))
       (ap (λ (us : List (List ℕ)). e.core.upper.sent ++ us) (sym tells.sent_is) ∙ sym sent) h)
 
-  r_told : (e r next : Stack) (history : List Occurrence) (os : List Outcome) (spoke : Option Spoken) → Tells spoke os
+  r_told : (e r next : Stack) (history : List Occurrence) (os : List DrillOutcome) (spoke : Option Spoken) → Tells spoke os
       → next.core.upper.sent ≡ r.core.upper.sent ++ flat_map sent_in os
       → IsSound k e.core.safe.safety next.core.safe.safety e.core.upper.sent (r.core.upper.sent ++ sent_in_step spoke)
       (marked (facts_in history) ++ marked_from (marked (facts_in history)) (map (at_side R) (facts_spoken spoke)))
@@ -154,25 +154,25 @@ module _ (grow : FactsGrow) (marks : MarksGrow) (only : StepsOnly) (reports : Ca
       (ap (λ (us : List (List ℕ)). r.core.upper.sent ++ us) (sym tells.sent_is) ∙ sym sent) h)
 
   -- one step of its safety side, where both are in step behind it too
-  e_called : (e next r : Stack) (history : List Occurrence) (os : List Outcome) (fe fr fe' fr' : List (List ℕ)) → Calls (key_of k) e.core.safe.safety os next.core.safe.safety
+  e_called : (e next r : Stack) (history : List Occurrence) (os : List DrillOutcome) (fe fr fe' fr' : List (List ℕ)) → Calls (key_of k) e.core.safe.safety os next.core.safe.safety
       → next.core.upper.sent ≡ e.core.upper.sent ++ flat_map sent_in os → next.core.upper.accepted ≡ e.core.upper.accepted ++ flat_map accepted_in os
       → Knows k e r fe fr → Knows k next r fe' fr' → Sound k e r history → Sound k next r (history ++ map (at_end E) os)
   e_called e next r history os fe fr fe' fr' c sent accepted before after h =
       let M : List MarkedFact = marked (facts_in history) in
       let P : List ℕ → Type 0 = λ user. IsSealed (key k) (text_r k user) M in
-      let came : AllByRecursion P (option_to_list (user_in c.spoke)) =
+      let came : AllByRecursion P (option_to_list (user_octets_spoken c.spoke)) =
       subst (AllByRecursion P) c.tells.accepted_is
       (accepted_all P e.core.upper.accepted next.core.upper.accepted r.core.upper.sent (flat_map accepted_in os) accepted after.at_e h.by_r) in
       e_told e next r history os c.spoke c.tells sent
       (spoken_e e.core.safe.safety next.core.safe.safety r.core.safe.safety e.core.upper.sent r.core.upper.sent M c.spoke c.speaks before.step after.step came h)
 
-  r_called : (e r next : Stack) (history : List Occurrence) (os : List Outcome) (fe fr fe' fr' : List (List ℕ)) → Calls (key_of k) r.core.safe.safety os next.core.safe.safety
+  r_called : (e r next : Stack) (history : List Occurrence) (os : List DrillOutcome) (fe fr fe' fr' : List (List ℕ)) → Calls (key_of k) r.core.safe.safety os next.core.safe.safety
       → next.core.upper.sent ≡ r.core.upper.sent ++ flat_map sent_in os → next.core.upper.accepted ≡ r.core.upper.accepted ++ flat_map accepted_in os
       → Knows k e r fe fr → Knows k e next fe' fr' → Sound k e r history → Sound k e next (history ++ map (at_end R) os)
   r_called e r next history os fe fr fe' fr' c sent accepted before after h =
       let M : List MarkedFact = marked (facts_in history) in
       let P : List ℕ → Type 0 = λ user. IsSealed (key k) (text_e k user) M in
-      let came : AllByRecursion P (option_to_list (user_in c.spoke)) =
+      let came : AllByRecursion P (option_to_list (user_octets_spoken c.spoke)) =
       subst (AllByRecursion P) c.tells.accepted_is
       (accepted_all P r.core.upper.accepted next.core.upper.accepted e.core.upper.sent (flat_map accepted_in os) accepted after.at_r h.by_e) in
       r_told e r next history os c.spoke c.tells sent
@@ -181,15 +181,15 @@ module _ (grow : FactsGrow) (marks : MarksGrow) (only : StepsOnly) (reports : Ca
   -- ---- an event at an end of a link
 
   gives_e : (l : Link) (e r : Stack) (given : EndEvent) → Stands k l e r → drill.give l E given ≡ with_answer l E (stack_end_step (key_of k) l.moment e given)
-  gives_e l e r given s = ap₂ (λ (o : LinkOpening) (end : End). with_answer l E (end_step (key_on o) l.moment end given)) s.opening_is s.e_is
+  gives_e l e r given s = ap₂ (λ (o : LinkOpening) (end : EndAtLevel). with_answer l E (end_step (key_on o) l.moment end given)) s.opening_is s.e_is
 
   gives_r : (l : Link) (e r : Stack) (given : EndEvent) → Stands k l e r → drill.give l R given ≡ with_answer l R (stack_end_step (key_of k) l.moment r given)
-  gives_r l e r given s = ap₂ (λ (o : LinkOpening) (end : End). with_answer l R (end_step (key_on o) l.moment end given)) s.opening_is s.r_is
+  gives_r l e r given s = ap₂ (λ (o : LinkOpening) (end : EndAtLevel). with_answer l R (end_step (key_on o) l.moment end given)) s.opening_is s.r_is
 
   abbrev next_of : Link → EndEvent → Stack → Stack
-  next_of l given m = (on_end.step l.moment (as_given only reports (key_of k) given) m).0
+  next_of l given m = (on_end.step_event l.moment (as_given only reports (key_of k) given) m).0
 
-  abbrev told_of : Link → EndEvent → Stack → List Outcome
+  abbrev told_of : Link → EndEvent → Stack → List DrillOutcome
   told_of l given m = (stack_end_step (key_of k) l.moment m given).1
 
   stands_e : (l : Link) (e r : Stack) (given : EndEvent) → Stands k l e r → Stands k (drill.give l E given).0 (next_of l given e) r

@@ -7,11 +7,11 @@ use Rattle.er_settings.specs.Values.{Settings}
 use Rattle.er_settings.specs.Ranges.{AllAllowed}
 use Rattle.er_scenario.specs.declared.step.Step.{Step}
 use Rattle.safety_pair_laws.specs.Openings.{PairOpening, OfFixed, OfKeys}
-use Rattle.er_end_pair_laws.specs.Openings.{Opening}
-use Rattle.er_end_pair_laws.specs.Links.{Link as Pair}
-use Rattle.drill_model.specs.Outcomes.{Outcome, OfSafety, Handed, Arrived, Up, Took, NothingToTake, Refused, Released, Frame, Expired, UserReleased, Passed, Lost, Repeated, Altered, Inserted, NothingWaits, IsShort, Occurrence}
+use Rattle.er_end_pair_laws.specs.Openings.{EndLinkOpening}
+use Rattle.er_end_pair_laws.specs.Links.{EndLink as Pair}
+use Rattle.drill_model.specs.Outcomes.{DrillOutcome, OfSafety, Handed, Arrived, Up, Took, NothingToTake, Refused, Released, Frame, Expired, UserReleased, Passed, Lost, Repeated, Altered, Inserted, NothingWaits, IsShort, Occurrence}
 use Rattle.drill_model.specs.Links.{Link, LinkOpening, OfPair, OfStations, OfStacks, opened_link, LinkStep, link_step}
-use Rattle.drill_model.specs.Worlds.{Plan, link_at, history_on, world_run}
+use Rattle.drill_model.specs.Worlds.{DrillPlan, link_at, history_on, world_run}
 use Rattle.drill_model.specs.Kinds.{is_disturbance, is_disturbed, is_disorder, is_disordered, IsLossFree, EndsAgree}
 use Rattle.drill_model.specs.Claims.{IsUnforged}
 use Rattle.drill_model.specs.Steps.{AllFit}
@@ -27,7 +27,7 @@ use Rattle.drill_laws.proofs.StackTrusting.{SoundAt, KnowsAt, step_sound, opened
 
 -- ---- an undisturbed line keeps its order
 
-calm_orders : (o : Outcome) → is_disturbance o ≡ false → is_disorder o ≡ false
+calm_orders : (o : DrillOutcome) → is_disturbance o ≡ false → is_disorder o ≡ false
 calm_orders (OfSafety fact) e = refl
 calm_orders (Handed payload) e = refl
 calm_orders (Arrived payload) e = refl
@@ -63,7 +63,7 @@ module _ (laws : StackLaws) (facts : FactsGrow) where
   knows_at : (settings : Settings) (l : Link) (history : List Occurrence) (t : IsStacked settings l history) → AllAllowed settings → t.k.kr ≡ Some t.k.ke
       → is_disturbed history ≡ false → KnowsAt t.k (pair_of settings l history t)
   knows_at settings l history t allowed same calm =
-      let s : Opening = pair_opening settings l history t allowed in
+      let s : EndLinkOpening = pair_opening settings l history t allowed in
       let p : Pair = pair_of settings l history t in
       let free : p.loss_free ≡ true = not_false p.loss_free (sym t.sees.free ∙ calm) in
       let kept : p.order_kept ≡ true = not_false p.order_kept (sym t.sees.order ∙ calm_ordered history calm) in
@@ -142,7 +142,7 @@ module _ (laws : StackLaws) (facts : FactsGrow) where
       }
 
   -- a link of two stacks in a world whose steps fit their fields
-  pub unforged_at : HistoryGrows → HistoryOfOwn → HistoryOfOther → (plan : Plan) (steps : List Step) → AllFit steps → (n : ℕ) (l : Link)
+  pub unforged_at : HistoryGrows → HistoryOfOwn → HistoryOfOther → (plan : DrillPlan) (steps : List Step) → AllFit steps → (n : ℕ) (l : Link)
       → link_at (world_run plan steps).0 n ≡ Some l → (k : Numbers) → l.opening ≡ opening_of k → AllAllowed plan.settings
       → IsLossFree l.opening (history_on n (world_run plan steps).1) → IsUnforged (history_on n (world_run plan steps).1)
   unforged_at grow own other plan steps fit n l at k is allowed free =

@@ -12,10 +12,10 @@ use Rattle.safety_pair_laws.specs.Deliveries.{FitsOpening}
 use Rattle.hdlc_station_model.specs.Lines.{next_of as pair_next, altered, next_of}
 use Rattle.er_end_model.specs.Steps.{Finds}
 use Rattle.er_end_model.specs.Ends.{End as Stack, Event, Start, Come, Leave, Tick as TickEvent, Call, Answer, opened as stack_opened}
-use Rattle.er_end_pair_laws.specs.Links.{Link as Pair, end_of, line_of, with_line, give}
-use Rattle.er_end_pair_laws.specs.Steps.{expires_at, is_overfull, pass_next, drained, run, FitsStep, AllFit}
+use Rattle.er_end_pair_laws.specs.Links.{EndLink as Pair, end_of, frames_from_end, with_frames_from_end, give}
+use Rattle.er_end_pair_laws.specs.Steps.{is_end_expired_at, is_overfull, pass_next, drained, end_link_run, FitsStep, AllFit}
 use Rattle.er_end_pair_laws.specs.Steps as on_pair
-use Rattle.drill_model.specs.Outcomes.{Outcome, UserReleased, Passed, Lost, Repeated, Altered, Inserted, NothingWaits, IsShort, Occurrence, at_end}
+use Rattle.drill_model.specs.Outcomes.{DrillOutcome, UserReleased, Passed, Lost, Repeated, Altered, Inserted, NothingWaits, IsShort, Occurrence, at_end}
 use Rattle.drill_model.specs.StackReports.{OpensOrderly, CallsReport}
 use Rattle.drill_model.specs.Ends.{OfStack, EndEvent}
 use Rattle.drill_model.specs.Ends as event
@@ -41,7 +41,7 @@ and_false false = refl
 same_count : (n : ℕ) → n ≡ n + 0
 same_count n = omega arith
 
-line_at : (k : Numbers) (l : Link) (history : List Occurrence) (p : Pair) (side : Side) → Sees k l history p → line_of p side ≡ waiting_of l side
+line_at : (k : Numbers) (l : Link) (history : List Occurrence) (p : Pair) (side : Side) → Sees k l history p → frames_from_end p side ≡ waiting_of l side
 line_at k l history p E v = sym v.from_e_is
 line_at k l history p R v = sym v.from_r_is
 
@@ -49,7 +49,7 @@ same_waiting : (l : Link) (side : Side) → with_waiting l side (waiting_of l si
 same_waiting l E = refl
 same_waiting l R = refl
 
-same_line : (p : Pair) (side : Side) (free : Bool) → lined side (line_of p side) p.order_kept free p.passes p ≡ freed free p
+same_line : (p : Pair) (side : Side) (free : Bool) → lined side (frames_from_end p side) p.order_kept free p.passes p ≡ freed free p
 same_line p E free = refl
 same_line p R free = refl
 
@@ -58,7 +58,7 @@ freed_same E given p = refl
 freed_same R given p = refl
 
 -- occurrences at a side that change nothing that waits
-told_sees : (k : Numbers) (l : Link) (history : List Occurrence) (p : Pair) (side : Side) (os : List Outcome) (disturbed free : Bool) → Sees k l history p
+told_sees : (k : Numbers) (l : Link) (history : List Occurrence) (p : Pair) (side : Side) (os : List DrillOutcome) (disturbed free : Bool) → Sees k l history p
     → Says os [] [] [] false disturbed 0 → free ≡ (p.loss_free && not disturbed) → Sees k l (history ++ map (at_end side) os) (freed free p)
 told_sees k l history p side os disturbed free v says is =
     let h : List Occurrence = history ++ map (at_end side) os in
@@ -73,14 +73,14 @@ told_sees k l history p side os disturbed free v says is =
 
 -- a link went on so, by steps of its pair
 pub record Goes (k : Numbers) (l : Link) (history : List Occurrence) (p : Pair) : Type 0 where
-  pub steps : List on_pair.LinkStep
+  pub steps : List on_pair.EndLinkStep
   pub fit : AllFit steps
-  pub sees : Sees k l history (run (finds_of k) p steps)
+  pub sees : Sees k l history (end_link_run (finds_of k) p steps)
 
 abbrev GoesAt : Numbers → List Occurrence → Pair → Link × List Occurrence → Type 0
 GoesAt k history p a = Goes k a.0 (history ++ a.1) p
 
-one_goes : (k : Numbers) (l : Link) (history : List Occurrence) (p : Pair) (s : on_pair.LinkStep) → FitsStep s → Sees k l history (on_pair.link_step (finds_of k) s p)
+one_goes : (k : Numbers) (l : Link) (history : List Occurrence) (p : Pair) (s : on_pair.EndLinkStep) → FitsStep s → Sees k l history (on_pair.end_link_step (finds_of k) s p)
     → Goes k l history p
 one_goes k l history p s fit v = record { steps = s ∷ []; fit = (fit, tt); sees = v }
 
@@ -112,10 +112,10 @@ paired settings k moment =
 pub record IsStacked (settings : Settings) (l : Link) (history : List Occurrence) : Type 0 where
   pub k : Numbers
   pub moment : ℕ
-  pub steps : List on_pair.LinkStep
+  pub steps : List on_pair.EndLinkStep
   pub numbers_fit : FitsOpening (OfKeys k.engine k.rbc k.ke k.kr k.ra k.rb)
   pub fit : AllFit steps
-  pub sees : Sees k l history (run (finds_of k) (paired settings k moment) steps)
+  pub sees : Sees k l history (end_link_run (finds_of k) (paired settings k moment) steps)
 
 waits_nothing : Says (NothingWaits ∷ []) [] [] [] false false 0
 waits_nothing = says_more NothingWaits [] [] [] [] false false 0 (λ side. refl) says_nothing
@@ -123,9 +123,9 @@ waits_nothing = says_more NothingWaits [] [] [] [] false false 0 (λ side. refl)
 module _ (only : StepsOnly) (reports : CallsReport) where
   -- ---- the users
 
-  gives_sees : (k : Numbers) (l : Link) (history : List Occurrence) (p : Pair) (side : Side) (given : EndEvent) (s : on_pair.LinkStep) → Sees k l history p
-      → on_pair.link_step (finds_of k) s p ≡ give side (as_given only reports (key_of k) given) p → is_late_at only reports p.moment (end_of p side) given ≡ false
-      → SeesAt k history (on_pair.link_step (finds_of k) s p) (drill.give l side given)
+  gives_sees : (k : Numbers) (l : Link) (history : List Occurrence) (p : Pair) (side : Side) (given : EndEvent) (s : on_pair.EndLinkStep) → Sees k l history p
+      → on_pair.end_link_step (finds_of k) s p ≡ give side (as_given only reports (key_of k) given) p → is_late_at only reports p.moment (end_of p side) given ≡ false
+      → SeesAt k history (on_pair.end_link_step (finds_of k) s p) (drill.give l side given)
   gives_sees k l history p side given s v is never =
       let x : Link × List Occurrence = drill.give l side given in
       let e : Event = as_given only reports (key_of k) given in
@@ -134,8 +134,8 @@ module _ (only : StepsOnly) (reports : CallsReport) where
       let there : SeesAt k history (freed p.loss_free (give side e p)) x = given_sees only reports k l history p side given p.loss_free v free in
       subst (λ (q : Pair). SeesAt k history q x) (freed_same side e p ∙ sym is) there
 
-  gives_goes : (k : Numbers) (l : Link) (history : List Occurrence) (p : Pair) (side : Side) (given : EndEvent) (s : on_pair.LinkStep) → FitsStep s → Sees k l history p
-      → on_pair.link_step (finds_of k) s p ≡ give side (as_given only reports (key_of k) given) p → is_late_at only reports p.moment (end_of p side) given ≡ false
+  gives_goes : (k : Numbers) (l : Link) (history : List Occurrence) (p : Pair) (side : Side) (given : EndEvent) (s : on_pair.EndLinkStep) → FitsStep s → Sees k l history p
+      → on_pair.end_link_step (finds_of k) s p ≡ give side (as_given only reports (key_of k) given) p → is_late_at only reports p.moment (end_of p side) given ≡ false
       → GoesAt k history p (drill.give l side given)
   gives_goes k l history p side given s fit v is never =
       let x : Link × List Occurrence = drill.give l side given in
@@ -143,7 +143,7 @@ module _ (only : StepsOnly) (reports : CallsReport) where
 
   -- a take is that take of the pair
   pub take_sees : (k : Numbers) (l : Link) (history : List Occurrence) (p : Pair) (side : Side) → Sees k l history p
-      → SeesAt k history (on_pair.link_step (finds_of k) (on_pair.Take side) p) (link_step l (Take side))
+      → SeesAt k history (on_pair.end_link_step (finds_of k) (on_pair.Take side) p) (link_step l (Take side))
   take_sees k l history p side v = gives_sees k l history p side event.Take (on_pair.Take side) v refl refl
 
   release_goes : (k : Numbers) (l : Link) (history : List Occurrence) (p : Pair) (side : Side) (sub : ℕ) → Sees k l history p → GoesAt k history p (link_step l (Release side sub))
@@ -163,7 +163,7 @@ module _ (only : StepsOnly) (reports : CallsReport) where
   -- ---- the line
 
   with_line_is : (p : Pair) (side : Side) (frames : List (List ℕ))
-      → lined side frames p.order_kept p.loss_free (p.passes + 1) p ≡ with_line side frames (record p { passes = p.passes + 1 })
+      → lined side frames p.order_kept p.loss_free (p.passes + 1) p ≡ with_frames_from_end side frames (record p { passes = p.passes + 1 })
   with_line_is p E frames = refl
   with_line_is p R frames = refl
 
@@ -182,14 +182,14 @@ module _ (only : StepsOnly) (reports : CallsReport) where
       let e : Event = Come (finds_of k) frame in
       let there : SeesAt k (history ++ first) (freed q.loss_free (give to e q)) x =
       given_sees only reports k m (history ++ first) q to (event.Receive frame) q.loss_free u (and_true q.loss_free) in
-      let same : freed q.loss_free (give to e q) ≡ give to e (with_line side frames (record p { passes = p.passes + 1 })) =
+      let same : freed q.loss_free (give to e q) ≡ give to e (with_frames_from_end side frames (record p { passes = p.passes + 1 })) =
       freed_same to e q ∙ ap (give to e) (with_line_is p side frames) in
       subst (λ (t : Pair). Sees k x.0 (history ++ (first ++ x.1)) t) same
       (subst (λ (h : List Occurrence). Sees k x.0 h (freed q.loss_free (give to e q))) (append_assoc history first x.1) there)
 
   -- a pass is that pass of the pair
   pub one_pass_sees : (k : Numbers) (l : Link) (history : List Occurrence) (p : Pair) (side : Side) → Sees k l history p
-      → SeesAt k history (on_pair.link_step (finds_of k) (on_pair.Pass side) p) (link_step l (Pass side))
+      → SeesAt k history (on_pair.end_link_step (finds_of k) (on_pair.Pass side) p) (link_step l (Pass side))
   one_pass_sees k l history p side v =
       let x : Link × List Occurrence = link_step l (Pass side) in
       subst (λ (fs : List (List ℕ)). SeesAt k history (on_pair.pass (finds_of k) side fs p) x) (sym (line_at k l history p side v)) (pass_sees k l history p side (waiting_of l side) v)
@@ -202,8 +202,8 @@ module _ (only : StepsOnly) (reports : CallsReport) where
   -- ---- what the line does
 
   -- what waits is as it was
-  still_goes : (k : Numbers) (l : Link) (history : List Occurrence) (p : Pair) (side : Side) (os : List Outcome) (frames : List (List ℕ)) → Sees k l history p
-      → Says os [] [] [] false false 0 → line_of p side ≡ frames → GoesAt k history p (with_waiting l side frames, map (at_end side) os)
+  still_goes : (k : Numbers) (l : Link) (history : List Occurrence) (p : Pair) (side : Side) (os : List DrillOutcome) (frames : List (List ℕ)) → Sees k l history p
+      → Says os [] [] [] false false 0 → frames_from_end p side ≡ frames → GoesAt k history p (with_waiting l side frames, map (at_end side) os)
   still_goes k l history p side os frames v says line =
       let h : List Occurrence = history ++ map (at_end side) os in
       let there : Sees k (with_waiting l side frames) h (lined side frames p.order_kept p.loss_free p.passes p) =
@@ -213,9 +213,9 @@ module _ (only : StepsOnly) (reports : CallsReport) where
       record { steps = []; fit = tt; sees = subst (λ (t : Pair). Sees k (with_waiting l side frames) h t) same there }
 
   -- a change of what waits, by a step of the pair that leaves all else
-  change_goes : (k : Numbers) (l : Link) (history : List Occurrence) (p : Pair) (side : Side) (s : on_pair.LinkStep) (os : List Outcome) (frames : List (List ℕ))
+  change_goes : (k : Numbers) (l : Link) (history : List Occurrence) (p : Pair) (side : Side) (s : on_pair.EndLinkStep) (os : List DrillOutcome) (frames : List (List ℕ))
       (disorder disturbed order free : Bool) → FitsStep s → Sees k l history p → Says os [] [] [] disorder disturbed 0 → order ≡ (p.order_kept && not disorder)
-      → free ≡ (p.loss_free && not disturbed) → on_pair.link_step (finds_of k) s p ≡ lined side frames order free p.passes p
+      → free ≡ (p.loss_free && not disturbed) → on_pair.end_link_step (finds_of k) s p ≡ lined side frames order free p.passes p
       → GoesAt k history p (with_waiting l side frames, map (at_end side) os)
   change_goes k l history p side s os frames disorder disturbed order free fit v says order_is free_is is =
       let h : List Occurrence = history ++ map (at_end side) os in
@@ -224,19 +224,19 @@ module _ (only : StepsOnly) (reports : CallsReport) where
       lined_sees k l history p side os frames disorder disturbed order free 0 p.passes v says (same_count p.passes) order_is free_is in
       one_goes k m h p s fit (subst (λ (t : Pair). Sees k m h t) (sym is) there)
 
-  lost_is : (p : Pair) (side : Side) (frames : List (List ℕ)) → with_line side frames (record p { loss_free = false }) ≡ lined side frames p.order_kept false p.passes p
+  lost_is : (p : Pair) (side : Side) (frames : List (List ℕ)) → with_frames_from_end side frames (record p { loss_free = false }) ≡ lined side frames p.order_kept false p.passes p
   lost_is p E frames = refl
   lost_is p R frames = refl
 
   put_is : (p : Pair) (side : Side) (frames : List (List ℕ))
-      → with_line side frames (record p { order_kept = false; loss_free = false }) ≡ lined side frames false false p.passes p
+      → with_frames_from_end side frames (record p { order_kept = false; loss_free = false }) ≡ lined side frames false false p.passes p
   put_is p E frames = refl
   put_is p R frames = refl
 
   -- an octet of the first frame is changed: the place is in the frame or not, the mask is 0 or not
   alter_goes : (k : Numbers) (l : Link) (history : List Occurrence) (p : Pair) (side : Side) (place mask : ℕ) (frame : List ℕ) (frames : List (List ℕ)) → Sees k l history p
-      → line_of p side ≡ frame ∷ frames → (within none : Bool) → nat_lt place (length frame) ≡ within → (mask == 0) ≡ none
-      → let a : List (List ℕ) × List Outcome = if not within then (frame ∷ frames, IsShort (length frame) ∷ []) else if none then (frame ∷ frames, []) else (altered frame place mask ∷ frames, Altered ∷ [])
+      → frames_from_end p side ≡ frame ∷ frames → (within none : Bool) → nat_lt place (length frame) ≡ within → (mask == 0) ≡ none
+      → let a : List (List ℕ) × List DrillOutcome = if not within then (frame ∷ frames, IsShort (length frame) ∷ []) else if none then (frame ∷ frames, []) else (altered frame place mask ∷ frames, Altered ∷ [])
       in GoesAt k history p (with_waiting l side a.0, map (at_end side) a.1)
   alter_goes k l history p side place mask frame frames v line true true w n = still_goes k l history p side [] (frame ∷ frames) v says_nothing line
   alter_goes k l history p side place mask frame frames v line true false w n =
@@ -250,7 +250,7 @@ module _ (only : StepsOnly) (reports : CallsReport) where
       (says_more (IsShort (length frame)) [] [] [] [] false false 0 (λ side. refl) says_nothing) line
 
   changes_goes : (k : Numbers) (l : Link) (history : List Occurrence) (p : Pair) (side : Side) (change : LineChange) (frames : List (List ℕ)) → Sees k l history p
-      → line_of p side ≡ frames → let a = change_first change frames in GoesAt k history p (with_waiting l side a.0, map (at_end side) a.1)
+      → frames_from_end p side ≡ frames → let a = change_first change frames in GoesAt k history p (with_waiting l side a.0, map (at_end side) a.1)
   changes_goes k l history p side Lose [] v line = still_goes k l history p side (NothingWaits ∷ []) [] v waits_nothing line
   changes_goes k l history p side Lose (frame ∷ frames) v line =
       change_goes k l history p side (on_pair.Lose side) (Lost ∷ []) frames false true p.order_kept false tt v
@@ -267,7 +267,7 @@ module _ (only : StepsOnly) (reports : CallsReport) where
   changes_goes k l history p side (Put octets) frames v line =
       change_goes k l history p side (on_pair.Put side octets) (Inserted ∷ []) (octets ∷ frames) true true false false tt v
       (says_more Inserted [] [] [] [] false false 0 (λ side. refl) says_nothing) (and_false p.order_kept) (and_false p.loss_free)
-      (ap (λ (fs : List (List ℕ)). with_line side (octets ∷ fs) (record p { order_kept = false; loss_free = false })) line ∙ put_is p side (octets ∷ frames))
+      (ap (λ (fs : List (List ℕ)). with_frames_from_end side (octets ∷ fs) (record p { order_kept = false; loss_free = false })) line ∙ put_is p side (octets ∷ frames))
 
   -- ---- time
 
@@ -295,14 +295,14 @@ module _ (only : StepsOnly) (reports : CallsReport) where
 
   -- a tick is that tick of the pair
   pub tick_sees : (k : Numbers) (l : Link) (history : List Occurrence) (p : Pair) (moment : ℕ) → Sees k l history p
-      → SeesAt k history (on_pair.link_step (finds_of k) (on_pair.Tick moment) p) (link_step l (Tick moment))
+      → SeesAt k history (on_pair.end_link_step (finds_of k) (on_pair.Tick moment) p) (link_step l (Tick moment))
   tick_sees k l history p moment v =
       let to : ℕ = max p.moment moment in
       let m : Link = record l { moment = max l.moment moment } in
       let q : Pair = record p { moment = to } in
       let u : Sees k m history q = at_moment k l history p moment v in
-      let late_e : Bool = expires_at to p.e in
-      let late_r : Bool = expires_at to p.r in
+      let late_e : Bool = is_end_expired_at to p.e in
+      let late_r : Bool = is_end_expired_at to p.r in
       let x : Link × List Occurrence = drill.give m E event.Tick in
       let q2 : Pair = freed (p.loss_free && not late_e) (give E TickEvent q) in
       let first : SeesAt k history q2 x = given_sees only reports k m history q E event.Tick (p.loss_free && not late_e) u refl in
@@ -332,11 +332,11 @@ module _ (only : StepsOnly) (reports : CallsReport) where
 
   -- ---- from its opening on
 
-  pub run_append : (finds : Finds) (p : Pair) (xs ys : List on_pair.LinkStep) → run finds p (xs ++ ys) ≡ run finds (run finds p xs) ys
+  pub run_append : (finds : Finds) (p : Pair) (xs ys : List on_pair.EndLinkStep) → end_link_run finds p (xs ++ ys) ≡ end_link_run finds (end_link_run finds p xs) ys
   run_append finds p [] ys = refl
-  run_append finds p (s ∷ xs) ys = run_append finds (on_pair.link_step finds s p) xs ys
+  run_append finds p (s ∷ xs) ys = run_append finds (on_pair.end_link_step finds s p) xs ys
 
-  fit_append : (xs ys : List on_pair.LinkStep) → AllFit xs → AllFit ys → AllFit (xs ++ ys)
+  fit_append : (xs ys : List on_pair.EndLinkStep) → AllFit xs → AllFit ys → AllFit (xs ++ ys)
   fit_append [] ys h i = i
   fit_append (s ∷ xs) ys h i = (h.0, fit_append xs ys h.1 i)
 
@@ -345,7 +345,7 @@ module _ (only : StepsOnly) (reports : CallsReport) where
   stacked_steps settings l history s fit t =
       let w : Pair = paired settings t.k t.moment in
       let finds : Finds = finds_of t.k in
-      let g = step_goes t.k l history (run finds w t.steps) s fit t.sees in
+      let g = step_goes t.k l history (end_link_run finds w t.steps) s fit t.sees in
       record {
         k = t.k;
         moment = t.moment;
@@ -442,7 +442,7 @@ module _ (only : StepsOnly) (reports : CallsReport) where
   drains_pass k most others each l history p side (Some full) v next_is full_is = stops k most l history p (Some side) true v next_is full_is refl
   drains_pass k most others each l history p side None v next_is full_is =
       let a : Link × List Occurrence = link_step l (Pass side) in
-      let q : Pair = on_pair.pass (finds_of k) side (line_of p side) p in
+      let q : Pair = on_pair.pass (finds_of k) side (frames_from_end p side) p in
       let there : SeesAt k history q a =
       subst (λ (fs : List (List ℕ)). SeesAt k history (on_pair.pass (finds_of k) side fs p) a) (sym (line_at k l history p side v)) (pass_sees k l history p side (waiting_of l side) v) in
       subst (λ (h : List Occurrence). Sees k (others a.0).link h (drained (finds_of k) most q)) (append_assoc history a.1 (others a.0).came)

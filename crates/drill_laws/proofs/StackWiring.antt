@@ -11,11 +11,11 @@ use Rattle.des_block.specs.declared.triple_key.TripleKey.{TripleKey}
 use Rattle.safety_automaton.specs.Rules.{StepsOnly}
 use Rattle.safety_pair_laws.specs.Openings.{OfKeys, key_for}
 use Rattle.er_end_model.specs.Steps.{Finds}
-use Rattle.er_end_model.specs.Ends.{End as Stack, Event, step}
-use Rattle.er_end_pair_laws.specs.Links.{Link as Pair, end_of, give}
-use Rattle.drill_model.specs.Outcomes.{Outcome, Occurrence, at_end}
+use Rattle.er_end_model.specs.Ends.{End as Stack, Event, step_event}
+use Rattle.er_end_pair_laws.specs.Links.{EndLink as Pair, end_of, give}
+use Rattle.drill_model.specs.Outcomes.{DrillOutcome, Occurrence, at_end}
 use Rattle.drill_model.specs.StackReports.{IsOrderly, CallsReport}
-use Rattle.drill_model.specs.Ends.{End, OfStack, EndEvent, stack_end_step}
+use Rattle.drill_model.specs.Ends.{EndAtLevel, OfStack, EndEvent, stack_end_step}
 use Rattle.drill_model.specs.Links.{Link, LinkOpening, OfStacks, key_on, with_waiting, with_answer}
 use Rattle.drill_model.specs.Links as drill
 use Rattle.drill_model.specs.Kinds.{released_in, passed_in, is_disorder, is_disturbance, sent_by, accepted_by, releases_in, deliveries, is_disordered, is_disturbed}
@@ -95,7 +95,7 @@ all_at_r p (x ∷ xs) h = (inr h.0, all_at_r p xs h.1)
 abbrev pub freed : Bool → Pair → Pair
 freed free p = record p { loss_free = free }
 
-module _ (side : Side) (history : List Occurrence) (os : List Outcome) where
+module _ (side : Side) (history : List Occurrence) (os : List DrillOutcome) where
   abbrev more : List Occurrence
   more = map (at_end side) os
 
@@ -120,9 +120,9 @@ module _ (side : Side) (history : List Occurrence) (os : List Outcome) where
       let grow : deliveries (history ++ more) ≡ deliveries history + deliveries more = deliveries_grow history more in
       omega arith
 
-acted_sees : (k : Numbers) (l : Link) (history : List Occurrence) (p : Pair) (side : Side) (given : Event) (os : List Outcome) (late free : Bool) → Sees k l history p
+acted_sees : (k : Numbers) (l : Link) (history : List Occurrence) (p : Pair) (side : Side) (given : Event) (os : List DrillOutcome) (late free : Bool) → Sees k l history p
     → Does p.moment given (end_of p side) os late → free ≡ (p.loss_free && not late)
-    → SeesAt k history (freed free (give side given p)) (with_answer l side (OfStack (step p.moment given (end_of p side)).0, os))
+    → SeesAt k history (freed free (give side given p)) (with_answer l side (OfStack (step_event p.moment given (end_of p side)).0, os))
 acted_sees k l history p E given os late free v d is =
     let w = d.says in
     let q : Pair = freed free (give E given p) in
@@ -193,14 +193,14 @@ module _ (only : StepsOnly) (reports : CallsReport) where
       → SeesAt k history (freed free (give side (as_given only reports (key_of k) given) p)) (drill.give l side given)
   given_sees k l history p side given free v is =
       let m : Stack = end_of p side in
-      let a : End × List Outcome = stack_end_step (key_of k) p.moment m given in
+      let a : EndAtLevel × List DrillOutcome = stack_end_step (key_of k) p.moment m given in
       let event : Event = as_given only reports (key_of k) given in
       let d = stack_does only reports (key_of k) p.moment m given (orderly_at k l history p side v) in
       let q : Pair = freed free (give side event p) in
-      let there : SeesAt k history q (with_answer l side (OfStack (step p.moment event m).0, a.1)) =
+      let there : SeesAt k history q (with_answer l side (OfStack (step_event p.moment event m).0, a.1)) =
       acted_sees k l history p side event a.1 (is_late_at only reports p.moment m given) free v d is in
       let here : SeesAt k history q (with_answer l side a) =
-      subst (λ (x : End). SeesAt k history q (with_answer l side (x, a.1))) (sym (stack_leads only reports (key_of k) p.moment m given)) there in
+      subst (λ (x : EndAtLevel). SeesAt k history q (with_answer l side (x, a.1))) (sym (stack_leads only reports (key_of k) p.moment m given)) there in
       subst (SeesAt k history q) (sym (gives_stacked k l history p side given v)) here
 
 -- ---- occurrences at a side that change what waits, or nothing
@@ -209,7 +209,7 @@ abbrev pub lined : Side → List (List ℕ) → (order free : Bool) → ℕ → 
 lined E frames order free passes p = record p { from_e = frames; order_kept = order; loss_free = free; passes = passes }
 lined R frames order free passes p = record p { from_r = frames; order_kept = order; loss_free = free; passes = passes }
 
-pub lined_sees : (k : Numbers) (l : Link) (history : List Occurrence) (p : Pair) (side : Side) (os : List Outcome) (frames : List (List ℕ)) (disorder disturbed order free : Bool) (n passes : ℕ)
+pub lined_sees : (k : Numbers) (l : Link) (history : List Occurrence) (p : Pair) (side : Side) (os : List DrillOutcome) (frames : List (List ℕ)) (disorder disturbed order free : Bool) (n passes : ℕ)
     → Sees k l history p → line.Says os [] [] [] disorder disturbed n → passes ≡ p.passes + n → order ≡ (p.order_kept && not disorder) → free ≡ (p.loss_free && not disturbed)
     → Sees k (with_waiting l side frames) (history ++ map (at_end side) os) (lined side frames order free passes p)
 lined_sees k l history p E os frames disorder disturbed order free n passes v says count_is order_is free_is =

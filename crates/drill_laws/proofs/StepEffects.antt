@@ -29,12 +29,12 @@ use Rattle.er_end_model.specs.Layers.{Spoken, Core, model}
 use Rattle.er_end_model.specs.Steps.{Finds, new_event_at, step_start, step_frame, is_connected, refusal_of, step_send_unless, step_take, step_release, step_tick}
 use Rattle.er_end_model.specs.Ends.{End as Stack, finds_expired}
 use Rattle.er_end_model.specs.Ends as stacks
-use Rattle.drill_model.specs.Outcomes.{Outcome, Arrived, Frame, UserReleased, Passed, NothingWaits, Occurrence, at_end}
+use Rattle.drill_model.specs.Outcomes.{DrillOutcome, Arrived, Frame, UserReleased, Passed, NothingWaits, Occurrence, at_end}
 use Rattle.drill_model.specs.Outcomes as came
-use Rattle.drill_model.specs.StationEnds.{if_up, if_arrived, if_released, if_expired, told_by, station_and_told, frames_heard, handed_unless}
+use Rattle.drill_model.specs.StationEnds.{if_up, if_arrived, if_released, if_expired, outcomes_told_by_station, station_and_told, frames_heard, handed_unless}
 use Rattle.drill_model.specs.StationEnds as station
-use Rattle.drill_model.specs.StackEnds.{facts_told, told_at, stack_told, told_unless, told_of_take}
-use Rattle.drill_model.specs.Ends.{End, OfSafe, OfStation, OfStack, EndEvent, outcomes_by, end_step}
+use Rattle.drill_model.specs.StackEnds.{facts_told, outcomes_told_by_stack, stack_told, told_unless, told_of_take}
+use Rattle.drill_model.specs.Ends.{EndAtLevel, OfSafe, OfStation, OfStack, EndEvent, outcomes_by, end_step}
 use Rattle.drill_model.specs.Ends as event
 use Rattle.hdlc_station_model.specs.Lines.{altered}
 use Rattle.hdlc_station_model.specs.Events.{said_octets, news as station_news, quits}
@@ -46,7 +46,7 @@ use Rattle.drill_laws.proofs.StackSaying.{sent_by_step, sent_in_step}
 use Rattle.drill_laws.proofs.StackKeeping.{Keeps, starts_keep, comes_keep, leaves_keep, ticks_keep, uses_none, uses_one, sends_keep}
 
 -- the effects of outcomes
-abbrev pub told_effects : List Outcome → List Effect
+abbrev pub told_effects : List DrillOutcome → List Effect
 told_effects os = flat_map effect_in os
 
 -- these at a side
@@ -56,10 +56,10 @@ of_side side es = map (λ e. (side, e)) es
 pub effects_append : (xs ys : List Occurrence) → effects_in (xs ++ ys) ≡ effects_in xs ++ effects_in ys
 effects_append xs ys = flat_map-append (λ (o : Occurrence). map (λ (e : Effect). (o.side, e)) (effect_in o.outcome)) xs ys
 
-told_append : (xs ys : List Outcome) → told_effects (xs ++ ys) ≡ told_effects xs ++ told_effects ys
+told_append : (xs ys : List DrillOutcome) → told_effects (xs ++ ys) ≡ told_effects xs ++ told_effects ys
 told_append xs ys = flat_map-append effect_in xs ys
 
-pub effects_at : (side : Side) (os : List Outcome) → effects_in (map (at_end side) os) ≡ of_side side (told_effects os)
+pub effects_at : (side : Side) (os : List DrillOutcome) → effects_in (map (at_end side) os) ≡ of_side side (told_effects os)
 effects_at side [] = refl
 effects_at side (o ∷ os) =
     ap (λ (xs : Effects). of_side side (effect_in o) ++ xs) (effects_at side os) ∙ sym (map-append (λ (e : Effect). (side, e)) (effect_in o) (told_effects os))
@@ -86,17 +86,17 @@ parts_tell true None more released frames = run_tells more released frames
 parts_tell false (Some payload) more released frames = run_tells more released frames
 parts_tell false None more released frames = run_tells more released frames
 
-call_tells : (s : Station) → told_effects (told_by s) ≡ []
+call_tells : (s : Station) → told_effects (outcomes_told_by_station s) ≡ []
 call_tells s = parts_tell s.deed.up s.deed.payload s.deed.more s.deed.released (said_octets s)
 
 frames_heard_tell : (selective : Bool) (moment : ℕ) (vs : List Verdict) (s : Station) → told_effects (frames_heard selective moment vs s).1 ≡ []
 frames_heard_tell selective moment [] s = refl
 frames_heard_tell selective moment (v ∷ vs) s =
     let u : Station = finishes (receives_as selective moment v s) in
-    told_append (told_by u) (frames_heard selective moment vs (settled u)).1
+    told_append (outcomes_told_by_station u) (frames_heard selective moment vs (settled u)).1
     ∙ ap₂ (λ (xs ys : List Effect). xs ++ ys) (call_tells u) (frames_heard_tell selective moment vs (settled u))
 
-if_tells : (b : Bool) (x y : Station × List Outcome) → told_effects x.1 ≡ [] → told_effects y.1 ≡ [] → told_effects (if b then x else y).1 ≡ []
+if_tells : (b : Bool) (x y : Station × List DrillOutcome) → told_effects x.1 ≡ [] → told_effects y.1 ≡ [] → told_effects (if b then x else y).1 ≡ []
 if_tells true x y hx hy = hx
 if_tells false x y hx hy = hy
 
@@ -163,21 +163,21 @@ facts_tell : (spoke : Option Spoken) → told_effects (facts_told spoke) ≡ sen
 facts_tell None = refl
 facts_tell (Some s) = facts_by_tell (heard_in s.event) s.outcome
 
-core_tells : (x : Core) → told_effects (told_at x) ≡ sends_of (sent_in_step x.upper.spoke)
+core_tells : (x : Core) → told_effects (outcomes_told_by_stack x) ≡ sends_of (sent_in_step x.upper.spoke)
 core_tells x =
     told_append (facts_told x.upper.spoke) (if_released x.leaves ++ map Frame (said_octets x.line))
     ∙ ap₂ (λ (xs ys : List Effect). xs ++ ys) (facts_tell x.upper.spoke) (release_tells x.leaves (said_octets x.line))
     ∙ append-nil (sends_of (sent_in_step x.upper.spoke))
 
-kept_tells : (U : ℕ) (T : List (List ℕ)) (x : Core) → Keeps U T x → told_effects (told_at x) ≡ sends_of T
+kept_tells : (U : ℕ) (T : List (List ℕ)) (x : Core) → Keeps U T x → told_effects (outcomes_told_by_stack x) ≡ sends_of T
 kept_tells U T x h = core_tells x ∙ ap sends_of h.1
 
 -- a message was taken, or none was there
-took_tells : (message : Option (List ℕ)) (os : List Outcome) → told_effects (told_of_take message ++ os) ≡ told_effects os
+took_tells : (message : Option (List ℕ)) (os : List DrillOutcome) → told_effects (told_of_take message ++ os) ≡ told_effects os
 took_tells None os = refl
 took_tells (Some message) os = refl
 
-uses_tell : (moment : ℕ) (x : Core) → told_effects (told_at (step_take model moment x)) ≡ []
+uses_tell : (moment : ℕ) (x : Core) → told_effects (outcomes_told_by_stack (step_take model moment x)) ≡ []
 uses_tell moment x =
     elim (cases_Bool (length x.upper.accepted - x.upper.used == 0)) [
       | inl none ↦ kept_tells x.upper.used [] (step_take model moment x) (uses_none moment x none)
@@ -201,12 +201,12 @@ IsQuiet (event.Release sub) = Unit {0}
 IsQuiet event.Tick = ⊥
 
 -- whether a timer is found expired
-abbrev finds : (moment : ℕ) → End → Bool
+abbrev finds : (moment : ℕ) → EndAtLevel → Bool
 finds moment (OfSafe s) = false
 finds moment (OfStation selective s stream) = is_due s.timer (max s.moment moment)
 finds moment (OfStack m) = finds_expired (new_event_at model moment m.core)
 
-expired_tells : (b : Bool) (os : List Outcome) → told_effects os ≡ [] → told_effects (if_expired b ++ os) ≡ (if b then Expires ∷ [] else [])
+expired_tells : (b : Bool) (os : List DrillOutcome) → told_effects os ≡ [] → told_effects (if_expired b ++ os) ≡ (if b then Expires ∷ [] else [])
 expired_tells true os none = ap (λ (es : List Effect). Expires ∷ es) none
 expired_tells false os none = none
 
@@ -219,10 +219,10 @@ module _ (only : StepsOnly) where
   stack_heard_tells look moment [] x = refl
   stack_heard_tells look moment (v ∷ vs) x =
       let y : Core = step_frame model look moment v x in
-      told_append (told_at y) (stack_told look moment vs y)
+      told_append (outcomes_told_by_stack y) (stack_told look moment vs y)
       ∙ ap₂ (λ (xs ys : List Effect). xs ++ ys) (kept_tells x.upper.used [] y (comes_keep only look moment v x)) (stack_heard_tells look moment vs y)
 
-  end_quiet : (key_of : ℕ → ℕ → Option TripleKey) (moment : ℕ) (end : End) (given : EndEvent) → IsQuiet given
+  end_quiet : (key_of : ℕ → ℕ → Option TripleKey) (moment : ℕ) (end : EndAtLevel) (given : EndEvent) → IsQuiet given
       → told_effects (end_step key_of moment end given).1 ≡ []
   end_quiet key_of moment (OfSafe s) event.Start quiet = safe_quiet key_of s ConnectRequest (λ user e. cc)
   end_quiet key_of moment (OfSafe s) (event.Receive octets) quiet = safe_quiet key_of s (Received octets) (λ user e. cc)
@@ -241,24 +241,24 @@ module _ (only : StepsOnly) where
       stack_heard_tells (λ now. key_of) moment (station_events.news m.stream octets) (new_event_at model moment m.core)
   end_quiet key_of moment (OfStack m) (event.Send octets) quiet = absurd quiet
   end_quiet key_of moment (OfStack m) event.Take quiet =
-      took_tells (model.oldest m.core.upper) (told_at (step_take model moment m.core)) ∙ uses_tell moment m.core
+      took_tells (model.oldest m.core.upper) (outcomes_told_by_stack (step_take model moment m.core)) ∙ uses_tell moment m.core
   end_quiet key_of moment (OfStack m) (event.Release sub) quiet =
       kept_tells m.core.upper.used [] (step_release model moment sub m.core) (leaves_keep only moment sub m.core)
   end_quiet key_of moment (OfStack m) event.Tick quiet = absurd quiet
 
-  end_sends : (key_of : ℕ → ℕ → Option TripleKey) (moment : ℕ) (end : End) (octets : List ℕ)
+  end_sends : (key_of : ℕ → ℕ → Option TripleKey) (moment : ℕ) (end : EndAtLevel) (octets : List ℕ)
       → SendsOrNot octets (told_effects (end_step key_of moment end (event.Send octets)).1)
   end_sends key_of moment (OfSafe s) octets = safe_sends s s.phase octets
-  end_sends key_of moment (OfStation selective s stream) octets = handed_tells (station.refusal_of s octets s.released) moment octets s
+  end_sends key_of moment (OfStation selective s stream) octets = handed_tells (station.payload_refusal_of_station s octets s.released) moment octets s
   end_sends key_of moment (OfStack m) octets = stack_send_tells moment octets m.core (refusal_of model octets m.core) refl
 
-  end_ticks : (key_of : ℕ → ℕ → Option TripleKey) (moment : ℕ) (end : End)
+  end_ticks : (key_of : ℕ → ℕ → Option TripleKey) (moment : ℕ) (end : EndAtLevel)
       → told_effects (end_step key_of moment end event.Tick).1 ≡ (if finds moment end then Expires ∷ [] else [])
   end_ticks key_of moment (OfSafe s) = refl
   end_ticks key_of moment (OfStation selective s stream) =
-      expired_tells (finds moment (OfStation selective s stream)) (told_by (finishes (station_ticks moment s))) (call_tells (finishes (station_ticks moment s)))
+      expired_tells (finds moment (OfStation selective s stream)) (outcomes_told_by_station (finishes (station_ticks moment s))) (call_tells (finishes (station_ticks moment s)))
   end_ticks key_of moment (OfStack m) =
-      expired_tells (finds moment (OfStack m)) (told_at (step_tick model moment m.core))
+      expired_tells (finds moment (OfStack m)) (outcomes_told_by_stack (step_tick model moment m.core))
       (kept_tells m.core.upper.used [] (step_tick model moment m.core) (ticks_keep only moment m.core))
 
   -- ---- steps of a link
@@ -402,13 +402,13 @@ module _ (released : Option Release) (timer : Option ℕ) (now : ℕ) (phase : P
       ] in
       rw (live, test) refl
 
-finds_ran : (moment : ℕ) (end : End) → finds moment end ≡ true → HasRunOut moment end
+finds_ran : (moment : ℕ) (end : EndAtLevel) → finds moment end ≡ true → HasRunOut moment end
 finds_ran moment (OfSafe s) found = absurd cc
 finds_ran moment (OfStation selective s stream) found = due_ran_out s.timer (max s.moment moment) found
 finds_ran moment (OfStack m) found =
     found_ran m.core.released m.core.line.timer (max m.core.line.moment (max m.core.moment moment)) m.core.safe.safety.phase m.core.limit (max m.core.moment moment) found
 
-ran_finds : (moment : ℕ) (end : End) → HasRunOut moment end → finds moment end ≡ true
+ran_finds : (moment : ℕ) (end : EndAtLevel) → HasRunOut moment end → finds moment end ≡ true
 ran_finds moment (OfSafe s) ran = absurd ran
 ran_finds moment (OfStation selective s stream) ran = ran_out_due s.timer (max s.moment moment) ran
 ran_finds moment (OfStack m) ran =
@@ -449,7 +449,7 @@ repeat_effects l side = of_frames (waiting_of l side)
 pub alter_effects : (l : Link) (side : Side) (place mask : ℕ) → effects_in (link_step l (Change side (Alter place mask))).1 ≡ of_alter side place mask (waiting_of l side)
 alter_effects l side place mask = of_frames (waiting_of l side)
   where
-    tests : (within none : Bool) (x y z : List (List ℕ) × List Outcome) → effects_in (map (at_end side) x.1) ≡ [] → effects_in (map (at_end side) y.1) ≡ []
+    tests : (within none : Bool) (x y z : List (List ℕ) × List DrillOutcome) → effects_in (map (at_end side) x.1) ≡ [] → effects_in (map (at_end side) y.1) ≡ []
         → effects_in (map (at_end side) z.1) ≡ (side, Alters) ∷ []
         → effects_in (map (at_end side) (if not within then x else if none then y else z).1) ≡ (if within && not none then (side, Alters) ∷ [] else [])
     tests true true x y z short same changed = same

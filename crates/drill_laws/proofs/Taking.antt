@@ -28,19 +28,19 @@ use Rattle.hdlc_station_model.specs.Lines.{IsPrefix, altered}
 use Rattle.er_end_model.specs.Outcomes.{SendRefusal}
 use Rattle.er_end_model.specs.Layers.{Spoken, Core, model}
 use Rattle.er_end_model.specs.Steps.{Finds, new_event_at, step_start, step_frame, refusal_of, step_send_unless, step_take, step_release, step_tick}
-use Rattle.er_end_model.specs.Ends.{End as Stack, Event, Start, Come, Send as SendEvent, Take as TakeEvent, Leave, Tick as TickEvent, hears_each, step, finds_expired}
+use Rattle.er_end_model.specs.Ends.{End as Stack, Event, Start, Come, Send as SendEvent, Take as TakeEvent, Leave, Tick as TickEvent, hears_each, step_event, finds_expired}
 use Rattle.er_end_model.specs.Ends as stacks
-use Rattle.drill_model.specs.Outcomes.{Outcome, OfSafety, Arrived, Frame, UserReleased, Passed, NothingWaits, IsShort, Altered, Occurrence, at_end}
+use Rattle.drill_model.specs.Outcomes.{DrillOutcome, OfSafety, Arrived, Frame, UserReleased, Passed, NothingWaits, IsShort, Altered, Occurrence, at_end}
 use Rattle.drill_model.specs.Outcomes as came
-use Rattle.drill_model.specs.StationEnds.{if_up, if_arrived, if_released, if_expired, told_by, station_and_told, frames_heard, handed_unless}
+use Rattle.drill_model.specs.StationEnds.{if_up, if_arrived, if_released, if_expired, outcomes_told_by_station, station_and_told, frames_heard, handed_unless}
 use Rattle.drill_model.specs.StationEnds as station
-use Rattle.drill_model.specs.StackEnds.{facts_told, told_at, stack_told, told_unless, told_of_take}
+use Rattle.drill_model.specs.StackEnds.{facts_told, outcomes_told_by_stack, stack_told, told_unless, told_of_take}
 use Rattle.drill_model.specs.StackReports.{OpensOrderly, CallsReport, IsOrderly}
-use Rattle.drill_model.specs.Ends.{End, OfSafe, OfStation, OfStack, EndEvent, outcomes_by, end_step}
+use Rattle.drill_model.specs.Ends.{EndAtLevel, OfSafe, OfStation, OfStack, EndEvent, outcomes_by, end_step}
 use Rattle.drill_model.specs.Ends as event
 use Rattle.drill_model.specs.Waiting.{LineChange, Lose, Repeat, Alter, Put, change_first}
 use Rattle.drill_model.specs.Links.{Link, LinkOpening, OfPair, OfStations, OfStacks, waiting_of, with_waiting, key_on, give, link_of, joined_pair, opened_link, LinkStep, Send, Pass, Change, Take, Release as ReleaseStep, Tick, pass, link_step}
-use Rattle.drill_model.specs.Worlds.{Plan, link_at, history_on, world_run}
+use Rattle.drill_model.specs.Worlds.{DrillPlan, link_at, history_on, world_run}
 use Rattle.drill_model.specs.Kinds.{accepted_in, accepted_by, took_in, taken_by}
 use Rattle.drill_model.specs.Claims.{TakesInOrder}
 use Rattle.drill_model.specs.Growth.{HistoryGrows, HistoryOfOwn, HistoryOfOther}
@@ -51,13 +51,13 @@ use Rattle.drill_laws.proofs.Wiring.{flat_mapped, accepted_grows, accepted_e_e, 
 use Rattle.drill_laws.proofs.Talking.{any_steps}
 
 -- the messages that outcomes say were taken
-abbrev told_taken : List Outcome → List (List ℕ)
+abbrev told_taken : List DrillOutcome → List (List ℕ)
 told_taken os = flat_map took_in os
 
-abbrev told_accepted : List Outcome → List (List ℕ)
+abbrev told_accepted : List DrillOutcome → List (List ℕ)
 told_accepted os = flat_map accepted_in os
 
-taken_append : (xs ys : List Outcome) → told_taken (xs ++ ys) ≡ told_taken xs ++ told_taken ys
+taken_append : (xs ys : List DrillOutcome) → told_taken (xs ++ ys) ≡ told_taken xs ++ told_taken ys
 taken_append xs ys = flat_map-append took_in xs ys
 
 -- ---- outcomes that say of no message that it was taken
@@ -82,17 +82,17 @@ parts_take true None more released frames = run_takes more released frames
 parts_take false (Some payload) more released frames = run_takes more released frames
 parts_take false None more released frames = run_takes more released frames
 
-call_takes : (s : Station) → told_taken (told_by s) ≡ []
+call_takes : (s : Station) → told_taken (outcomes_told_by_station s) ≡ []
 call_takes s = parts_take s.deed.up s.deed.payload s.deed.more s.deed.released (said_octets s)
 
 heard_take : (selective : Bool) (moment : ℕ) (vs : List Verdict) (s : Station) → told_taken (frames_heard selective moment vs s).1 ≡ []
 heard_take selective moment [] s = refl
 heard_take selective moment (v ∷ vs) s =
     let u : Station = finishes (receives_as selective moment v s) in
-    taken_append (told_by u) (frames_heard selective moment vs (settled u)).1
+    taken_append (outcomes_told_by_station u) (frames_heard selective moment vs (settled u)).1
     ∙ ap₂ (λ (xs ys : List (List ℕ)). xs ++ ys) (call_takes u) (heard_take selective moment vs (settled u))
 
-if_takes : (b : Bool) (x y : Station × List Outcome) → told_taken x.1 ≡ [] → told_taken y.1 ≡ [] → told_taken (if b then x else y).1 ≡ []
+if_takes : (b : Bool) (x y : Station × List DrillOutcome) → told_taken x.1 ≡ [] → told_taken y.1 ≡ [] → told_taken (if b then x else y).1 ≡ []
 if_takes true x y hx hy = hx
 if_takes false x y hx hy = hy
 
@@ -100,7 +100,7 @@ handed_takes : (refusal : Option SendRefusal) (moment : ℕ) (payload : List ℕ
 handed_takes (Some refusal) moment payload s = refl
 handed_takes None moment payload s = call_takes (finishes (station_hands moment payload s))
 
-expired_takes : (b : Bool) (os : List Outcome) → told_taken (if_expired b ++ os) ≡ told_taken os
+expired_takes : (b : Bool) (os : List DrillOutcome) → told_taken (if_expired b ++ os) ≡ told_taken os
 expired_takes true os = refl
 expired_takes false os = refl
 
@@ -125,7 +125,7 @@ spoke_takes : (spoke : Option Spoken) → told_taken (facts_told spoke) ≡ []
 spoke_takes None = refl
 spoke_takes (Some s) = facts_take (facts_of s.event s.outcome)
 
-core_takes : (x : Core) → told_taken (told_at x) ≡ []
+core_takes : (x : Core) → told_taken (outcomes_told_by_stack x) ≡ []
 core_takes x =
     taken_append (facts_told x.upper.spoke) (if_released x.leaves ++ map Frame (said_octets x.line))
     ∙ ap₂ (λ (xs ys : List (List ℕ)). xs ++ ys) (spoke_takes x.upper.spoke) (release_takes x.leaves (said_octets x.line))
@@ -134,7 +134,7 @@ stack_heard_takes : (look : Finds) (moment : ℕ) (vs : List Verdict) (x : Core)
 stack_heard_takes look moment [] x = refl
 stack_heard_takes look moment (v ∷ vs) x =
     let y : Core = step_frame model look moment v x in
-    taken_append (told_at y) (stack_told look moment vs y)
+    taken_append (outcomes_told_by_stack y) (stack_told look moment vs y)
     ∙ ap₂ (λ (xs ys : List (List ℕ)). xs ++ ys) (core_takes y) (stack_heard_takes look moment vs y)
 
 unless_takes : (refusal : Option SendRefusal) (x : Core) → told_taken (told_unless refusal x) ≡ []
@@ -151,7 +151,7 @@ record StackTakes (m : Stack) (taken accepted : List (List ℕ)) : Type 0 where
   pub within : m.core.upper.used ≤ length m.core.upper.accepted
 
 -- what is taken at levels safe, link and link-sr counts as taken at once, and is not told
-abbrev TakesAt : End → (taken accepted : List (List ℕ)) → Type 0
+abbrev TakesAt : EndAtLevel → (taken accepted : List (List ℕ)) → Type 0
 TakesAt (OfSafe s) taken accepted = taken ≡ []
 TakesAt (OfStation selective s stream) taken accepted = taken ≡ []
 TakesAt (OfStack m) taken accepted = StackTakes m taken accepted
@@ -196,11 +196,11 @@ one_takes m n taken accepted more message h waits oldest used grew orderly =
 
 module _ (only : StepsOnly) (reports : CallsReport) where
   -- what is kept of an event in which none is taken
-  stack_keeps : (key_of : ℕ → ℕ → Option TripleKey) (moment : ℕ) (m : Stack) (given : EndEvent) (event : Event) (os : List Outcome) (late : Bool) (taken accepted : List (List ℕ))
-      → StackTakes m taken accepted → Does moment event m os late → (step moment event m).0.core.upper.used ≡ m.core.upper.used → told_taken os ≡ []
-      → StackTakes (step moment event m).0 (taken ++ told_taken os) (accepted ++ told_accepted os)
+  stack_keeps : (key_of : ℕ → ℕ → Option TripleKey) (moment : ℕ) (m : Stack) (given : EndEvent) (event : Event) (os : List DrillOutcome) (late : Bool) (taken accepted : List (List ℕ))
+      → StackTakes m taken accepted → Does moment event m os late → (step_event moment event m).0.core.upper.used ≡ m.core.upper.used → told_taken os ≡ []
+      → StackTakes (step_event moment event m).0 (taken ++ told_taken os) (accepted ++ told_accepted os)
   stack_keeps key_of moment m given event os late taken accepted h d used none =
-      kept_takes m (step moment event m).0 taken accepted (told_taken os) (told_accepted os) h used d.says.accepted_is none d.orderly
+      kept_takes m (step_event moment event m).0 taken accepted (told_taken os) (told_accepted os) h used d.says.accepted_is none d.orderly
 
   heard_used : (look : Finds) (moment : ℕ) (vs : List Verdict) (x : Core) → (hears_each look moment vs x).upper.used ≡ x.upper.used
   heard_used look moment [] x = refl
@@ -214,28 +214,28 @@ module _ (only : StepsOnly) (reports : CallsReport) where
 
   -- the oldest one is taken, where one waits
   stack_uses : (moment : ℕ) (m : Stack) (taken accepted : List (List ℕ)) → StackTakes m taken accepted
-      → let os = told_of_take (model.oldest m.core.upper) ++ told_at (step_take model moment m.core) in
-      Does moment TakeEvent m os false → StackTakes (step moment TakeEvent m).0 (taken ++ told_taken os) (accepted ++ told_accepted os)
+      → let os = told_of_take (model.oldest m.core.upper) ++ outcomes_told_by_stack (step_take model moment m.core) in
+      Does moment TakeEvent m os false → StackTakes (step_event moment TakeEvent m).0 (taken ++ told_taken os) (accepted ++ told_accepted os)
   stack_uses moment m taken accepted h d =
       let u : ℕ = m.core.upper.used in
       let A : List (List ℕ) = m.core.upper.accepted in
       let x : Core = step_take model moment m.core in
-      let n : Stack = (step moment TakeEvent m).0 in
-      let os : List Outcome = told_of_take (slice_get A u) ++ told_at x in
+      let n : Stack = (step_event moment TakeEvent m).0 in
+      let os : List DrillOutcome = told_of_take (slice_get A u) ++ outcomes_told_by_stack x in
       elim (cases_lt u (length A)) [
         | inl waits ↦
             let message : List ℕ = get_or A u [] in
             let oldest : slice_get A u ≡ Some message = slice_get-get_or A u [] waits in
             let some : (length A - u == 0) ≡ false = ne_eqb (length A - u) 0 (λ e. some_left (length A) u waits e) in
             let tells : told_taken os ≡ message ∷ [] =
-            ap (λ (o : Option (List ℕ)). told_taken (told_of_take o ++ told_at x)) oldest ∙ ap (λ (xs : List (List ℕ)). message ∷ xs) (core_takes x) in
+            ap (λ (o : Option (List ℕ)). told_taken (told_of_take o ++ outcomes_told_by_stack x)) oldest ∙ ap (λ (xs : List (List ℕ)). message ∷ xs) (core_takes x) in
             subst (λ (xs : List (List ℕ)). StackTakes n (taken ++ xs) (accepted ++ told_accepted os)) (sym tells)
             (one_takes m n taken accepted (told_accepted os) message h waits refl (uses_one moment m.core some).0 d.says.accepted_is d.orderly)
         | inr past ↦
             let oldest : slice_get A u ≡ None = slice_get_past A u past in
             let none : (length A - u == 0) ≡ true = eq-eqb (length A - u) 0 (omega arith) in
             let tells : told_taken os ≡ [] =
-            ap (λ (o : Option (List ℕ)). told_taken (told_of_take o ++ told_at x)) oldest ∙ core_takes x in
+            ap (λ (o : Option (List ℕ)). told_taken (told_of_take o ++ outcomes_told_by_stack x)) oldest ∙ core_takes x in
             kept_takes m n taken accepted (told_taken os) (told_accepted os) h (uses_none moment m.core none).0 d.says.accepted_is tells d.orderly
       ]
     where
@@ -245,7 +245,7 @@ module _ (only : StepsOnly) (reports : CallsReport) where
   stack_takes : (key_of : ℕ → ℕ → Option TripleKey) (moment : ℕ) (m : Stack) (given : EndEvent) (taken accepted : List (List ℕ)) → StackTakes m taken accepted
       → let a = end_step key_of moment (OfStack m) given in TakesAt a.0 (taken ++ told_taken a.1) (accepted ++ told_accepted a.1)
   stack_takes key_of moment m event.Start taken accepted h =
-      stack_keeps key_of moment m event.Start Start (told_at (step_start model moment m.core)) false taken accepted h
+      stack_keeps key_of moment m event.Start Start (outcomes_told_by_stack (step_start model moment m.core)) false taken accepted h
       (stack_does only reports key_of moment m event.Start h.orderly) (starts_keep only moment m.core).0 (core_takes (step_start model moment m.core))
   stack_takes key_of moment m (event.Receive octets) taken accepted h =
       let x : Core = new_event_at model moment m.core in
@@ -258,19 +258,19 @@ module _ (only : StepsOnly) (reports : CallsReport) where
       (stack_does only reports key_of moment m (event.Send user) h.orderly) (sent_used moment user m.core o refl) (unless_takes o (step_send_unless model o moment user m.core))
   stack_takes key_of moment m event.Take taken accepted h = stack_uses moment m taken accepted h (stack_does only reports key_of moment m event.Take h.orderly)
   stack_takes key_of moment m (event.Release sub) taken accepted h =
-      stack_keeps key_of moment m (event.Release sub) (Leave sub) (told_at (step_release model moment sub m.core)) false taken accepted h
+      stack_keeps key_of moment m (event.Release sub) (Leave sub) (outcomes_told_by_stack (step_release model moment sub m.core)) false taken accepted h
       (stack_does only reports key_of moment m (event.Release sub) h.orderly) (leaves_keep only moment sub m.core).0 (core_takes (step_release model moment sub m.core))
   stack_takes key_of moment m event.Tick taken accepted h =
       let late : Bool = finds_expired (new_event_at model moment m.core) in
-      stack_keeps key_of moment m event.Tick TickEvent (if_expired late ++ told_at (step_tick model moment m.core)) late taken accepted h
+      stack_keeps key_of moment m event.Tick TickEvent (if_expired late ++ outcomes_told_by_stack (step_tick model moment m.core)) late taken accepted h
       (stack_does only reports key_of moment m event.Tick h.orderly) (ticks_keep only moment m.core).0
-      (expired_takes late (told_at (step_tick model moment m.core)) ∙ core_takes (step_tick model moment m.core))
+      (expired_takes late (outcomes_told_by_stack (step_tick model moment m.core)) ∙ core_takes (step_tick model moment m.core))
 
   safe_takes : (key_of : ℕ → ℕ → Option TripleKey) (s : Safety) (given : SafetyEvent) → told_taken (outcomes_by (heard_in given) (safety.step key_of s given).1) ≡ []
   safe_takes key_of s given = outcome_takes (heard_in given) (safety.step key_of s given).1
 
   -- an event at an end
-  end_takes : (key_of : ℕ → ℕ → Option TripleKey) (moment : ℕ) (end : End) (given : EndEvent) (taken accepted : List (List ℕ)) → TakesAt end taken accepted
+  end_takes : (key_of : ℕ → ℕ → Option TripleKey) (moment : ℕ) (end : EndAtLevel) (given : EndEvent) (taken accepted : List (List ℕ)) → TakesAt end taken accepted
       → let a = end_step key_of moment end given in TakesAt a.0 (taken ++ told_taken a.1) (accepted ++ told_accepted a.1)
   end_takes key_of moment (OfSafe s) event.Start taken accepted h = none_more taken _ h (safe_takes key_of s safety.ConnectRequest)
   end_takes key_of moment (OfSafe s) (event.Receive octets) taken accepted h = none_more taken _ h (safe_takes key_of s (safety.Received octets))
@@ -281,13 +281,13 @@ module _ (only : StepsOnly) (reports : CallsReport) where
   end_takes key_of moment (OfStation selective s stream) event.Start taken accepted h = none_more taken _ h (call_takes (finishes (station_starts moment s)))
   end_takes key_of moment (OfStation selective s stream) (event.Receive octets) taken accepted h = none_more taken _ h (heard_take selective moment (station_news stream octets) s)
   end_takes key_of moment (OfStation selective s stream) (event.Send octets) taken accepted h =
-      none_more taken _ h (handed_takes (station.refusal_of s octets s.released) moment octets s)
+      none_more taken _ h (handed_takes (station.payload_refusal_of_station s octets s.released) moment octets s)
   end_takes key_of moment (OfStation selective s stream) event.Take taken accepted h = none_more taken [] h refl
   end_takes key_of moment (OfStation selective s stream) (event.Release sub) taken accepted h =
       none_more taken _ h (if_takes (is_down s.phase) (s, []) (station_and_told (quits sub s)) refl (call_takes (quits sub s)))
   end_takes key_of moment (OfStation selective s stream) event.Tick taken accepted h =
       let u : Station = finishes (station_ticks moment s) in
-      none_more taken _ h (expired_takes (is_due s.timer (max s.moment moment)) (told_by u) ∙ call_takes u)
+      none_more taken _ h (expired_takes (is_due s.timer (max s.moment moment)) (outcomes_told_by_station u) ∙ call_takes u)
   end_takes key_of moment (OfStack m) given taken accepted h = stack_takes key_of moment m given taken accepted h
 
   -- ---- a link
@@ -295,10 +295,10 @@ module _ (only : StepsOnly) (reports : CallsReport) where
   abbrev taken_of : Side → Occurrence → List (List ℕ)
   taken_of s o = if is_side s o.side then took_in o.outcome else []
 
-  abbrev nowhere : Outcome → List (List ℕ)
+  abbrev nowhere : DrillOutcome → List (List ℕ)
   nowhere o = []
 
-  flat_nowhere : (os : List Outcome) → flat_map nowhere os ≡ []
+  flat_nowhere : (os : List DrillOutcome) → flat_map nowhere os ≡ []
   flat_nowhere [] = refl
   flat_nowhere (o ∷ os) = flat_nowhere os
 
@@ -309,12 +309,12 @@ module _ (only : StepsOnly) (reports : CallsReport) where
   abbrev TakesIn : Link → List Occurrence → Type 0
   TakesIn l history = TakesAt l.e (taken_by E history) (accepted_by E history) × TakesAt l.r (taken_by R history) (accepted_by R history)
 
-  same_takes : (end : End) (taken there accepted here : List (List ℕ)) → taken ≡ there → accepted ≡ here → TakesAt end taken accepted → TakesAt end there here
+  same_takes : (end : EndAtLevel) (taken there accepted here : List (List ℕ)) → taken ≡ there → accepted ≡ here → TakesAt end taken accepted → TakesAt end there here
   same_takes end taken there accepted here t a h =
       subst (λ (xs : List (List ℕ)). TakesAt end there xs) a (subst (λ (xs : List (List ℕ)). TakesAt end xs accepted) t h)
 
   -- outcomes of the side itself, and of the other
-  own_side : (s : Side) (end : End) (history : List Occurrence) (os : List Outcome) → TakesAt end (taken_by s history ++ told_taken os) (accepted_by s history ++ told_accepted os)
+  own_side : (s : Side) (end : EndAtLevel) (history : List Occurrence) (os : List DrillOutcome) → TakesAt end (taken_by s history ++ told_taken os) (accepted_by s history ++ told_accepted os)
       → TakesAt end (taken_by s (history ++ map (at_end s) os)) (accepted_by s (history ++ map (at_end s) os))
   own_side E end history os h =
       same_takes end _ _ _ _
@@ -325,7 +325,7 @@ module _ (only : StepsOnly) (reports : CallsReport) where
       (sym (taken_grows R history (map (at_end R) os) ∙ ap (λ (xs : List (List ℕ)). taken_by R history ++ xs) (flat_mapped (taken_of R) took_in R (λ o. refl) os)))
       (sym (accepted_grows R history (map (at_end R) os) ∙ ap (λ (xs : List (List ℕ)). accepted_by R history ++ xs) (accepted_r_r os))) h
 
-  other_side : (s : Side) (end : End) (history : List Occurrence) (os : List Outcome) → TakesAt end (taken_by (other s) history) (accepted_by (other s) history)
+  other_side : (s : Side) (end : EndAtLevel) (history : List Occurrence) (os : List DrillOutcome) → TakesAt end (taken_by (other s) history) (accepted_by (other s) history)
       → TakesAt end (taken_by (other s) (history ++ map (at_end s) os)) (accepted_by (other s) (history ++ map (at_end s) os))
   other_side E end history os h =
       same_takes end _ _ _ _
@@ -341,23 +341,23 @@ module _ (only : StepsOnly) (reports : CallsReport) where
   give_takes : (l : Link) (history : List Occurrence) (side : Side) (given : EndEvent) → TakesIn l history
       → TakesIn (give l side given).0 (history ++ (give l side given).1)
   give_takes l history E given h =
-      let a : End × List Outcome = end_step (key_on l.opening) l.moment l.e given in
+      let a : EndAtLevel × List DrillOutcome = end_step (key_on l.opening) l.moment l.e given in
       (own_side E a.0 history a.1 (end_takes (key_on l.opening) l.moment l.e given (taken_by E history) (accepted_by E history) h.0), other_side E l.r history a.1 h.1)
   give_takes l history R given h =
-      let a : End × List Outcome = end_step (key_on l.opening) l.moment l.r given in
+      let a : EndAtLevel × List DrillOutcome = end_step (key_on l.opening) l.moment l.r given in
       (other_side R l.e history a.1 h.0, own_side R a.0 history a.1 (end_takes (key_on l.opening) l.moment l.r given (taken_by R history) (accepted_by R history) h.1))
 
   -- outcomes that say of no message
-  abbrev SaysNone : List Outcome → Type 0
+  abbrev SaysNone : List DrillOutcome → Type 0
   SaysNone os = (told_taken os ≡ []) × (told_accepted os ≡ [])
 
-  add_none : (end : End) (taken accepted : List (List ℕ)) (os : List Outcome) → SaysNone os → TakesAt end taken accepted
+  add_none : (end : EndAtLevel) (taken accepted : List (List ℕ)) (os : List DrillOutcome) → SaysNone os → TakesAt end taken accepted
       → TakesAt end (taken ++ told_taken os) (accepted ++ told_accepted os)
   add_none end taken accepted os none h =
       same_takes end taken _ accepted _ (sym (ap (λ (xs : List (List ℕ)). taken ++ xs) none.0 ∙ append-nil taken))
       (sym (ap (λ (xs : List (List ℕ)). accepted ++ xs) none.1 ∙ append-nil accepted)) h
 
-  silent_takes : (l : Link) (history : List Occurrence) (side : Side) (os : List Outcome) → SaysNone os → TakesIn l history → TakesIn l (history ++ map (at_end side) os)
+  silent_takes : (l : Link) (history : List Occurrence) (side : Side) (os : List DrillOutcome) → SaysNone os → TakesIn l history → TakesIn l (history ++ map (at_end side) os)
   silent_takes l history E os none h =
       (own_side E l.e history os (add_none l.e (taken_by E history) (accepted_by E history) os none h.0), other_side E l.r history os h.1)
   silent_takes l history R os none h =
@@ -368,7 +368,7 @@ module _ (only : StepsOnly) (reports : CallsReport) where
   waiting_takes l history R frames h = h
 
   -- an outcome that says of no message, and then an event
-  onto_takes : (l : Link) (history : List Occurrence) (first : Side) (os : List Outcome) (side : Side) (given : EndEvent) → SaysNone os → TakesIn l history
+  onto_takes : (l : Link) (history : List Occurrence) (first : Side) (os : List DrillOutcome) (side : Side) (given : EndEvent) → SaysNone os → TakesIn l history
       → TakesIn (give l side given).0 (history ++ (map (at_end first) os ++ (give l side given).1))
   onto_takes l history first os side given none h =
       let a : Link × List Occurrence = give l side given in
@@ -381,7 +381,7 @@ module _ (only : StepsOnly) (reports : CallsReport) where
   pass_takes l history side (frame ∷ frames) h =
       onto_takes (with_waiting l side frames) history side (Passed frame ∷ []) (other side) (event.Receive frame) (refl, refl) (waiting_takes l history side frames h)
 
-  none_if : (b : Bool) (x y : List (List ℕ) × List Outcome) → SaysNone x.1 → SaysNone y.1 → SaysNone (if b then x else y).1
+  none_if : (b : Bool) (x y : List (List ℕ) × List DrillOutcome) → SaysNone x.1 → SaysNone y.1 → SaysNone (if b then x else y).1
   none_if true x y hx hy = hx
   none_if false x y hx hy = hy
 
@@ -401,7 +401,7 @@ module _ (only : StepsOnly) (reports : CallsReport) where
   step_takes l history (Send side octets) h = give_takes l history side (event.Send octets) h
   step_takes l history (Pass side) h = pass_takes l history side (waiting_of l side) h
   step_takes l history (Change side change) h =
-      let a : List (List ℕ) × List Outcome = change_first change (waiting_of l side) in
+      let a : List (List ℕ) × List DrillOutcome = change_first change (waiting_of l side) in
       silent_takes (with_waiting l side a.0) history side a.1 (changes_say change (waiting_of l side)) (waiting_takes l history side a.0 h)
   step_takes l history (Take side) h = give_takes l history side event.Take h
   step_takes l history (ReleaseStep side sub) h = onto_takes l history side (UserReleased sub ∷ []) side (event.Release sub) (refl, refl) h
@@ -442,7 +442,7 @@ module _ (only : StepsOnly) (reports : CallsReport) where
     }
 
     -- what an end took is a beginning of what it accepted
-    end_prefix : (end : End) (taken accepted : List (List ℕ)) → TakesAt end taken accepted → IsPrefix taken accepted
+    end_prefix : (end : EndAtLevel) (taken accepted : List (List ℕ)) → TakesAt end taken accepted → IsPrefix taken accepted
     end_prefix (OfSafe s) taken accepted h = rw h refl
     end_prefix (OfStation selective s stream) taken accepted h = rw h refl
     end_prefix (OfStack m) taken accepted h =
@@ -457,7 +457,7 @@ module _ (only : StepsOnly) (reports : CallsReport) where
     place_prefix (Some l) history E h = end_prefix l.e (taken_by E history) (accepted_by E history) h.0
     place_prefix (Some l) history R h = end_prefix l.r (taken_by R history) (accepted_by R history) h.1
 
-    pub takes_in_order : HistoryGrows → HistoryOfOwn → HistoryOfOther → (plan : Plan) (steps : List Step) → TakesInOrder plan steps
+    pub takes_in_order : HistoryGrows → HistoryOfOwn → HistoryOfOther → (plan : DrillPlan) (steps : List Step) → TakesInOrder plan steps
     takes_in_order grow own other plan steps n side =
         place_prefix (link_at (world_run plan steps).0 n) (history_on n (world_run plan steps).1) side
         (world_lives grow own other plan (λ o. Unit {0}) (λ s. Unit {0}) TakesIn (taking plan.settings) steps (any_steps plan steps) n)

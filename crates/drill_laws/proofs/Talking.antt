@@ -10,16 +10,16 @@ use Rattle.er_scenario.specs.declared.step.Step.{Step}
 use Rattle.er_scenario.specs.declared.step.Step.TheVariants as does
 use Rattle.safety_automaton.specs.Safety.{Safety, SafetyEvent, SafetyOutcome, SentAu1, SentAu2, SentAu3, SentAr, ReceivedAr, AcceptedDt, SentDt, Refused, ReleasedLocally, ReleasedByPeer, NothingDone}
 use Rattle.safety_pair_laws.specs.Facts.{SideFact, at_side, heard_in, facts_by, facts_of}
-use Rattle.safety_pair_laws.specs.Openings.{PairOpening, OfFixed, OfKeys, Pair, key_for, safety_of, with_safety, begun}
+use Rattle.safety_pair_laws.specs.Openings.{PairOpening, OfFixed, OfKeys, Pair, key_for, safety_of, with_safety, pair_before_events}
 use Rattle.safety_pair_laws.specs.Talks.{answer, Talks, Begins, Goes}
 use Rattle.safety_pair_laws.specs.Authentic.{TalksAreAuthentic}
-use Rattle.drill_model.specs.Outcomes.{Outcome, NothingWaits, IsShort, Altered, UserReleased, Passed, Occurrence, at_end, facts_in}
-use Rattle.drill_model.specs.Ends.{End, OfSafe, EndEvent, Start, safety_event, outcomes_by, safe_end_step, end_step}
+use Rattle.drill_model.specs.Outcomes.{DrillOutcome, NothingWaits, IsShort, Altered, UserReleased, Passed, Occurrence, at_end, facts_in}
+use Rattle.drill_model.specs.Ends.{EndAtLevel, OfSafe, EndEvent, Start, safety_event, outcomes_by, safe_end_step, end_step}
 use Rattle.drill_model.specs.Ends as event
 use Rattle.hdlc_station_model.specs.Lines.{altered}
 use Rattle.drill_model.specs.Waiting.{LineChange, Lose, Repeat, Alter, Put, change_first}
 use Rattle.drill_model.specs.Links.{Link, LinkOpening, OfPair, OfStations, OfStacks, waiting_of, with_waiting, with_answer, give, joined_pair, opened_pair, opened_link, LinkStep, Send, Pass, Change, Take, Release, Tick, pass, link_step}
-use Rattle.drill_model.specs.Worlds.{Plan, fixed_opening, link_opening, wire_opening, link_at, history_on, world_run}
+use Rattle.drill_model.specs.Worlds.{DrillPlan, fixed_opening, link_opening, wire_opening, link_at, history_on, world_run}
 use Rattle.drill_model.specs.Claims.{LawfulAt}
 use Rattle.drill_laws.specs.Laws.{LawfulAlways}
 use Rattle.drill_model.specs.Growth.{HistoryGrows, HistoryOfOwn, HistoryOfOther, FactsGrow}
@@ -148,10 +148,10 @@ module _ (grow : FactsGrow) where
       onto_talks (with_waiting l side frames) history (at_end side (Passed frame) ∷ []) (other side) (event.Receive frame) refl (waiting_talks l history side frames t)
 
   -- a change of what waits that tells no fact
-  abbrev IsSilent : Side → List (List ℕ) × List Outcome → Type 0
+  abbrev IsSilent : Side → List (List ℕ) × List DrillOutcome → Type 0
   IsSilent side a = facts_in (map (at_end side) a.1) ≡ []
 
-  silent_if : (side : Side) (b : Bool) (x y : List (List ℕ) × List Outcome) → IsSilent side x → IsSilent side y → IsSilent side (if b then x else y)
+  silent_if : (side : Side) (b : Bool) (x y : List (List ℕ) × List DrillOutcome) → IsSilent side x → IsSilent side y → IsSilent side (if b then x else y)
   silent_if side true x y hx hy = hx
   silent_if side false x y hx hy = hy
 
@@ -184,7 +184,7 @@ module _ (grow : FactsGrow) where
       (give_talks a.0 (history ++ a.1) R event.Tick (give_talks m history E event.Tick now))
 
   joined_talks : (opening : PairOpening) (moment : ℕ) → IsTalk (joined_pair opening moment) []
-  joined_talks opening moment = record { opening = opening; pair = begun opening; opening_is = refl; e_is = refl; r_is = refl; talks = Begins }
+  joined_talks opening moment = record { opening = opening; pair = pair_before_events opening; opening_is = refl; e_is = refl; r_is = refl; talks = Begins }
 
   opened_talks : (opening : PairOpening) (moment : ℕ) → IsTalk (opened_pair opening moment).0 (opened_pair opening moment).1
   opened_talks (OfFixed engine rbc ke kr) moment = joined_talks (OfFixed engine rbc ke kr) moment
@@ -218,7 +218,7 @@ pub any_opening : (o : Option LinkOpening) → OpensFit (λ x. Unit {0}) o
 any_opening None = tt
 any_opening (Some opening) = tt
 
-pub any_step : (plan : Plan) (s : Step) → StepFits (λ x. Unit {0}) (λ x. Unit {0}) plan s
+pub any_step : (plan : DrillPlan) (s : Step) → StepFits (λ x. Unit {0}) (λ x. Unit {0}) plan s
 any_step plan (does.Fixed n engine rbc ke kr) = any_opening (fixed_opening plan.level engine rbc ke kr)
 any_step plan (does.Link n engine rbc ke kr ra rb) = any_opening (link_opening plan.level engine rbc ke kr ra rb)
 any_step plan (does.Wire n) = any_opening (wire_opening plan.level)
@@ -234,12 +234,12 @@ any_step plan (does.Release n s sub) = tt
 any_step plan (does.Tick moment) = tt
 any_step plan (does.Drain n most) = tt
 
-pub any_steps : (plan : Plan) (steps : List Step) → AllByRecursion (StepFits (λ x. Unit {0}) (λ x. Unit {0}) plan) steps
+pub any_steps : (plan : DrillPlan) (steps : List Step) → AllByRecursion (StepFits (λ x. Unit {0}) (λ x. Unit {0}) plan) steps
 any_steps plan [] = tt
 any_steps plan (s ∷ steps) = (any_step plan s, any_steps plan steps)
 
 -- each link of a world is of two sides that talk, or of two stations
-pub world_stands : StationLaws → (facts : FactsGrow) → HistoryGrows → HistoryOfOwn → HistoryOfOther → (plan : Plan) (steps : List Step) (n : ℕ)
+pub world_stands : StationLaws → (facts : FactsGrow) → HistoryGrows → HistoryOfOwn → HistoryOfOther → (plan : DrillPlan) (steps : List Step) (n : ℕ)
     → AtPlace (Either plan.settings (Speaks facts)) (link_at (world_run plan steps).0 n) (history_on n (world_run plan steps).1)
 world_stands laws facts grow own other plan steps n =
     world_lives grow own other plan (λ x. Unit {0}) (λ x. Unit {0}) (Either plan.settings (Speaks facts)) (talks_keep facts laws plan.settings) steps (any_steps plan steps) n

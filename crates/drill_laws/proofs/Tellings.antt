@@ -20,17 +20,17 @@ use Rattle.hdlc_station_model.specs.Selective.{receives_as}
 use Rattle.hdlc_station_model.specs.Laws.{LeavesPayloads, Ticked, TicksGive, HandsKeep, OthersKeep, ReleasedAreInert}
 use Rattle.hdlc_station_model.specs.Reports.{TellsRelease, ReleasesAreTold, FinishKeepsRelease, newer, is_release}
 use Rattle.hdlc_station_model.specs.Events.{said_octets, quits, is_late}
-use Rattle.hdlc_pair_laws.specs.Keeping.{Gives, FramesGive}
+use Rattle.hdlc_pair_laws.specs.Keeping.{TellsWhatStationTakes, FramesGive}
 use Rattle.safety_pair_laws.specs.Facts.{SideFact}
 use Rattle.er_end_model.specs.Outcomes.{SendRefusal}
-use Rattle.drill_model.specs.Outcomes.{Outcome, Handed, Arrived, Up, Refused, Released, Frame, Expired, at_end, facts_at, facts_in, frames_of, frames_in}
-use Rattle.drill_model.specs.StationEnds.{if_up, if_arrived, if_released, told_by, station_and_told, frames_heard, refusal_of, handed_unless, station_send, station_release, if_expired, station_tick, station_start}
+use Rattle.drill_model.specs.Outcomes.{DrillOutcome, Handed, Arrived, Up, Refused, Released, Frame, Expired, at_end, facts_at, facts_in, frames_of_outcome, frames_in}
+use Rattle.drill_model.specs.StationEnds.{if_up, if_arrived, if_released, outcomes_told_by_station, station_and_told, frames_heard, payload_refusal_of_station, handed_unless, station_send, station_release, if_expired, station_tick, station_start}
 use Rattle.drill_model.specs.Kinds.{sent_in, accepted_in, released_in, passed_in, is_disorder, is_disturbance}
 
 -- ---- what outcomes say
 
 -- outcomes without a fact: what was handed down, what was accepted, the releases, whether order or more was disturbed, and how many were passed
-pub record Says (os : List Outcome) (handed taken : List (List ℕ)) (releases : List Release) (disorder disturbed : Bool) (passes : ℕ) : Type 0 where
+pub record Says (os : List DrillOutcome) (handed taken : List (List ℕ)) (releases : List Release) (disorder disturbed : Bool) (passes : ℕ) : Type 0 where
   pub handed_is : flat_map sent_in os ≡ handed
   pub taken_is : flat_map accepted_in os ≡ taken
   pub releases_are : flat_map released_in os ≡ releases
@@ -43,7 +43,7 @@ pub says_nothing : Says [] [] [] [] false false 0
 says_nothing = record { handed_is = refl; taken_is = refl; releases_are = refl; disorder_is = refl; disturbed_is = refl; passes_are = refl; facts = λ side. refl }
 
 -- one more before others
-pub says_more : (o : Outcome) (os : List Outcome) (handed taken : List (List ℕ)) (releases : List Release) (disorder disturbed : Bool) (passes : ℕ)
+pub says_more : (o : DrillOutcome) (os : List DrillOutcome) (handed taken : List (List ℕ)) (releases : List Release) (disorder disturbed : Bool) (passes : ℕ)
     → ((side : Side) → facts_at side o ≡ []) → Says os handed taken releases disorder disturbed passes
     → Says (o ∷ os) (sent_in o ++ handed) (accepted_in o ++ taken) (released_in o ++ releases) (is_disorder o || disorder) (is_disturbance o || disturbed)
     (length (passed_in o) + passes)
@@ -58,13 +58,13 @@ says_more o os handed taken releases disorder disturbed passes silent h =
       facts = λ side. ap₂ (λ (xs ys : List SideFact). xs ++ ys) (silent side) (h.facts side);
     }
 
-facts_append : (side : Side) (xs ys : List Outcome) → facts_in (map (at_end side) (xs ++ ys)) ≡ facts_in (map (at_end side) xs) ++ facts_in (map (at_end side) ys)
+facts_append : (side : Side) (xs ys : List DrillOutcome) → facts_in (map (at_end side) (xs ++ ys)) ≡ facts_in (map (at_end side) xs) ++ facts_in (map (at_end side) ys)
 facts_append side [] ys = refl
 facts_append side (o ∷ xs) ys =
     ap (λ (fs : List SideFact). facts_at side o ++ fs) (facts_append side xs ys)
     ∙ sym (append_assoc (facts_at side o) (facts_in (map (at_end side) xs)) (facts_in (map (at_end side) ys)))
 
-pub says_append : (xs ys : List Outcome) (h h' t t' : List (List ℕ)) (r r' : List Release) (d d' b b' : Bool) (n n' : ℕ)
+pub says_append : (xs ys : List DrillOutcome) (h h' t t' : List (List ℕ)) (r r' : List Release) (d d' b b' : Bool) (n n' : ℕ)
     → Says xs h t r d b n → Says ys h' t' r' d' b' n' → Says (xs ++ ys) (h ++ h') (t ++ t') (r ++ r') (d || d') (b || b') (n + n')
 says_append xs ys h h' t t' r r' d d' b b' n n' x y =
     record {
@@ -110,7 +110,7 @@ says_deed false None more released frames = says_run more released frames
 abbrev pub all_taken : Deed → List (List ℕ)
 all_taken d = option_to_list d.payload ++ d.more
 
-pub says_told : (t : Station) → Says (told_by t) [] (all_taken t.deed) (option_to_list t.deed.released) false false 0
+pub says_told : (t : Station) → Says (outcomes_told_by_station t) [] (all_taken t.deed) (option_to_list t.deed.released) false false 0
 says_told t = says_deed t.deed.up t.deed.payload t.deed.more t.deed.released (said_octets t)
 
 -- the frames among them
@@ -133,11 +133,11 @@ frames_deed true None more released frames = frames_run more released frames
 frames_deed false (Some p) more released frames = frames_run more released frames
 frames_deed false None more released frames = frames_run more released frames
 
-pub frames_told : (t : Station) → frames_in (told_by t) ≡ said_octets t
+pub frames_told : (t : Station) → frames_in (outcomes_told_by_station t) ≡ said_octets t
 frames_told t = frames_deed t.deed.up t.deed.payload t.deed.more t.deed.released (said_octets t)
 
-pub frames_append : (xs ys : List Outcome) → frames_in (xs ++ ys) ≡ frames_in xs ++ frames_in ys
-frames_append xs ys = flat_map-append frames_of xs ys
+pub frames_append : (xs ys : List DrillOutcome) → frames_in (xs ++ ys) ≡ frames_in xs ++ frames_in ys
+frames_append xs ys = flat_map-append frames_of_outcome xs ys
 
 -- ---- an event at a station
 
@@ -188,7 +188,7 @@ either_of : (s t : Station) → TellsRelease s t → LeavesRelease s t ⊎ Gives
 either_of s t h = one_of s t t.deed.released refl h
 
 -- a station went on so: its lists grew by what the outcomes say, and each release among them is its own, which it keeps
-pub record Went (s : Station) (a : Station × List Outcome) (late : Bool) : Type 0 where
+pub record Went (s : Station) (a : Station × List DrillOutcome) (late : Bool) : Type 0 where
   pub handed : List (List ℕ)
   pub taken : List (List ℕ)
   pub releases : List Release
@@ -224,7 +224,7 @@ all_append : (t : Station) (xs ys : List Release) → AllByRecursion (λ release
 all_append t [] ys h i = i
 all_append t (x ∷ xs) ys h i = (h.0, all_append t xs ys h.1 i)
 
-then_went : (s : Station) (a : Station × List Outcome) (b : Station × List Outcome) (late later : Bool) → Went s a late → Went a.0 b later → Went s (b.0, a.1 ++ b.1) (late || later)
+then_went : (s : Station) (a : Station × List DrillOutcome) (b : Station × List DrillOutcome) (late later : Bool) → Went s a late → Went a.0 b later → Went s (b.0, a.1 ++ b.1) (late || later)
 then_went s a b late later x y =
     record {
       handed = x.handed ++ y.handed;
@@ -251,9 +251,9 @@ ready_of s t h (inl a) =
     record { quiet = refl; live = λ none. a.down ∙ h.live (sym a.released ∙ none); down = λ release is. a.down ∙ h.down release (sym a.released ∙ is) }
 ready_of s t h (inr a) = record { quiet = refl; live = λ none. absurd (none_some a.release t.released a.released none); down = λ release is. a.down }
 
-call_went : (s t : Station) (first : List Outcome) (more : List (List ℕ)) (late : Bool) → Says first more [] [] false late 0 → Ready s → t.handed ≡ s.handed ++ more
+call_went : (s t : Station) (first : List DrillOutcome) (more : List (List ℕ)) (late : Bool) → Says first more [] [] false late 0 → Ready s → t.handed ≡ s.handed ++ more
     → t.taken ≡ s.taken ++ all_taken t.deed → (LeavesRelease s t ⊎ GivesRelease t) → (is_down s.phase ≡ true → t.released ≡ s.released)
-    → Went s (settled t, first ++ told_by t) late
+    → Went s (settled t, first ++ outcomes_told_by_station t) late
 call_went s t first more late says ready handed taken releases inert =
     let told = says_told t in
     let or_false : (late || false) ≡ late = or_none late in
@@ -261,9 +261,9 @@ call_went s t first more late says ready handed taken releases inert =
       handed = more;
       taken = all_taken t.deed;
       releases = option_to_list t.deed.released;
-      says = subst (λ (b : Bool). Says (first ++ told_by t) more (all_taken t.deed) (option_to_list t.deed.released) false b 0) or_false
-          (subst (λ (xs : List (List ℕ)). Says (first ++ told_by t) xs (all_taken t.deed) (option_to_list t.deed.released) false (late || false) 0) (append-nil more)
-          (says_append first (told_by t) more [] [] (all_taken t.deed) [] (option_to_list t.deed.released) false false late false 0 0 says told));
+      says = subst (λ (b : Bool). Says (first ++ outcomes_told_by_station t) more (all_taken t.deed) (option_to_list t.deed.released) false b 0) or_false
+          (subst (λ (xs : List (List ℕ)). Says (first ++ outcomes_told_by_station t) xs (all_taken t.deed) (option_to_list t.deed.released) false (late || false) 0) (append-nil more)
+          (says_append first (outcomes_told_by_station t) more [] [] (all_taken t.deed) [] (option_to_list t.deed.released) false false late false 0 0 says told));
       ready = ready_of s t ready releases;
       handed_is = handed;
       taken_is = taken;
@@ -301,9 +301,9 @@ module _ (laws : StationLaws) where
   finished_taken u = ap all_taken (laws.finish u).deed
 
   -- a call, and the answer
-  finish_went : (s u : Station) (first : List Outcome) (more : List (List ℕ)) (late : Bool) → Says first more [] [] false late 0 → Ready s → u.handed ≡ s.handed ++ more
+  finish_went : (s u : Station) (first : List DrillOutcome) (more : List (List ℕ)) (late : Bool) → Says first more [] [] false late 0 → Ready s → u.handed ≡ s.handed ++ more
       → u.taken ≡ s.taken ++ all_taken u.deed → (LeavesRelease s u ⊎ GivesRelease u) → (is_down s.phase ≡ true → u ≡ s)
-      → Went s (settled (finishes u), first ++ told_by (finishes u)) late
+      → Went s (settled (finishes u), first ++ outcomes_told_by_station (finishes u)) late
   finish_went s u first more late says ready handed taken releases inert =
       let keeps : LeavesPayloads u (finishes u) = (laws.others_keep 0 u).1 in
       call_went s (finishes u) first more late says ready (keeps.0 ∙ handed)
@@ -313,13 +313,13 @@ module _ (laws : StationLaws) where
   pub heard_went : (selective : Bool) (moment : ℕ) (v : Verdict) (s : Station) → Ready s → Went s (station_and_told (finishes (receives_as selective moment v s))) false
   heard_went selective moment v s ready =
       let u : Station = receives_as selective moment v s in
-      let got : Gives s u = laws.frames_give selective moment v s ready.quiet in
+      let got : TellsWhatStationTakes s u = laws.frames_give selective moment v s ready.quiet in
       finish_went s u [] [] false says_nothing ready (got.handed ∙ sym (append-nil s.handed)) got.taken (either_of s u got.release) got.inert
 
   pub frames_went : (selective : Bool) (moment : ℕ) (vs : List Verdict) (s : Station) → Ready s → Went s (frames_heard selective moment vs s) false
   frames_went selective moment [] s ready = stays s ready
   frames_went selective moment (v ∷ vs) s ready =
-      let a : Station × List Outcome = station_and_told (finishes (receives_as selective moment v s)) in
+      let a : Station × List DrillOutcome = station_and_told (finishes (receives_as selective moment v s)) in
       let first : Went s a false = heard_went selective moment v s ready in
       then_went s a (frames_heard selective moment vs a.0) false false first (frames_went selective moment vs a.0 first.ready)
 
@@ -345,7 +345,7 @@ module _ (laws : StationLaws) where
       }
 
   handed_went : (moment : ℕ) (payload : List ℕ) (s : Station) → Ready s → s.released ≡ None
-      → Went s (settled (finishes (hands moment payload s)), Handed payload ∷ told_by (finishes (hands moment payload s))) false
+      → Went s (settled (finishes (hands moment payload s)), Handed payload ∷ outcomes_told_by_station (finishes (hands moment payload s))) false
   handed_went moment payload s ready none =
       let keeps = laws.hands_keep moment payload s in
       let live : is_down s.phase ≡ false = ready.live none in
@@ -358,14 +358,14 @@ module _ (laws : StationLaws) where
       both_ways : (b : Bool) → b ≡ true → b ≡ false → ⊥
       both_ways b t f = let e : true ≡ false = sym t ∙ f in cc
 
-  handing_went : (moment : ℕ) (payload : List ℕ) (s : Station) → Ready s → (o : Option Release) → s.released ≡ o → (q : Option SendRefusal) → refusal_of s payload o ≡ q
+  handing_went : (moment : ℕ) (payload : List ℕ) (s : Station) → Ready s → (o : Option Release) → s.released ≡ o → (q : Option SendRefusal) → payload_refusal_of_station s payload o ≡ q
       → Went s (handed_unless q moment payload s) false
   handing_went moment payload s ready o is (Some refusal) refused = refused_went s refusal ready
   handing_went moment payload s ready None is None refused = handed_went moment payload s ready is
   handing_went moment payload s ready (Some release) is None refused = absurd (cc)
 
   pub sends_went : (moment : ℕ) (payload : List ℕ) (s : Station) → Ready s → Went s (station_send moment payload s) false
-  sends_went moment payload s ready = handing_went moment payload s ready s.released refl (refusal_of s payload s.released) refl
+  sends_went moment payload s ready = handing_went moment payload s ready s.released refl (payload_refusal_of_station s payload s.released) refl
 
   quits_went : (sub : ℕ) (s : Station) → Ready s → is_down s.phase ≡ false → Went s (station_and_told (quits sub s)) false
   quits_went sub s ready live =
@@ -379,7 +379,7 @@ module _ (laws : StationLaws) where
 
   pub releases_went : (sub : ℕ) (s : Station) → Ready s → Went s (station_release sub s) false
   releases_went sub s ready =
-      cond_both (is_down s.phase) (s, []) (station_and_told (quits sub s)) (λ (a : Station × List Outcome). Went s a false) (λ down. stays s ready) (λ live. quits_went sub s ready live)
+      cond_both (is_down s.phase) (s, []) (station_and_told (quits sub s)) (λ (a : Station × List DrillOutcome). Went s a false) (λ down. stays s ready) (λ live. quits_went sub s ready live)
 
   says_expired : (b : Bool) → Says (if_expired b) [] [] [] false b 0
   says_expired true = says_more Expired [] [] [] [] false false 0 (λ side. refl) says_nothing

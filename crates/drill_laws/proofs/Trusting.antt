@@ -13,7 +13,7 @@ use Rattle.safety_automaton.specs.Safety.{Safety, Connection, Phase, Ready, Wait
 use Rattle.safety_automaton.specs.Rules.{StaysIdle, AtReceived, AtDisconnect, AtConnect, IsStep}
 use Rattle.safety_pair_laws.specs.Facts.{MarkedFact, at_side, facts_of, is_sealing, was_sealed, mistrusts, marked_from}
 use Rattle.er_end_model.specs.Steps.{is_connected}
-use Rattle.er_end_pair_laws.specs.Phases.{connection_of, IsEngines, IsCentres, AreInStep}
+use Rattle.er_end_pair_laws.specs.Phases.{connection_of, IsEnginesPhase, IsCentres, AreInStep}
 use Rattle.drill_model.specs.StackReports.{user_by}
 use Rattle.drill_laws.proofs.StackWiring.{Numbers}
 use Rattle.drill_laws.proofs.StackSaying.{sent_by_step}
@@ -123,8 +123,8 @@ module _ (k : Numbers) where
 
   -- ---- what is known at a phase
 
-  e_at : (e r : Safety) (p : Phase) → InStep k e r → e.phase ≡ p → IsEngines k.engine k.rbc k.ke k.ra k.rb p
-  e_at e r p a is = subst (λ (q : Phase). IsEngines k.engine k.rbc k.ke k.ra k.rb q) is a.e_is
+  e_at : (e r : Safety) (p : Phase) → InStep k e r → e.phase ≡ p → IsEnginesPhase k.engine k.rbc k.ke k.ra k.rb p
+  e_at e r p a is = subst (λ (q : Phase). IsEnginesPhase k.engine k.rbc k.ke k.ra k.rb q) is a.e_is
 
   r_at : (e r : Safety) (p : Phase) → InStep k e r → r.phase ≡ p → IsCentres k.engine k.rbc k.ke k.ra k.rb p
   r_at e r p a is = subst (λ (q : Phase). IsCentres k.engine k.rbc k.ke k.ra k.rb q) is a.r_is

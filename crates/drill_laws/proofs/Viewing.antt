@@ -15,10 +15,10 @@ use Rattle.safety_automaton.specs.Safety.{Safety, SafetyEvent, ConnectRequest, R
 use Rattle.safety_pair_laws.specs.Facts.{SideFact, is_side, heard_in}
 use Rattle.safety_pair_laws.specs.Openings.{PairOpening, OfFixed, OfKeys, key_for, safety_of}
 use Rattle.safety_pair_laws.specs.Talks.{answer}
-use Rattle.safety_pair_laws.specs.Deliveries.{sent_of, accepted_of, sapdus_of, Flow, under_way, with_under_way, after, happens, delivered, untouched, begun_flow, Flows, Begins, Sends, Delivers, FitsOpening}
+use Rattle.safety_pair_laws.specs.Deliveries.{sent_of, accepted_of, sapdus_of, Flow, under_way, with_under_way, flow_with_answer, flow_behind_event, delivered, untouched, begun_flow, Flows, Begins, Sends, Delivers, FitsOpening}
 use Rattle.safety_pair_laws.specs.Messages as pair
-use Rattle.drill_model.specs.Outcomes.{Outcome, OfSafety, Handed, Arrived, Passed, Altered, NothingWaits, IsShort, Occurrence, at_end, facts_at, facts_in, frames_in}
-use Rattle.drill_model.specs.Ends.{End, OfSafe, EndEvent, Start, safety_event, outcomes_by, safe_end_step, end_step}
+use Rattle.drill_model.specs.Outcomes.{DrillOutcome, OfSafety, Handed, Arrived, Passed, Altered, NothingWaits, IsShort, Occurrence, at_end, facts_at, facts_in, frames_in}
+use Rattle.drill_model.specs.Ends.{EndAtLevel, OfSafe, EndEvent, Start, safety_event, outcomes_by, safe_end_step, end_step}
 use Rattle.drill_model.specs.Ends as event
 use Rattle.hdlc_station_model.specs.Lines.{altered}
 use Rattle.drill_model.specs.Waiting.{LineChange, Lose, Repeat, Alter, Put, change_first}
@@ -34,7 +34,7 @@ use Rattle.drill_laws.proofs.Talking.{facts_among}
 -- ---- what was sent and accepted, by facts
 
 -- no payload of level link
-abbrev IsPlain : Outcome → Type 0
+abbrev IsPlain : DrillOutcome → Type 0
 IsPlain (Handed payload) = ⊥
 IsPlain (Arrived payload) = ⊥
 IsPlain outcome = Unit {0}
@@ -42,7 +42,7 @@ IsPlain outcome = Unit {0}
 abbrev pub AllPlain : List Occurrence → Type 0
 AllPlain history = AllByRecursion (λ o. IsPlain o.outcome) history
 
-sent_plain : (b : Bool) (side : Side) (outcome : Outcome) → IsPlain outcome
+sent_plain : (b : Bool) (side : Side) (outcome : DrillOutcome) → IsPlain outcome
     → (if b then sent_in outcome else []) ≡ flat_map (λ (f : SideFact). if b then pair.sent_in f.fact else []) (facts_at side outcome)
 sent_plain true side (OfSafety fact) plain = sym (append-nil (pair.sent_in fact))
 sent_plain false side (OfSafety fact) plain = refl
@@ -50,7 +50,7 @@ sent_plain b side (Handed payload) plain = absurd plain
 sent_plain true side outcome plain = refl
 sent_plain false side outcome plain = refl
 
-accepted_plain : (b : Bool) (side : Side) (outcome : Outcome) → IsPlain outcome
+accepted_plain : (b : Bool) (side : Side) (outcome : DrillOutcome) → IsPlain outcome
     → (if b then accepted_in outcome else []) ≡ flat_map (λ (f : SideFact). if b then pair.accepted_in f.fact else []) (facts_at side outcome)
 accepted_plain true side (OfSafety fact) plain = sym (append-nil (pair.accepted_in fact))
 accepted_plain false side (OfSafety fact) plain = refl
@@ -58,7 +58,7 @@ accepted_plain b side (Arrived payload) plain = absurd plain
 accepted_plain true side outcome plain = refl
 accepted_plain false side outcome plain = refl
 
-sent_at : (s side : Side) (outcome : Outcome) → IsPlain outcome → (if is_side s side then sent_in outcome else []) ≡ sent_of s (facts_at side outcome)
+sent_at : (s side : Side) (outcome : DrillOutcome) → IsPlain outcome → (if is_side s side then sent_in outcome else []) ≡ sent_of s (facts_at side outcome)
 sent_at s side (OfSafety fact) plain = sent_plain (is_side s side) side (OfSafety fact) plain
 sent_at s side (Handed payload) plain = absurd plain
 sent_at E E outcome plain = sent_plain true E outcome plain
@@ -66,7 +66,7 @@ sent_at E R outcome plain = sent_plain false R outcome plain
 sent_at R E outcome plain = sent_plain false E outcome plain
 sent_at R R outcome plain = sent_plain true R outcome plain
 
-accepted_at : (s side : Side) (outcome : Outcome) → IsPlain outcome → (if is_side s side then accepted_in outcome else []) ≡ accepted_of s (facts_at side outcome)
+accepted_at : (s side : Side) (outcome : DrillOutcome) → IsPlain outcome → (if is_side s side then accepted_in outcome else []) ≡ accepted_of s (facts_at side outcome)
 accepted_at s side (OfSafety fact) plain = accepted_plain (is_side s side) side (OfSafety fact) plain
 accepted_at s side (Arrived payload) plain = absurd plain
 accepted_at E E outcome plain = accepted_plain true E outcome plain
@@ -197,7 +197,7 @@ module _ (grow : FactsGrow) where
 
   -- an end does what its side does
   some_view : (opening : PairOpening) (f : Flow) (l : Link) (history : List Occurrence) (side : Side) (event : SafetyEvent) → IsView opening f l history
-      → IsView opening (happens opening f side event) (with_answer l side (safe_end_step (key_for opening) (safety_of f.pair side) (Some event))).0
+      → IsView opening (flow_behind_event opening f side event) (with_answer l side (safe_end_step (key_for opening) (safety_of f.pair side) (Some event))).0
       (history ++ (with_answer l side (safe_end_step (key_for opening) (safety_of f.pair side) (Some event))).1)
   some_view opening f l history E event v =
       let a : Safety × SafetyOutcome = answer opening f.pair E event in
@@ -247,11 +247,11 @@ module _ (grow : FactsGrow) where
       (none_view opening f l history side v))
 
   pub give_some : (opening : PairOpening) (f : Flow) (l : Link) (history : List Occurrence) (side : Side) (event : EndEvent) (given : SafetyEvent)
-      → safety_event event ≡ Some given → IsView opening f l history → ViewAt opening (happens opening f side given) history (give l side event)
+      → safety_event event ≡ Some given → IsView opening f l history → ViewAt opening (flow_behind_event opening f side given) history (give l side event)
   give_some opening f l history side event given is v =
-      subst (ViewAt opening (happens opening f side given) history) (sym (gives_safely opening f l history side event v))
+      subst (ViewAt opening (flow_behind_event opening f side given) history) (sym (gives_safely opening f l history side event v))
       (subst (λ (e : Option SafetyEvent).
-      ViewAt opening (happens opening f side given) history (with_answer l side (safe_end_step (key_for opening) (safety_of f.pair side) e))) (sym is)
+      ViewAt opening (flow_behind_event opening f side given) history (with_answer l side (safe_end_step (key_for opening) (safety_of f.pair side) e))) (sym is)
       (some_view opening f l history side given v))
 
   -- the first frame of a side is taken from those that wait
@@ -285,7 +285,7 @@ module _ (grow : FactsGrow) where
       }
 
   happens_at : (opening : PairOpening) (f : Flow) (side : Side) (frames : List (List ℕ)) (frame : List ℕ)
-      → happens opening (record (with_under_way f side frames) { deliveries = f.deliveries + 1 }) (other side) (Received frame) ≡ delivered opening f side frame frames
+      → flow_behind_event opening (record (with_under_way f side frames) { deliveries = f.deliveries + 1 }) (other side) (Received frame) ≡ delivered opening f side frame frames
   happens_at opening f E frames frame = refl
   happens_at opening f R frames frame = refl
 
@@ -297,10 +297,10 @@ module _ (grow : FactsGrow) where
       let g : Flow = record (with_under_way f side frames) { deliveries = f.deliveries + 1 } in
       let first : List Occurrence = at_end side (Passed frame) ∷ [] in
       let a : Link × List Occurrence = give m (other side) (event.Receive frame) in
-      let there : IsView opening (happens opening g (other side) (Received frame)) a.0 ((history ++ first) ++ a.1) =
+      let there : IsView opening (flow_behind_event opening g (other side) (Received frame)) a.0 ((history ++ first) ++ a.1) =
       give_some opening g m (history ++ first) (other side) (event.Receive frame) (Received frame) refl (taken_view opening f l history side frame frames v) in
       subst (λ (h : Flow). IsView opening h a.0 (history ++ (first ++ a.1))) (happens_at opening f side frames frame)
-      (subst (λ (h : List Occurrence). IsView opening (happens opening g (other side) (Received frame)) a.0 h) (append_assoc history first a.1) there)
+      (subst (λ (h : List Occurrence). IsView opening (flow_behind_event opening g (other side) (Received frame)) a.0 h) (append_assoc history first a.1) there)
 
   -- ---- a link that isn't disturbed
 
@@ -335,14 +335,14 @@ module _ (grow : FactsGrow) where
       }
 
   -- what the line does, where it disturbs nothing
-  pub record IsStill (side : Side) (frames : List (List ℕ)) (a : List (List ℕ) × List Outcome) : Type 0 where
+  pub record IsStill (side : Side) (frames : List (List ℕ)) (a : List (List ℕ) × List DrillOutcome) : Type 0 where
     pub same : a.0 ≡ frames
     pub silent : IsSilent (map (at_end side) a.1)
 
-  abbrev Undisturbed : Side → List (List ℕ) × List Outcome → Type 0
+  abbrev Undisturbed : Side → List (List ℕ) × List DrillOutcome → Type 0
   Undisturbed side a = is_disturbed (map (at_end side) a.1) ≡ false
 
-  still_if : (side : Side) (frames : List (List ℕ)) (b : Bool) (x y : List (List ℕ) × List Outcome) → (Undisturbed side x → IsStill side frames x)
+  still_if : (side : Side) (frames : List (List ℕ)) (b : Bool) (x y : List (List ℕ) × List DrillOutcome) → (Undisturbed side x → IsStill side frames x)
       → (Undisturbed side y → IsStill side frames y) → Undisturbed side (if b then x else y) → IsStill side frames (if b then x else y)
   still_if side frames true x y hx hy u = hx u
   still_if side frames false x y hx hy u = hy u
@@ -365,7 +365,7 @@ module _ (grow : FactsGrow) where
   same_waiting l E = refl
   same_waiting l R = refl
 
-  change_flow : (l : Link) (history : List Occurrence) (side : Side) (a : List (List ℕ) × List Outcome) → IsStill side (waiting_of l side) a → IsFlow l history
+  change_flow : (l : Link) (history : List Occurrence) (side : Side) (a : List (List ℕ) × List DrillOutcome) → IsStill side (waiting_of l side) a → IsFlow l history
       → FlowAt history (change_waiting l side a)
   change_flow l history side a still t =
       let same : with_waiting l side a.0 ≡ l = ap (with_waiting l side) still.same ∙ same_waiting l side in
@@ -408,7 +408,7 @@ module _ (grow : FactsGrow) where
   step_flow l history (Send side octets) fit u t =
       record {
         opening = t.opening;
-        f = happens t.opening t.f side (DataRequest octets);
+        f = flow_behind_event t.opening t.f side (DataRequest octets);
         view = give_some t.opening t.f l history side (event.Send octets) (DataRequest octets) refl t.view;
         flows = Sends t.f side octets fit t.flows;
       }

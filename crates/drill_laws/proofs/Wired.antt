@@ -11,14 +11,14 @@ use Rattle.hdlc_frames.specs.Framing.{Verdict}
 use Rattle.hdlc_station_model.specs.Calls.{starts, hands, finishes, ticks}
 use Rattle.hdlc_station_model.specs.Selective.{receives_as}
 use Rattle.hdlc_station_model.specs.Events.{said_octets, news, quits, is_late}
-use Rattle.hdlc_pair_laws.specs.Links.{Came, Link as Pair, station_of, line_of, with_line, read_of, tells, did, hears_each, reads}
+use Rattle.hdlc_pair_laws.specs.Links.{StationLinkOutcome, StationLink as Pair, station_of, frames_from_station, with_frames_from_station, octets_read_by_side, station_link_with_outcomes, did, hears_each, station_link_behind_octets}
 use Rattle.hdlc_pair_laws.specs.Links as pair
-use Rattle.hdlc_pair_laws.specs.Steps.{refusal_at, send_unless, counted, tick_at, happens, run}
+use Rattle.hdlc_pair_laws.specs.Steps.{payload_refusal_at_side, send_unless, counted, tick_at, link_behind_step, station_link_run}
 use Rattle.hdlc_pair_laws.specs.Steps as on_pair
 use Rattle.hdlc_pair_laws.specs.Laws as laws_of_pair
-use Rattle.drill_model.specs.Outcomes.{Outcome, UserReleased, Passed, Lost, Repeated, Altered, Inserted, NothingWaits, IsShort, Occurrence, at_end, frames_in}
-use Rattle.drill_model.specs.StationEnds.{told_by, station_and_told, frames_heard, station_send, station_release, station_tick, station_start, if_expired}
-use Rattle.drill_model.specs.Ends.{End, OfStation, EndEvent, Start, station_end, station_end_step}
+use Rattle.drill_model.specs.Outcomes.{DrillOutcome, UserReleased, Passed, Lost, Repeated, Altered, Inserted, NothingWaits, IsShort, Occurrence, at_end, frames_in}
+use Rattle.drill_model.specs.StationEnds.{outcomes_told_by_station, station_and_told, frames_heard, station_send, station_release, station_tick, station_start, if_expired}
+use Rattle.drill_model.specs.Ends.{EndAtLevel, OfStation, EndEvent, Start, station_end, station_end_step}
 use Rattle.drill_model.specs.Ends as event
 use Rattle.hdlc_station_model.specs.Lines.{altered, next_of}
 use Rattle.drill_model.specs.Waiting.{LineChange, Lose, Repeat, Alter, Put, change_first}
@@ -44,7 +44,7 @@ ready_at : (l : Link) (history : List Occurrence) (p : Pair) (side : Side) → S
 ready_at l history p E v = v.ready_e
 ready_at l history p R v = v.ready_r
 
-line_at : (l : Link) (history : List Occurrence) (p : Pair) (side : Side) → Sees l history p → line_of p side ≡ waiting_of l side
+line_at : (l : Link) (history : List Occurrence) (p : Pair) (side : Side) → Sees l history p → frames_from_station p side ≡ waiting_of l side
 line_at l history p E v = sym v.from_e_is
 line_at l history p R v = sym v.from_r_is
 
@@ -52,12 +52,12 @@ same_waiting : (l : Link) (side : Side) → with_waiting l side (waiting_of l si
 same_waiting l E = refl
 same_waiting l R = refl
 
-same_line : (p : Pair) (side : Side) (free : Bool) → lined side (line_of p side) p.order_kept free p.passes p ≡ record p { loss_free = free }
+same_line : (p : Pair) (side : Side) (free : Bool) → lined side (frames_from_station p side) p.order_kept free p.passes p ≡ record p { loss_free = free }
 same_line p E free = refl
 same_line p R free = refl
 
 -- occurrences at a side that change nothing that waits
-told_sees : (l : Link) (history : List Occurrence) (p : Pair) (side : Side) (os : List Outcome) (disturbed free : Bool) (n : ℕ) → Sees l history p
+told_sees : (l : Link) (history : List Occurrence) (p : Pair) (side : Side) (os : List DrillOutcome) (disturbed free : Bool) (n : ℕ) → Sees l history p
     → Says os [] [] [] false disturbed n → free ≡ (p.loss_free && not disturbed) → Sees l (history ++ map (at_end side) os) (record p { loss_free = free })
 told_sees l history p side os disturbed free n v says is =
     let h : List Occurrence = history ++ map (at_end side) os in
@@ -74,8 +74,8 @@ pub record Acts (history : List Occurrence) (p : Pair) (a : Link × List Occurre
   pub sees : Sees a.0 (history ++ a.1) p
   pub none : deliveries a.1 ≡ 0
 
-acts : (l : Link) (history : List Occurrence) (q : Pair) (side : Side) (event : EndEvent) (stream : List ℕ) (a : Station × List Outcome) (late free : Bool) (q' : Pair)
-    → Sees l history q → station_end_step q.selective q.moment (station_of q side) (read_of q side) event ≡ station_end q.selective stream a → Went (station_of q side) a late
+acts : (l : Link) (history : List Occurrence) (q : Pair) (side : Side) (event : EndEvent) (stream : List ℕ) (a : Station × List DrillOutcome) (late free : Bool) (q' : Pair)
+    → Sees l history q → station_end_step q.selective q.moment (station_of q side) (octets_read_by_side q side) event ≡ station_end q.selective stream a → Went (station_of q side) a late
     → free ≡ (q.loss_free && not late) → Like q' (acted side stream a free q) → Acts history q' (give l side event)
 acts l history q side event stream a late free q' v is w free_is like =
     let x : Link × List Occurrence = with_answer l side (station_end q.selective stream a) in
@@ -86,14 +86,14 @@ acts l history q side event stream a late free q' v is w free_is like =
 
 -- a link went on so, and the pair by so many deliveries
 pub record Goes (l : Link) (history : List Occurrence) (p : Pair) (more : ℕ) : Type 0 where
-  pub steps : List on_pair.LinkStep
-  pub sees : Sees l history (run p steps)
+  pub steps : List on_pair.StationLinkStep
+  pub sees : Sees l history (station_link_run p steps)
   pub count : laws_of_pair.deliveries p steps ≡ more
 
 abbrev pub cleared : Pair → Pair
 cleared p = record p { came = [] }
 
-one_goes : (l : Link) (history : List Occurrence) (p : Pair) (s : on_pair.LinkStep) (more : ℕ) → Sees l history (happens s p)
+one_goes : (l : Link) (history : List Occurrence) (p : Pair) (s : on_pair.StationLinkStep) (more : ℕ) → Sees l history (link_behind_step s p)
     → laws_of_pair.deliveries_of s (cleared p) ≡ more
     → Goes l history p more
 one_goes l history p s more v is = record { steps = s ∷ []; sees = v; count = omega (arith, is) }
@@ -102,23 +102,23 @@ abbrev GoesAt : List Occurrence → Pair → Link × List Occurrence → Type 0
 GoesAt history p a = Goes a.0 (history ++ a.1) p (deliveries a.1)
 
 -- and the pair by this one step
-pub record GoesBy (s : on_pair.LinkStep) (history : List Occurrence) (p : Pair) (a : Link × List Occurrence) : Type 0 where
-  pub sees : Sees a.0 (history ++ a.1) (happens s p)
+pub record GoesBy (s : on_pair.StationLinkStep) (history : List Occurrence) (p : Pair) (a : Link × List Occurrence) : Type 0 where
+  pub sees : Sees a.0 (history ++ a.1) (link_behind_step s p)
   pub count : laws_of_pair.deliveries_of s (cleared p) ≡ deliveries a.1
 
-goes_by : (s : on_pair.LinkStep) (history : List Occurrence) (p : Pair) (a : Link × List Occurrence) → GoesBy s history p a → GoesAt history p a
+goes_by : (s : on_pair.StationLinkStep) (history : List Occurrence) (p : Pair) (a : Link × List Occurrence) → GoesBy s history p a → GoesAt history p a
 goes_by s history p a g = one_goes a.0 (history ++ a.1) p s (deliveries a.1) g.sees g.count
 
 -- ---- a link from its opening on
 
 -- the pair of this kind that was opened with these settings
 abbrev pub wired : Settings → (selective : Bool) → (moment : ℕ) → Pair
-wired settings selective moment = pair.opened selective (settings.modulo == 128) settings.window settings.n2 settings.t1 moment
+wired settings selective moment = pair.opened_station_link selective (settings.modulo == 128) settings.window settings.n2 settings.t1 moment
 
 pub record IsWired (settings : Settings) (selective : Bool) (l : Link) (history : List Occurrence) : Type 0 where
   pub moment : ℕ
-  pub steps : List on_pair.LinkStep
-  pub sees : Sees l history (run (wired settings selective moment) steps)
+  pub steps : List on_pair.StationLinkStep
+  pub sees : Sees l history (station_link_run (wired settings selective moment) steps)
   pub count : laws_of_pair.deliveries (wired settings selective moment) steps ≡ deliveries history
 
 -- what holds of a link of two sides, or that it is a pair of stations of one kind
@@ -131,7 +131,7 @@ did_kind : (side : Side) (s : Station) (p : Pair) → (did side s p).selective �
 did_kind E s p = refl
 did_kind R s p = refl
 
-line_kind : (side : Side) (frames : List (List ℕ)) (p : Pair) → (with_line side frames p).selective ≡ p.selective
+line_kind : (side : Side) (frames : List (List ℕ)) (p : Pair) → (with_frames_from_station side frames p).selective ≡ p.selective
 line_kind E frames p = refl
 line_kind R frames p = refl
 
@@ -141,11 +141,11 @@ hears_kind side (verdict ∷ verdicts) p =
     let t : Station = finishes (receives_as p.selective p.moment verdict (station_of p side)) in
     hears_kind side verdicts (did side t p) ∙ did_kind side t p
 
-reads_kind : (side : Side) (octets : List ℕ) (p : Pair) → (reads side octets p).selective ≡ p.selective
+reads_kind : (side : Side) (octets : List ℕ) (p : Pair) → (station_link_behind_octets side octets p).selective ≡ p.selective
 reads_kind E octets p = hears_kind E (news p.read_e octets) (record p { read_e = p.read_e ++ octets })
 reads_kind R octets p = hears_kind R (news p.read_r octets) (record p { read_r = p.read_r ++ octets })
 
-send_kind : (refused : Option Came) (side : Side) (payload : List ℕ) (p : Pair) → (send_unless refused side payload p).selective ≡ p.selective
+send_kind : (refused : Option StationLinkOutcome) (side : Side) (payload : List ℕ) (p : Pair) → (send_unless refused side payload p).selective ≡ p.selective
 send_kind (Some came) side payload p = refl
 send_kind None side payload p = did_kind side (finishes (hands p.moment payload (station_of p side))) p
 
@@ -153,7 +153,7 @@ pass_kind : (side : Side) (frames : List (List ℕ)) (p : Pair) → (on_pair.pas
 pass_kind side [] p = refl
 pass_kind side (frame ∷ frames) p =
     let q : Pair = record p { passes = counted p.passes } in
-    reads_kind (other side) frame (with_line side frames q) ∙ line_kind side frames q
+    reads_kind (other side) frame (with_frames_from_station side frames q) ∙ line_kind side frames q
 
 lose_kind : (side : Side) (frames : List (List ℕ)) (p : Pair) → (on_pair.lose side frames p).selective ≡ p.selective
 lose_kind side [] p = refl
@@ -166,8 +166,8 @@ repeat_kind side (frame ∷ frames) p = line_kind side (frame ∷ frame ∷ fram
 alter_kind : (side : Side) (place mask : ℕ) (frames : List (List ℕ)) (p : Pair) → (on_pair.alter side place mask frames p).selective ≡ p.selective
 alter_kind side place mask [] p = refl
 alter_kind side place mask (frame ∷ frames) p =
-    let q : Pair = with_line side (altered frame place mask ∷ frames) (record p { order_kept = false; loss_free = false }) in
-    cond_both (nat_lt place (length frame)) (if mask == 0 then p else q) (tells (pair.IsShort side (length frame) ∷ []) p) (λ (t : Pair). t.selective ≡ p.selective)
+    let q : Pair = with_frames_from_station side (altered frame place mask ∷ frames) (record p { order_kept = false; loss_free = false }) in
+    cond_both (nat_lt place (length frame)) (if mask == 0 then p else q) (station_link_with_outcomes (pair.IsShort side (length frame) ∷ []) p) (λ (t : Pair). t.selective ≡ p.selective)
     (λ e. cond_both (mask == 0) p q (λ (t : Pair). t.selective ≡ p.selective) (λ e. refl)
     (λ e. line_kind side (altered frame place mask ∷ frames) (record p { order_kept = false; loss_free = false })))
     (λ e. refl)
@@ -181,7 +181,7 @@ release_kind side sub p =
 next_kind : (next : Option Side) (overfull : Bool) (d : on_pair.Draining) → (on_pair.pass_next next overfull d).link.selective ≡ d.link.selective
 next_kind None overfull d = refl
 next_kind (Some side) true d = refl
-next_kind (Some side) false d = pass_kind side (line_of d.link side) d.link
+next_kind (Some side) false d = pass_kind side (frames_from_station d.link side) d.link
 
 drained_kind : (most : ℕ) (d : on_pair.Draining) → (on_pair.drained most d).link.selective ≡ d.link.selective
 drained_kind zero d = refl
@@ -192,20 +192,20 @@ drained_kind (suc most) d =
 tick_kind : (moment : ℕ) (p : Pair) → (on_pair.tick moment p).selective ≡ p.selective
 tick_kind moment p = refl
 
-step_kind : (s : on_pair.LinkStep) (p : Pair) → (on_pair.step s p).selective ≡ p.selective
-step_kind (on_pair.Send side payload) p = send_kind (refusal_at side (station_of p side) payload (station_of p side).released) side payload p
-step_kind (on_pair.Pass side) p = pass_kind side (line_of p side) p
-step_kind (on_pair.Lose side) p = lose_kind side (line_of p side) p
-step_kind (on_pair.Repeat side) p = repeat_kind side (line_of p side) p
-step_kind (on_pair.Alter side place mask) p = alter_kind side place mask (line_of p side) p
-step_kind (on_pair.Put side octets) p = line_kind side (octets ∷ line_of p side) (record p { order_kept = false; loss_free = false })
+step_kind : (s : on_pair.StationLinkStep) (p : Pair) → (on_pair.station_link_step s p).selective ≡ p.selective
+step_kind (on_pair.Send side payload) p = send_kind (payload_refusal_at_side side (station_of p side) payload (station_of p side).released) side payload p
+step_kind (on_pair.Pass side) p = pass_kind side (frames_from_station p side) p
+step_kind (on_pair.Lose side) p = lose_kind side (frames_from_station p side) p
+step_kind (on_pair.Repeat side) p = repeat_kind side (frames_from_station p side) p
+step_kind (on_pair.Alter side place mask) p = alter_kind side place mask (frames_from_station p side) p
+step_kind (on_pair.Put side octets) p = line_kind side (octets ∷ frames_from_station p side) (record p { order_kept = false; loss_free = false })
 step_kind (on_pair.UserRelease side sub) p = release_kind side sub p
 step_kind (on_pair.Drain most) p = drained_kind most (record { link = p; passes = 0 })
 step_kind (on_pair.Tick moment) p = tick_kind moment p
 
-run_kind : (p : Pair) (steps : List on_pair.LinkStep) → (run p steps).selective ≡ p.selective
+run_kind : (p : Pair) (steps : List on_pair.StationLinkStep) → (station_link_run p steps).selective ≡ p.selective
 run_kind p [] = refl
-run_kind p (s ∷ steps) = run_kind (happens s p) steps ∙ step_kind s (cleared p)
+run_kind p (s ∷ steps) = run_kind (link_behind_step s p) steps ∙ step_kind s (cleared p)
 
 -- so the link was opened as one of this kind
 pub kind_of : (settings : Settings) (selective : Bool) (l : Link) (history : List Occurrence) → IsWired settings selective l history → l.opening ≡ OfStations selective
@@ -219,16 +219,16 @@ module _ (laws : StationLaws) where
       let q : Pair = cleared p in
       let u : Sees l history q = came_sees l history p [] v in
       let s : Station = station_of q side in
-      let a : Station × List Outcome = station_send q.moment payload s in
+      let a : Station × List DrillOutcome = station_send q.moment payload s in
       let done : Acts history (on_pair.send side payload q) (give l side (event.Send payload)) =
-      acts l history q side (event.Send payload) (read_of q side) a false q.loss_free (on_pair.send side payload q) u refl
+      acts l history q side (event.Send payload) (octets_read_by_side q side) a false q.loss_free (on_pair.send side payload q) u refl
       (sends_went laws q.moment payload s (ready_at l history q side u)) (and_true q.loss_free) (send_like side payload q s.released) in
       one_goes _ _ p (on_pair.Send side payload) _ done.sees (sym done.none)
 
   take_acts : (l : Link) (history : List Occurrence) (p : Pair) (side : Side) → Sees l history p → Acts history p (give l side event.Take)
   take_acts l history p side v =
       let s : Station = station_of p side in
-      acts l history p side event.Take (read_of p side) (s, []) false p.loss_free p v refl (stays s (ready_at l history p side v)) (and_true p.loss_free)
+      acts l history p side event.Take (octets_read_by_side p side) (s, []) false p.loss_free p v refl (stays s (ready_at l history p side v)) (and_true p.loss_free)
       (p.came, sym (ap (λ (t : Pair). record t { came = p.came }) (read_stays p side)))
 
   -- a take leaves the pair as it is
@@ -242,7 +242,7 @@ module _ (laws : StationLaws) where
       record { steps = []; sees = done.sees; count = sym done.none }
 
   quit_like : (side : Side) (p : Pair) (down : Bool) (t : Station)
-      → Like (if down then p else did side t p) (acted side (read_of p side) (if down then (station_of p side, []) else station_and_told t) p.loss_free p)
+      → Like (if down then p else did side t p) (acted side (octets_read_by_side p side) (if down then (station_of p side, []) else station_and_told t) p.loss_free p)
   quit_like side p true t = (p.came, sym (ap (λ (q : Pair). record q { came = p.came }) (read_stays p side)))
   quit_like side p false t = did_like side t p
 
@@ -259,10 +259,10 @@ module _ (laws : StationLaws) where
       (says_more (UserReleased sub) [] [] [] [] false false 0 (λ side. refl) says_nothing) (and_false p.loss_free) in
       let s : Station = station_of q side in
       let q' : Pair = if is_down s.phase then q else did side (quits sub s) q in
-      let a : Station × List Outcome = station_release sub s in
+      let a : Station × List DrillOutcome = station_release sub s in
       let x : Link × List Occurrence = give l side (event.Release sub) in
       let done : Acts (history ++ first) q' x =
-      acts l (history ++ first) q side (event.Release sub) (read_of q side) a false false q' u refl (releases_went laws sub s (ready_at l (history ++ first) q side u)) refl
+      acts l (history ++ first) q side (event.Release sub) (octets_read_by_side q side) a false false q' u refl (releases_went laws sub s (ready_at l (history ++ first) q side u)) refl
       (quit_like side q (is_down s.phase) (quits sub s)) in
       let is : on_pair.release side sub (cleared p) ≡ q' =
       ap (λ (t : Station). if is_down t.phase then q else did side (quits sub t) q) (sym (station_stays (cleared p) side false)) in
@@ -274,14 +274,14 @@ module _ (laws : StationLaws) where
   -- ---- the line
 
   with_line_is : (q : Pair) (side : Side) (frames : List (List ℕ))
-      → with_line side frames (record q { passes = counted q.passes }) ≡ lined side frames q.order_kept q.loss_free (counted q.passes) q
+      → with_frames_from_station side frames (record q { passes = counted q.passes }) ≡ lined side frames q.order_kept q.loss_free (counted q.passes) q
   with_line_is q E frames = refl
   with_line_is q R frames = refl
 
-  nothing_like : (q : Pair) (side : Side) → line_of q side ≡ []
+  nothing_like : (q : Pair) (side : Side) → frames_from_station q side ≡ []
       → Like (on_pair.nothing_waits side q) (lined side [] q.order_kept q.loss_free q.passes q)
-  nothing_like q E is = let c : List Came = (on_pair.nothing_waits E q).came in (c, ap (λ (fs : List (List ℕ)). record q { from_e = fs; came = c }) is)
-  nothing_like q R is = let c : List Came = (on_pair.nothing_waits R q).came in (c, ap (λ (fs : List (List ℕ)). record q { from_r = fs; came = c }) is)
+  nothing_like q E is = let c : List StationLinkOutcome = (on_pair.nothing_waits E q).came in (c, ap (λ (fs : List (List ℕ)). record q { from_e = fs; came = c }) is)
+  nothing_like q R is = let c : List StationLinkOutcome = (on_pair.nothing_waits R q).came in (c, ap (λ (fs : List (List ℕ)). record q { from_r = fs; came = c }) is)
 
   waits_nothing : Says (NothingWaits ∷ []) [] [] [] false false 0
   waits_nothing = says_more NothingWaits [] [] [] [] false false 0 (λ side. refl) says_nothing
@@ -290,18 +290,18 @@ module _ (laws : StationLaws) where
       → GoesBy (on_pair.Pass side) history p (pass l side frames)
   pass_goes l history p side [] is v =
       let q : Pair = cleared p in
-      let line : line_of q side ≡ [] = line_at l history q side (came_sees l history p [] v) ∙ is in
+      let line : frames_from_station q side ≡ [] = line_at l history q side (came_sees l history p [] v) ∙ is in
       let u : Sees l (history ++ at_end side NothingWaits ∷ []) q =
       told_sees l history q side (NothingWaits ∷ []) false q.loss_free 0 (came_sees l history p [] v) waits_nothing (and_true q.loss_free) in
       let there : Sees l (history ++ at_end side NothingWaits ∷ []) (on_pair.nothing_waits side q) =
       came_sees l (history ++ at_end side NothingWaits ∷ []) q (on_pair.nothing_waits side q).came u in
       record {
         sees = subst (λ (fs : List (List ℕ)). Sees l (history ++ at_end side NothingWaits ∷ []) (on_pair.pass side fs q)) (sym line) there;
-        count = ap laws_of_pair.passed_of line;
+        count = ap laws_of_pair.count_of_passed_frames line;
       }
   pass_goes l history p side (frame ∷ frames) is v =
       let q : Pair = cleared p in
-      let line : line_of q side ≡ frame ∷ frames = line_at l history q side (came_sees l history p [] v) ∙ is in
+      let line : frames_from_station q side ≡ frame ∷ frames = line_at l history q side (came_sees l history p [] v) ∙ is in
       let first : List Occurrence = at_end side (Passed frame) ∷ [] in
       let m : Link = with_waiting l side frames in
       let r : Pair = lined side frames q.order_kept q.loss_free (counted q.passes) q in
@@ -310,60 +310,60 @@ module _ (laws : StationLaws) where
       (says_more (Passed frame) [] [] [] [] false false 0 (λ side. refl) says_nothing) (and_true q.order_kept) (and_true q.loss_free) in
       let to : Side = other side in
       let x : Link × List Occurrence = give m to (event.Receive frame) in
-      let done : Acts (history ++ first) (reads to frame r) x =
-      acts m (history ++ first) r to (event.Receive frame) (read_of r to ++ frame) (frames_heard r.selective r.moment (news (read_of r to) frame) (station_of r to)) false r.loss_free
-      (reads to frame r) u refl (frames_went laws r.selective r.moment (news (read_of r to) frame) (station_of r to) (ready_at m (history ++ first) r to u)) (and_true r.loss_free)
+      let done : Acts (history ++ first) (station_link_behind_octets to frame r) x =
+      acts m (history ++ first) r to (event.Receive frame) (octets_read_by_side r to ++ frame) (frames_heard r.selective r.moment (news (octets_read_by_side r to) frame) (station_of r to)) false r.loss_free
+      (station_link_behind_octets to frame r) u refl (frames_went laws r.selective r.moment (news (octets_read_by_side r to) frame) (station_of r to) (ready_at m (history ++ first) r to u)) (and_true r.loss_free)
       (reads_like to frame r) in
-      let there : Sees x.0 (history ++ (first ++ x.1)) (reads to frame r) = subst (λ (h : List Occurrence). Sees x.0 h (reads to frame r)) (append_assoc history first x.1) done.sees in
+      let there : Sees x.0 (history ++ (first ++ x.1)) (station_link_behind_octets to frame r) = subst (λ (h : List Occurrence). Sees x.0 h (station_link_behind_octets to frame r)) (append_assoc history first x.1) done.sees in
       let Q : List (List ℕ) → Type 0 = λ fs. Sees x.0 (history ++ (first ++ x.1)) (on_pair.pass side fs q) in
       record {
-        sees = subst Q (sym line) (subst (λ (t : Pair). Sees x.0 (history ++ (first ++ x.1)) (reads to frame t)) (sym (with_line_is q side frames)) there);
-        count = ap laws_of_pair.passed_of line ∙ sym (deliveries_grow first x.1 ∙ ap (λ (n : ℕ). 1 + n) done.none);
+        sees = subst Q (sym line) (subst (λ (t : Pair). Sees x.0 (history ++ (first ++ x.1)) (station_link_behind_octets to frame t)) (sym (with_line_is q side frames)) there);
+        count = ap laws_of_pair.count_of_passed_frames line ∙ sym (deliveries_grow first x.1 ∙ ap (λ (n : ℕ). 1 + n) done.none);
       }
 
   -- ---- what the line does
 
   -- a change of what waits, by a step of the pair that leaves all else
-  change_goes : (l : Link) (history : List Occurrence) (p : Pair) (side : Side) (s : on_pair.LinkStep) (os : List Outcome) (frames : List (List ℕ))
+  change_goes : (l : Link) (history : List Occurrence) (p : Pair) (side : Side) (s : on_pair.StationLinkStep) (os : List DrillOutcome) (frames : List (List ℕ))
       (disorder disturbed order free : Bool) → Sees l history p → Says os [] [] [] disorder disturbed 0 → order ≡ (p.order_kept && not disorder)
-      → free ≡ (p.loss_free && not disturbed) → Like (happens s p) (lined side frames order free p.passes (cleared p)) → laws_of_pair.deliveries_of s (cleared p) ≡ 0
+      → free ≡ (p.loss_free && not disturbed) → Like (link_behind_step s p) (lined side frames order free p.passes (cleared p)) → laws_of_pair.deliveries_of s (cleared p) ≡ 0
       → GoesAt history p (with_waiting l side frames, map (at_end side) os)
   change_goes l history p side s os frames disorder disturbed order free v says order_is free_is like none =
       let h : List Occurrence = history ++ map (at_end side) os in
       let there : Sees (with_waiting l side frames) h (lined side frames order free p.passes (cleared p)) =
       lined_sees l history (cleared p) side os frames disorder disturbed order free 0 p.passes (came_sees l history p [] v) says order_is free_is in
       one_goes (with_waiting l side frames) h p s (deliveries (map (at_end side) os))
-      (like_sees (with_waiting l side frames) h (happens s p) (lined side frames order free p.passes (cleared p)) like there)
+      (like_sees (with_waiting l side frames) h (link_behind_step s p) (lined side frames order free p.passes (cleared p)) like there)
       (none ∙ sym (passes_of side os [] [] [] disorder disturbed 0 says))
 
-  line_cleared : (p : Pair) (side : Side) → line_of (cleared p) side ≡ line_of p side
+  line_cleared : (p : Pair) (side : Side) → frames_from_station (cleared p) side ≡ frames_from_station p side
   line_cleared p E = refl
   line_cleared p R = refl
 
-  lost_like : (q : Pair) (side : Side) (frames : List (List ℕ)) → Like (with_line side frames (record q { loss_free = false })) (lined side frames q.order_kept false q.passes q)
+  lost_like : (q : Pair) (side : Side) (frames : List (List ℕ)) → Like (with_frames_from_station side frames (record q { loss_free = false })) (lined side frames q.order_kept false q.passes q)
   lost_like q E frames = (q.came, refl)
   lost_like q R frames = (q.came, refl)
 
   put_like : (q : Pair) (side : Side) (frames : List (List ℕ))
-      → Like (with_line side frames (record q { order_kept = false; loss_free = false })) (lined side frames false false q.passes q)
+      → Like (with_frames_from_station side frames (record q { order_kept = false; loss_free = false })) (lined side frames false false q.passes q)
   put_like q E frames = (q.came, refl)
   put_like q R frames = (q.came, refl)
 
   -- by the frames that wait in the pair
-  like_if : (p r : Pair) (f : List (List ℕ) → Pair) (side : Side) (frames : List (List ℕ)) → line_of (cleared p) side ≡ frames → Like (f frames) r → Like (f (line_of (cleared p) side)) r
+  like_if : (p r : Pair) (f : List (List ℕ) → Pair) (side : Side) (frames : List (List ℕ)) → frames_from_station (cleared p) side ≡ frames → Like (f frames) r → Like (f (frames_from_station (cleared p) side)) r
   like_if p r f side frames is like = subst (λ (fs : List (List ℕ)). Like (f fs) r) (sym is) like
 
-  stays_like : (q : Pair) (side : Side) (frames : List (List ℕ)) (came : List Came) → line_of q side ≡ frames
+  stays_like : (q : Pair) (side : Side) (frames : List (List ℕ)) (came : List StationLinkOutcome) → frames_from_station q side ≡ frames
       → Like (record q { came = came }) (lined side frames q.order_kept q.loss_free q.passes q)
   stays_like q E frames came is = (came, ap (λ (fs : List (List ℕ)). record q { from_e = fs; came = came }) is)
   stays_like q R frames came is = (came, ap (λ (fs : List (List ℕ)). record q { from_r = fs; came = came }) is)
 
-  abbrev ChangeGoes : Link → List Occurrence → Pair → Side → List (List ℕ) × List Outcome → Type 0
+  abbrev ChangeGoes : Link → List Occurrence → Pair → Side → List (List ℕ) × List DrillOutcome → Type 0
   ChangeGoes l history p side a = GoesAt history p (with_waiting l side a.0, map (at_end side) a.1)
 
   -- an octet of the first frame is changed: the place is in the frame or not, the mask is 0 or not
   alter_goes : (l : Link) (history : List Occurrence) (p : Pair) (side : Side) (place mask : ℕ) (frame : List ℕ) (frames : List (List ℕ)) → Sees l history p
-      → line_of (cleared p) side ≡ frame ∷ frames → (within none : Bool) → nat_lt place (length frame) ≡ within → (mask == 0) ≡ none
+      → frames_from_station (cleared p) side ≡ frame ∷ frames → (within none : Bool) → nat_lt place (length frame) ≡ within → (mask == 0) ≡ none
       → ChangeGoes l history p side
       (if not within then (frame ∷ frames, IsShort (length frame) ∷ []) else if none then (frame ∷ frames, []) else (altered frame place mask ∷ frames, Altered ∷ []))
   alter_goes l history p side place mask frame frames v line true true w n =
@@ -385,7 +385,7 @@ module _ (laws : StationLaws) where
       (rw w (stays_like q side (frame ∷ frames) (pair.IsShort side (length frame) ∷ []) line))) refl
 
   changes_goes : (l : Link) (history : List Occurrence) (p : Pair) (side : Side) (change : LineChange) (frames : List (List ℕ)) → Sees l history p
-      → line_of (cleared p) side ≡ frames → ChangeGoes l history p side (change_first change frames)
+      → frames_from_station (cleared p) side ≡ frames → ChangeGoes l history p side (change_first change frames)
   changes_goes l history p side Lose [] v line =
       let q : Pair = cleared p in
       change_goes l history p side (on_pair.Lose side) (NothingWaits ∷ []) [] false false p.order_kept p.loss_free v waits_nothing (and_true p.order_kept) (and_true p.loss_free)
@@ -415,12 +415,12 @@ module _ (laws : StationLaws) where
       let q : Pair = cleared p in
       change_goes l history p side (on_pair.Put side octets) (Inserted ∷ []) (octets ∷ frames) true true false false v
       (says_more Inserted [] [] [] [] false false 0 (λ side. refl) says_nothing) (and_false p.order_kept) (and_false p.loss_free)
-      (like_if p (lined side (octets ∷ frames) false false q.passes q) (λ fs. with_line side (octets ∷ fs) (record q { order_kept = false; loss_free = false })) side frames line
+      (like_if p (lined side (octets ∷ frames) false false q.passes q) (λ fs. with_frames_from_station side (octets ∷ fs) (record q { order_kept = false; loss_free = false })) side frames line
       (put_like q side (octets ∷ frames))) refl
 
   -- ---- time
 
-  none_expired : (late : Bool) (os : List Outcome) → frames_in (if_expired late ++ os) ≡ frames_in os
+  none_expired : (late : Bool) (os : List DrillOutcome) → frames_in (if_expired late ++ os) ≡ frames_in os
   none_expired true os = refl
   none_expired false os = refl
 
@@ -458,8 +458,8 @@ module _ (laws : StationLaws) where
       let late_r : Bool = is_late now q.r in
       let te : Station = finishes (ticks now q.e) in
       let tr : Station = finishes (ticks now q.r) in
-      let a : Station × List Outcome = station_tick now q.e in
-      let b : Station × List Outcome = station_tick now q.r in
+      let a : Station × List DrillOutcome = station_tick now q.e in
+      let b : Station × List DrillOutcome = station_tick now q.r in
       let q2 : Pair = acted E q.read_e a (q.loss_free && not late_e) q in
       let q3 : Pair = acted R q.read_r b ((q.loss_free && not late_e) && not late_r) q2 in
       let x : Link × List Occurrence = give m E event.Tick in
@@ -473,9 +473,9 @@ module _ (laws : StationLaws) where
       let is : done ≡ d = ap (λ (k : ℕ). did R tr (did E te (record c { moment = k; loss_free = free }))) (max_again c.moment moment) in
       let like : d ≡ record q3 { came = d.came } =
       ap (λ (fs : List (List ℕ)). record q { e = settled te; r = settled tr; from_e = q.from_e ++ fs; from_r = q.from_r ++ said_octets tr; loss_free = free; came = d.came })
-      (sym (none_expired late_e (told_by te) ∙ frames_told te))
+      (sym (none_expired late_e (outcomes_told_by_station te) ∙ frames_told te))
       ∙ ap (λ (fs : List (List ℕ)). record q { e = settled te; r = settled tr; from_e = q.from_e ++ frames_in a.1; from_r = q.from_r ++ fs; loss_free = free; came = d.came })
-      (sym (none_expired late_r (told_by tr) ∙ frames_told tr))
+      (sym (none_expired late_r (outcomes_told_by_station tr) ∙ frames_told tr))
       ∙ ap (λ (f : Bool). record q { e = settled te; r = settled tr; from_e = q.from_e ++ frames_in a.1; from_r = q.from_r ++ frames_in b.1; loss_free = f; came = d.came })
       (sym (not_or q.loss_free late_e late_r)) in
       let there : Sees y.0 (history ++ (x.1 ++ y.1)) done =
@@ -496,19 +496,19 @@ module _ (laws : StationLaws) where
 
   -- ---- from its opening on
 
-  pub run_append : (p : Pair) (xs ys : List on_pair.LinkStep) → run p (xs ++ ys) ≡ run (run p xs) ys
+  pub run_append : (p : Pair) (xs ys : List on_pair.StationLinkStep) → station_link_run p (xs ++ ys) ≡ station_link_run (station_link_run p xs) ys
   run_append p [] ys = refl
-  run_append p (s ∷ xs) ys = run_append (happens s p) xs ys
+  run_append p (s ∷ xs) ys = run_append (link_behind_step s p) xs ys
 
-  count_append : (p : Pair) (xs ys : List on_pair.LinkStep) → laws_of_pair.deliveries p (xs ++ ys) ≡ laws_of_pair.deliveries p xs + laws_of_pair.deliveries (run p xs) ys
+  count_append : (p : Pair) (xs ys : List on_pair.StationLinkStep) → laws_of_pair.deliveries p (xs ++ ys) ≡ laws_of_pair.deliveries p xs + laws_of_pair.deliveries (station_link_run p xs) ys
   count_append p [] ys = omega arith
-  count_append p (s ∷ xs) ys = omega (arith, count_append (happens s p) xs ys)
+  count_append p (s ∷ xs) ys = omega (arith, count_append (link_behind_step s p) xs ys)
 
   pub wired_steps : (settings : Settings) (selective : Bool) (l : Link) (history : List Occurrence) (s : LinkStep) → IsWired settings selective l history
       → IsWired settings selective (link_step l s).0 (history ++ (link_step l s).1)
   wired_steps settings selective l history s t =
       let w : Pair = wired settings selective t.moment in
-      let g = step_goes l history (run w t.steps) s t.sees in
+      let g = step_goes l history (station_link_run w t.steps) s t.sees in
       record {
         moment = t.moment;
         steps = t.steps ++ g.steps;

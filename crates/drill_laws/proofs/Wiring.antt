@@ -14,13 +14,13 @@ use Rattle.hdlc_station_model.specs.Sending.{waiting}
 use Rattle.hdlc_station_model.specs.Calls.{hands, finishes}
 use Rattle.hdlc_station_model.specs.Selective.{receives_as}
 use Rattle.hdlc_station_model.specs.Events.{said_octets, news}
-use Rattle.hdlc_pair_laws.specs.Links.{Came, Link as Pair, station_of, line_of, with_line, read_of, tells, did, hears_each, reads}
+use Rattle.hdlc_pair_laws.specs.Links.{StationLinkOutcome, StationLink as Pair, station_of, frames_from_station, with_frames_from_station, octets_read_by_side, station_link_with_outcomes, did, hears_each, station_link_behind_octets}
 use Rattle.hdlc_pair_laws.specs.Links as pair
-use Rattle.hdlc_pair_laws.specs.Steps.{refusal_at, send_unless}
+use Rattle.hdlc_pair_laws.specs.Steps.{payload_refusal_at_side, send_unless}
 use Rattle.safety_pair_laws.specs.Facts.{SideFact, is_side}
 use Rattle.er_end_model.specs.Outcomes.{SendRefusal, RefusedReleased}
-use Rattle.drill_model.specs.Outcomes.{Outcome, Refused, Occurrence, at_end, facts_at, facts_in, frames_in}
-use Rattle.drill_model.specs.StationEnds.{told_by, station_and_told, frames_heard, refusal_of, handed_unless}
+use Rattle.drill_model.specs.Outcomes.{DrillOutcome, Refused, Occurrence, at_end, facts_at, facts_in, frames_in}
+use Rattle.drill_model.specs.StationEnds.{outcomes_told_by_station, station_and_told, frames_heard, payload_refusal_of_station, handed_unless}
 use Rattle.drill_model.specs.Ends.{OfStation, EndEvent, station_end, station_end_step}
 use Rattle.drill_model.specs.Links.{Link, OfStations, with_waiting, with_answer, give}
 use Rattle.drill_model.specs.Kinds.{sent_in, accepted_in, released_in, passed_in, is_disorder, is_disturbance, sent_by, accepted_by, releases_in, deliveries, is_disordered, is_disturbed}
@@ -28,19 +28,19 @@ use Rattle.drill_laws.proofs.Tellings.{Says, Ready, Went, frames_told, frames_ap
 
 -- ---- what occurrences at one side say
 
-pub flat_mapped : {A : Type 0} (g : Occurrence → List A) (f : Outcome → List A) (side : Side) → ((o : Outcome) → g (at_end side o) ≡ f o) → (os : List Outcome)
+pub flat_mapped : {A : Type 0} (g : Occurrence → List A) (f : DrillOutcome → List A) (side : Side) → ((o : DrillOutcome) → g (at_end side o) ≡ f o) → (os : List DrillOutcome)
     → flat_map g (map (at_end side) os) ≡ flat_map f os
 flat_mapped g f side same [] = refl
 flat_mapped {A} g f side same (o ∷ os) = ap₂ (λ (xs ys : List A). xs ++ ys) (same o) (flat_mapped g f side same os)
 
-abbrev nowhere : Outcome → List (List ℕ)
+abbrev nowhere : DrillOutcome → List (List ℕ)
 nowhere o = []
 
-flat_nowhere : (os : List Outcome) → flat_map nowhere os ≡ []
+flat_nowhere : (os : List DrillOutcome) → flat_map nowhere os ≡ []
 flat_nowhere [] = refl
 flat_nowhere (o ∷ os) = flat_nowhere os
 
-pub any_mapped : (f : Outcome → Bool) (side : Side) (os : List Outcome) → list_any (λ (o : Occurrence). f o.outcome) (map (at_end side) os) ≡ list_any f os
+pub any_mapped : (f : DrillOutcome → Bool) (side : Side) (os : List DrillOutcome) → list_any (λ (o : Occurrence). f o.outcome) (map (at_end side) os) ≡ list_any f os
 any_mapped f side [] = refl
 any_mapped f side (o ∷ os) = ap (λ (b : Bool). f o || b) (any_mapped f side os)
 
@@ -50,28 +50,28 @@ sent_of s o = if is_side s o.side then sent_in o.outcome else []
 abbrev accepted_of : Side → Occurrence → List (List ℕ)
 accepted_of s o = if is_side s o.side then accepted_in o.outcome else []
 
-pub sent_e_e : (os : List Outcome) → sent_by E (map (at_end E) os) ≡ flat_map sent_in os
+pub sent_e_e : (os : List DrillOutcome) → sent_by E (map (at_end E) os) ≡ flat_map sent_in os
 sent_e_e os = flat_mapped (sent_of E) sent_in E (λ o. refl) os
 
-pub sent_e_r : (os : List Outcome) → sent_by E (map (at_end R) os) ≡ []
+pub sent_e_r : (os : List DrillOutcome) → sent_by E (map (at_end R) os) ≡ []
 sent_e_r os = flat_mapped (sent_of E) nowhere R (λ o. refl) os ∙ flat_nowhere os
 
-pub sent_r_r : (os : List Outcome) → sent_by R (map (at_end R) os) ≡ flat_map sent_in os
+pub sent_r_r : (os : List DrillOutcome) → sent_by R (map (at_end R) os) ≡ flat_map sent_in os
 sent_r_r os = flat_mapped (sent_of R) sent_in R (λ o. refl) os
 
-pub sent_r_e : (os : List Outcome) → sent_by R (map (at_end E) os) ≡ []
+pub sent_r_e : (os : List DrillOutcome) → sent_by R (map (at_end E) os) ≡ []
 sent_r_e os = flat_mapped (sent_of R) nowhere E (λ o. refl) os ∙ flat_nowhere os
 
-pub accepted_e_e : (os : List Outcome) → accepted_by E (map (at_end E) os) ≡ flat_map accepted_in os
+pub accepted_e_e : (os : List DrillOutcome) → accepted_by E (map (at_end E) os) ≡ flat_map accepted_in os
 accepted_e_e os = flat_mapped (accepted_of E) accepted_in E (λ o. refl) os
 
-pub accepted_e_r : (os : List Outcome) → accepted_by E (map (at_end R) os) ≡ []
+pub accepted_e_r : (os : List DrillOutcome) → accepted_by E (map (at_end R) os) ≡ []
 accepted_e_r os = flat_mapped (accepted_of E) nowhere R (λ o. refl) os ∙ flat_nowhere os
 
-pub accepted_r_r : (os : List Outcome) → accepted_by R (map (at_end R) os) ≡ flat_map accepted_in os
+pub accepted_r_r : (os : List DrillOutcome) → accepted_by R (map (at_end R) os) ≡ flat_map accepted_in os
 accepted_r_r os = flat_mapped (accepted_of R) accepted_in R (λ o. refl) os
 
-pub accepted_r_e : (os : List Outcome) → accepted_by R (map (at_end E) os) ≡ []
+pub accepted_r_e : (os : List DrillOutcome) → accepted_by R (map (at_end E) os) ≡ []
 accepted_r_e os = flat_mapped (accepted_of R) nowhere E (λ o. refl) os ∙ flat_nowhere os
 
 pub sent_grows : (s : Side) (history more : List Occurrence) → sent_by s (history ++ more) ≡ sent_by s history ++ sent_by s more
@@ -84,7 +84,7 @@ pub releases_grow : (history more : List Occurrence) → releases_in (history ++
 releases_grow history more = flat_map-append (λ (o : Occurrence). released_in o.outcome) history more
 
 -- the history behind these occurrences at one side, as a whole
-pub record Grows (side : Side) (history : List Occurrence) (os : List Outcome) (handed taken : List (List ℕ)) (releases : List Release) (disorder disturbed : Bool)
+pub record Grows (side : Side) (history : List Occurrence) (os : List DrillOutcome) (handed taken : List (List ℕ)) (releases : List Release) (disorder disturbed : Bool)
     : Type 0 where
   pub sent_own : sent_by side (history ++ map (at_end side) os) ≡ sent_by side history ++ handed
   pub sent_other : sent_by (other side) (history ++ map (at_end side) os) ≡ sent_by (other side) history
@@ -95,7 +95,7 @@ pub record Grows (side : Side) (history : List Occurrence) (os : List Outcome) (
   pub disturbed_is : is_disturbed (history ++ map (at_end side) os) ≡ (is_disturbed history || disturbed)
   pub facts : facts_in (history ++ map (at_end side) os) ≡ facts_in history
 
-pub grows_of : (side : Side) (history : List Occurrence) (os : List Outcome) (handed taken : List (List ℕ)) (releases : List Release) (disorder disturbed : Bool) (passes : ℕ)
+pub grows_of : (side : Side) (history : List Occurrence) (os : List DrillOutcome) (handed taken : List (List ℕ)) (releases : List Release) (disorder disturbed : Bool) (passes : ℕ)
     → Says os handed taken releases disorder disturbed passes → Grows side history os handed taken releases disorder disturbed
 grows_of E history os handed taken releases disorder disturbed passes h =
     let more : List Occurrence = map (at_end E) os in
@@ -131,7 +131,7 @@ grows_of R history os handed taken releases disorder disturbed passes h =
     }
 
 -- how many of them were passed
-pub passes_of : (side : Side) (os : List Outcome) (handed taken : List (List ℕ)) (releases : List Release) (disorder disturbed : Bool) (passes : ℕ)
+pub passes_of : (side : Side) (os : List DrillOutcome) (handed taken : List (List ℕ)) (releases : List Release) (disorder disturbed : Bool) (passes : ℕ)
     → Says os handed taken releases disorder disturbed passes → deliveries (map (at_end side) os) ≡ passes
 passes_of side os handed taken releases disorder disturbed passes h =
     ap length (flat_mapped (λ (o : Occurrence). passed_in o.outcome) passed_in side (λ o. refl) os) ∙ h.passes_are
@@ -166,7 +166,7 @@ pub record Sees (l : Link) (history : List Occurrence) (p : Pair) : Type 0 where
   pub releases : AllByRecursion (IsOfPair p) (releases_in history)
 
 -- what came of a step of the pair is no part of it
-pub came_sees : (l : Link) (history : List Occurrence) (p : Pair) (came : List Came) → Sees l history p → Sees l history (record p { came = came })
+pub came_sees : (l : Link) (history : List Occurrence) (p : Pair) (came : List StationLinkOutcome) → Sees l history p → Sees l history (record p { came = came })
 came_sees l history p came v =
     record {
       opening_is = v.opening_is;
@@ -189,7 +189,7 @@ came_sees l history p came v =
 
 -- p is q, but for what came
 abbrev pub Like : Pair → Pair → Type 0
-Like p q = (came : List Came) × (p ≡ record q { came = came })
+Like p q = (came : List StationLinkOutcome) × (p ≡ record q { came = came })
 
 pub like_sees : (l : Link) (history : List Occurrence) (p q : Pair) → Like p q → Sees l history q → Sees l history p
 like_sees l history p q like v = subst (λ (t : Pair). Sees l history t) (sym like.1) (came_sees l history q like.0 v)
@@ -234,14 +234,14 @@ all_at_r p (x ∷ xs) h = (inr h.0, all_at_r p xs h.1)
 -- ---- an event at an end
 
 -- the station of a side did this, and the pair is as loss-free as told
-abbrev pub acted : Side → (stream : List ℕ) → Station × List Outcome → Bool → Pair → Pair
+abbrev pub acted : Side → (stream : List ℕ) → Station × List DrillOutcome → Bool → Pair → Pair
 acted E stream a free p = record p { e = a.0; from_e = p.from_e ++ frames_in a.1; read_e = stream; loss_free = free }
 acted R stream a free p = record p { r = a.0; from_r = p.from_r ++ frames_in a.1; read_r = stream; loss_free = free }
 
 abbrev pub SeesAt : List Occurrence → Pair → Link × List Occurrence → Type 0
 SeesAt history p a = Sees a.0 (history ++ a.1) p
 
-pub acted_sees : (l : Link) (history : List Occurrence) (p : Pair) (side : Side) (stream : List ℕ) (a : Station × List Outcome) (late free : Bool) → Sees l history p
+pub acted_sees : (l : Link) (history : List Occurrence) (p : Pair) (side : Side) (stream : List ℕ) (a : Station × List DrillOutcome) (late free : Bool) → Sees l history p
     → Went (station_of p side) a late → free ≡ (p.loss_free && not late) → SeesAt history (acted side stream a free p) (with_answer l side (station_end p.selective stream a))
 acted_sees l history p E stream a late free v w is =
     let g = grows_of E history a.1 w.handed w.taken w.releases false late 0 w.says in
@@ -293,7 +293,7 @@ abbrev pub lined : Side → List (List ℕ) → (order free : Bool) → ℕ → 
 lined E frames order free passes p = record p { from_e = frames; order_kept = order; loss_free = free; passes = passes }
 lined R frames order free passes p = record p { from_r = frames; order_kept = order; loss_free = free; passes = passes }
 
-pub lined_sees : (l : Link) (history : List Occurrence) (p : Pair) (side : Side) (os : List Outcome) (frames : List (List ℕ)) (disorder disturbed order free : Bool) (n passes : ℕ)
+pub lined_sees : (l : Link) (history : List Occurrence) (p : Pair) (side : Side) (os : List DrillOutcome) (frames : List (List ℕ)) (disorder disturbed order free : Bool) (n passes : ℕ)
     → Sees l history p → Says os [] [] [] disorder disturbed n → order ≡ (p.order_kept && not disorder) → free ≡ (p.loss_free && not disturbed)
     → Sees (with_waiting l side frames) (history ++ map (at_end side) os) (lined side frames order free passes p)
 lined_sees l history p E os frames disorder disturbed order free n passes v says order_is free_is =
@@ -341,74 +341,74 @@ lined_sees l history p R os frames disorder disturbed order free n passes v says
 
 -- what an end of such a link answers
 pub gives_stationed : (l : Link) (history : List Occurrence) (p : Pair) (side : Side) (event : EndEvent) → Sees l history p
-    → give l side event ≡ with_answer l side (station_end_step p.selective p.moment (station_of p side) (read_of p side) event)
+    → give l side event ≡ with_answer l side (station_end_step p.selective p.moment (station_of p side) (octets_read_by_side p side) event)
 gives_stationed l history p E event v = rw (v.opening_is, v.e_is, v.moment_is) refl
 gives_stationed l history p R event v = rw (v.opening_is, v.r_is, v.moment_is) refl
 
 -- ---- a call of the pair is a call of a station
 
-pub read_stays : (p : Pair) (side : Side) → acted side (read_of p side) (station_of p side, []) p.loss_free p ≡ p
+pub read_stays : (p : Pair) (side : Side) → acted side (octets_read_by_side p side) (station_of p side, []) p.loss_free p ≡ p
 read_stays p E = ap (λ (fs : List (List ℕ)). record p { from_e = fs }) (append-nil p.from_e)
 read_stays p R = ap (λ (fs : List (List ℕ)). record p { from_r = fs }) (append-nil p.from_r)
 
-pub did_like : (side : Side) (t : Station) (p : Pair) → Like (did side t p) (acted side (read_of p side) (station_and_told t) p.loss_free p)
+pub did_like : (side : Side) (t : Station) (p : Pair) → Like (did side t p) (acted side (octets_read_by_side p side) (station_and_told t) p.loss_free p)
 did_like E t p =
-    let came : List Came = (did E t p).came in
+    let came : List StationLinkOutcome = (did E t p).came in
     (came, ap (λ (fs : List (List ℕ)). record p { e = settled t; from_e = p.from_e ++ fs; came = came }) (sym (frames_told t)))
 did_like R t p =
-    let came : List Came = (did R t p).came in
+    let came : List StationLinkOutcome = (did R t p).came in
     (came, ap (λ (fs : List (List ℕ)). record p { r = settled t; from_r = p.from_r ++ fs; came = came }) (sym (frames_told t)))
 
 -- frames that are closed, one after the other
 hears_like : (side : Side) (vs : List Verdict) (p : Pair)
-    → Like (hears_each side vs p) (acted side (read_of p side) (frames_heard p.selective p.moment vs (station_of p side)) p.loss_free p)
+    → Like (hears_each side vs p) (acted side (octets_read_by_side p side) (frames_heard p.selective p.moment vs (station_of p side)) p.loss_free p)
 hears_like E [] p = (p.came, ap (λ (fs : List (List ℕ)). record p { from_e = fs }) (sym (append-nil p.from_e)))
 hears_like R [] p = (p.came, ap (λ (fs : List (List ℕ)). record p { from_r = fs }) (sym (append-nil p.from_r)))
 hears_like E (v ∷ vs) p =
     let t : Station = finishes (receives_as p.selective p.moment v p.e) in
-    let b : Station × List Outcome = frames_heard p.selective p.moment vs (settled t) in
+    let b : Station × List DrillOutcome = frames_heard p.selective p.moment vs (settled t) in
     let more = hears_like E vs (did E t p) in
-    let fs : (p.from_e ++ said_octets t) ++ frames_in b.1 ≡ p.from_e ++ frames_in (told_by t ++ b.1) =
+    let fs : (p.from_e ++ said_octets t) ++ frames_in b.1 ≡ p.from_e ++ frames_in (outcomes_told_by_station t ++ b.1) =
     append_assoc p.from_e (said_octets t) (frames_in b.1)
-    ∙ ap (λ (xs : List (List ℕ)). p.from_e ++ xs) (ap (λ (xs : List (List ℕ)). xs ++ frames_in b.1) (sym (frames_told t)) ∙ sym (frames_append (told_by t) b.1)) in
+    ∙ ap (λ (xs : List (List ℕ)). p.from_e ++ xs) (ap (λ (xs : List (List ℕ)). xs ++ frames_in b.1) (sym (frames_told t)) ∙ sym (frames_append (outcomes_told_by_station t) b.1)) in
     (more.0, more.1 ∙ ap (λ (xs : List (List ℕ)). record p { e = b.0; from_e = xs; came = more.0 }) fs)
 hears_like R (v ∷ vs) p =
     let t : Station = finishes (receives_as p.selective p.moment v p.r) in
-    let b : Station × List Outcome = frames_heard p.selective p.moment vs (settled t) in
+    let b : Station × List DrillOutcome = frames_heard p.selective p.moment vs (settled t) in
     let more = hears_like R vs (did R t p) in
-    let fs : (p.from_r ++ said_octets t) ++ frames_in b.1 ≡ p.from_r ++ frames_in (told_by t ++ b.1) =
+    let fs : (p.from_r ++ said_octets t) ++ frames_in b.1 ≡ p.from_r ++ frames_in (outcomes_told_by_station t ++ b.1) =
     append_assoc p.from_r (said_octets t) (frames_in b.1)
-    ∙ ap (λ (xs : List (List ℕ)). p.from_r ++ xs) (ap (λ (xs : List (List ℕ)). xs ++ frames_in b.1) (sym (frames_told t)) ∙ sym (frames_append (told_by t) b.1)) in
+    ∙ ap (λ (xs : List (List ℕ)). p.from_r ++ xs) (ap (λ (xs : List (List ℕ)). xs ++ frames_in b.1) (sym (frames_told t)) ∙ sym (frames_append (outcomes_told_by_station t) b.1)) in
     (more.0, more.1 ∙ ap (λ (xs : List (List ℕ)). record p { r = b.0; from_r = xs; came = more.0 }) fs)
 
 -- octets are read
 pub reads_like : (side : Side) (octets : List ℕ) (p : Pair)
-    → Like (reads side octets p) (acted side (read_of p side ++ octets) (frames_heard p.selective p.moment (news (read_of p side) octets) (station_of p side)) p.loss_free p)
+    → Like (station_link_behind_octets side octets p) (acted side (octets_read_by_side p side ++ octets) (frames_heard p.selective p.moment (news (octets_read_by_side p side) octets) (station_of p side)) p.loss_free p)
 reads_like E octets p = hears_like E (news p.read_e octets) (record p { read_e = p.read_e ++ octets })
 reads_like R octets p = hears_like R (news p.read_r octets) (record p { read_r = p.read_r ++ octets })
 
 -- a payload is handed down, or refused
 handed_like : (side : Side) (payload : List ℕ) (p : Pair)
     → Like (did side (finishes (hands p.moment payload (station_of p side))) p)
-    (acted side (read_of p side) (handed_unless None p.moment payload (station_of p side)) p.loss_free p)
+    (acted side (octets_read_by_side p side) (handed_unless None p.moment payload (station_of p side)) p.loss_free p)
 handed_like E payload p = did_like E (finishes (hands p.moment payload p.e)) p
 handed_like R payload p = did_like R (finishes (hands p.moment payload p.r)) p
 
-refused_like : (side : Side) (came : Came) (refusal : SendRefusal) (p : Pair)
-    → Like (tells (came ∷ []) p) (acted side (read_of p side) (station_of p side, Refused refusal ∷ []) p.loss_free p)
+refused_like : (side : Side) (came : StationLinkOutcome) (refusal : SendRefusal) (p : Pair)
+    → Like (station_link_with_outcomes (came ∷ []) p) (acted side (octets_read_by_side p side) (station_of p side, Refused refusal ∷ []) p.loss_free p)
 refused_like E came refusal p = (p.came ++ came ∷ [], ap (λ (fs : List (List ℕ)). record p { from_e = fs; came = p.came ++ came ∷ [] }) (sym (append-nil p.from_e)))
 refused_like R came refusal p = (p.came ++ came ∷ [], ap (λ (fs : List (List ℕ)). record p { from_r = fs; came = p.came ++ came ∷ [] }) (sym (append-nil p.from_r)))
 
-send_like_if : (side : Side) (payload : List ℕ) (p : Pair) (long full : Bool) (x y : Came) (x' y' : SendRefusal)
+send_like_if : (side : Side) (payload : List ℕ) (p : Pair) (long full : Bool) (x y : StationLinkOutcome) (x' y' : SendRefusal)
     → Like (send_unless (if long then (if full then None else Some x) else Some y) side payload p)
-    (acted side (read_of p side) (handed_unless (if long then (if full then None else Some x') else Some y') p.moment payload (station_of p side)) p.loss_free p)
+    (acted side (octets_read_by_side p side) (handed_unless (if long then (if full then None else Some x') else Some y') p.moment payload (station_of p side)) p.loss_free p)
 send_like_if side payload p true true x y x' y' = handed_like side payload p
 send_like_if side payload p true false x y x' y' = refused_like side x x' p
 send_like_if side payload p false full x y x' y' = refused_like side y y' p
 
 pub send_like : (side : Side) (payload : List ℕ) (p : Pair) (o : Option Release)
-    → Like (send_unless (refusal_at side (station_of p side) payload o) side payload p)
-    (acted side (read_of p side) (handed_unless (refusal_of (station_of p side) payload o) p.moment payload (station_of p side)) p.loss_free p)
+    → Like (send_unless (payload_refusal_at_side side (station_of p side) payload o) side payload p)
+    (acted side (octets_read_by_side p side) (handed_unless (payload_refusal_of_station (station_of p side) payload o) p.moment payload (station_of p side)) p.loss_free p)
 send_like side payload p (Some release) = refused_like side (pair.RefusedReleased side release) (RefusedReleased release) p
 send_like side payload p None =
     send_like_if side payload p (nat_le 1 (length payload) && nat_le (length payload) 1026) (nat_lt (waiting (station_of p side)) 16)

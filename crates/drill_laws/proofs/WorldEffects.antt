@@ -9,7 +9,7 @@ use Rattle.safety_automaton.specs.Rules.{StepsOnly}
 use Rattle.drill_model.specs.Outcomes.{NothingWaits, Occurrence, at_end}
 use Rattle.drill_model.specs.Waiting.{Lose, Repeat, Alter, Put}
 use Rattle.drill_model.specs.Links.{Link, LinkOpening, opened_link, waiting_of, LinkStep, Send, Pass, Change, Take, Release, Tick, link_step}
-use Rattle.drill_model.specs.Worlds.{Plan, World, Came, On, Drained, is_link, link_at, history_on, went_on, fixed_opening, link_opening, wire_opening, open_link, at_link, next_side, overfull_side, Drain, drain, drain_on, drain_link, copy_frame, copy_between, tick_each_link, tick_world, world_step}
+use Rattle.drill_model.specs.Worlds.{DrillPlan, World, Came, On, Drained, is_link, link_at, history_on, went_on, fixed_opening, link_opening, wire_opening, open_link, at_link, next_side, overfull_side, Drain, drain, drain_on, drain_link, copy_frame, copy_between, tick_each_link, tick_world, world_step}
 use Rattle.drill_model.specs.Growth.{HistoryGrows, HistoryOfOwn, HistoryOfOther}
 use Rattle.drill_model.specs.Effects.{Sends, IsRefused, Passes, Loses, Repeats, Inserts, Releases, Effects, effects_in, At, of_first, of_alter, of_copy, OfTick, TickEffects, DrainEffects, HasEffects}
 use Rattle.drill_laws.proofs.OneLink.{drain_leads, other_rests, ticks_lead}
@@ -18,7 +18,7 @@ use Rattle.drill_laws.proofs.StepEffects.{effects_append, opened_effects, send_e
 module _ (only : StepsOnly) (grow : HistoryGrows) (own : HistoryOfOwn) (other : HistoryOfOther) where
   -- ---- openings
 
-  open_effects : (plan : Plan) (w : World) (n m : ℕ) (place : Option Link) (opening : Option LinkOpening)
+  open_effects : (plan : DrillPlan) (w : World) (n m : ℕ) (place : Option Link) (opening : Option LinkOpening)
       → effects_in (history_on n (open_link plan w m place opening).1) ≡ []
   open_effects plan w n m (Some l) opening = refl
   open_effects plan w n m None None = refl
@@ -215,11 +215,11 @@ module _ (only : StepsOnly) (grow : HistoryGrows) (own : HistoryOfOwn) (other : 
 
   -- ---- steps of the world
 
-  abbrev pub brought : Plan → World → ℕ → Step → Effects
+  abbrev pub brought : DrillPlan → World → ℕ → Step → Effects
   brought plan w n s = effects_in (history_on n (world_step plan w s).1)
 
   -- at a link that is open
-  pub step_effects : (plan : Plan) (w : World) (n : ℕ) (l : Link) → link_at w n ≡ Some l → is_link n ≡ true → (s : Step) → HasEffects w n l s (brought plan w n s)
+  pub step_effects : (plan : DrillPlan) (w : World) (n : ℕ) (l : Link) → link_at w n ≡ Some l → is_link n ≡ true → (s : Step) → HasEffects w n l s (brought plan w n s)
   step_effects plan w n l is link (does.Fixed m engine rbc ke kr) = open_effects plan w n m (link_at w m) (fixed_opening plan.level engine rbc ke kr)
   step_effects plan w n l is link (does.Link m engine rbc ke kr ra rb) = open_effects plan w n m (link_at w m) (link_opening plan.level engine rbc ke kr ra rb)
   step_effects plan w n l is link (does.Wire m) = open_effects plan w n m (link_at w m) (wire_opening plan.level)
@@ -245,7 +245,7 @@ module _ (only : StepsOnly) (grow : HistoryGrows) (own : HistoryOfOwn) (other : 
   step_effects plan w n l is link (does.Drain m most) = drain_open w n m most l is
 
   -- and at one that isn't
-  pub step_closed : (plan : Plan) (w : World) (n : ℕ) → link_at w n ≡ None → (s : Step) → brought plan w n s ≡ []
+  pub step_closed : (plan : DrillPlan) (w : World) (n : ℕ) → link_at w n ≡ None → (s : Step) → brought plan w n s ≡ []
   step_closed plan w n none (does.Fixed m engine rbc ke kr) = open_effects plan w n m (link_at w m) (fixed_opening plan.level engine rbc ke kr)
   step_closed plan w n none (does.Link m engine rbc ke kr ra rb) = open_effects plan w n m (link_at w m) (link_opening plan.level engine rbc ke kr ra rb)
   step_closed plan w n none (does.Wire m) = open_effects plan w n m (link_at w m) (wire_opening plan.level)

@@ -10,7 +10,7 @@ use Rattle.er_scenario.specs.declared.step.Step.TheVariants as does
 use Rattle.drill_model.specs.Outcomes.{Occurrence, NothingWaits, at_end}
 use Rattle.drill_model.specs.Waiting.{Lose, Repeat, Alter, Put}
 use Rattle.drill_model.specs.Links.{Link, LinkOpening, opened_link, waiting_of, LinkStep, Send, Pass, Change, Take, Release, Tick, pass, link_step}
-use Rattle.drill_model.specs.Worlds.{Plan, World, Came, On, Drained, new_world, is_link, link_at, with_link, history_on, went_on, fixed_opening, link_opening, wire_opening, open_link, at_link, next_side, overfull_side, Drain, drain, drain_on, drain_link, copy_frame, copy_between, tick_each_link, tick_world, world_step, world_run_from, world_run}
+use Rattle.drill_model.specs.Worlds.{DrillPlan, World, Came, On, Drained, new_world, is_link, link_at, with_link, history_on, went_on, fixed_opening, link_opening, wire_opening, open_link, at_link, next_side, overfull_side, Drain, drain, drain_on, drain_link, copy_frame, copy_between, tick_each_link, tick_world, world_step, world_run_from, world_run}
 use Rattle.drill_model.specs.Growth.{HistoryGrows, HistoryOfOwn, HistoryOfOther}
 
 -- what a step of a world asks of the opening or the link step that it makes
@@ -19,7 +19,7 @@ OpensFit Fit None = Unit {0}
 OpensFit Fit (Some opening) = Fit opening
 
 -- where the numbers of a step of the world fit, so do those of the link step that it makes
-abbrev pub StepFits : (LinkOpening → Type 0) → (LinkStep → Type 0) → Plan → Step → Type 0
+abbrev pub StepFits : (LinkOpening → Type 0) → (LinkStep → Type 0) → DrillPlan → Step → Type 0
 StepFits O S plan (does.Fixed n engine rbc ke kr) = OpensFit O (fixed_opening plan.level engine rbc ke kr)
 StepFits O S plan (does.Link n engine rbc ke kr ra rb) = OpensFit O (link_opening plan.level engine rbc ke kr ra rb)
 StepFits O S plan (does.Wire n) = OpensFit O (wire_opening plan.level)
@@ -55,7 +55,7 @@ pub record Keeps (settings : Settings) (O : LinkOpening → Type 0) (S : LinkSte
   pub steps : (l : Link) (history : List Occurrence) (s : LinkStep) → S s → P l history → P (link_step l s).0 (history ++ (link_step l s).1)
   pub others : (s : LinkStep) → IsNoSend s → S s
 
-module _ (grow : HistoryGrows) (own : HistoryOfOwn) (other : HistoryOfOther) (plan : Plan) (O : LinkOpening → Type 0) (S : LinkStep → Type 0)
+module _ (grow : HistoryGrows) (own : HistoryOfOwn) (other : HistoryOfOther) (plan : DrillPlan) (O : LinkOpening → Type 0) (S : LinkStep → Type 0)
     (P : Link → List Occurrence → Type 0) (keeps : Keeps plan.settings O S P) where
   -- of each link of a world
   abbrev Lives : World → List Came → Type 0

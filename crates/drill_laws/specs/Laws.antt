@@ -6,7 +6,7 @@ use Rattle.er_settings.specs.Ranges.{AllAllowed}
 use Rattle.er_scenario.specs.declared.step.Step.{Step}
 use Rattle.drill_model.specs.Links.{LinkOpening, OfPair, OfStations, OfStacks, Link}
 use Rattle.drill_model.specs.Steps.{AllFit}
-use Rattle.drill_model.specs.Worlds.{Plan, link_at, history_on, overfull_side, world_run}
+use Rattle.drill_model.specs.Worlds.{DrillPlan, link_at, history_on, overfull_side, world_run}
 use Rattle.drill_model.specs.Faults.{fault_behind}
 use Rattle.drill_model.specs.Kinds.{releases_in, IsOrderKeeping, IsLossFree}
 use Rattle.drill_model.specs.Recovery.{IsRepairable, AreStations, DrainEmpties}
@@ -17,12 +17,12 @@ use Rattle.drill_model.specs.Claims.{opening_of, LawfulAt, IsInOrder, IsLosingLi
 -- for every list of steps, at each number
 abbrev pub LawfulAlways : Type 0
 LawfulAlways =
-    (plan : Plan) (steps : List Step) (n : ℕ) → LawfulAt (link_at (world_run plan steps).0 n) (history_on n (world_run plan steps).1)
+    (plan : DrillPlan) (steps : List Step) (n : ℕ) → LawfulAt (link_at (world_run plan steps).0 n) (history_on n (world_run plan steps).1)
 
 -- a link has the opening of the step that opened it, and where no step did there is none
 abbrev pub OpensAlways : Type 0
 OpensAlways =
-    (plan : Plan) (steps : List Step) (n : ℕ)
+    (plan : DrillPlan) (steps : List Step) (n : ℕ)
     → option_map (λ l. l.opening) (link_at (world_run plan steps).0 n) ≡ opening_of plan n steps
 
 -- ---- room
@@ -30,7 +30,7 @@ OpensAlways =
 -- behind a step that is done not too many frames wait on any link
 abbrev pub RoomAlways : Type 0
 RoomAlways =
-    (plan : Plan) (before : List Step) (s : Step) → fault_behind plan before s ≡ None
+    (plan : DrillPlan) (before : List Step) (s : Step) → fault_behind plan before s ≡ None
     → (n : ℕ) (l : Link) → link_at (world_run plan (before ++ s ∷ [])).0 n ≡ Some l → overfull_side l ≡ None
 
 -- ---- settings
@@ -52,7 +52,7 @@ FitsSteps steps (OfStacks engine rbc ke kr ra rb) = AllFit steps
 -- for every list of steps, of each link that is order-keeping so far, whether an end was released or not
 abbrev pub InOrderAlways : Type 0
 InOrderAlways =
-    (plan : Plan) (steps : List Step) (n : ℕ) (l : Link) → link_at (world_run plan steps).0 n ≡ Some l
+    (plan : DrillPlan) (steps : List Step) (n : ℕ) (l : Link) → link_at (world_run plan steps).0 n ≡ Some l
     → FitsSettings plan.settings l.opening → FitsSteps steps l.opening
     → IsOrderKeeping l.opening (history_on n (world_run plan steps).1)
     → IsInOrder (history_on n (world_run plan steps).1)
@@ -60,7 +60,7 @@ InOrderAlways =
 -- of each release that came
 abbrev pub LosingLineReasonsAlways : Type 0
 LosingLineReasonsAlways =
-    (plan : Plan) (steps : List Step) (n : ℕ) (l : Link) → link_at (world_run plan steps).0 n ≡ Some l
+    (plan : DrillPlan) (steps : List Step) (n : ℕ) (l : Link) → link_at (world_run plan steps).0 n ≡ Some l
     → FitsSettings plan.settings l.opening → FitsSteps steps l.opening
     → IsOrderKeeping l.opening (history_on n (world_run plan steps).1)
     → AllByRecursion (IsLosingLineReason l.opening) (releases_in (history_on n (world_run plan steps).1))
@@ -68,7 +68,7 @@ LosingLineReasonsAlways =
 -- for every list of steps whose numbers fit, of each link that is loss-free so far
 abbrev pub DeliversAlways : Type 0
 DeliversAlways =
-    (plan : Plan) (steps : List Step) → AllFit steps → (n : ℕ) (l : Link) → link_at (world_run plan steps).0 n ≡ Some l
+    (plan : DrillPlan) (steps : List Step) → AllFit steps → (n : ℕ) (l : Link) → link_at (world_run plan steps).0 n ≡ Some l
     → FitsSettings plan.settings l.opening
     → IsLossFree l.opening (history_on n (world_run plan steps).1)
     → Delivers plan.settings (history_on n (world_run plan steps).1) l
@@ -76,12 +76,12 @@ DeliversAlways =
 -- for every list of steps
 abbrev pub RepairsAlways : Type 0
 RepairsAlways =
-    (plan : Plan) (before : List Step) (n : ℕ) (first : List Step) (moment : ℕ) (second : List Step)
+    (plan : DrillPlan) (before : List Step) (n : ℕ) (first : List Step) (moment : ℕ) (second : List Step)
     → ((l : Link) → link_at (world_run plan before).0 n ≡ Some l → FitsSettings plan.settings l.opening × FitsSteps before l.opening)
     → Repairs plan before n first moment second
 
 -- of a link of two stations
 abbrev pub DrainsAlways : Type 0
 DrainsAlways =
-    (plan : Plan) (steps : List Step) (n : ℕ) (l : Link) → link_at (world_run plan steps).0 n ≡ Some l → FitsSettings plan.settings l.opening
+    (plan : DrillPlan) (steps : List Step) (n : ℕ) (l : Link) → link_at (world_run plan steps).0 n ≡ Some l → FitsSettings plan.settings l.opening
     → AreStations l.opening → IsRepairable (history_on n (world_run plan steps).1) l → DrainEmpties plan (history_on n (world_run plan steps).1) l

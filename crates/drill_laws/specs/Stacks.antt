@@ -7,39 +7,39 @@ use Rattle.er_settings.specs.Values.{Settings}
 use Rattle.er_settings.specs.Ranges.{AllAllowed}
 use Rattle.er_scenario.specs.declared.step.Step.{Step}
 use Rattle.safety_pair_laws.specs.Openings.{OfKeys, key_for}
-use Rattle.er_end_pair_laws.specs.Openings.{Opening}
-use Rattle.er_end_pair_laws.specs.Steps.{LinkStep}
+use Rattle.er_end_pair_laws.specs.Openings.{EndLinkOpening}
+use Rattle.er_end_pair_laws.specs.Steps.{EndLinkStep}
 use Rattle.er_end_pair_laws.specs.Steps as pair
-use Rattle.er_end_pair_laws.specs.Laws.{after}
+use Rattle.er_end_pair_laws.specs.Laws.{end_link_after}
 use Rattle.drill_model.specs.Outcomes.{Occurrence}
 use Rattle.drill_model.specs.Ends.{OfStack}
 use Rattle.drill_model.specs.Links.{Link, OfStacks}
 use Rattle.drill_model.specs.Steps.{AllFit}
-use Rattle.drill_model.specs.Worlds.{Plan, link_at, history_on, world_run}
+use Rattle.drill_model.specs.Worlds.{DrillPlan, link_at, history_on, world_run}
 use Rattle.drill_model.specs.Kinds.{accepted_by, is_disordered}
 use Rattle.drill_model.specs.Hearing.{passed_of}
 
 -- a link with what came at it, and two ends that were opened with its settings and numbers, behind these steps
 pub record IsPair (settings : Settings) (l : Link) (history : List Occurrence) : Type 0 where
-  pub s : Opening
+  pub s : EndLinkOpening
   -- the radio block centre's KMAC
   pub kr : Option TripleKey
-  pub steps : List LinkStep
+  pub steps : List EndLinkStep
   pub fit : pair.AllFit steps
   pub settings_are : s.settings ≡ settings
   pub opening_is : l.opening ≡ OfStacks s.engine s.rbc s.kmac kr s.ra s.rb
   pub finds : (now engine rbc : ℕ) → s.finder now engine rbc ≡ key_for (OfKeys s.engine s.rbc s.kmac kr s.ra s.rb) engine rbc
-  pub e_is : l.e ≡ OfStack (after s steps).e
-  pub r_is : l.r ≡ OfStack (after s steps).r
-  pub accepted_e : accepted_by E history ≡ (after s steps).e.core.upper.accepted
-  pub accepted_r : accepted_by R history ≡ (after s steps).r.core.upper.accepted
-  pub ordered : is_disordered history ≡ not (after s steps).order_kept
-  pub stream_e : (after s steps).e.stream ≡ passed_of R history
-  pub stream_r : (after s steps).r.stream ≡ passed_of E history
+  pub e_is : l.e ≡ OfStack (end_link_after s steps).e
+  pub r_is : l.r ≡ OfStack (end_link_after s steps).r
+  pub accepted_e : accepted_by E history ≡ (end_link_after s steps).e.core.upper.accepted
+  pub accepted_r : accepted_by R history ≡ (end_link_after s steps).r.core.upper.accepted
+  pub ordered : is_disordered history ≡ not (end_link_after s steps).order_kept
+  pub stream_e : (end_link_after s steps).e.stream ≡ passed_of R history
+  pub stream_r : (end_link_after s steps).r.stream ≡ passed_of E history
 
 -- of each link of two stacks, where the settings are in their ranges and the numbers of the steps fit their fields
 abbrev pub StacksRun : Type 0
 StacksRun =
-    (plan : Plan) (steps : List Step) → AllFit steps → AllAllowed plan.settings → (n : ℕ) (l : Link) → link_at (world_run plan steps).0 n ≡ Some l
+    (plan : DrillPlan) (steps : List Step) → AllFit steps → AllAllowed plan.settings → (n : ℕ) (l : Link) → link_at (world_run plan steps).0 n ≡ Some l
     → (engine rbc : ℕ) (ke : TripleKey) (kr : Option TripleKey) (ra rb : ℕ) → l.opening ≡ OfStacks engine rbc ke kr ra rb
     → IsPair plan.settings l (history_on n (world_run plan steps).1)

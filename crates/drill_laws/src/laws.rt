@@ -10,7 +10,7 @@ ghost use Rattle.er_end_pair_laws.specs.Laws.{Prefix, OneFrame, LosingLineReason
 ghost use Rattle.er_settings.specs.Ranges.{AllAllowed};
 ghost use Rattle.er_scenario.specs.declared.step.Step.{Step};
 ghost use Rattle.drill_model.specs.Steps.{AllFit};
-ghost use Rattle.drill_model.specs.Worlds.{Plan};
+ghost use Rattle.drill_model.specs.Worlds.{DrillPlan};
 ghost use Rattle.drill_model.specs.Hearing.{HeardIsBrought};
 ghost use Rattle.drill_model.specs.StackReports.{OpensOrderly, CallsReport};
 ghost use Rattle.drill_model.specs.Effects.{Steps};
@@ -152,7 +152,7 @@ pub fn worlds()
 /// end sent is the text of a step that sends at that end, in their order; and without the steps that alter, insert, lose, repeat or have a user
 /// release, and where no timer ran out at a tick, the link keeps its order and is loss-free.
 pub fn steps()
-    ensures { (plan : Plan) (steps : List Step) → Steps plan steps }
+    ensures { (plan : DrillPlan) (steps : List Step) → Steps plan steps }
 {
     safety_automaton::laws::steps();
     drill_model::laws::histories();
@@ -162,7 +162,7 @@ pub fn steps()
 /// What a side of a safe connection heard is what the line brought it: at level safe the SaPDU that was passed to it last, at level full a text that
 /// its layers made of a frame which the octets closed that were passed to it last, behind all that were passed before.
 pub fn heard()
-    ensures { (plan : Plan) (steps : List Step) → HeardIsBrought plan steps }
+    ensures { (plan : DrillPlan) (steps : List Step) → HeardIsBrought plan steps }
 {
     safety_automaton::laws::steps();
     er_end_model::laws::events_give();
@@ -171,7 +171,7 @@ pub fn heard()
 
 /// What the user of an end took is a prefix of what the end accepted, whatever the steps.
 pub fn takes()
-    ensures { (plan : Plan) (steps : List Step) → TakesInOrder plan steps }
+    ensures { (plan : DrillPlan) (steps : List Step) → TakesInOrder plan steps }
 {
     safety_automaton::laws::steps();
     drill_model::laws::stacks_report();
@@ -181,7 +181,7 @@ pub fn takes()
 /// On a link of level link, link-sr or full that keeps its order, whatever it loses and repeats, nothing is forged where the keys agree, also where
 /// an end is released.
 pub fn order_is_unforged()
-    ensures { (plan : Plan) (steps : List Step) → AllFit steps → AllAllowed plan.settings → OrderIsUnforged plan steps }
+    ensures { (plan : DrillPlan) (steps : List Step) → AllFit steps → AllAllowed plan.settings → OrderIsUnforged plan steps }
 {
     er_end_pair_laws::laws::in_step_while_ordered();
     stack_laws();

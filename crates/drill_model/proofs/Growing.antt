@@ -6,13 +6,13 @@ use Rattle.er_scenario.specs.declared.step.Step.{Step}
 use Rattle.safety_pair_laws.specs.Facts.{SideFact, MarkedFact, marked, marked_from}
 use Rattle.safety_pair_laws.specs.Marks.{MarksGrow}
 use Rattle.drill_model.specs.Outcomes.{Occurrence, facts_at, facts_in}
-use Rattle.drill_model.specs.Worlds.{Plan, World, Came, On, history_at, history_on, facts_on, then_world, world_step, new_world, world_run_from, world_run}
-use Rattle.drill_model.specs.Marks.{MarkedOccurrence, MarkedCame, mark_of, marks_behind, mark_came, marks_from}
+use Rattle.drill_model.specs.Worlds.{DrillPlan, World, Came, On, history_at, history_on, facts_on, then_world, world_step, new_world, world_run_from, world_run}
+use Rattle.drill_model.specs.Marks.{MarkedOccurrence, MarkedCame, occurrence_with_mark, marks_behind, mark_came, marks_from}
 use Rattle.drill_model.specs.Texts.{came_line, marked_line, lines, link_lines, step_lines, first_lines}
 
 -- ---- runs
 
-run_grows : (plan : Plan) (w : World) (before : List Step) (s : Step)
+run_grows : (plan : DrillPlan) (w : World) (before : List Step) (s : Step)
     → world_run_from plan w (before ++ s ∷ []) ≡ then_world (world_run_from plan w before) (λ v. world_step plan v s)
 run_grows plan w [] s = ap (λ (xs : List Came). ((world_step plan w s).0, xs)) (append-nil (world_step plan w s).1)
 run_grows plan w (t ∷ before) s =
@@ -22,7 +22,7 @@ run_grows plan w (t ∷ before) s =
     ap (λ (a : World × List Came). (a.0, now.1 ++ a.1)) (run_grows plan now.0 before s)
     ∙ ap (λ (xs : List Came). (last.0, xs)) (sym (append_assoc now.1 mid.1 last.1))
 
-pub world_run_grows : (plan : Plan) (before : List Step) (s : Step)
+pub world_run_grows : (plan : DrillPlan) (before : List Step) (s : Step)
     → world_run plan (before ++ s ∷ []) ≡ then_world (world_run plan before) (λ w. world_step plan w s)
 world_run_grows plan before s = run_grows plan new_world before s
 
@@ -52,7 +52,7 @@ world_marks_grow seen (c ∷ xs) ys =
     world_marks_grow (seen ++ c ∷ []) xs ys ∙ ap (λ (zs : List Came). rest ++ marks_from zs ys) (append_assoc seen (c ∷ []) xs)
     )
 
-pub text_grows : (plan : Plan) (before : List Step) (s : Step) → first_lines plan (before ++ s ∷ []) ≡ first_lines plan before ++ step_lines plan before s
+pub text_grows : (plan : DrillPlan) (before : List Step) (s : Step) → first_lines plan (before ++ s ∷ []) ≡ first_lines plan before ++ step_lines plan before s
 text_grows plan before s =
     let a : World × List Came = world_run plan before in
     let now : World × List Came = world_step plan a.0 s in
@@ -71,7 +71,7 @@ module _ (grow : MarksGrow) where
       let same : next ++ marked_from next (facts_in xs) ≡ before ++ marked_from before (first ++ facts_in xs) =
       append_assoc before (marked_from before first) (marked_from next (facts_in xs))
       ∙ ap (λ (ms : List MarkedFact). before ++ ms) (sym (grow before first (facts_in xs))) in
-      ap (λ (ms : List MarkedOccurrence). mark_of before o ∷ ms) (
+      ap (λ (ms : List MarkedOccurrence). occurrence_with_mark before o ∷ ms) (
       link_marks_grow next xs ys ∙ ap (λ (ms : List MarkedFact). rest ++ marks_behind ms ys) same
       )
 
@@ -90,7 +90,7 @@ module _ (grow : MarksGrow) where
       → lines show (marks_from seen (map (On n) history)) ≡ link_lines show n (marks_behind (marked (facts_on n seen)) history)
   link_text show n seen [] = refl
   link_text show n seen (o ∷ history) =
-      let line : List ℕ = marked_line show n (mark_of (marked (facts_on n seen)) o) in
+      let line : List ℕ = marked_line show n (occurrence_with_mark (marked (facts_on n seen)) o) in
       ap (λ (xs : List ℕ). line ++ xs) (
       link_text show n (seen ++ On n o ∷ []) history
       ∙ ap (λ (ms : List MarkedFact). link_lines show n (marks_behind ms history)) (facts_of_own n seen o)

@@ -1,5 +1,6 @@
 -- A stack reports what its safety side did, and its safety side is connected only behind its transport.
 use Rattle.std.proofs.Common.{◌≡◌, ℕ, zero, suc, if◌then◌else◌, true, false, Bool, List, [], ◌∷◌, ◌++◌, length, refl, sym, ap, subst, ◌∙◌, arith}
+use Rattle.hdlc_station_model.specs.Receiving.{is_some_octets}
 use Rattle.std.specs.Prelude.{◌+◌, ◌-◌, ◌%◌, ◌&&◌, ◌==◌, nat_lt, nat_le, not, Option, Some, None, is_some, Result, Ok, Err}
 use Rattle.std.proofs.lemmas.Bool.{and_parts, lt-ltb}
 use Rattle.er_base.specs.declared.release.Release.{Release}
@@ -10,27 +11,27 @@ use Rattle.hdlc_frames.specs.Framing.{Verdict}
 use Rattle.hdlc_station_model.specs.Stations.{Deed as LinkDeed}
 use Rattle.t70_header.specs.Joining as joining
 use Rattle.x224_tpdu.specs.declared.fault.TpFault.{TpFault}
-use Rattle.x224_tpdu.specs.Spelling.{Pdu, connection_request, connection_confirm, disconnect_request, disconnect_confirm, data_tpdu, acknowledgement, tpdu_error}
+use Rattle.x224_tpdu.specs.Spelling.{TransportPdu, connection_request, connection_confirm, disconnect_request, disconnect_confirm, data_tpdu, acknowledgement, tpdu_error}
 use Rattle.x224_tpdu.specs.Function.{reading}
 use Rattle.x224_class2.specs.Segments.{text_so_far}
-use Rattle.x224_class2.specs.Tpdus.{Given, Dr, Dc}
+use Rattle.x224_class2.specs.Tpdus.{GivenTpdu, Dr, Dc}
 use Rattle.x224_class2.specs.Refusals.{protocol_error, message_too_long, tpdu_refused}
 use Rattle.x224_class2.specs.declared.stage.Stage.{Stage}
 use Rattle.x224_class2.specs.declared.stage.Stage.TheVariants as stage
-use Rattle.x224_class2.specs.Transport.{Transport, Deed, Nothing, Called, Confirmed, Message, Disconnected, is_new, is_calling, is_open, is_over, on_request, on_confirm, on_disconnect, is_expected, on_data, number_named, on_named, on_acknowledgement, on_reading, reception, Turn, Rest, Opening, Acknowledgement, Data, turn_of, state_behind, with_given, next_tpdu, after_next}
+use Rattle.x224_class2.specs.Transport.{Transport, ReceptionDeed, Nothing, Called, Confirmed, Message, Disconnected, is_new, is_calling, is_open, is_over, on_request, on_confirm, on_disconnect, is_expected, on_data, number_named, on_named, on_acknowledgement, on_reading, reception, TpduTurn, Rest, Opening, Acknowledgement, Data, turn_of, state_behind, with_given, next_tpdu, after_next}
 use Rattle.x224_class2.specs.Transport as transport
-use Rattle.sapdu.specs.Spelling.{di_in, Pdu as SaPdu, Au1, Au2, header, body, spelling}
+use Rattle.sapdu.specs.Spelling.{di_in, SafetyPdu as SaPdu, Au1, Au2, header, body, spelling}
 use Rattle.cbc_mac.specs.Mac.{mac_of}
 use Rattle.safety_automaton.specs.Keys.{no_keys}
 use Rattle.safety_automaton.specs.Rules.{IsStep, StepsOnly, AtReceived, AtDisconnect, AtConnect, StaysIdle}
-use Rattle.safety_automaton.specs.Laws.{KeysAreOwn, keys_of}
+use Rattle.safety_automaton.specs.Laws.{KeysAreOwn, session_keys_of_outcome}
 use Rattle.safety_automaton.specs.Reports.{KeptSafe, report_of}
-use Rattle.safety_automaton.specs.Safety.{Safety, Phase, Ready, WaitAu1, WaitAu2, WaitAu3, WaitAr, Connected, Released, SafetyEvent, ConnectRequest, Received, DataRequest, DisconnectRequest, SafetyOutcome, SentAu1, SentAu2, SentAu3, SentAr, ReceivedAr, AcceptedDt, SentDt, Refused, ReleasedLocally, ReleasedByPeer, NothingDone, flag_of, peer_flag, session_in, sealed_by, verified_by, sent_by, sends_dt, step}
+use Rattle.safety_automaton.specs.Safety.{Safety, Phase, Ready, WaitAu1, WaitAu2, WaitAu3, WaitAr, Connected, Released, SafetyEvent, ConnectRequest, Received, DataRequest, DisconnectRequest, SafetyOutcome, SentAu1, SentAu2, SentAu3, SentAr, ReceivedAr, AcceptedDt, SentDt, Refused, ReleasedLocally, ReleasedByPeer, NothingDone, flag_of, peer_flag, session_in, sealed_by, verified_by, octets_sent_in_outcome, sends_dt, step}
 use Rattle.safety_automaton.specs.Safety.{connects as begins_side, sends as sends_side, disconnects as disconnects_side}
 use Rattle.safety_automaton.specs.Safety as refused
 use Rattle.sapdu.specs.Messages.{is_message}
 use Rattle.er_end_model.specs.Layers.{Spoken, Core, model}
-use Rattle.er_end_model.specs.Steps.{Finds, new_event_at, with_release, hand_tpdu, close_link, send_owed_answer, send_dr, answer_dr, end_after_di, on_safety_release, why_of, with_safety_step, is_some_octets, hand_text, skip_message, Carrier, InCr, InCc, InDt, hand_answer, keep_message, on_safety_report, on_text, on_transport_deed, on_joined_block, is_ready, connect_with_text, on_link_up, on_link_told, on_link_deed, hand_next_tpdu, has_next_tpdu, hand_waiting_tpdus, most_offers, conclude_event, step_start, step_frame, step_send_unless, step_take, step_release, is_spent, di_of, on_expiry, step_tick, normal_disconnect}
+use Rattle.er_end_model.specs.Steps.{Finds, new_event_at, with_release, hand_tpdu, close_link, send_owed_answer, send_dr, answer_dr, end_after_di, on_safety_release, why_of, with_safety_step, hand_text, skip_message, Carrier, InCr, InCc, InDt, hand_answer, keep_message, on_safety_report, on_text, on_transport_deed, on_joined_block, is_ready, connect_with_text, on_link_up, on_link_told, on_link_deed, hand_next_tpdu, has_next_tpdu, hand_waiting_tpdus, most_offers, conclude_event, step_start, step_frame, step_send_unless, step_take, step_release, is_spent, di_of, on_expiry, step_tick, normal_disconnect}
 use Rattle.er_end_model.specs.Ends as ends_of
 use Rattle.drill_model.specs.StackReports.{peer_by, user_by, Reports, ReportsAt, IsUnmet, AwaitsAu2, IsEarly, IsOrderly, OpensOrderly, CallsReport}
 
@@ -119,7 +120,7 @@ MayCome InDt x o = x.upper.transport.stage ≡ stage.Open
 
 -- where the keys are the side's
 abbrev HasKeys : Safety → SafetyOutcome → Type 0
-HasKeys s o = (session : TripleKey) → keys_of o ≡ Some session → session_in s.phase ≡ Some session
+HasKeys s o = (session : TripleKey) → session_keys_of_outcome o ≡ Some session → session_in s.phase ≡ Some session
 
 abbrev after_step : SafetyEvent → Safety → SafetyOutcome → Core → Core
 after_step event s o x = with_safety_step model event (s, o) x
@@ -156,7 +157,7 @@ module _ (event : SafetyEvent) (s : Safety) (x : Core) (none : x.connected ≡ N
   ignored_good o is no_peer no_user keys = (open_orderly (after_step event s o x) is, quiet o no_peer no_user keys)
 
   acts_good : (carrier : Carrier) (o : SafetyOutcome) → MayCome carrier x o → HasKeys s o
-      → Good (on_safety_report model carrier (report_of o) (sent_by o) (after_step event s o x))
+      → Good (on_safety_report model carrier (report_of o) (octets_sent_in_outcome o) (after_step event s o x))
   acts_good InCr (SentAu2 session sealed octets) may keys = answered_good InCr (SentAu2 session sealed octets) octets refl refl may keys
   acts_good carrier (ReleasedLocally release octets) may keys = parts_good release octets (after_step event s (ReleasedLocally release octets) x) (quiet (ReleasedLocally release octets) refl refl keys)
   acts_good carrier (ReleasedByPeer release) may keys = parts_good release [] (after_step event s (ReleasedByPeer release) x) (quiet (ReleasedByPeer release) refl refl keys)
@@ -248,7 +249,7 @@ module _ (only : StepsOnly) (own : KeysAreOwn) where
 -- ---- what the transport makes of a TPDU
 
 -- the stages before and behind a reception, by what it comes to
-abbrev Turned : (old new : Stage) → Deed → Type 0
+abbrev Turned : (old new : Stage) → ReceptionDeed → Type 0
 Turned old new Nothing = new ≡ old
 Turned old new (Called user) = old ≡ stage.New
 Turned old new (Confirmed user) = (old ≡ stage.Calling) × (new ≡ stage.Open)
@@ -256,10 +257,10 @@ Turned old new (Message message) = new ≡ stage.Open
 Turned old new (Disconnected user) = Unit {0}
 Turned old new (transport.Refused sub reason) = Unit {0}
 
-abbrev TurnedTo : Transport → Transport × Deed → Type 0
+abbrev TurnedTo : Transport → Transport × ReceptionDeed → Type 0
 TurnedTo t a = Turned t.stage a.0.stage a.1
 
-if_turned : (t : Transport) (b : Bool) (x y : Transport × Deed) → (b ≡ true → TurnedTo t x) → (b ≡ false → TurnedTo t y) → TurnedTo t (if b then x else y)
+if_turned : (t : Transport) (b : Bool) (x y : Transport × ReceptionDeed) → (b ≡ true → TurnedTo t x) → (b ≡ false → TurnedTo t y) → TurnedTo t (if b then x else y)
 if_turned t true x y hx hy = hx refl
 if_turned t false x y hx hy = hy refl
 
@@ -286,7 +287,7 @@ open_is stage.Over e = absurd (cc)
 
 request_turns : (t : Transport) (credit dst src size : ℕ) (user : List ℕ) → TurnedTo t (on_request t credit dst src size user)
 request_turns t credit dst src size user =
-    if_turned t (not t.is_caller && is_new t.stage && (dst == 0) && (src == 1)) _ (transport.refusal t tpdu_refused protocol_error)
+    if_turned t (not t.is_caller && is_new t.stage && (dst == 0) && (src == 1)) _ (transport.refusal_of_tpdu t tpdu_refused protocol_error)
     (λ may. new_is t.stage (second (not t.is_caller) (is_new t.stage) (dst == 0) (src == 1) may)) (λ not_may. tt)
   where
     second : (a b c d : Bool) → (a && b && c && d) ≡ true → b ≡ true
@@ -296,7 +297,7 @@ request_turns t credit dst src size user =
 
 confirm_turns : (t : Transport) (credit dst src size : ℕ) (user : List ℕ) → TurnedTo t (on_confirm t credit dst src size user)
 confirm_turns t credit dst src size user =
-    if_turned t (is_calling t.stage && (dst == 1) && (src == 1) && nat_le size t.size) _ (transport.refusal t tpdu_refused protocol_error)
+    if_turned t (is_calling t.stage && (dst == 1) && (src == 1) && nat_le size t.size) _ (transport.refusal_of_tpdu t tpdu_refused protocol_error)
     (λ may. (calling_is t.stage (first (is_calling t.stage) (dst == 1) (src == 1) (nat_le size t.size) may), refl)) (λ not_may. tt)
   where
     first : (a b c d : Bool) → (a && b && c && d) ≡ true → a ≡ true
@@ -305,7 +306,7 @@ confirm_turns t credit dst src size user =
 
 disconnect_turns : (t : Transport) (dst src : ℕ) (user : List ℕ) → TurnedTo t (on_disconnect t dst src user)
 disconnect_turns t dst src user =
-    if_turned t (not (is_new t.stage) && (dst == 1) && (src == 1)) _ (transport.refusal t tpdu_refused protocol_error) (λ may. tt) (λ not_may. tt)
+    if_turned t (not (is_new t.stage) && (dst == 1) && (src == 1)) _ (transport.refusal_of_tpdu t tpdu_refused protocol_error) (λ may. tt) (λ not_may. tt)
 
 last_turns : (t : Transport) (last : Bool) (text : List ℕ) → t.stage ≡ stage.Open → Turned t.stage t.stage (if last then Message text else Nothing)
 last_turns t true text is = is
@@ -313,8 +314,8 @@ last_turns t false text is = refl
 
 data_turns : (t : Transport) (dst : ℕ) (last : Bool) (number : ℕ) (user : List ℕ) → TurnedTo t (on_data t dst last number user)
 data_turns t dst last number user =
-    if_turned t (not (is_expected t dst number user)) (transport.refusal t tpdu_refused protocol_error) _ (λ not_expected. tt)
-    (λ expected. if_turned t (nat_lt 1032 (length (text_so_far t.contents ++ user))) (transport.refusal t message_too_long protocol_error) _ (λ long. tt)
+    if_turned t (not (is_expected t dst number user)) (transport.refusal_of_tpdu t tpdu_refused protocol_error) _ (λ not_expected. tt)
+    (λ expected. if_turned t (nat_lt 1032 (length (text_so_far t.contents ++ user))) (transport.refusal_of_tpdu t message_too_long protocol_error) _ (λ long. tt)
     (λ short. last_turns t last (text_so_far t.contents ++ user)
     (open_is t.stage (first (is_open t.stage) (dst == 1) (number == length t.contents % 128) (nat_lt (length t.contents) (t.newest + t.credit)) (nat_le (length user) (t.size - 5)) (negated (is_expected t dst number user) expected)))))
   where
@@ -328,14 +329,14 @@ data_turns t dst last number user =
 
 named_turns : (t : Transport) (credit : ℕ) (named : Option ℕ) → TurnedTo t (on_named t credit named)
 named_turns t credit None = tt
-named_turns t credit (Some n) = if_turned t (nat_lt (n + credit) t.edge) (transport.refusal t tpdu_refused protocol_error) _ (λ below. tt) (λ above. refl)
+named_turns t credit (Some n) = if_turned t (nat_lt (n + credit) t.edge) (transport.refusal_of_tpdu t tpdu_refused protocol_error) _ (λ below. tt) (λ above. refl)
 
 acknowledgement_turns : (t : Transport) (credit dst number : ℕ) → TurnedTo t (on_acknowledgement t credit dst number)
 acknowledgement_turns t credit dst number =
-    if_turned t (is_open t.stage && (dst == 1)) (on_named t credit (number_named t.acked (t.given - t.acked) number)) (transport.refusal t tpdu_refused protocol_error)
+    if_turned t (is_open t.stage && (dst == 1)) (on_named t credit (number_named t.acked (t.given - t.acked) number)) (transport.refusal_of_tpdu t tpdu_refused protocol_error)
     (λ may. named_turns t credit (number_named t.acked (t.given - t.acked) number)) (λ not_may. tt)
 
-reading_turns : (t : Transport) (r : Result Pdu TpFault) → TurnedTo t (on_reading t r)
+reading_turns : (t : Transport) (r : Result TransportPdu TpFault) → TurnedTo t (on_reading t r)
 reading_turns t (Ok (connection_request credit dst src size user)) = request_turns t credit dst src size user
 reading_turns t (Ok (connection_confirm credit dst src size user)) = confirm_turns t credit dst src size user
 reading_turns t (Ok (disconnect_request dst src reason user)) = disconnect_turns t dst src user
@@ -349,11 +350,11 @@ reception_turns : (t : Transport) (octets : List ℕ) → TurnedTo t (reception 
 reception_turns t octets = if_turned t (is_over t.stage) (t, Nothing) (on_reading t (reading octets)) (λ over. refl) (λ live. reading_turns t (reading octets))
 
 -- giving a TPDU leaves the stage
-given_stage : (t : Transport) (tpdu : Option Given) → (with_given t tpdu).stage ≡ t.stage
+given_stage : (t : Transport) (tpdu : Option GivenTpdu) → (with_given t tpdu).stage ≡ t.stage
 given_stage t None = refl
 given_stage t (Some tpdu) = refl
 
-behind_stage : (t : Transport) (turn : Turn) → (state_behind t turn).stage ≡ t.stage
+behind_stage : (t : Transport) (turn : TpduTurn) → (state_behind t turn).stage ≡ t.stage
 behind_stage t Rest = refl
 behind_stage t (Opening user) = refl
 behind_stage t Acknowledgement = refl
@@ -393,7 +394,7 @@ starts_good now x h =
 
 module _ (only : StepsOnly) (own : KeysAreOwn) where
   -- what the transport made of it
-  does_good : (finds : Finds) (deed : Deed) (x : Core) (old : Stage) → Turned old x.upper.transport.stage deed → IsEarly old x.safe.safety.phase → x.released ≡ None
+  does_good : (finds : Finds) (deed : ReceptionDeed) (x : Core) (old : Stage) → Turned old x.upper.transport.stage deed → IsEarly old x.safe.safety.phase → x.released ≡ None
       → (x.connected ≡ None) × (x.upper.news ≡ None) × ReportsAt x → Good (on_transport_deed model finds deed x)
   does_good finds Nothing x old turned early live silent = (λ none. subst (λ (st : Stage). IsEarly st x.safe.safety.phase) (sym turned) early, silent.2)
   does_good finds (Called user) x old turned early live silent =
@@ -404,7 +405,7 @@ module _ (only : StepsOnly) (own : KeysAreOwn) where
   does_good finds (Disconnected user) x old turned early live silent = cut_off_good (why_of (di_in user (peer_flag x.safe.safety))) x silent.2
   does_good finds (transport.Refused sub reason) x old turned early live silent = departs_good (by_this_end 2 sub) reason [] x silent.2
 
-  block_good : (finds : Finds) (answer : joining.Answer) (x : Core) → IsOrderly x → x.released ≡ None
+  block_good : (finds : Finds) (answer : joining.BlockJoiningResult) (x : Core) → IsOrderly x → x.released ≡ None
       → (x.connected ≡ None) × (x.upper.news ≡ None) × ReportsAt x → Good (on_joined_block model finds answer x)
   block_good finds (Ok None) x orderly live silent = (orderly, silent.2)
   block_good finds (Ok (Some tpdu)) x orderly live silent =
@@ -413,7 +414,7 @@ module _ (only : StepsOnly) (own : KeysAreOwn) where
 
   -- the caller connects
   connect_good : (x : Core) (phase : Phase) → is_ready phase ≡ true → (x.connected ≡ None) × (x.upper.news ≡ None) × ReportsAt x
-      → let a = begins_side x.safe.safety phase in Good (connect_with_text model (sent_by a.1) (with_safety_step model ConnectRequest a x))
+      → let a = begins_side x.safe.safety phase in Good (connect_with_text model (octets_sent_in_outcome a.1) (with_safety_step model ConnectRequest a x))
   connect_good x (Ready peer kmac rb) ready silent =
       let s : Safety = record (x.safe.safety) { phase = WaitAu2 peer kmac rb } in
       let octets : List ℕ = spelling (Au1 x.safe.safety.me 1 rb) (flag_of x.safe.safety.role) in
@@ -434,13 +435,13 @@ module _ (only : StepsOnly) (own : KeysAreOwn) where
   comes_up_good : (x : Core) → IsOrderly x → (x.connected ≡ None) × (x.upper.news ≡ None) × ReportsAt x → Good (on_link_up model x)
   comes_up_good x orderly silent =
       if_known Good (model.may_connect x.upper && is_ready x.safe.safety.phase)
-      (connect_with_text model (sent_by (step no_keys x.safe.safety ConnectRequest).1) (with_safety_step model ConnectRequest (step no_keys x.safe.safety ConnectRequest) x)) x
+      (connect_with_text model (octets_sent_in_outcome (step no_keys x.safe.safety ConnectRequest).1) (with_safety_step model ConnectRequest (step no_keys x.safe.safety ConnectRequest) x)) x
       (λ may. connect_good x x.safe.safety.phase (and_parts (model.may_connect x.upper) (is_ready x.safe.safety.phase) may).1 silent) (λ not_may. (orderly, silent.2))
 
   link_good : (finds : Finds) (payload : Option (List ℕ)) (up : Bool) (why : Option Release) (x : Core) → IsOrderly x → x.released ≡ None
       → (x.connected ≡ None) × (x.upper.news ≡ None) × ReportsAt x → Good (on_link_told model finds payload up why x)
   link_good finds (Some payload) up why x orderly live silent =
-      block_good finds (joining.step x.joined payload).1 (record x { joined = (joining.step x.joined payload).0 }) orderly live silent
+      block_good finds (joining.block_step x.joined payload).1 (record x { joined = (joining.block_step x.joined payload).0 }) orderly live silent
   link_good finds None true why x orderly live silent = comes_up_good x orderly silent
   link_good finds None false (Some why) x orderly live silent = (vacuous (with_release why x) why refl, silent.2)
   link_good finds None false None x orderly live silent = (orderly, silent.2)
@@ -481,7 +482,7 @@ module _ (only : StepsOnly) (own : KeysAreOwn) where
       let a : Safety × SafetyOutcome = step no_keys s (DataRequest user) in
       let z : Core = record (with_safety_step model (DataRequest user) a y) { upper = model.sends (with_safety_step model (DataRequest user) a y).upper user } in
       let quiet = send_quiet s s.phase user in
-      concludes_good (hand_text model (sent_by a.1) z) (says_good (sent_by a.1) z (
+      concludes_good (hand_text model (octets_sent_in_outcome a.1) z) (says_good (octets_sent_in_outcome a.1) z (
         same_orderly y z refl refl (ap (λ (t : Safety). t.phase) quiet.0) (begun_good now x h).0,
         step_reports (DataRequest user) a.0 a.1 y (sym quiet.1) (sym quiet.2) (own no_keys s (DataRequest user)),
       ))
@@ -508,8 +509,8 @@ module _ (only : StepsOnly) (own : KeysAreOwn) where
       let a : Safety × SafetyOutcome = step no_keys s (DisconnectRequest sub) in
       let z : Core = with_safety_step model (DisconnectRequest sub) a y in
       let quiet = leave_quiet s s.phase sub in
-      if_core Good (is_some y.released) y (send_dr model (release_of (User sub)) normal_disconnect (sent_by a.1) z) (begun_good now x h)
-      (departs_good (release_of (User sub)) normal_disconnect (sent_by a.1) z
+      if_core Good (is_some y.released) y (send_dr model (release_of (User sub)) normal_disconnect (octets_sent_in_outcome a.1) z) (begun_good now x h)
+      (departs_good (release_of (User sub)) normal_disconnect (octets_sent_in_outcome a.1) z
       (step_reports (DisconnectRequest sub) a.0 a.1 y (sym quiet.0) (sym quiet.1) (own no_keys s (DisconnectRequest sub))))
 
   time_good : (why : Option Release) (x : Core) → Good x → Good (on_expiry model why x)

@@ -17,23 +17,23 @@ use Rattle.hdlc_station_model.specs.Lines as lines
 use Rattle.hdlc_station_model.specs.Lines.{IsPrefix}
 use Rattle.er_end_model.specs.Reasons as reasons
 use Rattle.drill_model.specs.Outcomes.{Occurrence, facts_in}
-use Rattle.drill_model.specs.Ends.{End, OfSafe, OfStation, OfStack}
+use Rattle.drill_model.specs.Ends.{EndAtLevel, OfSafe, OfStation, OfStack}
 use Rattle.drill_model.specs.Links.{LinkOpening, OfPair, OfStations, OfStacks, Link}
-use Rattle.drill_model.specs.Worlds.{Plan, is_link, link_at, history_on, fixed_opening, link_opening, wire_opening, overfull_side, drain, world_run}
+use Rattle.drill_model.specs.Worlds.{DrillPlan, is_link, link_at, history_on, fixed_opening, link_opening, wire_opening, overfull_side, drain, world_run}
 use Rattle.drill_model.specs.Kinds.{sent_by, accepted_by, taken_by, deliveries, IsOrderKeeping, EndsAgree, bound}
 use Rattle.drill_model.specs.Recovery.{GoOn, NoneWaits, IsRepairable, ArePassesAndTakes, AreStations, DrainEmpties}
 
 -- ---- openings
 
 -- a line that opens link m opens link n, where they are one, and the number of a link
-abbrev pub named : (n m : ℕ) → Option LinkOpening → Option LinkOpening
-named n m opening = if (m == n) && is_link m then opening else None
+abbrev pub opening_where_link_named : (n m : ℕ) → Option LinkOpening → Option LinkOpening
+opening_where_link_named n m opening = if (m == n) && is_link m then opening else None
 
 -- how a step opens link n, if it does
-abbrev pub opening_by : Plan → ℕ → Step → Option LinkOpening
-opening_by plan n (does.Fixed m engine rbc ke kr) = named n m (fixed_opening plan.level engine rbc ke kr)
-opening_by plan n (does.Link m engine rbc ke kr ra rb) = named n m (link_opening plan.level engine rbc ke kr ra rb)
-opening_by plan n (does.Wire m) = named n m (wire_opening plan.level)
+abbrev pub opening_by : DrillPlan → ℕ → Step → Option LinkOpening
+opening_by plan n (does.Fixed m engine rbc ke kr) = opening_where_link_named n m (fixed_opening plan.level engine rbc ke kr)
+opening_by plan n (does.Link m engine rbc ke kr ra rb) = opening_where_link_named n m (link_opening plan.level engine rbc ke kr ra rb)
+opening_by plan n (does.Wire m) = opening_where_link_named n m (wire_opening plan.level)
 opening_by plan n (does.Send m s text) = None
 opening_by plan n (does.Pass m s) = None
 opening_by plan n (does.Lose m s) = None
@@ -51,27 +51,27 @@ or_opening None later = later
 or_opening (Some opening) later = Some opening
 
 -- the first step that opens link n counts: a second is refused
-abbrev pub opening_of : Plan → ℕ → List Step → Option LinkOpening
+abbrev pub opening_of : DrillPlan → ℕ → List Step → Option LinkOpening
 opening_of plan n [] = None
 opening_of plan n (s ∷ rest) = or_opening (opening_by plan n s) (opening_of plan n rest)
 
 -- ---- authentic messages and peers
 
 -- what came at a link is lawful: at levels safe and full, authentic; at levels link and link-sr there is no safety layer, so nothing came of it
-abbrev pub IsLawful : LinkOpening → List Occurrence → Type 0
-IsLawful (OfPair opening) history = Authentic opening (facts_in history)
-IsLawful (OfStations selective) history = facts_in history ≡ []
-IsLawful (OfStacks engine rbc ke kr ra rb) history = Authentic (OfKeys engine rbc ke kr ra rb) (facts_in history)
+abbrev pub IsLawfulHistory : LinkOpening → List Occurrence → Type 0
+IsLawfulHistory (OfPair opening) history = Authentic opening (facts_in history)
+IsLawfulHistory (OfStations selective) history = facts_in history ≡ []
+IsLawfulHistory (OfStacks engine rbc ke kr ra rb) history = Authentic (OfKeys engine rbc ke kr ra rb) (facts_in history)
 
 -- and nothing came at a number that wasn't opened
 abbrev pub LawfulAt : Option Link → List Occurrence → Type 0
 LawfulAt None history = history ≡ []
-LawfulAt (Some l) history = IsLawful l.opening history
+LawfulAt (Some l) history = IsLawfulHistory l.opening history
 
 -- ---- what users take
 
 -- what the user of an end took is a prefix of what the end accepted
-abbrev pub TakesInOrder : Plan → List Step → Type 0
+abbrev pub TakesInOrder : DrillPlan → List Step → Type 0
 TakesInOrder plan steps =
     (n : ℕ) (side : Side) → IsPrefix (taken_by side (history_on n (world_run plan steps).1)) (accepted_by side (history_on n (world_run plan steps).1))
 
@@ -97,7 +97,7 @@ abbrev pub IsUnforged : List Occurrence → Type 0
 IsUnforged history = list_any (λ f. f.forged) (marked (facts_in history)) ≡ false
 
 -- on a link that keeps its order and whose ends agree, nothing is forged
-abbrev pub OrderIsUnforged : Plan → List Step → Type 0
+abbrev pub OrderIsUnforged : DrillPlan → List Step → Type 0
 OrderIsUnforged plan steps =
     (n : ℕ) (l : Link) → link_at (world_run plan steps).0 n ≡ Some l
     → IsOrderKeeping l.opening (history_on n (world_run plan steps).1) → EndsAgree l.opening
@@ -106,7 +106,7 @@ OrderIsUnforged plan steps =
 -- ---- delivery
 
 -- an end is connected; a station is up
-abbrev pub IsConnectedEnd : End → Type 0
+abbrev pub IsConnectedEnd : EndAtLevel → Type 0
 IsConnectedEnd (OfSafe s) = IsConnectedPhase s.phase
 IsConnectedEnd (OfStation selective s stream) = s.phase ≡ phase.Up
 IsConnectedEnd (OfStack m) = IsConnectedPhase m.core.safe.safety.phase
@@ -127,7 +127,7 @@ pub record HasAllPayloads (history : List Occurrence) (l : Link) : Type 0 where
   pub at_e : 1 ≤ length (sent_by E history) → accepted_by E history ≡ sent_by R history
 
 -- the user of an end took every message that was accepted; at levels safe, link and link-sr a message counts as taken at once
-abbrev pub HasTakenAll : End → Type 0
+abbrev pub HasTakenAll : EndAtLevel → Type 0
 HasTakenAll (OfSafe s) = Unit {0}
 HasTakenAll (OfStation selective s stream) = Unit {0}
 HasTakenAll (OfStack m) = m.core.upper.used ≡ length m.core.upper.accepted
@@ -158,7 +158,7 @@ pub record Delivers (settings : Settings) (history : List Occurrence) (l : Link)
 -- behind these steps frames of link n are passed and its messages taken until no frame waits, a tick comes that finds each T1 that runs expired, and
 -- frames are passed and messages taken again until the link is empty: each end accepted all that the other sent, of two stations the calling one
 -- where it sent any itself
-abbrev pub Repairs : Plan → (before : List Step) (n : ℕ) (first : List Step) (moment : ℕ) (second : List Step) → Type 0
+abbrev pub Repairs : DrillPlan → (before : List Step) (n : ℕ) (first : List Step) (moment : ℕ) (second : List Step) → Type 0
 Repairs plan before n first moment second =
     let given = world_run plan (before ++ first) in
     let all = world_run plan (before ++ first ++ does.Tick moment ∷ second) in
@@ -170,7 +170,7 @@ Repairs plan before n first moment second =
 
 -- what is claimed of the world that a list of steps leads to: a drain of each link of two stations that is repairable, of as many passes as its
 -- bound, leaves no frame waiting; and where the steps end with passes and takes of a link, a tick, and passes and takes of that link, they repair it
-pub record Recovers (plan : Plan) (all : List Step) : Type 0 where
+pub record Recovers (plan : DrillPlan) (all : List Step) : Type 0 where
   pub drains : (n : ℕ) (l : Link) → link_at (world_run plan all).0 n ≡ Some l → AreStations l.opening
       → IsRepairable (history_on n (world_run plan all).1) l → DrainEmpties plan (history_on n (world_run plan all).1) l
   pub repairs : (before : List Step) (n : ℕ) (first : List Step) (moment : ℕ) (second : List Step) → all ≡ before ++ first ++ does.Tick moment ∷ second

@@ -8,10 +8,10 @@ use Rattle.er_scenario.specs.declared.step.Step.{Step}
 use Rattle.er_scenario.specs.declared.step.Step.TheVariants as does
 use Rattle.safety_pair_laws.specs.Facts.{Fact, Sent, Sealed, Verified, Connected, Accepted, is_side}
 use Rattle.safety_pair_laws.specs.Messages.{IsConnectedPhase}
-use Rattle.drill_model.specs.Outcomes.{Outcome, OfSafety, Handed, Arrived, Up, Took, NothingToTake, Refused, Released, Frame, Expired, UserReleased, Passed, Lost, Repeated, Altered, Inserted, NothingWaits, IsShort, Occurrence}
-use Rattle.drill_model.specs.Ends.{End, OfSafe, OfStation, OfStack}
+use Rattle.drill_model.specs.Outcomes.{DrillOutcome, OfSafety, Handed, Arrived, Up, Took, NothingToTake, Refused, Released, Frame, Expired, UserReleased, Passed, Lost, Repeated, Altered, Inserted, NothingWaits, IsShort, Occurrence}
+use Rattle.drill_model.specs.Ends.{EndAtLevel, OfSafe, OfStation, OfStack}
 use Rattle.drill_model.specs.Links.{Link, waiting_of, Pass, link_step}
-use Rattle.drill_model.specs.Worlds.{Plan, World, link_at, history_on, world_step, world_run}
+use Rattle.drill_model.specs.Worlds.{DrillPlan, World, link_at, history_on, world_step, world_run}
 use Rattle.drill_model.specs.Kinds.{sent_by, EndsAgree, IsNumbered, IsOrderKeeping, IsLossFree}
 
 -- ---- effects
@@ -40,7 +40,7 @@ effect_of (Connected heard connection text) = []
 effect_of (Accepted heard user key text) = []
 
 -- the effect that an outcome tells of, if it tells of one
-abbrev pub effect_in : Outcome → List Effect
+abbrev pub effect_in : DrillOutcome → List Effect
 effect_in (OfSafety fact) = effect_of fact
 effect_in (Handed payload) = Sends payload ∷ []
 effect_in (Arrived payload) = []
@@ -76,7 +76,7 @@ RanOut now (Some moment) = moment ≤ now
 
 -- a timer of an end ran out: T1 of its station, and of a stack that isn't released, also the time for its set-up while it isn't connected.
 -- A moment below the last one counts as the last one
-abbrev pub HasRunOut : (now : ℕ) → End → Type 0
+abbrev pub HasRunOut : (now : ℕ) → EndAtLevel → Type 0
 HasRunOut now (OfSafe side) = ⊥
 HasRunOut now (OfStation selective s stream) = RanOut (max s.moment now) s.timer
 HasRunOut now (OfStack m) =
@@ -150,7 +150,7 @@ HasEffects w n l (does.Tick moment) effects = OfTick (nat_lt moment w.moment) mo
 HasEffects w n l (does.Drain m most) effects = At m n effects (DrainEffects most l effects)
 
 -- what each step of a list brings about at a link that was opened before
-abbrev pub StepsHaveEffects : Plan → List Step → Type 0
+abbrev pub StepsHaveEffects : DrillPlan → List Step → Type 0
 StepsHaveEffects plan steps =
     (before after : List Step) (s : Step) (n : ℕ) (l : Link) → steps ≡ before ++ s ∷ after → link_at (world_run plan before).0 n ≡ Some l
     → HasEffects (world_run plan before).0 n l s (effects_in (history_on n (world_step plan (world_run plan before).0 s).1))
@@ -164,26 +164,26 @@ pub data IsPartOf : List (List ℕ) → List (List ℕ) → Type 0 where
   TakesIn : (x : List ℕ) (xs ys : List (List ℕ)) → IsPartOf xs ys → IsPartOf (x ∷ xs) (x ∷ ys)
 
 -- the texts that a file has a side of link n send
-abbrev pub text_of : (n : ℕ) → Side → Step → List (List ℕ)
-text_of n side (does.Fixed m engine rbc ke kr) = []
-text_of n side (does.Link m engine rbc ke kr ra rb) = []
-text_of n side (does.Wire m) = []
-text_of n side (does.Send m s text) = if (m == n) && is_side s side then text ∷ [] else []
-text_of n side (does.Pass m s) = []
-text_of n side (does.Lose m s) = []
-text_of n side (does.Repeat m s) = []
-text_of n side (does.Alter m s place mask) = []
-text_of n side (does.Put m s text) = []
-text_of n side (does.Copy m s k t) = []
-text_of n side (does.Take m s) = []
-text_of n side (does.Release m s sub) = []
-text_of n side (does.Tick moment) = []
-text_of n side (does.Drain m most) = []
+abbrev pub texts_sent_by_step : (n : ℕ) → Side → Step → List (List ℕ)
+texts_sent_by_step n side (does.Fixed m engine rbc ke kr) = []
+texts_sent_by_step n side (does.Link m engine rbc ke kr ra rb) = []
+texts_sent_by_step n side (does.Wire m) = []
+texts_sent_by_step n side (does.Send m s text) = if (m == n) && is_side s side then text ∷ [] else []
+texts_sent_by_step n side (does.Pass m s) = []
+texts_sent_by_step n side (does.Lose m s) = []
+texts_sent_by_step n side (does.Repeat m s) = []
+texts_sent_by_step n side (does.Alter m s place mask) = []
+texts_sent_by_step n side (does.Put m s text) = []
+texts_sent_by_step n side (does.Copy m s k t) = []
+texts_sent_by_step n side (does.Take m s) = []
+texts_sent_by_step n side (does.Release m s sub) = []
+texts_sent_by_step n side (does.Tick moment) = []
+texts_sent_by_step n side (does.Drain m most) = []
 
 -- what an end sent is the text of a step that sends at that side, in their order
-abbrev pub SendsAreSteps : Plan → List Step → Type 0
+abbrev pub SendsAreSteps : DrillPlan → List Step → Type 0
 SendsAreSteps plan steps =
-    (n : ℕ) (side : Side) → IsPartOf (sent_by side (history_on n (world_run plan steps).1)) (flat_map (text_of n side) steps)
+    (n : ℕ) (side : Side) → IsPartOf (sent_by side (history_on n (world_run plan steps).1)) (flat_map (texts_sent_by_step n side) steps)
 
 -- a step that alters what waits on link n, or inserts there
 abbrev pub disorders : (n : ℕ) → Step → Bool
@@ -220,27 +220,27 @@ disturbs n (does.Tick moment) = false
 disturbs n (does.Drain m most) = false
 
 -- at each tick of the file no timer of link n had run out
-abbrev pub NoneRunsOut : Plan → List Step → (n : ℕ) → Type 0
+abbrev pub NoneRunsOut : DrillPlan → List Step → (n : ℕ) → Type 0
 NoneRunsOut plan steps n =
     (before after : List Step) (moment : ℕ) (l : Link) → steps ≡ before ++ does.Tick moment ∷ after
     → link_at (world_run plan before).0 n ≡ Some l
     → (HasRunOut (max l.moment moment) l.e → ⊥) × (HasRunOut (max l.moment moment) l.r → ⊥)
 
 -- without a step that alters, or inserts, a link whose ends number what they send keeps its order
-abbrev pub QuietKeepsOrder : Plan → List Step → Type 0
+abbrev pub QuietKeepsOrder : DrillPlan → List Step → Type 0
 QuietKeepsOrder plan steps =
     (n : ℕ) (l : Link) → link_at (world_run plan steps).0 n ≡ Some l → list_any (disorders n) steps ≡ false
     → IsNumbered l.opening → IsOrderKeeping l.opening (history_on n (world_run plan steps).1)
 
 -- and without one that loses, repeats or has a user release, and where no timer ran out at a tick, a link whose ends agree is loss-free
-abbrev pub QuietIsLossFree : Plan → List Step → Type 0
+abbrev pub QuietIsLossFree : DrillPlan → List Step → Type 0
 QuietIsLossFree plan steps =
     (n : ℕ) (l : Link) → link_at (world_run plan steps).0 n ≡ Some l → list_any (λ s. disorders n s || disturbs n s) steps ≡ false
     → NoneRunsOut plan steps n → EndsAgree l.opening → IsLossFree l.opening (history_on n (world_run plan steps).1)
 
 -- ---- all of it
 
-pub record Steps (plan : Plan) (steps : List Step) : Type 0 where
+pub record Steps (plan : DrillPlan) (steps : List Step) : Type 0 where
   pub effects : StepsHaveEffects plan steps
   pub sends : SendsAreSteps plan steps
   pub order : QuietKeepsOrder plan steps

@@ -12,7 +12,7 @@ use Rattle.er_end_model.specs.Ends.{End as Stack}
 use Rattle.drill_model.specs.StackEnds.{stack_start, stack_hear, stack_send, stack_take, stack_release, stack_tick}
 use Rattle.drill_model.specs.StationEnds.{station_start, frames_heard, station_send, station_release, station_tick}
 use Rattle.er_end_model.specs.Outcomes.{SendRefusal, RefusedReleased, RefusedNotConnected, RefusedLength}
-use Rattle.drill_model.specs.Outcomes.{Outcome, OfSafety, Refused, Released, Frame}
+use Rattle.drill_model.specs.Outcomes.{DrillOutcome, OfSafety, Refused, Released, Frame}
 
 -- what is given to an end
 pub data EndEvent : Type 0 where
@@ -29,13 +29,13 @@ pub data EndEvent : Type 0 where
   -- the moment has come
   Tick : EndEvent
 
-pub data End : Type 0 where
+pub data EndAtLevel : Type 0 where
   -- level safe
-  OfSafe : (side : Safety) → End
+  OfSafe : (side : Safety) → EndAtLevel
   -- levels link and link-sr: a station, whether it has selective reject, and the stream of all octets that it was given
-  OfStation : (selective : Bool) (station : Station) (stream : List ℕ) → End
+  OfStation : (selective : Bool) (station : Station) (stream : List ℕ) → EndAtLevel
   -- level full: a stack, with the stream of all octets that it was given
-  OfStack : (stack : Stack) → End
+  OfStack : (stack : Stack) → EndAtLevel
 
 -- ---- level safe
 
@@ -48,13 +48,13 @@ safety_event Take = None
 safety_event (Release sub) = Some (DisconnectRequest sub)
 safety_event Tick = None
 
-abbrev pub refusal_of : Refusal → SendRefusal
-refusal_of (safety.RefusedReleased release) = RefusedReleased release
-refusal_of safety.RefusedNotConnected = RefusedNotConnected
-refusal_of (safety.RefusedLength found) = RefusedLength found
+abbrev pub send_refusal_from_safety : Refusal → SendRefusal
+send_refusal_from_safety (safety.RefusedReleased release) = RefusedReleased release
+send_refusal_from_safety safety.RefusedNotConnected = RefusedNotConnected
+send_refusal_from_safety (safety.RefusedLength found) = RefusedLength found
 
 -- the outcomes of a side that received these octets
-abbrev pub outcomes_by : (heard : List ℕ) → SafetyOutcome → List Outcome
+abbrev pub outcomes_by : (heard : List ℕ) → SafetyOutcome → List DrillOutcome
 outcomes_by heard (SentAu1 octets) = Frame octets ∷ []
 outcomes_by heard (SentAu2 session sealed octets) = OfSafety (Sealed session sealed) ∷ Frame octets ∷ []
 outcomes_by heard (SentAu3 session verified sealed octets) =
@@ -64,12 +64,12 @@ outcomes_by heard (SentAr connection verified sealed octets) =
 outcomes_by heard (ReceivedAr connection verified) = OfSafety (Connected heard connection verified) ∷ []
 outcomes_by heard (AcceptedDt session user verified) = OfSafety (Accepted heard user session verified) ∷ []
 outcomes_by heard (SentDt session user sealed octets) = OfSafety (Sent user session sealed) ∷ Frame octets ∷ []
-outcomes_by heard (safety.Refused refusal) = Refused (refusal_of refusal) ∷ []
+outcomes_by heard (safety.Refused refusal) = Refused (send_refusal_from_safety refusal) ∷ []
 outcomes_by heard (ReleasedLocally release octets) = Released release ∷ Frame octets ∷ []
 outcomes_by heard (ReleasedByPeer release) = Released release ∷ []
 outcomes_by heard NothingDone = []
 
-abbrev pub safe_end_step : (ℕ → ℕ → Option TripleKey) → Safety → Option SafetyEvent → End × List Outcome
+abbrev pub safe_end_step : (ℕ → ℕ → Option TripleKey) → Safety → Option SafetyEvent → EndAtLevel × List DrillOutcome
 safe_end_step key_of s None = (OfSafe s, [])
 safe_end_step key_of s (Some event) =
     let a = safety.step key_of s event in
@@ -78,11 +78,11 @@ safe_end_step key_of s (Some event) =
 -- ---- levels link and link-sr
 
 -- a station went on so, and this is all that it was given
-abbrev pub station_end : (selective : Bool) (stream : List ℕ) → Station × List Outcome → End × List Outcome
+abbrev pub station_end : (selective : Bool) (stream : List ℕ) → Station × List DrillOutcome → EndAtLevel × List DrillOutcome
 station_end selective stream a = (OfStation selective a.0 stream, a.1)
 
 -- octets go on from the stream before them, so a frame may begin in one piece and close in another; a station has no messages to take
-abbrev pub station_end_step : (selective : Bool) (moment : ℕ) → Station → (stream : List ℕ) → EndEvent → End × List Outcome
+abbrev pub station_end_step : (selective : Bool) (moment : ℕ) → Station → (stream : List ℕ) → EndEvent → EndAtLevel × List DrillOutcome
 station_end_step selective moment s stream Start = station_end selective stream (station_start moment s)
 station_end_step selective moment s stream (Receive octets) = station_end selective (stream ++ octets) (frames_heard selective moment (news stream octets) s)
 station_end_step selective moment s stream (Send payload) = station_end selective stream (station_send moment payload s)
@@ -93,11 +93,11 @@ station_end_step selective moment s stream Tick = station_end selective stream (
 -- ---- level full
 
 -- a stack went on so
-abbrev pub stack_end : Stack × List Outcome → End × List Outcome
+abbrev pub stack_end : Stack × List DrillOutcome → EndAtLevel × List DrillOutcome
 stack_end a = (OfStack a.0, a.1)
 
 -- a stack that looks KMACs up so, at every moment
-abbrev pub stack_end_step : (ℕ → ℕ → Option TripleKey) → (moment : ℕ) → Stack → EndEvent → End × List Outcome
+abbrev pub stack_end_step : (ℕ → ℕ → Option TripleKey) → (moment : ℕ) → Stack → EndEvent → EndAtLevel × List DrillOutcome
 stack_end_step key_of moment m Start = stack_end (stack_start moment m)
 stack_end_step key_of moment m (Receive octets) = stack_end (stack_hear (λ now. key_of) moment octets m)
 stack_end_step key_of moment m (Send user) = stack_end (stack_send moment user m)
@@ -108,7 +108,7 @@ stack_end_step key_of moment m Tick = stack_end (stack_tick moment m)
 -- ---- any level
 
 -- an end that looks KMACs up so is given an event at a moment: the end after it, and its outcomes in their order
-abbrev pub end_step : (ℕ → ℕ → Option TripleKey) → (moment : ℕ) → End → EndEvent → End × List Outcome
+abbrev pub end_step : (ℕ → ℕ → Option TripleKey) → (moment : ℕ) → EndAtLevel → EndEvent → EndAtLevel × List DrillOutcome
 end_step key_of moment (OfSafe s) event = safe_end_step key_of s (safety_event event)
 end_step key_of moment (OfStation selective s stream) event = station_end_step selective moment s stream event
 end_step key_of moment (OfStack m) event = stack_end_step key_of moment m event

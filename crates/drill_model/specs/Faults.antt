@@ -7,7 +7,7 @@ use Rattle.er_scenario.specs.declared.step.Step.TheVariants as does
 use Rattle.drill_model.specs.declared.world_fault.WorldFault.{WorldFault}
 use Rattle.drill_model.specs.declared.world_fault.WorldFault.TheVariants.{NoLink, LinkTwice, MomentBack, Overfull}
 use Rattle.drill_model.specs.Links.{Link}
-use Rattle.drill_model.specs.Worlds.{Plan, World, is_link, link_at, overfull_side, world_step, world_run}
+use Rattle.drill_model.specs.Worlds.{DrillPlan, World, is_link, link_at, overfull_side, world_step, world_run}
 
 -- a step on link n wants it opened
 abbrev pub wants : ℕ → Option Link → Option WorldFault
@@ -28,21 +28,21 @@ or_else None later = later
 or_else (Some fault) later = Some fault
 
 -- why a step is refused before anything is done, if it is
-abbrev pub refusal : World → Step → Option WorldFault
-refusal w (does.Fixed n engine rbc ke kr) = wants_closed n (link_at w n)
-refusal w (does.Link n engine rbc ke kr ra rb) = wants_closed n (link_at w n)
-refusal w (does.Wire n) = wants_closed n (link_at w n)
-refusal w (does.Send n s text) = wants n (link_at w n)
-refusal w (does.Pass n s) = wants n (link_at w n)
-refusal w (does.Lose n s) = wants n (link_at w n)
-refusal w (does.Repeat n s) = wants n (link_at w n)
-refusal w (does.Alter n s place mask) = wants n (link_at w n)
-refusal w (does.Put n s text) = wants n (link_at w n)
-refusal w (does.Copy n s m t) = or_else (wants n (link_at w n)) (wants m (link_at w m))
-refusal w (does.Take n s) = wants n (link_at w n)
-refusal w (does.Release n s sub) = wants n (link_at w n)
-refusal w (does.Tick moment) = wants_moment w moment
-refusal w (does.Drain n most) = wants n (link_at w n)
+abbrev pub refusal_of_step : World → Step → Option WorldFault
+refusal_of_step w (does.Fixed n engine rbc ke kr) = wants_closed n (link_at w n)
+refusal_of_step w (does.Link n engine rbc ke kr ra rb) = wants_closed n (link_at w n)
+refusal_of_step w (does.Wire n) = wants_closed n (link_at w n)
+refusal_of_step w (does.Send n s text) = wants n (link_at w n)
+refusal_of_step w (does.Pass n s) = wants n (link_at w n)
+refusal_of_step w (does.Lose n s) = wants n (link_at w n)
+refusal_of_step w (does.Repeat n s) = wants n (link_at w n)
+refusal_of_step w (does.Alter n s place mask) = wants n (link_at w n)
+refusal_of_step w (does.Put n s text) = wants n (link_at w n)
+refusal_of_step w (does.Copy n s m t) = or_else (wants n (link_at w n)) (wants m (link_at w m))
+refusal_of_step w (does.Take n s) = wants n (link_at w n)
+refusal_of_step w (does.Release n s sub) = wants n (link_at w n)
+refusal_of_step w (does.Tick moment) = wants_moment w moment
+refusal_of_step w (does.Drain n most) = wants n (link_at w n)
 
 -- more than 4,096 frames wait in one direction of link n
 abbrev pub overfull_fault : ℕ → Option Side → Option WorldFault
@@ -63,13 +63,13 @@ abbrev pub overfull_of : World → Option WorldFault
 overfull_of w = first_overfull w 1 64
 
 -- why a step isn't done, if it isn't
-abbrev pub fault_of : Plan → World → Step → Option WorldFault
-fault_of plan w s = or_else (refusal w s) (overfull_of (world_step plan w s).0)
+abbrev pub fault_of : DrillPlan → World → Step → Option WorldFault
+fault_of plan w s = or_else (refusal_of_step w s) (overfull_of (world_step plan w s).0)
 
 -- the same behind the steps before it
-abbrev pub fault_behind : Plan → List Step → Step → Option WorldFault
+abbrev pub fault_behind : DrillPlan → List Step → Step → Option WorldFault
 fault_behind plan before s = fault_of plan (world_run plan before).0 s
 
 -- the first steps of a list are all done
-abbrev pub AllDone : Plan → List Step → (count : ℕ) → Type 0
+abbrev pub AllDone : DrillPlan → List Step → (count : ℕ) → Type 0
 AllDone plan steps count = (k : ℕ) (s : Step) → k < count → slice_get steps k ≡ Some s → fault_behind plan (take k steps) s ≡ None

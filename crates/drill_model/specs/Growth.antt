@@ -3,19 +3,19 @@ use Rattle.std.specs.Prelude.{ℕ, ◌≡◌, Bool, List, [], ◌∷◌, ◌++�
 use Rattle.er_scenario.specs.declared.step.Step.{Step}
 use Rattle.safety_pair_laws.specs.Facts.{MarkedFact, marked, marked_from}
 use Rattle.drill_model.specs.Outcomes.{Occurrence, facts_in}
-use Rattle.drill_model.specs.Worlds.{Plan, Came, On, history_on, facts_on, then_world, world_step, world_run}
+use Rattle.drill_model.specs.Worlds.{DrillPlan, Came, On, history_on, facts_on, then_world, world_step, world_run}
 use Rattle.drill_model.specs.Marks.{marks_behind, marks_from}
 use Rattle.drill_model.specs.Texts.{lines, link_lines, step_lines, first_lines}
 
 -- a step behind others
 abbrev pub RunGrows : Type 0
 RunGrows =
-    (plan : Plan) (before : List Step) (s : Step)
+    (plan : DrillPlan) (before : List Step) (s : Step)
     → world_run plan (before ++ s ∷ []) ≡ then_world (world_run plan before) (λ w. world_step plan w s)
 
 abbrev pub TextGrows : Type 0
 TextGrows =
-    (plan : Plan) (before : List Step) (s : Step)
+    (plan : DrillPlan) (before : List Step) (s : Step)
     → first_lines plan (before ++ s ∷ []) ≡ first_lines plan before ++ step_lines plan before s
 
 -- what came at a link, and its facts

@@ -9,14 +9,14 @@ use Rattle.er_scenario.specs.declared.level.Level.TheVariants as level
 use Rattle.er_scenario.specs.declared.step.Step.{Step}
 use Rattle.drill_model.specs.Links.{Link}
 use Rattle.drill_model.specs.Steps.{AllFit}
-use Rattle.drill_model.specs.Worlds.{Plan, link_at, history_on, overfull_side, world_run}
+use Rattle.drill_model.specs.Worlds.{DrillPlan, link_at, history_on, overfull_side, world_run}
 use Rattle.drill_model.specs.Faults.{AllDone}
 use Rattle.drill_model.specs.Kinds.{releases_in, IsOrderKeeping, IsLossFree}
 use Rattle.drill_model.specs.Effects.{Steps}
 use Rattle.drill_model.specs.Hearing.{HeardIsBrought}
 use Rattle.drill_model.specs.Claims.{opening_of, LawfulAt, TakesInOrder, IsInOrder, IsLosingLineReason, OrderIsUnforged, Delivers, Recovers}
 
-pub record Holds (plan : Plan) (all : List Step) : Type 0 where
+pub record Holds (plan : DrillPlan) (all : List Step) : Type 0 where
   -- each link has the opening of the step that opened it
   pub opens : (n : ℕ) → option_map (λ l. l.opening) (link_at (world_run plan all).0 n) ≡ opening_of plan n all
   -- what was sent, passed, lost, repeated, altered, inserted, released by a user and found expired is what the steps say
@@ -57,5 +57,5 @@ FitsLevel level.Full settings = AllAllowed settings
 -- their fields
 abbrev pub HoldsAlways : Type 0
 HoldsAlways =
-    (plan : Plan) (steps : List Step) (count : ℕ) → FitsLevel plan.level plan.settings → AllFit steps → AllDone plan steps count
+    (plan : DrillPlan) (steps : List Step) (count : ℕ) → FitsLevel plan.level plan.settings → AllFit steps → AllDone plan steps count
     → Holds plan (take count steps)

@@ -15,9 +15,9 @@ use Rattle.er_end_model.specs.Ends.{End as Stack, hears_each}
 use Rattle.hdlc_station_model.specs.Events as station_events
 use Rattle.er_end_model.specs.Hearing.{IsTextOf}
 use Rattle.drill_model.specs.Outcomes.{OfSafety, Passed, Occurrence, at_end}
-use Rattle.drill_model.specs.Ends.{End, OfSafe, OfStation, OfStack}
+use Rattle.drill_model.specs.Ends.{EndAtLevel, OfSafe, OfStation, OfStack}
 use Rattle.drill_model.specs.Links.{Link, end_of, key_on, LinkStep, life}
-use Rattle.drill_model.specs.Worlds.{Plan, link_at, history_on, world_run}
+use Rattle.drill_model.specs.Worlds.{DrillPlan, link_at, history_on, world_run}
 use Rattle.drill_model.specs.Kinds.{passed_in, deliveries}
 
 -- the octets that a fact says its side heard
@@ -33,7 +33,7 @@ abbrev pub passed_of : Side → List Occurrence → List ℕ
 passed_of side history = flat_map (λ o. if is_side side o.side then flat_map (λ octets. octets) (passed_in o.outcome) else []) history
 
 -- a stack makes a text of the octets that are passed to it: of one of the frames that they close behind all that was passed to it before
-pub record IsMade (keys : (engine rbc : ℕ) → Option TripleKey) (moment : ℕ) (m : Stack) (earlier octets text : List ℕ) : Type 0 where
+pub record MakesTextOfOctets (keys : (engine rbc : ℕ) → Option TripleKey) (moment : ℕ) (m : Stack) (earlier octets text : List ℕ) : Type 0 where
   pub stream : m.stream ≡ earlier
   pub first : List Verdict
   pub verdict : Verdict
@@ -42,10 +42,10 @@ pub record IsMade (keys : (engine rbc : ℕ) → Option TripleKey) (moment : ℕ
   pub made : IsTextOf (hears_each (λ now. keys) moment first (new_event_at model moment m.core)) moment verdict text
 
 -- what an end hears of the octets that are passed to it; a station has no safety layer
-abbrev pub IsHeard : (keys : (engine rbc : ℕ) → Option TripleKey) (moment : ℕ) → End → (earlier octets heard : List ℕ) → Type 0
+abbrev pub IsHeard : (keys : (engine rbc : ℕ) → Option TripleKey) (moment : ℕ) → EndAtLevel → (earlier octets heard : List ℕ) → Type 0
 IsHeard keys moment (OfSafe side) earlier octets heard = heard ≡ octets
 IsHeard keys moment (OfStation selective station stream) earlier octets heard = ⊥
-IsHeard keys moment (OfStack m) earlier octets heard = IsMade keys moment m earlier octets heard
+IsHeard keys moment (OfStack m) earlier octets heard = MakesTextOfOctets keys moment m earlier octets heard
 
 -- what was heard at a side of a link behind this history is what the newest pass brought it from the other side: the link's own steps up to that
 -- pass, its octets, and what came behind it, in which there is no pass
@@ -60,7 +60,7 @@ pub record WasBrought (settings : Settings) (l : Link) (before : List Occurrence
       (passed_of (other side) (life settings l.opened_at l.opening steps).1) octets heard
 
 -- each fact of a link that speaks of octets which its side heard speaks of such
-abbrev pub HeardIsBrought : Plan → List Step → Type 0
+abbrev pub HeardIsBrought : DrillPlan → List Step → Type 0
 HeardIsBrought plan steps =
     (n : ℕ) (l : Link) → link_at (world_run plan steps).0 n ≡ Some l
     → (before after : List Occurrence) (side : Side) (fact : Fact) (heard : List ℕ)

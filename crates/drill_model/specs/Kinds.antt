@@ -11,13 +11,13 @@ use Rattle.safety_pair_laws.specs.Openings.{Agrees}
 use Rattle.safety_pair_laws.specs.Messages as pair
 use Rattle.hdlc_station_model.specs.Lines.{station_bound}
 use Rattle.er_end_model.specs.Bounds.{end_bound}
-use Rattle.drill_model.specs.Outcomes.{Outcome, OfSafety, Handed, Arrived, Up, Took, NothingToTake, Refused, Released, Frame, Expired, UserReleased, Passed, Lost, Repeated, Altered, Inserted, NothingWaits, IsShort, Occurrence}
+use Rattle.drill_model.specs.Outcomes.{DrillOutcome, OfSafety, Handed, Arrived, Up, Took, NothingToTake, Refused, Released, Frame, Expired, UserReleased, Passed, Lost, Repeated, Altered, Inserted, NothingWaits, IsShort, Occurrence}
 use Rattle.drill_model.specs.Links.{LinkOpening, OfPair, OfStations, OfStacks}
 
 -- ---- messages
 
 -- the octets of a send that was Ok
-abbrev pub sent_in : Outcome → List (List ℕ)
+abbrev pub sent_in : DrillOutcome → List (List ℕ)
 sent_in (OfSafety fact) = pair.sent_in fact
 sent_in (Handed payload) = payload ∷ []
 sent_in (Arrived payload) = []
@@ -38,7 +38,7 @@ sent_in NothingWaits = []
 sent_in (IsShort found) = []
 
 -- the octets that were accepted
-abbrev pub accepted_in : Outcome → List (List ℕ)
+abbrev pub accepted_in : DrillOutcome → List (List ℕ)
 accepted_in (OfSafety fact) = pair.accepted_in fact
 accepted_in (Handed payload) = []
 accepted_in (Arrived payload) = payload ∷ []
@@ -66,7 +66,7 @@ abbrev pub accepted_by : Side → List Occurrence → List (List ℕ)
 accepted_by side history = flat_map (λ o. if is_side side o.side then accepted_in o.outcome else []) history
 
 -- a message that the user took
-abbrev pub took_in : Outcome → List (List ℕ)
+abbrev pub took_in : DrillOutcome → List (List ℕ)
 took_in (OfSafety fact) = []
 took_in (Handed payload) = []
 took_in (Arrived payload) = []
@@ -91,7 +91,7 @@ taken_by side history = flat_map (λ o. if is_side side o.side then took_in o.ou
 
 -- ---- releases
 
-abbrev pub released_in : Outcome → List Release
+abbrev pub released_in : DrillOutcome → List Release
 released_in (OfSafety fact) = []
 released_in (Handed payload) = []
 released_in (Arrived payload) = []
@@ -118,7 +118,7 @@ releases_in history = flat_map (λ o. released_in o.outcome) history
 -- ---- passes
 
 -- the octets of a delivery
-abbrev pub passed_in : Outcome → List (List ℕ)
+abbrev pub passed_in : DrillOutcome → List (List ℕ)
 passed_in (OfSafety fact) = []
 passed_in (Handed payload) = []
 passed_in (Arrived payload) = []
@@ -145,7 +145,7 @@ deliveries history = length (flat_map (λ o. passed_in o.outcome) history)
 -- ---- kinds of link
 
 -- a frame was lost, repeated, altered or inserted, a user was told to release, or a tick found an expired timer
-abbrev pub is_disturbance : Outcome → Bool
+abbrev pub is_disturbance : DrillOutcome → Bool
 is_disturbance Expired = true
 is_disturbance (UserReleased sub) = true
 is_disturbance Lost = true
@@ -158,7 +158,7 @@ abbrev pub is_disturbed : List Occurrence → Bool
 is_disturbed history = list_any (λ o. is_disturbance o.outcome) history
 
 -- a frame was altered or inserted
-abbrev pub is_disorder : Outcome → Bool
+abbrev pub is_disorder : DrillOutcome → Bool
 is_disorder Altered = true
 is_disorder Inserted = true
 is_disorder other = false

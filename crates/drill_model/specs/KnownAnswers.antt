@@ -10,10 +10,10 @@ use Rattle.er_scenario.specs.declared.step.Step.TheVariants as does
 use Rattle.drill_model.specs.declared.world_fault.WorldFault.TheVariants.{NoLink, LinkTwice, MomentBack}
 use Rattle.er_end_model.specs.Outcomes.{RefusedNotConnected, RefusedLength, RefusedReleased}
 use Rattle.drill_model.specs.Outcomes.{Refused, Released, Frame, UserReleased, Passed, Lost, Repeated, Altered, Inserted, NothingWaits, IsShort, at_end}
-use Rattle.drill_model.specs.Worlds.{Plan, On, Drained, drain, tick_each_link, world_run}
+use Rattle.drill_model.specs.Worlds.{DrillPlan, On, Drained, drain, tick_each_link, world_run}
 use Rattle.drill_model.specs.Faults.{fault_behind}
 
-abbrev plan : Plan
+abbrev plan : DrillPlan
 plan = record { level = Safe; settings = usual_settings; show = false }
 
 abbrev key : TripleKey
@@ -61,8 +61,8 @@ known_no_link = refl
 pub known_twice : fault_behind plan (fixed ∷ []) (does.Link 1 5 9 key None 7 8) ≡ Some (LinkTwice 1)
 known_twice = refl
 
-pub known_number : fault_behind plan (fixed ∷ []) (does.Fixed 65 5 9 key key) ≡ Some (NoLink 65)
-known_number = refl
+pub known_link_out_of_range : fault_behind plan (fixed ∷ []) (does.Fixed 65 5 9 key key) ≡ Some (NoLink 65)
+known_link_out_of_range = refl
 
 pub known_back : fault_behind plan (does.Tick 5 ∷ []) (does.Tick 4) ≡ Some (MomentBack 5 4)
 unfolding tick_each_link

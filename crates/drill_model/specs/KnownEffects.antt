@@ -17,13 +17,13 @@ use Rattle.er_scenario.specs.declared.step.Step.TheVariants as does
 use Rattle.safety_pair_laws.specs.Facts.{Sent, Accepted}
 use Rattle.drill_model.specs.Outcomes.{Occurrence, OfSafety, at_end}
 use Rattle.drill_model.specs.Links.{OfStations}
-use Rattle.drill_model.specs.Worlds.{Plan, Came, On, drain, tick_each_link, history_on, world_run}
+use Rattle.drill_model.specs.Worlds.{DrillPlan, Came, On, drain, tick_each_link, history_on, world_run}
 use Rattle.drill_model.specs.Marks.{marks_from}
 use Rattle.drill_model.specs.Kinds.{is_disordered, is_disturbed, IsOrderKeeping, IsLossFree}
 use Rattle.drill_model.specs.Effects.{Sends, IsRefused, Passes, Loses, Repeats, Alters, Inserts, Releases, Expires, effects_in}
 use Rattle.drill_model.specs.Texts.{head, up_line, accepted_line, passes_line, closing_line, closing_from, lines, first_lines, last_lines}
 
-abbrev plan : Plan
+abbrev plan : DrillPlan
 plan = record { level = Link; settings = usual_settings; show = false }
 
 -- what came at link 1, and the frame that sets it up, also with its address changed
@@ -116,6 +116,6 @@ known_marks = refl
 abbrev setting_up : List Step
 setting_up = does.Wire 1 ∷ does.Pass 1 E ∷ does.Drain 1 9 ∷ []
 
-pub known_text : first_lines plan setting_up ++ last_lines plan setting_up ≡ codes "1 r up\n1 e up\n1 passes 1\n1 end passes 2 waiting 0 0\n"
+pub known_drill_text : first_lines plan setting_up ++ last_lines plan setting_up ≡ codes "1 r up\n1 e up\n1 passes 1\n1 end passes 2 waiting 0 0\n"
 unfolding digits head up_line passes_line closing_line closing_from drain tick_each_link frames_of between_flags all_but_last cut verdict_on verdict_on_content checked_part check_number unescaped ends_in_escape spelling escaped escaped_octet content_of control_of fcs_of fcs_bits dividend remainder divided_once add_front sent_bits low_bits low_number
-known_text = refl
+known_drill_text = refl

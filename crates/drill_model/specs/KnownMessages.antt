@@ -27,7 +27,7 @@ use Rattle.er_scenario.specs.declared.step.Step.TheVariants as does
 use Rattle.safety_pair_laws.specs.Facts.{Sent, Accepted}
 use Rattle.drill_model.specs.Outcomes.{OfSafety, Released, Frame, Passed, Repeated, Altered, Occurrence, at_end}
 use Rattle.drill_model.specs.Outcomes as came
-use Rattle.drill_model.specs.Worlds.{Plan, drain, history_on, world_run}
+use Rattle.drill_model.specs.Worlds.{DrillPlan, drain, history_on, world_run}
 use Rattle.drill_model.specs.Kinds.{accepted_by, releases_in}
 
 abbrev key : TripleKey
@@ -35,7 +35,7 @@ key = record { first = 0x0123456789abcdef; second = 0x23456789abcdef01; third = 
 
 -- ---- level safe
 
-abbrev safe_plan : Plan
+abbrev safe_plan : DrillPlan
 safe_plan = record { level = Safe; settings = usual_settings; show = false }
 
 -- message 41 of engine 5 to the radio block centre 9: the text that is sealed, and the DT with its MAC, 615188174c521a47
@@ -61,7 +61,7 @@ known_safe = refl
 
 -- ---- level full
 
-abbrev full_plan : Plan
+abbrev full_plan : DrillPlan
 full_plan = record { level = Full; settings = usual_settings; show = false }
 
 -- what came at link 1, on which engine 5 calls the radio block centre 9, sets the connection up, and sends message 41
@@ -92,7 +92,7 @@ message = (0x7e ∷ 0x01 ∷ 0x66 ∷ 0x01 ∷ 0x00 ∷ 0x04 ∷ 0xf0 ∷ 0x00 �
 abbrev changed : List ℕ
 changed = (0x7e ∷ 0x01 ∷ 0x66 ∷ 0x01 ∷ 0x00 ∷ 0x04 ∷ 0xf0 ∷ 0x00 ∷ 0x01 ∷ 0x81 ∷ 0x0a ∷ 0x41 ∷ 0xf5 ∷ 0xef ∷ 0xb9 ∷ 0x65 ∷ 0x41 ∷ 0x96 ∷ 0xa5 ∷ 0xbc ∷ 0x3e ∷ 0xed ∷ 0x7e ∷ [])
 
-pub known_frames : flat_map (λ o. came.frames_of o.outcome) (history (does.Pass 1 E ∷ [])) ≡ set_up ++ message ∷ (0x7e ∷ 0x01 ∷ 0x81 ∷ 0x1e ∷ 0x83 ∷ 0x7e ∷ []) ∷ []
+pub known_frames : flat_map (λ o. came.frames_of_outcome o.outcome) (history (does.Pass 1 E ∷ [])) ≡ set_up ++ message ∷ (0x7e ∷ 0x01 ∷ 0x81 ∷ 0x1e ∷ 0x83 ∷ 0x7e ∷ []) ∷ []
 unfolding reading parameters_in segments_of drain hand_waiting_tpdus frames_of between_flags all_but_last cut verdict_on verdict_on_content checked_part check_number unescaped ends_in_escape spelling escaped escaped_octet content_of control_of fcs_of fcs_bits dividend remainder divided_once add_front sent_bits low_bits low_number bits number pick xor box_output substituted cipher_function rounds cipher keys_from round_keys triple_encipher blocks chained mac_bits mac_of session_of au2_text au3_text ar_text message_text eight number_in
 known_frames = refl
 

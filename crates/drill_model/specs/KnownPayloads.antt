@@ -12,9 +12,9 @@ use Rattle.er_scenario.specs.declared.level.Level.TheVariants.{Link, LinkSr}
 use Rattle.er_scenario.specs.declared.step.Step.TheVariants as does
 use Rattle.er_end_model.specs.Outcomes.{RefusedLength, RefusedFull, RefusedReleased}
 use Rattle.drill_model.specs.Outcomes.{Handed, Arrived, Up, Refused, Released, Frame, Expired, UserReleased, Passed, Lost, Inserted, at_end}
-use Rattle.drill_model.specs.Worlds.{Plan, Came, On, Drained, drain, tick_each_link, world_run}
+use Rattle.drill_model.specs.Worlds.{DrillPlan, Came, On, Drained, drain, tick_each_link, world_run}
 
-abbrev plan : Plan
+abbrev plan : DrillPlan
 plan = record { level = Link; settings = usual_settings; show = false }
 
 -- SABM of the calling station and UA of the called one
@@ -143,7 +143,7 @@ known_full = refl
 -- ---- level link-sr
 
 -- the window is half the modulo
-abbrev selective_plan : Plan
+abbrev selective_plan : DrillPlan
 selective_plan = record { level = LinkSr; settings = record usual_settings { window = 4 }; show = false }
 
 -- I frames of the calling station with the numbers 0 to 3, each with one octet

@@ -15,12 +15,12 @@ use Rattle.er_scenario.specs.declared.step.Step.{Step}
 use Rattle.er_scenario.specs.declared.step.Step.TheVariants as does
 use Rattle.drill_model.specs.Outcomes.{Occurrence}
 use Rattle.drill_model.specs.Links.{Link}
-use Rattle.drill_model.specs.Worlds.{Plan, link_at, history_on, drain, tick_each_link, world_run}
+use Rattle.drill_model.specs.Worlds.{DrillPlan, link_at, history_on, drain, tick_each_link, world_run}
 use Rattle.drill_model.specs.Kinds.{accepted_by}
 use Rattle.drill_model.specs.Recovery.{GoOn, NoneWaits, IsRepairable, drain_bound}
 
 -- a window of 4 and a T1 of 1,000
-abbrev plan_at : Level → Plan
+abbrev plan_at : Level → DrillPlan
 plan_at level = record { level = level; settings = settings_of 8 4 15 128 1000 5 40000; show = false }
 
 abbrev history : Level → List Step → List Occurrence

@@ -16,11 +16,11 @@ use Rattle.er_end_model.specs.Layers.{model}
 use Rattle.er_end_model.specs.Steps.{hand_waiting_tpdus, new_event_at, is_spent}
 use Rattle.drill_model.specs.Outcomes.{Occurrence}
 use Rattle.drill_model.specs.Outcomes as came
-use Rattle.drill_model.specs.Ends.{End, OfSafe, OfStation, OfStack}
+use Rattle.drill_model.specs.Ends.{EndAtLevel, OfSafe, OfStation, OfStack}
 use Rattle.drill_model.specs.Links.{Link}
 use Rattle.drill_model.specs.Worlds.{link_at, history_on, drain, tick_each_link, world_run}
 use Rattle.drill_model.specs.Recovery.{GoOn, NoneWaits, IsRepairable}
-use Rattle.drill_model.specs.KnownStacks.{plan, called, set_up, answer, call}
+use Rattle.drill_model.specs.KnownStacks.{plan, link_call_step, set_up_frame_octets, set_up_answer_frame, call}
 
 abbrev Of : (List Occurrence → Link → Type 0) → List Occurrence → Option Link → Type 0
 Of P history None = ⊥
@@ -32,7 +32,7 @@ Behind P steps = let a = world_run plan steps in Of P (history_on 1 a.1) (link_a
 
 -- the only frame that waits is lost
 abbrev losing : List Step
-losing = called ∷ does.Lose 1 E ∷ []
+losing = link_call_step ∷ does.Lose 1 E ∷ []
 
 pub known_repairable : Behind IsRepairable losing
 unfolding drain tick_each_link hand_waiting_tpdus eight frames_of between_flags all_but_last cut verdict_on verdict_on_content checked_part check_number unescaped ends_in_escape spelling escaped escaped_octet content_of control_of fcs_of fcs_bits dividend remainder divided_once add_front sent_bits low_bits low_number
@@ -43,7 +43,7 @@ pub known_expired : Behind (λ history l. NoneWaits l × GoOn 1000 l) losing
 unfolding drain tick_each_link hand_waiting_tpdus eight frames_of between_flags all_but_last cut verdict_on verdict_on_content checked_part check_number unescaped ends_in_escape spelling escaped escaped_octet content_of control_of fcs_of fcs_bits dividend remainder divided_once add_front sent_bits low_bits low_number
 known_expired = ((refl, refl), ((inr (refl, omega arith), refl), (inl refl, refl)))
 
-abbrev IsSpentAt40000 : End → Type 0
+abbrev IsSpentAt40000 : EndAtLevel → Type 0
 IsSpentAt40000 (OfSafe s) = ⊥
 IsSpentAt40000 (OfStation selective s stream) = ⊥
 IsSpentAt40000 (OfStack m) = is_spent (new_event_at model 40000 m.core) ≡ true
@@ -54,12 +54,12 @@ unfolding drain tick_each_link hand_waiting_tpdus eight frames_of between_flags 
 known_spent = (refl, refl)
 
 -- behind the tick the frame is sent again, and the set-up goes on
-pub known_again : flat_map (λ o. came.frames_of o.outcome) (history_on 1 (world_run plan (losing ++ does.Tick 1000 ∷ does.Drain 1 2 ∷ [])).1)
-    ≡ set_up ∷ set_up ∷ answer ∷ call ∷ []
+pub known_again : flat_map (λ o. came.frames_of_outcome o.outcome) (history_on 1 (world_run plan (losing ++ does.Tick 1000 ∷ does.Drain 1 2 ∷ [])).1)
+    ≡ set_up_frame_octets ∷ set_up_frame_octets ∷ set_up_answer_frame ∷ call ∷ []
 unfolding drain tick_each_link hand_waiting_tpdus eight frames_of between_flags all_but_last cut verdict_on verdict_on_content checked_part check_number unescaped ends_in_escape spelling escaped escaped_octet content_of control_of fcs_of fcs_bits dividend remainder divided_once add_front sent_bits low_bits low_number
 known_again = refl
 
 -- not a moment before
-pub known_too_early : flat_map (λ o. came.frames_of o.outcome) (history_on 1 (world_run plan (losing ++ does.Tick 999 ∷ does.Drain 1 2 ∷ [])).1) ≡ set_up ∷ []
+pub known_too_early : flat_map (λ o. came.frames_of_outcome o.outcome) (history_on 1 (world_run plan (losing ++ does.Tick 999 ∷ does.Drain 1 2 ∷ [])).1) ≡ set_up_frame_octets ∷ []
 unfolding drain tick_each_link hand_waiting_tpdus eight frames_of between_flags all_but_last cut verdict_on verdict_on_content checked_part check_number unescaped ends_in_escape spelling escaped escaped_octet content_of control_of fcs_of fcs_bits dividend remainder divided_once add_front sent_bits low_bits low_number
 known_too_early = refl

@@ -5,12 +5,12 @@ use Rattle.er_base.specs.declared.side.Side.TheVariants.{E, R}
 use Rattle.er_base.specs.Sides.{other}
 use Rattle.des_block.specs.declared.triple_key.TripleKey.{TripleKey}
 use Rattle.er_settings.specs.Values.{Settings}
-use Rattle.safety_pair_laws.specs.Openings.{PairOpening, OfFixed, OfKeys, key_for, begun}
-use Rattle.drill_model.specs.Outcomes.{Outcome, UserReleased, Passed, NothingWaits, Occurrence, at_end, frames_in}
+use Rattle.safety_pair_laws.specs.Openings.{PairOpening, OfFixed, OfKeys, key_for, pair_before_events}
+use Rattle.drill_model.specs.Outcomes.{DrillOutcome, UserReleased, Passed, NothingWaits, Occurrence, at_end, frames_in}
 use Rattle.hdlc_station_model.specs.Stations.{made}
 use Rattle.er_end_model.specs.Ends.{Call, Answer}
 use Rattle.er_end_model.specs.Ends as stacks
-use Rattle.drill_model.specs.Ends.{End, OfSafe, OfStation, OfStack, EndEvent, Start, end_step}
+use Rattle.drill_model.specs.Ends.{EndAtLevel, OfSafe, OfStation, OfStack, EndEvent, Start, end_step}
 use Rattle.drill_model.specs.Ends
 use Rattle.drill_model.specs.Waiting.{LineChange, change_first}
 
@@ -30,17 +30,17 @@ pub record Link : Type 0 where
   pub opened_at : ℕ
   -- the moment of the newest tick
   pub moment : ℕ
-  pub e : End
-  pub r : End
+  pub e : EndAtLevel
+  pub r : EndAtLevel
   -- the frames that e sent and that wait, the first to be passed first, and those of r
   pub from_e : List (List ℕ)
   pub from_r : List (List ℕ)
 
-abbrev pub end_of : Link → Side → End
+abbrev pub end_of : Link → Side → EndAtLevel
 end_of l E = l.e
 end_of l R = l.r
 
-abbrev pub with_end : Link → Side → End → Link
+abbrev pub with_end : Link → Side → EndAtLevel → Link
 with_end l E end = record l { e = end }
 with_end l R end = record l { r = end }
 
@@ -62,7 +62,7 @@ key_on (OfStacks engine rbc ke kr ra rb) = key_for (OfKeys engine rbc ke kr ra r
 -- ---- an event at an end
 
 -- an end did this: its frames join those that wait
-abbrev pub with_answer : Link → Side → End × List Outcome → Link × List Occurrence
+abbrev pub with_answer : Link → Side → EndAtLevel × List DrillOutcome → Link × List Occurrence
 with_answer l side a = (with_waiting (with_end l side a.0) side (waiting_of l side ++ frames_in a.1), map (at_end side) a.1)
 
 abbrev pub give : Link → Side → EndEvent → Link × List Occurrence
@@ -79,12 +79,12 @@ and_then a next = onto a.1 (next a.0)
 -- ---- openings
 
 -- two ends and no frame that waits
-abbrev pub link_of : LinkOpening → (moment : ℕ) → End → End → Link
+abbrev pub link_of : LinkOpening → (moment : ℕ) → EndAtLevel → EndAtLevel → Link
 link_of opening moment e r =
     record { opening = opening; opened_at = moment; moment = moment; e = e; r = r; from_e = []; from_r = [] }
 
 abbrev pub joined_pair : PairOpening → (moment : ℕ) → Link
-joined_pair opening moment = link_of (OfPair opening) moment (OfSafe (begun opening).e) (OfSafe (begun opening).r)
+joined_pair opening moment = link_of (OfPair opening) moment (OfSafe (pair_before_events opening).e) (OfSafe (pair_before_events opening).r)
 
 -- two sides of a safe connection; an engine that calls begins at once
 abbrev pub opened_pair : PairOpening → (moment : ℕ) → Link × List Occurrence
@@ -136,7 +136,7 @@ pass l side [] = (l, at_end side NothingWaits ∷ [])
 pass l side (frame ∷ frames) =
     onto (at_end side (Passed frame) ∷ []) (give (with_waiting l side frames) (other side) (Ends.Receive frame))
 
-abbrev pub change_waiting : Link → Side → List (List ℕ) × List Outcome → Link × List Occurrence
+abbrev pub change_waiting : Link → Side → List (List ℕ) × List DrillOutcome → Link × List Occurrence
 change_waiting l side a = (with_waiting l side a.0, map (at_end side) a.1)
 
 -- one step

@@ -7,50 +7,50 @@ use Rattle.er_base.specs.declared.side.Side.{Side}
 use Rattle.er_end_model.specs.Outcomes.{SendRefusal}
 use Rattle.safety_pair_laws.specs.Facts.{Fact, SideFact, at_side}
 
-pub data Outcome : Type 0 where
+pub data DrillOutcome : Type 0 where
   -- a fact of the safety layer: a send that was Ok, a sealed or verified text, a connection, an accepted message
-  OfSafety : (fact : Fact) → Outcome
+  OfSafety : (fact : Fact) → DrillOutcome
   -- levels link and link-sr: a send that was Ok
-  Handed : (payload : List ℕ) → Outcome
+  Handed : (payload : List ℕ) → DrillOutcome
   -- levels link and link-sr: a payload was accepted
-  Arrived : (payload : List ℕ) → Outcome
+  Arrived : (payload : List ℕ) → DrillOutcome
   -- levels link and link-sr: the station went up
-  Up : Outcome
+  Up : DrillOutcome
   -- a message was taken; none was there
-  Took : (message : List ℕ) → Outcome
-  NothingToTake : Outcome
+  Took : (message : List ℕ) → DrillOutcome
+  NothingToTake : DrillOutcome
   -- a send was refused
-  Refused : (refusal : SendRefusal) → Outcome
+  Refused : (refusal : SendRefusal) → DrillOutcome
   -- a release, by this end or by its peer
-  Released : (release : Release) → Outcome
+  Released : (release : Release) → DrillOutcome
   -- a frame for the peer
-  Frame : (octets : List ℕ) → Outcome
+  Frame : (octets : List ℕ) → DrillOutcome
   -- a tick found an expired timer
-  Expired : Outcome
+  Expired : DrillOutcome
   -- the user of this end was told to release, with this sub-reason
-  UserReleased : (sub : ℕ) → Outcome
+  UserReleased : (sub : ℕ) → DrillOutcome
   -- the first waiting frame of this end was given to the other
-  Passed : (octets : List ℕ) → Outcome
+  Passed : (octets : List ℕ) → DrillOutcome
   -- it was removed; a copy was put behind it; it was changed; octets were put before it
-  Lost : Outcome
-  Repeated : Outcome
-  Altered : Outcome
-  Inserted : Outcome
+  Lost : DrillOutcome
+  Repeated : DrillOutcome
+  Altered : DrillOutcome
+  Inserted : DrillOutcome
   -- no frame of this end waits for the step
-  NothingWaits : Outcome
+  NothingWaits : DrillOutcome
   -- the first waiting frame of this end has so many octets, too few for the step
-  IsShort : (length : ℕ) → Outcome
+  IsShort : (length : ℕ) → DrillOutcome
 
 -- an outcome at an end, or at what it sent
 pub record Occurrence : Type 0 where
   pub side : Side
-  pub outcome : Outcome
+  pub outcome : DrillOutcome
 
-abbrev pub at_end : Side → Outcome → Occurrence
+abbrev pub at_end : Side → DrillOutcome → Occurrence
 at_end side outcome = record { side = side; outcome = outcome }
 
 -- the facts of the safety layer among outcomes
-abbrev pub facts_at : Side → Outcome → List SideFact
+abbrev pub facts_at : Side → DrillOutcome → List SideFact
 facts_at side (OfSafety fact) = at_side side fact ∷ []
 facts_at side (Handed payload) = []
 facts_at side (Arrived payload) = []
@@ -74,9 +74,9 @@ abbrev pub facts_in : List Occurrence → List SideFact
 facts_in history = flat_map (λ o. facts_at o.side o.outcome) history
 
 -- the frames among outcomes
-abbrev pub frames_of : Outcome → List (List ℕ)
-frames_of (Frame octets) = octets ∷ []
-frames_of other = []
+abbrev pub frames_of_outcome : DrillOutcome → List (List ℕ)
+frames_of_outcome (Frame octets) = octets ∷ []
+frames_of_outcome other = []
 
-abbrev pub frames_in : List Outcome → List (List ℕ)
-frames_in outcomes = flat_map frames_of outcomes
+abbrev pub frames_in : List DrillOutcome → List (List ℕ)
+frames_in outcomes = flat_map frames_of_outcome outcomes

@@ -10,20 +10,20 @@ use Rattle.hdlc_station_model.specs.Repeating.{MayRepeat, passes_bound}
 use Rattle.er_end_model.specs.Layers.{model}
 use Rattle.er_end_model.specs.Steps.{new_event_at, is_spent}
 use Rattle.drill_model.specs.Outcomes.{Occurrence}
-use Rattle.drill_model.specs.Ends.{End, OfSafe, OfStation, OfStack}
+use Rattle.drill_model.specs.Ends.{EndAtLevel, OfSafe, OfStation, OfStack}
 use Rattle.drill_model.specs.Links.{LinkOpening, OfPair, OfStations, OfStacks, Link}
-use Rattle.drill_model.specs.Worlds.{Plan, overfull_side, drain}
+use Rattle.drill_model.specs.Worlds.{DrillPlan, overfull_side, drain}
 use Rattle.drill_model.specs.Kinds.{sent_by, IsOrderKeeping, EndsAgree}
 
 -- a station or a stack that wasn't released; of the sides of level safe nothing is said here
-abbrev pub IsLive : End → Type 0
+abbrev pub IsLive : EndAtLevel → Type 0
 IsLive (OfSafe s) = ⊥
 IsLive (OfStation selective s stream) = is_down s.phase ≡ false
 IsLive (OfStack m) = m.core.released ≡ None
 
 -- T1 of the end's station doesn't run, or this moment finds it expired and the station doesn't give up yet; and at level full the time for the
 -- set-up isn't spent
-abbrev pub GoesOnAt : (now : ℕ) → End → Type 0
+abbrev pub GoesOnAt : (now : ℕ) → EndAtLevel → Type 0
 GoesOnAt now (OfSafe s) = ⊥
 GoesOnAt now (OfStation selective s stream) = MayRepeat now s
 GoesOnAt now (OfStack m) = let x = new_event_at model now m.core in MayRepeat x.moment x.line × (is_spent x ≡ false)
@@ -74,10 +74,10 @@ AreStations (OfStations selective) = Unit {0}
 AreStations (OfStacks engine rbc ke kr ra rb) = ⊥
 
 -- a drain of so many passes leaves no frame waiting, unless it stops since too many wait in one direction
-abbrev pub drain_bound : Plan → List Occurrence → Link → ℕ
+abbrev pub drain_bound : DrillPlan → List Occurrence → Link → ℕ
 drain_bound plan history l =
     passes_bound plan.settings.window (length l.from_e + length l.from_r) (length (sent_by E history) + length (sent_by R history))
 
-abbrev pub DrainEmpties : Plan → List Occurrence → Link → Type 0
+abbrev pub DrainEmpties : DrillPlan → List Occurrence → Link → Type 0
 DrainEmpties plan history l =
     (most : ℕ) → drain_bound plan history l ≤ most → overfull_side (drain most l).link ≡ None → NoneWaits (drain most l).link

@@ -6,87 +6,83 @@ use Rattle.safety_pair_laws.specs.Facts.{facts_of}
 use Rattle.hdlc_station_model.specs.Events.{said_octets, is_late, news}
 use Rattle.er_end_model.specs.Layers.{Spoken, Core, model}
 use Rattle.er_end_model.specs.Steps.{Finds, new_event_at, step_frame, refusal_of, is_spent}
-use Rattle.er_end_model.specs.Ends.{End as Stack, Event, Start, Come, Send, Take, Leave, Tick, step}
+use Rattle.er_end_model.specs.Ends.{End as Stack, Event, Start, Come, Send, Take, Leave, Tick, step_event, finds_expired}
 use Rattle.er_end_model.specs.Outcomes.{SendRefusal}
-use Rattle.drill_model.specs.Outcomes.{Outcome, OfSafety, Took, NothingToTake, Refused, Frame}
+use Rattle.drill_model.specs.Outcomes.{DrillOutcome, OfSafety, Took, NothingToTake, Refused, Frame}
 use Rattle.drill_model.specs.StationEnds.{if_released, if_expired}
 
 -- ---- a call
 
 -- the facts of the step that the safety side took, if it took one
-abbrev pub facts_told : Option Spoken → List Outcome
+abbrev pub facts_told : Option Spoken → List DrillOutcome
 facts_told None = []
 facts_told (Some spoken) = map OfSafety (facts_of spoken.event spoken.outcome)
 
 -- what a call that leads here told, and then the frames that it sent
-abbrev pub told_at : Core → List Outcome
-told_at x = facts_told x.upper.spoke ++ (if_released x.leaves ++ map Frame (said_octets x.line))
+abbrev pub outcomes_told_by_stack : Core → List DrillOutcome
+outcomes_told_by_stack x = facts_told x.upper.spoke ++ (if_released x.leaves ++ map Frame (said_octets x.line))
 
 -- the stack behind an event
-abbrev pub behind : (moment : ℕ) → Event → Stack → Stack
-behind moment event m = (step moment event m).0
+abbrev pub stack_behind_event : (moment : ℕ) → Event → Stack → Stack
+stack_behind_event moment event m = (step_event moment event m).0
 
 -- an event that leads to this stack, and what came of it
-abbrev pub stack_and_told : Stack → Stack × List Outcome
-stack_and_told m = (m, told_at m.core)
+abbrev pub stack_and_told : Stack → Stack × List DrillOutcome
+stack_and_told m = (m, outcomes_told_by_stack m.core)
 
 -- the end that calls is to begin
-abbrev pub stack_start : (moment : ℕ) → Stack → Stack × List Outcome
-stack_start moment m = stack_and_told (behind moment Start m)
+abbrev pub stack_start : (moment : ℕ) → Stack → Stack × List DrillOutcome
+stack_start moment m = stack_and_told (stack_behind_event moment Start m)
 
 -- ---- octets come
 
 -- what came of each frame, one after the other
-abbrev pub stack_parts : Finds → (moment : ℕ) → List Verdict → Core → List (List Outcome)
+abbrev pub stack_parts : Finds → (moment : ℕ) → List Verdict → Core → List (List DrillOutcome)
 stack_parts finds moment [] x = []
 stack_parts finds moment (verdict ∷ verdicts) x =
     let y = step_frame model finds moment verdict x in
-    told_at y ∷ stack_parts finds moment verdicts y
+    outcomes_told_by_stack y ∷ stack_parts finds moment verdicts y
 
-abbrev pub stack_told : Finds → (moment : ℕ) → List Verdict → Core → List Outcome
+abbrev pub stack_told : Finds → (moment : ℕ) → List Verdict → Core → List DrillOutcome
 stack_told finds moment [] x = []
 stack_told finds moment (verdict ∷ verdicts) x =
     let y = step_frame model finds moment verdict x in
-    told_at y ++ stack_told finds moment verdicts y
+    outcomes_told_by_stack y ++ stack_told finds moment verdicts y
 
 -- each frame that the octets close is one event
-abbrev pub stack_hear : Finds → (moment : ℕ) → (octets : List ℕ) → Stack → Stack × List Outcome
+abbrev pub stack_hear : Finds → (moment : ℕ) → (octets : List ℕ) → Stack → Stack × List DrillOutcome
 stack_hear finds moment octets m =
-    (behind moment (Come finds octets) m, stack_told finds moment (news m.stream octets) (new_event_at model moment m.core))
+    (stack_behind_event moment (Come finds octets) m, stack_told finds moment (news m.stream octets) (new_event_at model moment m.core))
 
 -- ---- the user sends, takes, releases
 
 -- a send is refused, or led to this
-abbrev pub told_unless : Option SendRefusal → Core → List Outcome
+abbrev pub told_unless : Option SendRefusal → Core → List DrillOutcome
 told_unless (Some refusal) x = Refused refusal ∷ []
-told_unless None x = told_at x
+told_unless None x = outcomes_told_by_stack x
 
-abbrev pub stack_send : (moment : ℕ) → (user : List ℕ) → Stack → Stack × List Outcome
+abbrev pub stack_send : (moment : ℕ) → (user : List ℕ) → Stack → Stack × List DrillOutcome
 stack_send moment user m =
-    let n = behind moment (Send user) m in
+    let n = stack_behind_event moment (Send user) m in
     (n, told_unless (refusal_of model user m.core) n.core)
 
 -- the oldest message was taken, or none was there
-abbrev pub told_of_take : Option (List ℕ) → List Outcome
+abbrev pub told_of_take : Option (List ℕ) → List DrillOutcome
 told_of_take None = NothingToTake ∷ []
 told_of_take (Some message) = Took message ∷ []
 
-abbrev pub stack_take : (moment : ℕ) → Stack → Stack × List Outcome
+abbrev pub stack_take : (moment : ℕ) → Stack → Stack × List DrillOutcome
 stack_take moment m =
-    let n = behind moment Take m in
-    (n, told_of_take (model.oldest m.core.upper) ++ told_at n.core)
+    let n = stack_behind_event moment Take m in
+    (n, told_of_take (model.oldest m.core.upper) ++ outcomes_told_by_stack n.core)
 
 -- a stack that was released before does nothing
-abbrev pub stack_release : (moment : ℕ) → (sub : ℕ) → Stack → Stack × List Outcome
-stack_release moment sub m = stack_and_told (behind moment (Leave sub) m)
+abbrev pub stack_release : (moment : ℕ) → (sub : ℕ) → Stack → Stack × List DrillOutcome
+stack_release moment sub m = stack_and_told (stack_behind_event moment (Leave sub) m)
 
 -- ---- the moment has come
 
--- T1 is found expired, or the time for the set-up is spent; a stack that was released has no timers
-abbrev pub finds_expired : Core → Bool
-finds_expired x = not (is_some x.released) && (is_late x.moment x.line || is_spent x)
-
-abbrev pub stack_tick : (moment : ℕ) → Stack → Stack × List Outcome
+abbrev pub stack_tick : (moment : ℕ) → Stack → Stack × List DrillOutcome
 stack_tick moment m =
-    let n = behind moment Tick m in
-    (n, if_expired (finds_expired (new_event_at model moment m.core)) ++ told_at n.core)
+    let n = stack_behind_event moment Tick m in
+    (n, if_expired (finds_expired (new_event_at model moment m.core)) ++ outcomes_told_by_stack n.core)

@@ -5,7 +5,7 @@ use Rattle.x224_class2.specs.declared.stage.Stage.{Stage}
 use Rattle.x224_class2.specs.declared.stage.Stage.TheVariants as stage
 use Rattle.safety_automaton.specs.Safety.{Phase, Ready, WaitAu1, WaitAu2, WaitAu3, WaitAr, Connected, Released, SafetyOutcome, SentAu1, SentAu2, SentAu3, SentAr, ReceivedAr, AcceptedDt, SentDt, Refused, ReleasedLocally, ReleasedByPeer, NothingDone, sealed_by, verified_by, session_in}
 use Rattle.safety_automaton.specs.Reports.{KeptSafe}
-use Rattle.safety_automaton.specs.Laws.{keys_of}
+use Rattle.safety_automaton.specs.Laws.{session_keys_of_outcome}
 use Rattle.hdlc_frames.specs.Framing.{Verdict}
 use Rattle.er_end_model.specs.Layers.{Spoken, Core, model}
 use Rattle.er_end_model.specs.Steps.{Finds, step_start, step_frame, step_send_unless, step_take, step_release, step_tick}
@@ -51,20 +51,20 @@ abbrev pub peer_in : Option Spoken → Option ℕ
 peer_in None = None
 peer_in (Some s) = peer_by s.outcome
 
-abbrev pub user_in : Option Spoken → Option (List ℕ)
-user_in None = None
-user_in (Some s) = user_by s.outcome
+abbrev pub user_octets_spoken : Option Spoken → Option (List ℕ)
+user_octets_spoken None = None
+user_octets_spoken (Some s) = user_by s.outcome
 
 abbrev pub keys_in : Option Spoken → Option TripleKey
 keys_in None = None
-keys_in (Some s) = keys_of s.outcome
+keys_in (Some s) = session_keys_of_outcome s.outcome
 
 -- what is kept of an event is what the step of the safety side tells
 pub record Reports (safe : KeptSafe) (connected : Option ℕ) (news : Option (List ℕ)) (spoke : Option Spoken) : Type 0 where
   pub sealed_is : safe.sealed ≡ sealed_in spoke
   pub verified_is : safe.verified ≡ verified_in spoke
   pub connected_is : connected ≡ peer_in spoke
-  pub accepted_is : news ≡ user_in spoke
+  pub accepted_is : news ≡ user_octets_spoken spoke
   pub keys_are : (session : TripleKey) → keys_in spoke ≡ Some session → session_in safe.safety.phase ≡ Some session
 
 abbrev pub ReportsAt : Core → Type 0

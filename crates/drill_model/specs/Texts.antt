@@ -10,9 +10,9 @@ use Rattle.er_scenario.specs.declared.step.Step.{Step}
 use Rattle.er_scenario.specs.declared.scenario.Scenario.{Scenario}
 use Rattle.safety_pair_laws.specs.Facts.{Fact, Sent, Sealed, Verified, Connected, Accepted}
 use Rattle.er_end_model.specs.Outcomes.{SendRefusal, RefusedReleased, RefusedNotConnected, RefusedLength, RefusedFull}
-use Rattle.drill_model.specs.Outcomes.{Outcome, OfSafety, Handed, Arrived, Up, Took, NothingToTake, Refused, Released, Frame, Expired, UserReleased, Passed, Lost, Repeated, Altered, Inserted, NothingWaits, IsShort}
+use Rattle.drill_model.specs.Outcomes.{DrillOutcome, OfSafety, Handed, Arrived, Up, Took, NothingToTake, Refused, Released, Frame, Expired, UserReleased, Passed, Lost, Repeated, Altered, Inserted, NothingWaits, IsShort}
 use Rattle.drill_model.specs.Links.{Link}
-use Rattle.drill_model.specs.Worlds.{Plan, World, Came, plan_of, steps_of, link_at, history_on, world_step, world_run}
+use Rattle.drill_model.specs.Worlds.{DrillPlan, World, Came, plan_of, steps_of, link_at, history_on, world_step, world_run}
 use Rattle.drill_model.specs.Marks.{MarkedOccurrence, MarkedCame, MarkedOn, MarkedDrain, marks_from}
 use Rattle.drill_model.specs.Kinds.{deliveries}
 
@@ -81,7 +81,7 @@ fact_line number side (Connected heard connection text) forged = connected_line 
 fact_line number side (Accepted heard user key text) forged = accepted_line number side user forged
 
 -- frames are shown or not
-abbrev pub outcome_line : (show : Bool) → ℕ → Side → Outcome → (forged : Bool) → List ℕ
+abbrev pub outcome_line : (show : Bool) → ℕ → Side → DrillOutcome → (forged : Bool) → List ℕ
 outcome_line show number side (OfSafety fact) forged = fact_line number side fact forged
 outcome_line show number side (Handed payload) forged = []
 outcome_line show number side (Arrived payload) forged = accepted_line number side payload false
@@ -124,14 +124,14 @@ closing_line number passes from_e from_r =
     (decimal number ++ (codes " end passes " ++ decimal (min passes (2 ^ 64 - 1))))
     ++ ((codes " waiting " ++ decimal from_e) ++ (codes " " ++ (decimal from_r ++ codes "\n")))
 
-abbrev pub closing_at : ℕ → Option Link → List Came → List ℕ
-closing_at number None came = []
-closing_at number (Some l) came = closing_line number (deliveries (history_on number came)) (length l.from_e) (length l.from_r)
+abbrev pub closing_text_at : ℕ → Option Link → List Came → List ℕ
+closing_text_at number None came = []
+closing_text_at number (Some l) came = closing_line number (deliveries (history_on number came)) (length l.from_e) (length l.from_r)
 
 -- of the links from this number on, so many
 unfoldable pub closing_from : World × List Came → (number count : ℕ) → List ℕ
 closing_from a number zero = []
-closing_from a number (suc count) = closing_at number (link_at a.0 number) a.1 ++ closing_from a (number + 1) count
+closing_from a number (suc count) = closing_text_at number (link_at a.0 number) a.1 ++ closing_from a (number + 1) count
 
 -- of a world and all that came in it: a line for each link that was opened, their numbers rising
 abbrev pub summary : World × List Came → List ℕ
@@ -140,16 +140,16 @@ summary a = closing_from a 1 64
 -- ---- the text of steps
 
 -- the lines of a step behind the steps before it
-abbrev pub step_lines : Plan → (before : List Step) → Step → List ℕ
+abbrev pub step_lines : DrillPlan → (before : List Step) → Step → List ℕ
 step_lines plan before s =
     lines plan.show (marks_from (world_run plan before).1 (world_step plan (world_run plan before).0 s).1)
 
 -- the lines of the first steps of a drill
-abbrev pub first_lines : Plan → List Step → List ℕ
+abbrev pub first_lines : DrillPlan → List Step → List ℕ
 first_lines plan steps = lines plan.show (marks_from [] (world_run plan steps).1)
 
 -- the closing lines behind them
-abbrev pub last_lines : Plan → List Step → List ℕ
+abbrev pub last_lines : DrillPlan → List Step → List ℕ
 last_lines plan steps = summary (world_run plan steps)
 
 -- DrillText: what a drill prints whose steps are all done
@@ -160,7 +160,7 @@ drill_text scenario =
 -- ---- the order of lines within one event
 
 -- the place of an outcome's line in the table of lines, where it has one
-abbrev pub place_of : Outcome → List ℕ
+abbrev pub place_of : DrillOutcome → List ℕ
 place_of (OfSafety (Sent user key text)) = []
 place_of (OfSafety (Sealed key text)) = []
 place_of (OfSafety (Verified heard key text)) = []

@@ -3,26 +3,26 @@ use Rattle.std.specs.Prelude.{ℕ, zero, suc, ◌+◌, ◌-◌, ◌^◌, min, Bo
 use Rattle.std.specs.List.{count_by}
 use Rattle.er_base.specs.declared.side.Side.TheVariants.{E, R}
 use Rattle.drill_model.specs.declared.totals.Totals.{Totals as RunTotals}
-use Rattle.drill_model.specs.Outcomes.{Outcome, Lost, Repeated, Occurrence}
+use Rattle.drill_model.specs.Outcomes.{DrillOutcome, Lost, Repeated, Occurrence}
 use Rattle.drill_model.specs.Worlds.{Came, history_on}
 use Rattle.drill_model.specs.Kinds.{sent_by, accepted_by, deliveries}
 
 -- ---- the counts of one link
 
 -- the sends that were Ok, and the messages that were accepted
-abbrev pub sends : List Occurrence → ℕ
-sends history = length (sent_by E history) + length (sent_by R history)
+abbrev pub count_of_sends : List Occurrence → ℕ
+count_of_sends history = length (sent_by E history) + length (sent_by R history)
 
 abbrev pub acceptances : List Occurrence → ℕ
 acceptances history = length (accepted_by E history) + length (accepted_by R history)
 
 -- a frame was removed by the line
-abbrev pub is_loss : Outcome → Bool
+abbrev pub is_loss : DrillOutcome → Bool
 is_loss Lost = true
 is_loss other = false
 
 -- a frame was copied by the line
-abbrev pub is_repeat : Outcome → Bool
+abbrev pub is_repeat : DrillOutcome → Bool
 is_repeat Repeated = true
 is_repeat other = false
 
@@ -46,7 +46,7 @@ total count_on came = min (sum_from count_on came 1 64) (2 ^ 64 - 1)
 -- of all that came
 abbrev pub totals_of : List Came → RunTotals
 totals_of came = record {
-  sent = total sends came;
+  sent = total count_of_sends came;
   accepted = total acceptances came;
   passes = total deliveries came;
   lost = total losses came;

@@ -19,12 +19,12 @@ use Rattle.drill_model.specs.Waiting.{Lose, Repeat, Alter, Put}
 use Rattle.drill_model.specs.Links.{Link, LinkOpening, OfPair, OfStations, OfStacks, opened_link, waiting_of, LinkStep, Send, Pass, Change, Take, Release, Tick, link_step}
 
 -- what a drill is run with: its level, the settings of its links, and whether frames are printed
-pub record Plan : Type 0 where
+pub record DrillPlan : Type 0 where
   pub level : Level
   pub settings : Settings
   pub show : Bool
 
-abbrev pub plan_of : Scenario → Plan
+abbrev pub plan_of : Scenario → DrillPlan
 plan_of scenario = record { level = scenario.level; settings = scenario.settings; show = scenario.show }
 
 abbrev pub steps_of : Scenario → List Step
@@ -91,7 +91,7 @@ wire_opening level.LinkSr = Some (OfStations true)
 wire_opening level.Full = None
 
 -- link n is opened, where it is the number of a link that wasn't
-abbrev pub open_link : Plan → World → ℕ → Option Link → Option LinkOpening → World × List Came
+abbrev pub open_link : DrillPlan → World → ℕ → Option Link → Option LinkOpening → World × List Came
 open_link plan w n (Some l) opening = (w, [])
 open_link plan w n None None = (w, [])
 open_link plan w n None (Some opening) = if is_link n then went_on w n (opened_link plan.settings w.moment opening) else (w, [])
@@ -121,8 +121,8 @@ pub record Drain : Type 0 where
   pub passes : ℕ
 
 -- one pass, and then the others
-abbrev pub behind : List Occurrence → Drain → Drain
-behind came d = record { link = d.link; came = came ++ d.came; passes = d.passes + 1 }
+abbrev pub drain_behind_pass : List Occurrence → Drain → Drain
+drain_behind_pass came d = record { link = d.link; came = came ++ d.came; passes = d.passes + 1 }
 
 abbrev pub no_passes : Link → Drain
 no_passes l = record { link = l; came = []; passes = 0 }
@@ -133,7 +133,7 @@ drain_on others l None overfull = no_passes l
 drain_on others l (Some side) (Some overfull) = no_passes l
 drain_on others l (Some side) None =
     let a = link_step l (Pass side) in
-    behind a.1 (others a.0)
+    drain_behind_pass a.1 (others a.0)
 
 -- at most `most` passes, the first waiting frame of e if there is one, else of r, until none waits
 unfoldable pub drain : (most : ℕ) → Link → Drain
@@ -173,7 +173,7 @@ tick_world w moment = if nat_lt moment w.moment then (w, []) else tick_each_link
 -- ---- steps of the world
 
 -- one step; a step that is refused does nothing
-abbrev pub world_step : Plan → World → Step → World × List Came
+abbrev pub world_step : DrillPlan → World → Step → World × List Came
 world_step plan w (does.Fixed n engine rbc ke kr) = open_link plan w n (link_at w n) (fixed_opening plan.level engine rbc ke kr)
 world_step plan w (does.Link n engine rbc ke kr ra rb) = open_link plan w n (link_at w n) (link_opening plan.level engine rbc ke kr ra rb)
 world_step plan w (does.Wire n) = open_link plan w n (link_at w n) (wire_opening plan.level)
@@ -190,10 +190,10 @@ world_step plan w (does.Tick moment) = tick_world w moment
 world_step plan w (does.Drain n most) = drain_link w n most (link_at w n)
 
 -- a list of steps from a world on: the world at the end, and all that came
-abbrev pub world_run_from : Plan → World → List Step → World × List Came
+abbrev pub world_run_from : DrillPlan → World → List Step → World × List Came
 world_run_from plan w [] = (w, [])
 world_run_from plan w (s ∷ rest) = then_world (world_step plan w s) (λ v. world_run_from plan v rest)
 
 -- WorldRun
-abbrev pub world_run : Plan → List Step → World × List Came
+abbrev pub world_run : DrillPlan → List Step → World × List Came
 world_run plan steps = world_run_from plan new_world steps

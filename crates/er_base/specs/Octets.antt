@@ -28,8 +28,8 @@ number_in [] = 0
 number_in (octet ∷ octets) = octet * 256 ^ length octets + number_in octets
 
 -- a number of `width` octets was taken from the front: None exactly where fewer are left, and then all stay
-abbrev pub Takes : (ℕ → List ℕ) → ℕ → ℕ → List ℕ → Option ℕ → List ℕ → Type 0
-Takes spelled width limit old result new =
+abbrev pub TakesNumberFromFront : (ℕ → List ℕ) → ℕ → ℕ → List ℕ → Option ℕ → List ℕ → Type 0
+TakesNumberFromFront spelled width limit old result new =
     MatchOption result ((length old < width) × (new ≡ old)) (λ n. (n < limit) × (old ≡ spelled n ++ new))
 
 -- known answers: 258 in two octets and in eight

@@ -19,6 +19,6 @@ Refuses (fault.Refused why) read = read ≡ Err why
 Refuses (fault.NoMemory want) read = Unit {0}
 
 -- what a reader of words answers is what they say, but for want of memory
-abbrev pub Gives : {A : Type 0} → Result A LineFault → Result A Why → Type 0
-Gives (Ok value) read = read ≡ Ok value
-Gives (Err refused) read = Refuses refused read
+abbrev pub AnswersAsWordsSay : {A : Type 0} → Result A LineFault → Result A Why → Type 0
+AnswersAsWordsSay (Ok value) read = read ≡ Ok value
+AnswersAsWordsSay (Err refused) read = Refuses refused read

@@ -3,7 +3,7 @@
 ghost use Rattle.std.specs.Prelude.{◌≡◌, ◌<◌, ◌≤◌, ◌^◌, length, IfOk};
 ghost use Rattle.er_base.specs.Octets.{AreOctets};
 ghost use Rattle.er_base.specs.Arguments.{number_argument, side_argument, octets_argument, text_argument, exact_argument, number16_argument};
-ghost use Rattle.er_base.specs.Rows.{Gives};
+ghost use Rattle.er_base.specs.Rows.{AnswersAsWordsSay};
 
 use crate::hexadecimal::{HexFault, octets_of};
 use crate::line_fault::LineFault;
@@ -46,7 +46,7 @@ pub fn read_side(word: &[u8]) -> Result<Side, Why>
 // The octets of a HEX word.
 #[tactic(auto, unfolding(crate::specs::Arguments::octets_argument))]
 fn octets(alloc: Global, word: &[u8]) -> Result<Octets, LineFault>
-    ensures value { Gives result (octets_argument word.now) }
+    ensures value { AnswersAsWordsSay result (octets_argument word.now) }
     ensures octets { IfOk result (λ o. AreOctets o) }
 {
     let mut octets = Vec::new(alloc);
@@ -60,7 +60,7 @@ fn octets(alloc: Global, word: &[u8]) -> Result<Octets, LineFault>
 /// The octets of a HEX word, at most `most`: `Hex` where the word is no HEX, `Value` where there are more.
 #[tactic(auto, unfolding(crate::specs::Arguments::text_argument))]
 pub fn read_text(alloc: Global, word: &[u8], most: usize) -> Result<Octets, LineFault>
-    ensures value { Gives result (text_argument most word.now) }
+    ensures value { AnswersAsWordsSay result (text_argument most word.now) }
     ensures octets { IfOk result (λ o. AreOctets o) }
     ensures range { IfOk result (λ o. length o ≤ most) }
 {
@@ -74,7 +74,7 @@ pub fn read_text(alloc: Global, word: &[u8], most: usize) -> Result<Octets, Line
 /// The octets of a HEX word of `count` octets; a word of another length is `Hex`.
 #[tactic(auto, unfolding(crate::specs::Arguments::exact_argument))]
 pub fn read_exact(alloc: Global, word: &[u8], count: usize) -> Result<Octets, LineFault>
-    ensures value { Gives result (exact_argument count word.now) }
+    ensures value { AnswersAsWordsSay result (exact_argument count word.now) }
     ensures octets { IfOk result (λ o. AreOctets o) }
     ensures range { IfOk result (λ o. length o ≡ count) }
 {
@@ -88,7 +88,7 @@ pub fn read_exact(alloc: Global, word: &[u8], count: usize) -> Result<Octets, Li
 /// A number of 64 bits as 16 hexadecimal digits; a word of another length is `Hex`.
 #[tactic(auto, unfolding(crate::specs::Arguments::number16_argument))]
 pub fn read_number16(alloc: Global, word: &[u8]) -> Result<u64, LineFault>
-    ensures value { Gives result (number16_argument word.now) }
+    ensures value { AnswersAsWordsSay result (number16_argument word.now) }
     ensures range { IfOk result (λ n. n < 2 ^ 64) }
 {
     let octets = read_exact(alloc, word, 8)?;

@@ -1,5 +1,5 @@
 ghost use Rattle.std.specs.Prelude.{◌≡◌, ◌^◌, ℕ, List, length};
-ghost use Rattle.er_base.specs.Octets.{Takes, one, two, three, eight};
+ghost use Rattle.er_base.specs.Octets.{TakesNumberFromFront, one, two, three, eight};
 
 use crate::number_octets::number_of;
 use std::marker::Model;
@@ -33,7 +33,7 @@ impl<'a> Cursor<'a> {
 
     /// The next octet, or None exactly where none remains.
     pub fn take_u8(&mut self) -> Option<u8>
-        ensures { Takes one 1 (2 ^ 8) self.old result self.new }
+        ensures { TakesNumberFromFront one 1 (2 ^ 8) self.old result self.new }
     {
         let (front, rest) = self.octets.split_first_chunk::<1>()?;
         let number = front[0];
@@ -43,7 +43,7 @@ impl<'a> Cursor<'a> {
 
     /// The number of the next two octets, or None exactly where fewer remain; then the cursor stays.
     pub fn take_u16(&mut self) -> Option<u16>
-        ensures { Takes two 2 (2 ^ 16) self.old result self.new }
+        ensures { TakesNumberFromFront two 2 (2 ^ 16) self.old result self.new }
     {
         let (front, rest) = self.octets.split_first_chunk::<2>()?;
         let number = (front[0] as u16) * 256 + front[1] as u16;
@@ -53,7 +53,7 @@ impl<'a> Cursor<'a> {
 
     /// The number of the next three octets, or None exactly where fewer remain; then the cursor stays.
     pub fn take_u24(&mut self) -> Option<u32>
-        ensures { Takes three 3 (2 ^ 24) self.old result self.new }
+        ensures { TakesNumberFromFront three 3 (2 ^ 24) self.old result self.new }
     {
         let (front, rest) = self.octets.split_first_chunk::<3>()?;
         let number = (front[0] as u32) * 65536 + (front[1] as u32) * 256 + front[2] as u32;
@@ -63,7 +63,7 @@ impl<'a> Cursor<'a> {
 
     /// The number of the next eight octets, or None exactly where fewer remain; then the cursor stays.
     pub fn take_u64(&mut self) -> Option<u64>
-        ensures { Takes eight 8 (2 ^ 64) self.old result self.new }
+        ensures { TakesNumberFromFront eight 8 (2 ^ 64) self.old result self.new }
     {
         let (front, rest) = self.octets.split_first_chunk::<8>()?;
         let number = number_of(front);

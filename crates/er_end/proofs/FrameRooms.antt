@@ -6,9 +6,9 @@ use Rattle.er_base.specs.Stored.{Stored}
 use Rattle.hdlc_station_model.specs.Stations.{Station, no_deed, is_down, sees}
 use Rattle.hdlc_station_model.specs.Sending.{can_send, waiting, sends_next, sends_up_to}
 use Rattle.hdlc_station_model.specs.Calls.{hands}
-use Rattle.hdlc_balanced.specs.Kept.{Kept, kept_of, Within}
-use Rattle.hdlc_balanced.specs.Alike.{model_of, Does}
-use Rattle.er_end.specs.FrameRoom.{one_if, Fits}
+use Rattle.hdlc_balanced.specs.Kept.{KeptStation, kept_of, WritesFramesAtMost}
+use Rattle.hdlc_balanced.specs.Alike.{model_of, DoesStationCall}
+use Rattle.er_end.specs.FrameRoom.{one_if, FitsFrameRoom}
 
 one_at_most : (b : Bool) → one_if b ≤ 1
 one_at_most true = omega arith
@@ -16,7 +16,7 @@ one_at_most false = omega arith
 
 -- ---- where an event begins
 
-pub begins_fit : (k : Kept) (out : List ℕ) → k.window ≤ 31 → length out ≤ 32 * 2064 → Fits k out
+pub begins_fit : (k : KeptStation) (out : List ℕ) → k.window ≤ 31 → length out ≤ 32 * 2064 → FitsFrameRoom k out
 begins_fit k out w l = omega (arith, w, l, one_at_most k.owed, one_at_most (not (is_down k.phase)))
 
 -- ---- a payload is handed down
@@ -39,20 +39,20 @@ hands_owes now m s = elim (cases_Bool (is_down s.phase)) [
 ]
 
 -- the payload's frames are written, as many as V(S) - V(A) grew
-hand_fits : (k : Kept) (now : ℕ) (m : List ℕ) (new : Kept) (out out' : List ℕ)
+hand_fits : (k : KeptStation) (now : ℕ) (m : List ℕ) (new : KeptStation) (out out' : List ℕ)
     → new ≡ kept_of (hands now m (model_of k)) → new.window ≡ k.window → k.ahead ≤ new.ahead → new.ahead ≤ new.window
-    → length out' + k.ahead * 2064 ≤ length out + new.ahead * 2064 → Fits k out → Fits new out'
+    → length out' + k.ahead * 2064 ≤ length out + new.ahead * 2064 → FitsFrameRoom k out → FitsFrameRoom new out'
 hand_fits k now m new out out' is w grows near sent fits =
     let h : OwesNoMore (model_of k) (hands now m (model_of k)) = hands_owes now m (model_of k) in
-    let p : new.phase ≡ k.phase = ap (λ (n : Kept). n.phase) is ∙ h.0 in
-    let o : one_if new.owed ≤ one_if k.owed = subst (λ (n : Kept). one_if n.owed ≤ one_if k.owed) (sym is) h.1 in
+    let p : new.phase ≡ k.phase = ap (λ (n : KeptStation). n.phase) is ∙ h.0 in
+    let o : one_if new.owed ≤ one_if k.owed = subst (λ (n : KeptStation). one_if n.owed ≤ one_if k.owed) (sym is) h.1 in
     let d : one_if (not (is_down new.phase)) ≡ one_if (not (is_down k.phase)) = ap (λ (q : Phase). one_if (not (is_down q))) p in
     omega (arith, w, grows, near, sent, fits, o, d)
 
-pub hand_keeps : {E : Type 0} (k : Kept) (now : ℕ) (m : List ℕ) (new : Kept) (out out' : Stored) (r : Result (Unit {0}) E)
-    → IfOk r (λ _. Does new out out' no_deed (hands now m (model_of k))) → IfErr r (λ _. new ≡ k) → IfErr r (λ _. out' ≡ out)
-    → k.ahead ≤ new.ahead → Within k out new out' k.window → length out'.items + k.ahead * 2064 ≤ length out.items + new.ahead * 2064
-    → Fits k out.items → Fits new out'.items
+pub hand_keeps : {E : Type 0} (k : KeptStation) (now : ℕ) (m : List ℕ) (new : KeptStation) (out out' : Stored) (r : Result (Unit {0}) E)
+    → IfOk r (λ _. DoesStationCall new out out' no_deed (hands now m (model_of k))) → IfErr r (λ _. new ≡ k) → IfErr r (λ _. out' ≡ out)
+    → k.ahead ≤ new.ahead → WritesFramesAtMost k out new out' k.window → length out'.items + k.ahead * 2064 ≤ length out.items + new.ahead * 2064
+    → FitsFrameRoom k out.items → FitsFrameRoom new out'.items
 hand_keeps k now m new out out' (Ok done) does same unwritten grows within sent fits =
     hand_fits k now m new out.items out'.items does.kept within.window grows within.near sent fits
 hand_keeps k now m new out out' (Err full) does same unwritten grows within sent fits = rw (same, unwritten) fits

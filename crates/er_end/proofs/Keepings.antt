@@ -1,5 +1,6 @@
 -- What an event leaves of what is kept.
 use Rattle.std.proofs.Common.{◌≡◌, inl, inr, ◌+◌, ◌-◌, ◌≤◌, ◌∙◌, ℕ, zero, suc, Bool, true, false, ◌&&◌, List, [], ◌∷◌, ◌++◌, length, drop, Option, Some, None, Ok, Err, refl, sym, ap, subst, arith, append-nil, length-append, eqb-true, true≢false}
+use Rattle.hdlc_station_model.specs.Receiving.{is_some_octets}
 use Rattle.std.specs.Prelude.{nat_lt, if◌then◌else◌, ◌==◌, slice_get, is_some}
 use Rattle.std.specs.Option.{option_to_list}
 use Rattle.std.proofs.lemmas.Bool.{cases_Bool}
@@ -12,19 +13,19 @@ use Rattle.hdlc_frames.specs.Deframing as deframing
 use Rattle.hdlc_frames.specs.Deframing.{used_behind, has_verdicts}
 use Rattle.t70_header.specs.Joining as joining
 use Rattle.x224_class2.specs.Refusals.{protocol_error}
-use Rattle.x224_class2.specs.Tpdus.{Given, Dr, Dc}
-use Rattle.x224_class2.specs.Transport.{Deed, Nothing, Called, Confirmed, Message, Disconnected}
+use Rattle.x224_class2.specs.Tpdus.{GivenTpdu, Dr, Dc}
+use Rattle.x224_class2.specs.Transport.{ReceptionDeed, Nothing, Called, Confirmed, Message, Disconnected}
 use Rattle.x224_class2.specs.Transport as transport
 use Rattle.sapdu.specs.Spelling.{di_in}
 use Rattle.safety_automaton.specs.Keys.{no_keys}
 use Rattle.safety_automaton.specs.Reports.{Report, ToldAnswered, ToldConnected, ToldAccepted, ToldReleased, ToldIgnored, report_of}
-use Rattle.safety_automaton.specs.Safety.{ConnectRequest, Received, DataRequest, DisconnectRequest, sent_by, peer_flag, step}
+use Rattle.safety_automaton.specs.Safety.{ConnectRequest, Received, DataRequest, DisconnectRequest, octets_sent_in_outcome, peer_flag, step}
 use Rattle.er_end_model.specs.Outcomes.{Outcome, ConnectedTo, Accepted, Taken, NothingToTake, Refused, WasReleased, Octets, SendRefusal}
-use Rattle.er_end_model.specs.Steps.{Finds, new_event, new_event_at, hand_tpdu_if_may, send_dr, answer_dr, on_safety_release, why_of, with_safety_step, is_some_octets, hand_text, accept_text, Carrier, InCr, InCc, InDt, hand_answer, on_safety_report, on_text, on_transport_deed, on_joined_block, is_ready, connect_with_text, on_link_up, on_link_told, hand_next_tpdu, has_next_tpdu, hand_waiting_tpdus, most_offers, conclude_event, on_frame, refusal_of, on_send, step_send_unless, on_take, on_release, normal_disconnect, is_spent, di_of, on_expiry, on_tick, on_break, on_start, outcomes_of, if_connected, if_accepted, if_released, if_octets, if_taken}
-use Rattle.er_end_model.specs.Ends.{Start, Come, Send, Take, Leave, Tick, Ended, Fault, Stalled, if_refused}
+use Rattle.er_end_model.specs.Steps.{Finds, new_event, new_event_at, hand_tpdu_if_may, send_dr, answer_dr, on_safety_release, why_of, with_safety_step, hand_text, accept_text, Carrier, InCr, InCc, InDt, hand_answer, on_safety_report, on_text, on_transport_deed, on_joined_block, is_ready, connect_with_text, on_link_up, on_link_told, hand_next_tpdu, has_next_tpdu, hand_waiting_tpdus, most_offers, conclude_event, on_frame, refusal_of, on_send, step_send_unless, on_take, on_release, normal_disconnect, is_spent, di_of, on_expiry, on_tick, on_break, on_start, outcomes_of, if_connected, if_accepted, if_released, if_octets, if_taken}
+use Rattle.er_end_model.specs.Ends.{Start, Come, Send, Take, Leave, Tick, Ended, Fault, Stalled, refusal_or_outcomes}
 use Rattle.er_end.specs.Inboxes.{KInbox, kept_more, newest_of}
 use Rattle.er_end.specs.KeptLayers.{KCore, kept}
-use Rattle.er_end.specs.KeptEnds.{found_comes, used_of, after_start, after_octets, refusal, after_send, after_take, after_release, after_tick, after_break, waiting_in, deadline_of}
+use Rattle.er_end.specs.KeptEnds.{found_comes, used_of, after_start, after_octets, refusal_of_send, after_send, after_take, after_release, after_tick, after_break, waiting_in, deadline_of}
 use Rattle.er_end.specs.Keeping.{accepted_in, WaitsMove, OctetsBring, ReleaseStays, BreaksRelease, ReleasedWantNone, ReleasedTellNone, Uses}
 
 -- ---- the inbox, call by call
@@ -36,7 +37,7 @@ box_if : (b : Bool) (x y : KCore) (v : KInbox) → box x ≡ v → box y ≡ v �
 box_if true x y v h g = h
 box_if false x y v h g = g
 
-box_gives : (g : Given) (x : KCore) → box (hand_tpdu_if_may kept g x) ≡ box x
+box_gives : (g : GivenTpdu) (x : KCore) → box (hand_tpdu_if_may kept g x) ≡ box x
 box_gives g x = box_if (kept.may_send x.line) _ x (box x) refl refl
 
 box_departs : (why : Release) (reason : ℕ) (user : List ℕ) (x : KCore) → box (send_dr kept why reason user x) ≡ box x
@@ -91,9 +92,9 @@ more_acts carrier ToldIgnored octets x = Same refl
 more_text : (finds : Finds) (carrier : Carrier) (text : List ℕ) (x : KCore) → More (box x) (box (on_text kept finds carrier text x))
 more_text finds carrier text x =
     let a = step (finds x.moment) x.safe.safety (Received text) in
-    more_acts carrier (report_of a.1) (sent_by a.1) (with_safety_step kept (Received text) a x)
+    more_acts carrier (report_of a.1) (octets_sent_in_outcome a.1) (with_safety_step kept (Received text) a x)
 
-more_does : (finds : Finds) (deed : Deed) (x : KCore) → More (box x) (box (on_transport_deed kept finds deed x))
+more_does : (finds : Finds) (deed : ReceptionDeed) (x : KCore) → More (box x) (box (on_transport_deed kept finds deed x))
 more_does finds Nothing x = Same refl
 more_does finds (Called user) x = more_text finds InCr user x
 more_does finds (Confirmed user) x = more_text finds InCc user x
@@ -101,7 +102,7 @@ more_does finds (Message message) x = more_text finds InDt message x
 more_does finds (Disconnected user) x = Same (box_cut_off (why_of (di_in user (peer_flag x.safe.safety))) x)
 more_does finds (transport.Refused sub reason) x = Same (box_departs (by_this_end 2 sub) reason [] x)
 
-more_block : (finds : Finds) (joined : joining.Answer) (x : KCore) → More (box x) (box (on_joined_block kept finds joined x))
+more_block : (finds : Finds) (joined : joining.BlockJoiningResult) (x : KCore) → More (box x) (box (on_joined_block kept finds joined x))
 more_block finds (Ok None) x = Same refl
 more_block finds (Ok (Some tpdu)) x = more_does finds (kept.deed x.upper tpdu) (record x { upper = kept.hears x.upper tpdu })
 more_block finds (Err fault) x = Same (box_departs (release_of BlockRefused) protocol_error [] x)
@@ -110,11 +111,11 @@ box_up : (x : KCore) → box (on_link_up kept x) ≡ box x
 box_up x =
     let a = step no_keys x.safe.safety ConnectRequest in
     box_if (kept.may_connect x.upper && is_ready x.safe.safety.phase) _ x (box x)
-    (box_connects (sent_by a.1) (with_safety_step kept ConnectRequest a x)) refl
+    (box_connects (octets_sent_in_outcome a.1) (with_safety_step kept ConnectRequest a x)) refl
 
 more_link : (finds : Finds) (payload : Option (List ℕ)) (up : Bool) (released : Option Release) (x : KCore) → More (box x) (box (on_link_told kept finds payload up released x))
 more_link finds (Some payload) up released x =
-    let joined = joining.step x.joined payload in more_block finds joined.1 (record x { joined = joined.0 })
+    let joined = joining.block_step x.joined payload in more_block finds joined.1 (record x { joined = joined.0 })
 more_link finds None true released x = Same (box_up x)
 more_link finds None false (Some why) x = Same refl
 more_link finds None false None x = Same refl
@@ -143,7 +144,7 @@ accepted_in-append (ConnectedTo peer ∷ xs) ys = accepted_in-append xs ys
 accepted_in-append (Accepted message ∷ xs) ys = ap (λ z. message ∷ z) (accepted_in-append xs ys)
 accepted_in-append (Taken message ∷ xs) ys = accepted_in-append xs ys
 accepted_in-append (NothingToTake ∷ xs) ys = accepted_in-append xs ys
-accepted_in-append (Refused refusal ∷ xs) ys = accepted_in-append xs ys
+accepted_in-append (Refused refusal_of_send ∷ xs) ys = accepted_in-append xs ys
 accepted_in-append (WasReleased release ∷ xs) ys = accepted_in-append xs ys
 accepted_in-append (Octets octets ∷ xs) ys = accepted_in-append xs ys
 
@@ -221,13 +222,13 @@ box_sent : (user : List ℕ) (x : KCore) → box (on_send kept user x) ≡ box x
 box_sent user x =
     let a = step no_keys x.safe.safety (DataRequest user) in
     let y = with_safety_step kept (DataRequest user) a x in
-    box_concludes (hand_text kept (sent_by a.1) y) ∙ box_says (sent_by a.1) y
+    box_concludes (hand_text kept (octets_sent_in_outcome a.1) y) ∙ box_says (octets_sent_in_outcome a.1) y
 
 box_left : (sub : ℕ) (x : KCore) → box (on_release kept sub x) ≡ box x
 box_left sub x =
     let a = step no_keys x.safe.safety (DisconnectRequest sub) in
     box_if (is_some x.released) x _ (box x) refl
-    (box_departs (release_of (User sub)) normal_disconnect (sent_by a.1) (with_safety_step kept (DisconnectRequest sub) a x))
+    (box_departs (release_of (User sub)) normal_disconnect (octets_sent_in_outcome a.1) (with_safety_step kept (DisconnectRequest sub) a x))
 
 box_time : (why : Option Release) (x : KCore) → box (on_expiry kept why x) ≡ box x
 box_time (Some why) x = refl
@@ -275,12 +276,12 @@ silent_waits : (x : KCore) (q : KInbox) → q.fresh ≡ false → box x ≡ q �
 silent_waits x q old e = led_by x q.waits (waits_more q (box x) old (Same e))
 
 sends_waits : (refused : Option SendRefusal) (now : ℕ) (user : List ℕ) (x : KCore)
-    → (box (step_send_unless kept refused now user x)).waits ≡ (box x).waits ++ accepted_in (if_refused refused (outcomes_of kept (step_send_unless kept refused now user x)))
-sends_waits (Some refusal) now user x = sym (append-nil (box x).waits)
+    → (box (step_send_unless kept refused now user x)).waits ≡ (box x).waits ++ accepted_in (refusal_or_outcomes refused (outcomes_of kept (step_send_unless kept refused now user x)))
+sends_waits (Some refusal_of_send) now user x = sym (append-nil (box x).waits)
 sends_waits None now user x = silent_waits (on_send kept user (new_event_at kept now x)) (box (new_event_at kept now x)) refl (box_sent user (new_event_at kept now x))
 
 pub waits_move : WaitsMove
-unfolding after_start after_octets refusal after_send after_take after_release after_tick after_break
+unfolding after_start after_octets refusal_of_send after_send after_take after_release after_tick after_break
 waits_move now Start k = let x = new_event_at kept now k.core in silent_waits (on_start kept x) (box x) refl (box_started x)
 waits_move now (Come finds octets) k =
     let x = new_event_at kept now k.core in
@@ -303,12 +304,12 @@ waits_move now Fault k = let x = new_event kept k.core in silent_waits (on_break
 waits_move now Stalled k = let x = new_event kept k.core in silent_waits (on_break LineStalled x) (box x) refl (box_broken LineStalled x)
 
 sends_silent : (refused : Option SendRefusal) (now : ℕ) (user : List ℕ) (x : KCore)
-    → accepted_in (if_refused refused (outcomes_of kept (step_send_unless kept refused now user x))) ≡ []
-sends_silent (Some refusal) now user x = refl
+    → accepted_in (refusal_or_outcomes refused (outcomes_of kept (step_send_unless kept refused now user x))) ≡ []
+sends_silent (Some refusal_of_send) now user x = refl
 sends_silent None now user x = silent_by (on_send kept user (new_event_at kept now x)) (box (new_event_at kept now x)) refl (box_sent user (new_event_at kept now x))
 
 pub octets_bring : OctetsBring
-unfolding after_start after_octets refusal after_send after_take after_release after_tick after_break
+unfolding after_start after_octets refusal_of_send after_send after_take after_release after_tick after_break
 octets_bring now Start k p = let x = new_event_at kept now k.core in silent_by (on_start kept x) (box x) refl (box_started x)
 octets_bring now (Come finds octets) k p = absurd (true≢false p)
 octets_bring now (Send user) k p = sends_silent (refusal_of kept user k.core) now user k.core
@@ -376,7 +377,7 @@ unfolding used_of deframing.feeding_of
 uses_octets = record {
   all = λ k piece e. rw e refl;
   one = λ k octet octets.
-      elim (cases_Bool (is_some k.core.released)) [ inl p ↦ rw p (omega arith) | inr p ↦ rw p (used_one (deframing.stream_of k.deframer) octet octets) ];
+      elim (cases_Bool (is_some k.core.released)) [ inl p ↦ rw p (omega arith) | inr p ↦ rw p (used_one (deframing.stream_behind_kept k.deframer) octet octets) ];
   most = λ k piece.
-      elim (cases_Bool (is_some k.core.released)) [ inl p ↦ rw p (omega arith) | inr p ↦ rw p (used_most (deframing.stream_of k.deframer) piece) ];
+      elim (cases_Bool (is_some k.core.released)) [ inl p ↦ rw p (omega arith) | inr p ↦ rw p (used_most (deframing.stream_behind_kept k.deframer) piece) ];
 }

@@ -10,8 +10,8 @@ use Rattle.hdlc_station_model.specs.Frames.{Frame, Rr, Disc, sent_octets}
 use Rattle.hdlc_station_model.specs.Stations.{Station, Deed, no_deed, settled, is_down, is_up, sees, puts}
 use Rattle.hdlc_station_model.specs.Sending.{can_send, waiting, sends_next, sends_up_to, settles}
 use Rattle.hdlc_station_model.specs.Calls.{starts, receives, hands, finishes, ticks, closes, closes_at, may_send}
-use Rattle.hdlc_balanced.specs.Kept.{Kept, kept_of, texts}
-use Rattle.hdlc_balanced.specs.Alike.{model_of, Sound, Alike, StepsAlike, KeptIsModelled}
+use Rattle.hdlc_balanced.specs.Kept.{KeptStation, kept_of, octets_of_sent_frames}
+use Rattle.hdlc_balanced.specs.Alike.{model_of, Sound, Alike, KeepsStationsAlike, KeptIsModelled}
 use Rattle.er_end.specs.KeptLayers.{KLine, ran, line_starts, line_receives, line_told, line_hands, line_finishes, line_ticks, line_given_up, line_closes, line_may_send, line_is_free}
 use Rattle.er_end.specs.Standing.{LineStands}
 
@@ -107,24 +107,24 @@ pub record LineBegins (l : KLine) (s : Station) : Type 0 where
   pub deed : s.deed ≡ no_deed
 
 pub line_begun : (l : KLine) (s : Station) → LineBegins l s → LineStands l s
-line_begun l s b = record { is = b.is; sound = b.sound; text = b.out ∙ sym (ap (texts s.calling s.extended) b.said) }
+line_begun l s b = record { is = b.is; sound = b.sound; text = b.out ∙ sym (ap (octets_of_sent_frames s.calling s.extended) b.said) }
 
 pub line_settles : (l : KLine) (s : Station) → LineStands l s → LineBegins (record l { out = [] }) (settled s)
 line_settles l s h = record { is = h.is; sound = h.sound; out = refl; said = refl; deed = refl }
 
-module _ (steps : StepsAlike) (modelled : KeptIsModelled) where
+module _ (steps : KeepsStationsAlike) (modelled : KeptIsModelled) where
   alike_of : (l : KLine) (s : Station) → l.station ≡ kept_of s → Sound s → Alike (model_of l.station) (settled s)
-  alike_of l s is sound = subst (λ (k : Kept). Alike (model_of k) (settled s)) (sym is) (modelled (settled s) sound refl refl)
+  alike_of l s is sound = subst (λ (k : KeptStation). Alike (model_of k) (settled s)) (sym is) (modelled (settled s) sound refl refl)
 
   -- a call where an event begins
   begins_by : (step : Station → Station) → ((s t : Station) → Alike s t → Alike (step s) (step t)) → (l : KLine) (s : Station) → LineBegins l s
       → Alike (step (model_of l.station)) (step s)
   begins_by step alike l s b =
       let h : Alike (model_of l.station) (settled s) = alike_of l s b.is b.sound in
-      alike (model_of l.station) s (h.0, h.1, b.sound, sym b.deed, sym (ap (texts s.calling s.extended) b.said))
+      alike (model_of l.station) s (h.0, h.1, b.sound, sym b.deed, sym (ap (octets_of_sent_frames s.calling s.extended) b.said))
 
   ran_from : (l : KLine) (a t : Station) → l.out ≡ [] → Alike a t → LineStands (ran l a) t
-  ran_from l a t out h = record { is = h.0; sound = h.2; text = ap (λ (o : List ℕ). o ++ texts a.calling a.extended a.said) out ∙ h.4 }
+  ran_from l a t out h = record { is = h.0; sound = h.2; text = ap (λ (o : List ℕ). o ++ octets_of_sent_frames a.calling a.extended a.said) out ∙ h.4 }
 
   pub starts_stand : (now : ℕ) (l : KLine) (s : Station) → LineBegins l s → LineStands (line_starts now l) (starts now s)
   unfolding line_starts
@@ -156,7 +156,7 @@ module _ (steps : StepsAlike) (modelled : KeptIsModelled) where
       let e : step s ≡ behind s.said s.deed b =
       ap (λ (w : List Frame). step (record s { said = w })) (sym (append-nil s.said)) ∙ framed s.said s.deed (settled s) in
       let o = one (settled s) in
-      let before : l.out ≡ texts b.calling b.extended s.said = h.text ∙ ap₂ (λ (c x : Bool). texts c x s.said) (sym o.0) (sym o.1) in
+      let before : l.out ≡ octets_of_sent_frames b.calling b.extended s.said = h.text ∙ ap₂ (λ (c x : Bool). octets_of_sent_frames c x s.said) (sym o.0) (sym o.1) in
       subst (λ (t : Station). LineStands (ran l a) t) (sym e) (record {
         is = g.0;
         sound = g.2;
@@ -187,7 +187,7 @@ module _ (steps : StepsAlike) (modelled : KeptIsModelled) where
   ]
 
   -- by what is kept
-  abbrev free_at : Kept → Bool
+  abbrev free_at : KeptStation → Bool
   free_at k = length k.ring == k.ahead
 
   free_of : (s : Station) → Sound s → (waiting s == 0) ≡ free_at (kept_of s)
@@ -197,7 +197,7 @@ module _ (steps : StepsAlike) (modelled : KeptIsModelled) where
   pub free_stands : (l : KLine) (s : Station) → LineStands l s → (waiting s == 0) ≡ line_is_free l
   free_stands l s h = free_of s h.sound ∙ ap free_at (sym h.is)
 
-  abbrev may_at : Kept → Bool
+  abbrev may_at : KeptStation → Bool
   may_at k = (is_up k.phase && not k.busy && nat_lt k.ahead k.window && (k.calling || k.begun)) && free_at k
 
   may_of : (s : Station) → Sound s → may_send s ≡ may_at (kept_of s)

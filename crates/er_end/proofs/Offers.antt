@@ -4,18 +4,18 @@ use Rattle.std.specs.Prelude.{is_some}
 use Rattle.std.proofs.lemmas.Bool.{cases_Bool}
 use Rattle.er_end_model.specs.Stacks.{Ops, Stack}
 use Rattle.er_end_model.specs.Steps.{has_next_tpdu, hand_next_tpdu, hand_waiting_tpdus, conclude_event}
-use Rattle.x224_class2.specs.Transport.{Turn, Rest, Opening, Acknowledgement, Data}
-use Rattle.x224_class2.specs.Kept.{Kept, kept_turn, kept_tpdu_at, kept_behind, kept_next_tpdu, kept_after_next}
+use Rattle.x224_class2.specs.Transport.{TpduTurn, Rest, Opening, Acknowledgement, Data}
+use Rattle.x224_class2.specs.Kept.{KeptTransport, kept_turn, kept_tpdu_at, kept_behind, kept_next_tpdu, kept_after_next}
 use Rattle.er_end.specs.KeptLayers.{KCore, kept}
 
 -- a turn without a TPDU changes nothing
-rests : (k : Kept) (t : Turn) → is_some (kept_tpdu_at k t) ≡ false → kept_behind k t ≡ k
+rests : (k : KeptTransport) (t : TpduTurn) → is_some (kept_tpdu_at k t) ≡ false → kept_behind k t ≡ k
 rests k Rest e = refl
 rests k (Opening user) e = absurd cc
 rests k Acknowledgement e = absurd cc
 rests k Data e = absurd cc
 
-pub none_due : (k : Kept) → is_some (kept_next_tpdu k) ≡ false → kept_after_next k ≡ k
+pub none_due : (k : KeptTransport) → is_some (kept_next_tpdu k) ≡ false → kept_after_next k ≡ k
 none_due k e = rests k (kept_turn k) e
 
 -- ---- up to so many times

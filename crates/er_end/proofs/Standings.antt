@@ -11,7 +11,7 @@ use Rattle.er_base.specs.declared.cause.Cause.{Cause}
 use Rattle.er_base.specs.declared.cause.Cause.TheVariants.{LineEnded, LineFailed, LineStalled}
 use Rattle.hdlc_frames.specs.Framing.{Verdict, frames_of}
 use Rattle.hdlc_frames.specs.Deframing as deframing
-use Rattle.hdlc_frames.specs.Laws.{GoesOn}
+use Rattle.hdlc_frames.specs.Laws.{StreamGoesOn}
 use Rattle.hdlc_balanced.specs.Kept as line
 use Rattle.hdlc_balanced.specs.Alike.{KeptIsModelled}
 use Rattle.hdlc_balanced.specs.Alike as stations
@@ -23,9 +23,9 @@ use Rattle.er_end_model.specs.Outcomes.{Outcome}
 use Rattle.er_end_model.specs.Steps.{Finds, new_event_at, step_start, step_frame, on_frame, refusal_at, refusal_of, step_send_unless, step_take, step_release, step_tick, step_break, outcomes_of, if_taken}
 use Rattle.er_end_model.specs.Layers.{Core, model}
 use Rattle.hdlc_station_model.specs.Events.{news}
-use Rattle.er_end_model.specs.Ends.{Call, Answer, Event, Start, Come, Send, Take, Leave, Tick, Ended, Fault, Stalled, End, core_made, hears_each, told_of_each, with_core, led, if_refused, step}
+use Rattle.er_end_model.specs.Ends.{Call, Answer, Event, Start, Come, Send, Take, Leave, Tick, Ended, Fault, Stalled, End, core_made, hears_each, told_of_each, with_core, led, refusal_or_outcomes, step_event}
 use Rattle.er_end.specs.KeptLayers.{KCore, kept}
-use Rattle.er_end.specs.KeptEnds.{KEnd, deadline_of, kept_core_made, kept_opened, after_start, after_octets, after_send, after_take, after_release, after_tick, after_break, refusal, used_of, found_comes, happens, tells, told_by}
+use Rattle.er_end.specs.KeptEnds.{KEnd, deadline_of, kept_core_made, kept_opened, after_start, after_octets, after_send, after_take, after_release, after_tick, after_break, refusal_of_send, used_of, found_comes, kept_end_behind_event, tells, told_by}
 use Rattle.er_end.specs.KeptEnds as keeping
 use Rattle.er_end.specs.Standing.{LineStands, UpperStands, CoreStands, EndStands, MadeStands, event_of, StepsAlike, ShowsAlike, RunsAlike}
 use Rattle.er_end.proofs.Tying.{Alike, tied_begins_at, tied_starts, tied_comes, tied_sends, tied_uses, tied_leaves, tied_ticks, tied_breaks, same_outcomes, same_refusal, same_deadline}
@@ -34,7 +34,7 @@ use Rattle.er_end.proofs.Uppers.{UpperBegins, UpperCalled, UpperBrought, speaks_
 
 -- what the lower crates say
 pub record Lower : Type 0 where
-  pub steps : stations.StepsAlike
+  pub steps : stations.KeepsStationsAlike
   pub modelled : KeptIsModelled
   pub made : transport.MadeStands
   pub connect : ConnectStands
@@ -45,7 +45,7 @@ pub record Lower : Type 0 where
   pub next_one : NextStands
   pub counts : CountsStand
   pub few : SendsFew
-  pub goes_on : GoesOn
+  pub goes_on : StreamGoesOn
 
 module _ (w : Lower) where
   alike : Alike kept model LineStands LineBegins UpperStands UpperBegins UpperCalled UpperBrought
@@ -62,8 +62,8 @@ module _ (w : Lower) where
     closes = closes_stand w.steps w.modelled;
     is_free = free_stands w.steps w.modelled;
     may_send = may_send_stands w.steps w.modelled;
-    expiry = λ l s h. ap (λ (k : line.Kept). k.timer) (sym h.is);
-    counts = λ l s h. ap (λ (k : line.Kept). k.counts) (sym h.is);
+    expiry = λ l s h. ap (λ (k : line.KeptStation). k.timer) (sym h.is);
+    counts = λ l s h. ap (λ (k : line.KeptStation). k.counts) (sym h.is);
     written = λ l s h. sym h.text;
     opened = opened_stand;
     upper = λ u v b. b.stands;
@@ -223,7 +223,7 @@ module _ (w : Lower) where
 
   abbrev Goes : ℕ → Event → KEnd → End → Type 0
   Goes now event k m =
-      EndStands (happens now event k) (step now (event_of k event) m).0 × (tells now event k ≡ (step now (event_of k event) m).1)
+      EndStands (kept_end_behind_event now event k) (step_event now (event_of k event) m).0 × (tells now event k ≡ (step_event now (event_of k event) m).1)
 
   octets_at_rest : (finds : Finds) (now : ℕ) (piece : List ℕ) (k : KEnd) (m : End) → EndStands k m → is_some k.core.released ≡ true → Goes now (Come finds piece) k m
   unfolding after_octets used_of
@@ -276,14 +276,14 @@ module _ (w : Lower) where
         (tied_starts kept model LineStands LineBegins UpperStands UpperBegins UpperCalled UpperBrought alike w.few now k.core m.core h.core)
 
     goes_send : (user : List ℕ) → Goes now (Send user) k m
-    unfolding after_send refusal
+    unfolding after_send refusal_of_send
     goes_send user =
         let r : refusal_of model user m.core ≡ refusal_of kept user k.core =
         same_refusal kept model LineStands LineBegins UpperStands UpperBegins UpperCalled UpperBrought alike w.few user k.core m.core h.core in
         let x : KCore = step_send_unless kept (refusal_of kept user k.core) now user k.core in
         let g = goes (sends_of now user) x (sends_stays now user)
         (tied_sends kept model LineStands LineBegins UpperStands UpperBegins UpperCalled UpperBrought alike w.few now user k.core m.core h.core) in
-        (g.0, ap₂ if_refused (sym r) g.1)
+        (g.0, ap₂ refusal_or_outcomes (sym r) g.1)
 
     goes_take : Goes now Take k m
     unfolding after_take
@@ -331,12 +331,12 @@ module _ (w : Lower) where
     sym (released_is k.core m.core h.core),
     sym (untaken_stands k.core.upper m.core.upper h.core.upper),
     sym (ap (λ (y : Core). y.safe) h.core.same),
-    ap (λ (k : line.Kept). k.counts) h.core.line.is,
+    ap (λ (k : line.KeptStation). k.counts) h.core.line.is,
   )
 
   pub runs_alike : RunsAlike
   runs_alike [] k m h = (h, refl)
   runs_alike (e ∷ events) k m h =
       let s = steps_alike e.now e.event k m h in
-      let r = runs_alike events (happens e.now e.event k) (step e.now (event_of k e.event) m).0 s.0 in
+      let r = runs_alike events (kept_end_behind_event e.now e.event k) (step_event e.now (event_of k e.event) m).0 s.0 in
       (r.0, ap₂ (λ (a b : List Outcome). a ++ b) s.1 r.1)

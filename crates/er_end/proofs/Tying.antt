@@ -1,5 +1,6 @@
 -- Layers that do alike keep stacks tied: each step of an end, over both.
 use Rattle.std.proofs.Common.{◌≡◌, ◌<◌, ◌≤◌, ◌∙◌, ℕ, zero, suc, Bool, true, false, ◌&&◌, List, [], ◌∷◌, ◌++◌, length, Option, Some, None, refl, sym, ap, ap₂, subst, arith}
+use Rattle.hdlc_station_model.specs.Receiving.{is_some_octets}
 use Rattle.std.specs.Prelude.{is_some, if◌then◌else◌, ◌==◌, Ok, Err}
 use Rattle.er_base.specs.declared.release.Release.{Release}
 use Rattle.er_base.specs.declared.cause.Cause.{Cause}
@@ -7,20 +8,20 @@ use Rattle.hdlc_frames.specs.Framing.{Verdict}
 use Rattle.hdlc_station_model.specs.Stations.{Deed as LinkDeed}
 use Rattle.t70_header.specs.Blocks.{last_block}
 use Rattle.t70_header.specs.Joining as joining
-use Rattle.x224_class2.specs.Tpdus.{Given, Dr, Dc, octets_given}
-use Rattle.x224_class2.specs.Transport.{Deed, Nothing, Called, Confirmed, Message, Disconnected}
+use Rattle.x224_class2.specs.Tpdus.{GivenTpdu, Dr, Dc, octets_given}
+use Rattle.x224_class2.specs.Transport.{ReceptionDeed, Nothing, Called, Confirmed, Message, Disconnected}
 use Rattle.x224_class2.specs.Transport as transport
 use Rattle.safety_automaton.specs.Keys.{no_keys}
 use Rattle.safety_automaton.specs.Laws.{SendsFew}
 use Rattle.safety_automaton.specs.Reports.{Report, ToldAnswered, ToldConnected, ToldAccepted, ToldReleased, ToldIgnored, report_of}
-use Rattle.safety_automaton.specs.Safety.{Safety, SafetyEvent, ConnectRequest, Received, DataRequest, DisconnectRequest, SafetyOutcome, sent_by, step}
+use Rattle.safety_automaton.specs.Safety.{Safety, SafetyEvent, ConnectRequest, Received, DataRequest, DisconnectRequest, SafetyOutcome, octets_sent_in_outcome, step}
 use Rattle.er_end_model.specs.Outcomes.{SendRefusal}
 use Rattle.er_end_model.specs.Stacks.{Ops, Stack}
-use Rattle.er_end_model.specs.Steps.{Finds, new_event, new_event_at, with_release, hand_tpdu, hand_tpdu_if_may, close_link, send_owed_answer, send_dr, answer_dr, end_after_di, on_safety_release, normal_disconnect, with_safety_step, is_some_octets, hand_text, accept_text, skip_message, Carrier, InCr, InCc, InDt, hand_answer, keep_message, on_safety_report, on_text, on_transport_deed, on_tpdu, on_joined_block, on_block, is_ready, connect_with_text, on_link_up, on_link_told, on_link_deed, hand_next_tpdu, has_next_tpdu, hand_waiting_tpdus, most_offers, conclude_event, step_start, step_frame, is_connected, refusal_at, refusal_of, on_send, step_send_unless, step_take, on_release, step_release, is_spent, on_expiry, step_tick, step_break, first_of, deadline, if_connected, if_accepted, if_released, if_octets, outcomes_of}
+use Rattle.er_end_model.specs.Steps.{Finds, new_event, new_event_at, with_release, hand_tpdu, hand_tpdu_if_may, close_link, send_owed_answer, send_dr, answer_dr, end_after_di, on_safety_release, normal_disconnect, with_safety_step, hand_text, accept_text, skip_message, Carrier, InCr, InCc, InDt, hand_answer, keep_message, on_safety_report, on_text, on_transport_deed, on_tpdu, on_joined_block, on_block, is_ready, connect_with_text, on_link_up, on_link_told, on_link_deed, hand_next_tpdu, has_next_tpdu, hand_waiting_tpdus, most_offers, conclude_event, step_start, step_frame, is_connected, refusal_at, refusal_of, on_send, step_send_unless, step_take, on_release, step_release, is_spent, on_expiry, step_tick, step_break, earlier_of_moments, deadline, if_connected, if_accepted, if_released, if_octets, outcomes_of}
 use Rattle.er_end.specs.Standing.{over, Tied}
 
 -- what a reception leaves, by its deed: a call that is to be accepted, a message that is to be kept or skipped, or neither
-abbrev pub Behind : {U U' : Type 0} → (Q C M : U → U' → Type 0) → Deed → U → U' → Type 0
+abbrev pub Behind : {U U' : Type 0} → (Q C M : U → U' → Type 0) → ReceptionDeed → U → U' → Type 0
 Behind Q C M Nothing u v = Q u v
 Behind Q C M (Called user) u v = C u v
 Behind Q C M (Confirmed user) u v = Q u v
@@ -62,7 +63,7 @@ pub record Alike {S U S' U' : Type 0} (o : Ops S U) (p : Ops S' U') (R RB : S �
   pub has_next : (u : U) (v : U') → Q u v → p.has_next v ≡ o.has_next u
   pub next : (u : U) (v : U') → Q u v → p.next v ≡ o.next u
   pub after_next : (u : U) (v : U') → Q u v → Q (o.after_next u) (p.after_next v)
-  pub gives : (t : Given) (u : U) (v : U') → Q u v → Q (o.gives u t) (p.gives v t)
+  pub gives : (t : GivenTpdu) (u : U) (v : U') → Q u v → Q (o.gives u t) (p.gives v t)
   pub speaks : (e : SafetyEvent) (a : SafetyOutcome) (u : U) (v : U') → Q u v → Q (o.speaks u e a) (p.speaks v e a)
   pub speaks_called : (e : SafetyEvent) (a : SafetyOutcome) (u : U) (v : U') → C u v → C (o.speaks u e a) (p.speaks v e a)
   pub speaks_brought : (e : SafetyEvent) (a : SafetyOutcome) (u : U) (v : U') → M u v → M (o.speaks u e a) (p.speaks v e a)
@@ -123,12 +124,12 @@ module _ {S U S' U' : Type 0} (o : Ops S U) (p : Ops S' U') (R RB : S → S' →
   tied_ends : (why : Release) (x : Stack S U) (y : Stack S' U') → T x y → T (with_release why x) (with_release why y)
   tied_ends why x y t = keeps_tied R R Q Q x (with_release why x) y (with_release why) (λ s u r q. record { line = r; upper = q; same = refl }) t
 
-  tied_gives : (g : Given) (x : Stack S U) (y : Stack S' U') → T x y → T (hand_tpdu o g x) (hand_tpdu p g y)
+  tied_gives : (g : GivenTpdu) (x : Stack S U) (y : Stack S' U') → T x y → T (hand_tpdu o g x) (hand_tpdu p g y)
   tied_gives g x y t =
       keeps_tied R R Q Q x (hand_tpdu o g x) y (hand_tpdu p g)
       (λ s u r q. record { line = a.hands x.moment (last_block (octets_given g)) x.line s r; upper = a.gives g x.upper u q; same = refl }) t
 
-  tied_gives_if : (g : Given) (x : Stack S U) (y : Stack S' U') → T x y → T (hand_tpdu_if_may o g x) (hand_tpdu_if_may p g y)
+  tied_gives_if : (g : GivenTpdu) (x : Stack S U) (y : Stack S' U') → T x y → T (hand_tpdu_if_may o g x) (hand_tpdu_if_may p g y)
   tied_gives_if g x y t =
       tied_if R Q (o.may_send x.line) (p.may_send y.line) (hand_tpdu o g x) x (hand_tpdu p g y) y (a.may_send x.line y.line t.line) (λ e. tied_gives g x y t) (λ e. t)
 
@@ -140,7 +141,7 @@ module _ {S U S' U' : Type 0} (o : Ops S U) (p : Ops S' U') (R RB : S → S' →
 
   tied_departs : (why : Release) (reason : ℕ) (user : List ℕ) (x : Stack S U) (y : Stack S' U') → T x y → T (send_dr o why reason user x) (send_dr p why reason user y)
   tied_departs why reason user x y t =
-      let g : Given = Dr reason user in
+      let g : GivenTpdu = Dr reason user in
       tied_ends why (close_link o (hand_tpdu_if_may o g x)) (close_link p (hand_tpdu_if_may p g y))
       (tied_shuts (hand_tpdu_if_may o g x) (hand_tpdu_if_may p g y) (tied_gives_if g x y t))
 
@@ -222,13 +223,13 @@ module _ {S U S' U' : Type 0} (o : Ops S U) (p : Ops S' U') (R RB : S → S' →
       keeps_tied R R (Brings by) Q x (on_text o finds by text x) y (on_text p finds by text)
       (λ s u r b.
       let n : Safety × SafetyOutcome = step (finds x.moment) x.safe.safety (Received text) in
-      let l : length (sent_by n.1) ≤ 21 = few (finds x.moment) x.safe.safety (Received text) in
-      tied_acts by (report_of n.1) (sent_by n.1) (with_safety_step o (Received text) n x) (with_safety_step p (Received text) n (over x s u)) (omega arith)
+      let l : length (octets_sent_in_outcome n.1) ≤ 21 = few (finds x.moment) x.safe.safety (Received text) in
+      tied_acts by (report_of n.1) (octets_sent_in_outcome n.1) (with_safety_step o (Received text) n x) (with_safety_step p (Received text) n (over x s u)) (omega arith)
       (record { line = r; upper = speaks_brings by (Received text) n.1 x.upper u b; same = refl })) t
 
   -- ---- the transport, the blocks
 
-  tied_does : (finds : Finds) (d : Deed) (x : Stack S U) (y : Stack S' U') → Tied R (Behind Q C M d) x y → T (on_transport_deed o finds d x) (on_transport_deed p finds d y)
+  tied_does : (finds : Finds) (d : ReceptionDeed) (x : Stack S U) (y : Stack S' U') → Tied R (Behind Q C M d) x y → T (on_transport_deed o finds d x) (on_transport_deed p finds d y)
   tied_does finds Nothing x y t = record { line = t.line; upper = t.upper; same = t.same }
   tied_does finds (Called user) x y t = tied_text finds InCr user x y (record { line = t.line; upper = t.upper; same = t.same })
   tied_does finds (Confirmed user) x y t = tied_text finds InCc user x y (record { line = t.line; upper = t.upper; same = t.same })
@@ -244,10 +245,10 @@ module _ {S U S' U' : Type 0} (o : Ops S U) (p : Ops S' U') (R RB : S → S' →
       (λ s u r q.
       let x' : Stack S U = record x { upper = o.hears x.upper tpdu } in
       let y' : Stack S' U' = over x s (p.hears u tpdu) in
-      subst (λ (d : Deed). T (on_tpdu o finds tpdu x) (on_transport_deed p finds d y')) (sym (a.deed tpdu x.upper u q))
+      subst (λ (d : ReceptionDeed). T (on_tpdu o finds tpdu x) (on_transport_deed p finds d y')) (sym (a.deed tpdu x.upper u q))
       (tied_does finds (o.deed x.upper tpdu) x' y' (record { line = r; upper = a.hears tpdu x.upper u q; same = refl }))) t
 
-  tied_block_at : (finds : Finds) (answer : joining.Answer) (x : Stack S U) (y : Stack S' U') → T x y → T (on_joined_block o finds answer x) (on_joined_block p finds answer y)
+  tied_block_at : (finds : Finds) (answer : joining.BlockJoiningResult) (x : Stack S U) (y : Stack S' U') → T x y → T (on_joined_block o finds answer x) (on_joined_block p finds answer y)
   tied_block_at finds (Ok None) x y t = t
   tied_block_at finds (Ok (Some tpdu)) x y t = tied_tpdu finds tpdu x y t
   tied_block_at finds (Err fault) x y t = tied_departs _ _ [] x y t
@@ -256,7 +257,7 @@ module _ {S U S' U' : Type 0} (o : Ops S U) (p : Ops S' U') (R RB : S → S' →
   tied_block finds block x y t =
       keeps_tied R R Q Q x (on_block o finds block x) y (on_block p finds block)
       (λ s u r q.
-      let j = joining.step x.joined block in
+      let j = joining.block_step x.joined block in
       tied_block_at finds j.1 (record x { joined = j.0 }) (record (over x s u) { joined = j.0 }) (record { line = r; upper = q; same = refl })) t
 
   -- ---- the station
@@ -266,15 +267,15 @@ module _ {S U S' U' : Type 0} (o : Ops S U) (p : Ops S' U') (R RB : S → S' →
       keeps_tied R R Q Q x (on_link_up o x) y (on_link_up p)
       (λ s u r q.
       let n : Safety × SafetyOutcome = step no_keys x.safe.safety ConnectRequest in
-      let l : length (sent_by n.1) ≤ 13 = few no_keys x.safe.safety ConnectRequest in
+      let l : length (octets_sent_in_outcome n.1) ≤ 13 = few no_keys x.safe.safety ConnectRequest in
       let z : Stack S U = with_safety_step o ConnectRequest n x in
       let w : Stack S' U' = with_safety_step p ConnectRequest n (over x s u) in
       tied_if R Q (o.may_connect x.upper && is_ready x.safe.safety.phase) (p.may_connect u && is_ready x.safe.safety.phase)
-      (connect_with_text o (sent_by n.1) z) x (connect_with_text p (sent_by n.1) w) (over x s u)
+      (connect_with_text o (octets_sent_in_outcome n.1) z) x (connect_with_text p (octets_sent_in_outcome n.1) w) (over x s u)
       (ap (λ (b : Bool). b && is_ready x.safe.safety.phase) (a.may_connect x.upper u q))
-      (λ e. tied_if R Q (is_some_octets (sent_by n.1)) (is_some_octets (sent_by n.1))
-      (record z { upper = o.connects z.upper (sent_by n.1) }) z (record w { upper = p.connects w.upper (sent_by n.1) }) w refl
-      (λ f. record { line = r; upper = a.connects (sent_by n.1) ConnectRequest n.1 x.upper u q (and_left (o.may_connect x.upper) (is_ready x.safe.safety.phase) e) (omega arith); same = refl })
+      (λ e. tied_if R Q (is_some_octets (octets_sent_in_outcome n.1)) (is_some_octets (octets_sent_in_outcome n.1))
+      (record z { upper = o.connects z.upper (octets_sent_in_outcome n.1) }) z (record w { upper = p.connects w.upper (octets_sent_in_outcome n.1) }) w refl
+      (λ f. record { line = r; upper = a.connects (octets_sent_in_outcome n.1) ConnectRequest n.1 x.upper u q (and_left (o.may_connect x.upper) (is_ready x.safe.safety.phase) e) (omega arith); same = refl })
       (λ f. record { line = r; upper = a.speaks ConnectRequest n.1 x.upper u q; same = refl }))
       (λ e. record { line = r; upper = q; same = refl })) t
 
@@ -369,7 +370,7 @@ module _ {S U S' U' : Type 0} (o : Ops S U) (p : Ops S' U') (R RB : S → S' →
       let z : Stack S U = record x' { upper = o.sends x'.upper user } in
       let w : Stack S' U' = record y' { upper = p.sends y'.upper user } in
       let h : T z w = record { line = a.line x.line s r; upper = a.sends user x'.upper y'.upper (a.speaks (DataRequest user) n.1 x.upper u (a.upper x.upper u q)); same = refl } in
-      tied_concludes (hand_text o (sent_by n.1) z) (hand_text p (sent_by n.1) w) (tied_says (sent_by n.1) z w h)) t
+      tied_concludes (hand_text o (octets_sent_in_outcome n.1) z) (hand_text p (octets_sent_in_outcome n.1) w) (tied_says (octets_sent_in_outcome n.1) z w h)) t
 
   tied_unless_refused : (refusal : Option SendRefusal) (now : ℕ) (user : List ℕ) (x : Stack S U) (y : Stack S' U') → T x y → T (step_send_unless o refusal now user x) (step_send_unless p refusal now user y)
   tied_unless_refused (Some refusal) now user x y t = t
@@ -398,10 +399,10 @@ module _ {S U S' U' : Type 0} (o : Ops S U) (p : Ops S' U') (R RB : S → S' →
       keeps_tied RB R B Q x (on_release o sub x) y (on_release p sub)
       (λ s u r q.
       let n : Safety × SafetyOutcome = step no_keys x.safe.safety (DisconnectRequest sub) in
-      tied_if R Q (is_some x.released) (is_some x.released) x (send_dr o _ normal_disconnect (sent_by n.1) (with_safety_step o (DisconnectRequest sub) n x)) (over x s u)
-      (send_dr p _ normal_disconnect (sent_by n.1) (with_safety_step p (DisconnectRequest sub) n (over x s u))) refl
+      tied_if R Q (is_some x.released) (is_some x.released) x (send_dr o _ normal_disconnect (octets_sent_in_outcome n.1) (with_safety_step o (DisconnectRequest sub) n x)) (over x s u)
+      (send_dr p _ normal_disconnect (octets_sent_in_outcome n.1) (with_safety_step p (DisconnectRequest sub) n (over x s u))) refl
       (λ e. record { line = a.line x.line s r; upper = a.upper x.upper u q; same = refl })
-      (λ e. tied_departs _ normal_disconnect (sent_by n.1) (with_safety_step o (DisconnectRequest sub) n x) (with_safety_step p (DisconnectRequest sub) n (over x s u))
+      (λ e. tied_departs _ normal_disconnect (octets_sent_in_outcome n.1) (with_safety_step o (DisconnectRequest sub) n x) (with_safety_step p (DisconnectRequest sub) n (over x s u))
       (record { line = a.line x.line s r; upper = a.speaks (DisconnectRequest sub) n.1 x.upper u (a.upper x.upper u q); same = refl }))) t
 
   pub tied_leaves : (now sub : ℕ) (x : Stack S U) (y : Stack S' U') → T x y → T (step_release o now sub x) (step_release p now sub y)
@@ -453,5 +454,5 @@ module _ {S U S' U' : Type 0} (o : Ops S U) (p : Ops S' U') (R RB : S → S' →
   pub same_deadline : (x : Stack S U) (y : Stack S' U') → T x y → deadline p y ≡ deadline o x
   same_deadline x y t =
       let at : (s : S') (u : U') → R x.line s → deadline p (over x s u) ≡ deadline o x =
-      λ s u r. ap (λ (e : Option ℕ). if is_some x.released then None else first_of e (if is_connected x.safe.safety.phase then None else Some x.limit)) (a.expiry x.line s r) in
+      λ s u r. ap (λ (e : Option ℕ). if is_some x.released then None else earlier_of_moments e (if is_connected x.safe.safety.phase then None else Some x.limit)) (a.expiry x.line s r) in
       ap (λ (w : Stack S' U'). deadline p w) t.same ∙ at y.line y.upper t.line

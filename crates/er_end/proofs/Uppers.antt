@@ -4,14 +4,14 @@ use Rattle.std.specs.Prelude.{nat_lt, nat_le, if◌then◌else◌, ◌==◌, sli
 use Rattle.std.proofs.lemmas.Bool.{cases_Bool}
 use Rattle.std.proofs.lemmas.List.{drop-append-le}
 use Rattle.x224_tpdu.specs.declared.fault.TpFault.{TpFault}
-use Rattle.x224_tpdu.specs.Spelling.{Pdu, connection_request, connection_confirm, disconnect_request, disconnect_confirm, data_tpdu, acknowledgement, tpdu_error}
+use Rattle.x224_tpdu.specs.Spelling.{TransportPdu, connection_request, connection_confirm, disconnect_request, disconnect_confirm, data_tpdu, acknowledgement, tpdu_error}
 use Rattle.x224_tpdu.specs.Function.{reading}
 use Rattle.x224_class2.specs.Refusals.{protocol_error, tpdu_refused, message_too_long}
-use Rattle.x224_class2.specs.Tpdus.{Given}
-use Rattle.x224_class2.specs.Transport.{Transport, Deed, Nothing, Called, Confirmed, Message, Disconnected, is_new, is_called, is_open, is_over, Turn, Rest, Opening, Acknowledgement, Data, reception, untaken_count, waiting_count, next_tpdu, after_next, with_given, after_connect, after_accept, after_hand, after_taken}
+use Rattle.x224_class2.specs.Tpdus.{GivenTpdu}
+use Rattle.x224_class2.specs.Transport.{Transport, ReceptionDeed, Nothing, Called, Confirmed, Message, Disconnected, is_new, is_called, is_open, is_over, TpduTurn, Rest, Opening, Acknowledgement, Data, reception, untaken_count, waiting_count, next_tpdu, after_next, with_given, after_connect, after_accept, after_hand, after_taken}
 use Rattle.x224_class2.specs.Transport as transport
-use Rattle.x224_class2.specs.Kept.{Kept, kept_over, may_be_called, kept_called, may_be_confirmed, kept_confirmed, may_be_disconnected, kept_is_expected, kept_with_data, may_acknowledge, kept_acknowledged, kept_refusal, kept_on_reading, kept_reception, kept_turn, kept_behind, kept_after_next, octets_next, kept_after_connect, kept_after_accept, kept_after_hand, kept_after_taken, distance}
-use Rattle.x224_class2.specs.Standing.{Stands, ConnectStands, AcceptStands, HandStands, TakenStands, ReceptionStands, NextStands, CountsStand}
+use Rattle.x224_class2.specs.Kept.{KeptTransport, kept_over, may_be_called, kept_called, may_be_confirmed, kept_confirmed, may_be_disconnected, kept_is_expected, kept_with_data, may_acknowledge, kept_acknowledged, kept_refusal, kept_on_reading, kept_reception, kept_turn, kept_behind, kept_after_next, octets_next, kept_after_connect, kept_after_accept, kept_after_hand, kept_after_taken, distance}
+use Rattle.x224_class2.specs.Standing.{StandsForTransport, ConnectStands, AcceptStands, HandStands, TakenStands, ReceptionStands, NextStands, CountsStand}
 use Rattle.safety_automaton.specs.Safety.{SafetyEvent, SafetyOutcome}
 use Rattle.er_end_model.specs.Layers.{Upper, octets_due, model}
 use Rattle.er_end.specs.Inboxes.{KInbox, kept_fewer, newest_of}
@@ -62,7 +62,7 @@ get_drop (suc n) (x ∷ xs) = get_drop n xs
 
 -- ---- what a reception does to the messages that wait to be taken
 
-abbrev Lasts : Kept → Kept → Deed → Type 0
+abbrev Lasts : KeptTransport → KeptTransport → ReceptionDeed → Type 0
 Lasts k n Nothing = n.lasts ≡ k.lasts
 Lasts k n (Called user) = (n.lasts ≡ k.lasts) × (is_called n.stage ≡ true)
 Lasts k n (Confirmed user) = n.lasts ≡ k.lasts
@@ -70,7 +70,7 @@ Lasts k n (Message octets) = (length n.lasts ≡ length k.lasts + 1) × (length 
 Lasts k n (Disconnected user) = n.lasts ≡ k.lasts
 Lasts k n (transport.Refused sub reason) = n.lasts ≡ k.lasts
 
-lasts_if : (k : Kept) (b : Bool) (x y : Kept × Deed) → (b ≡ true → Lasts k x.0 x.1) → (b ≡ false → Lasts k y.0 y.1) → Lasts k (if b then x else y).0 (if b then x else y).1
+lasts_if : (k : KeptTransport) (b : Bool) (x y : KeptTransport × ReceptionDeed) → (b ≡ true → Lasts k x.0 x.1) → (b ≡ false → Lasts k y.0 y.1) → Lasts k (if b then x else y).0 (if b then x else y).1
 lasts_if k true x y h g = h refl
 lasts_if k false x y h g = g refl
 
@@ -78,16 +78,16 @@ not_false : (b : Bool) → not b ≡ false → b ≡ true
 not_false true e = refl
 not_false false e = absurd cc
 
-few_before : (k : Kept) (dst number : ℕ) (user : List ℕ) → kept_is_expected k dst number user ≡ true → length k.lasts < 15
+few_before : (k : KeptTransport) (dst number : ℕ) (user : List ℕ) → kept_is_expected k dst number user ≡ true → length k.lasts < 15
 few_before k dst number user e =
     ltb-true (length k.lasts) 15 (right_of (is_open k.stage && (dst == 1) && (number == k.received) && nat_lt (distance k.newest k.received) k.credit) (nat_lt (length k.lasts) 15)
     (left_of (is_open k.stage && (dst == 1) && (number == k.received) && nat_lt (distance k.newest k.received) k.credit && nat_lt (length k.lasts) 15) (nat_le (length user) (k.size - 5)) e))
 
-data_lasts : (k : Kept) (last : Bool) (user : List ℕ) → length k.lasts < 15 → Lasts k (kept_with_data k last user) (if last then Message (k.text ++ user) else Nothing)
+data_lasts : (k : KeptTransport) (last : Bool) (user : List ℕ) → length k.lasts < 15 → Lasts k (kept_with_data k last user) (if last then Message (k.text ++ user) else Nothing)
 data_lasts k true user l = let e = length-append k.lasts (k.received ∷ []) in (omega arith, omega arith)
 data_lasts k false user l = refl
 
-reading_lasts : (k : Kept) (answer : Result Pdu TpFault) → Lasts k (kept_on_reading k answer).0 (kept_on_reading k answer).1
+reading_lasts : (k : KeptTransport) (answer : Result TransportPdu TpFault) → Lasts k (kept_on_reading k answer).0 (kept_on_reading k answer).1
 reading_lasts k (Ok (connection_request credit dst src size user)) =
     lasts_if k (may_be_called k dst src) (kept_called k credit size, Called user) (kept_refusal k tpdu_refused protocol_error) (λ e. (refl, refl)) (λ e. refl)
 reading_lasts k (Ok (connection_confirm credit dst src size user)) =
@@ -96,8 +96,8 @@ reading_lasts k (Ok (disconnect_request dst src reason user)) =
     lasts_if k (may_be_disconnected k dst src) (kept_over k, Disconnected user) (kept_refusal k tpdu_refused protocol_error) (λ e. refl) (λ e. refl)
 reading_lasts k (Ok (disconnect_confirm dst src)) = refl
 reading_lasts k (Ok (data_tpdu dst last number user)) =
-    let whole : Kept × Deed = (kept_with_data k last user, if last then Message (k.text ++ user) else Nothing) in
-    let short : Kept × Deed = if nat_lt 1032 (length (k.text ++ user)) then kept_refusal k message_too_long protocol_error else whole in
+    let whole : KeptTransport × ReceptionDeed = (kept_with_data k last user, if last then Message (k.text ++ user) else Nothing) in
+    let short : KeptTransport × ReceptionDeed = if nat_lt 1032 (length (k.text ++ user)) then kept_refusal k message_too_long protocol_error else whole in
     lasts_if k (not (kept_is_expected k dst number user)) (kept_refusal k tpdu_refused protocol_error) short (λ e. refl)
     (λ e. lasts_if k (nat_lt 1032 (length (k.text ++ user))) (kept_refusal k message_too_long protocol_error) whole (λ f. refl)
     (λ f. data_lasts k last user (few_before k dst number user (not_false (kept_is_expected k dst number user) e))))
@@ -106,23 +106,23 @@ reading_lasts k (Ok (acknowledgement credit dst number)) =
 reading_lasts k (Ok (tpdu_error dst cause)) = refl
 reading_lasts k (Err fault) = refl
 
-reception_lasts : (k : Kept) (octets : List ℕ) → Lasts k (kept_reception k octets).0 (kept_reception k octets).1
+reception_lasts : (k : KeptTransport) (octets : List ℕ) → Lasts k (kept_reception k octets).0 (kept_reception k octets).1
 reception_lasts k octets = lasts_if k (is_over k.stage) (k, Nothing) (kept_on_reading k (reading octets)) (λ e. refl) (λ e. reading_lasts k (reading octets))
 
-behind_lasts : (k : Kept) (t : Turn) → (kept_behind k t).lasts ≡ k.lasts
+behind_lasts : (k : KeptTransport) (t : TpduTurn) → (kept_behind k t).lasts ≡ k.lasts
 behind_lasts k Rest = refl
 behind_lasts k (Opening user) = refl
 behind_lasts k Acknowledgement = refl
 behind_lasts k Data = refl
 
-due_is : (g : Option Given) → octets_due g ≡ octets_next g
+due_is : (g : Option GivenTpdu) → octets_due g ≡ octets_next g
 due_is None = refl
 due_is (Some g) = refl
 
 -- ---- the other fields stay
 
 -- another transport with as many messages that wait to be taken
-with_transport : (u : KUpper) (v : Upper) (k : Kept) (t : Transport) → UpperStands u v → Stands k t → k.lasts ≡ u.transport.lasts
+with_transport : (u : KUpper) (v : Upper) (k : KeptTransport) (t : Transport) → UpperStands u v → StandsForTransport k t → k.lasts ≡ u.transport.lasts
     → UpperStands (record u { transport = k }) (record v { transport = t })
 with_transport u v k t h s e = record {
   transport = s;
@@ -145,7 +145,7 @@ opened_stand u v h = record {
   none = refl;
 }
 
-pub gives_stand : (g : Given) (u : KUpper) (v : Upper) → UpperStands u v → UpperStands (kept.gives u g) (model.gives v g)
+pub gives_stand : (g : GivenTpdu) (u : KUpper) (v : Upper) → UpperStands u v → UpperStands (kept.gives u g) (model.gives v g)
 gives_stand g u v h =
     let s = h.transport.sound in
     with_transport u v u.transport (with_given v.transport (Some g)) h (record {
@@ -167,7 +167,7 @@ gives_stand g u v h =
     }) refl
 
 pub may_connect_stands : (u : KUpper) (v : Upper) → UpperStands u v → model.may_connect v ≡ kept.may_connect u
-may_connect_stands u v h = ap (λ (k : Kept). k.is_caller && is_new k.stage) (sym h.transport.is)
+may_connect_stands u v h = ap (λ (k : KeptTransport). k.is_caller && is_new k.stage) (sym h.transport.is)
 
 pub untaken_stands : (u : KUpper) (v : Upper) → UpperStands u v → model.untaken v ≡ kept.untaken u
 untaken_stands u v h = sym (ap (λ (l : List (List ℕ)). length l) h.waits ∙ length-drop v.used v.accepted)
@@ -204,7 +204,7 @@ module _ (connect : ConnectStands) (accept : AcceptStands) (hand : HandStands) (
   pub connects_stand : (text : List ℕ) (e : SafetyEvent) (n : SafetyOutcome) (u : KUpper) (v : Upper) → UpperStands u v → kept.may_connect u ≡ true → length text ≤ 32
       → UpperStands (kept.connects (kept.speaks u e n) text) (model.connects (model.speaks v e n) text)
   connects_stand text e n u v h may l =
-      let new : is_new v.transport.stage ≡ true = ap (λ (k : Kept). is_new k.stage) (sym h.transport.is) ∙ right_of u.transport.is_caller (is_new u.transport.stage) may in
+      let new : is_new v.transport.stage ≡ true = ap (λ (k : KeptTransport). is_new k.stage) (sym h.transport.is) ∙ right_of u.transport.is_caller (is_new u.transport.stage) may in
       with_transport u (model.speaks v e n) (kept_after_connect u.transport text) (after_connect v.transport text) (speaks_stand e n u v h) (connect u.transport v.transport text h.transport new l) refl
 
   pub accepts_stand : (text : List ℕ) (u : KUpper) (v : Upper) → UpperCalled u v → length text ≤ 32 → UpperStands (kept.accepts u text) (model.accepts v text)
@@ -216,12 +216,12 @@ module _ (connect : ConnectStands) (accept : AcceptStands) (hand : HandStands) (
 
   pub may_hand_stands : (u : KUpper) (v : Upper) → UpperStands u v → model.may_hand v ≡ kept.may_hand u
   may_hand_stands u v h =
-      ap₂ (λ (b : Bool) (n : ℕ). b && nat_lt n 16) (ap (λ (k : Kept). is_open k.stage) (sym h.transport.is)) (waiting_stands u v h)
+      ap₂ (λ (b : Bool) (n : ℕ). b && nat_lt n 16) (ap (λ (k : KeptTransport). is_open k.stage) (sym h.transport.is)) (waiting_stands u v h)
 
   pub hands_message_stand : (text : List ℕ) (u : KUpper) (v : Upper) → UpperStands u v → kept.may_hand u ≡ true → 0 < length text
       → UpperStands (kept.hands_message u text) (model.hands_message v text)
   hands_message_stand text u v h may l =
-      let opens : is_open v.transport.stage ≡ true = ap (λ (k : Kept). is_open k.stage) (sym h.transport.is) ∙ left_of (is_open u.transport.stage) (nat_lt (length u.transport.waiting) 16) may in
+      let opens : is_open v.transport.stage ≡ true = ap (λ (k : KeptTransport). is_open k.stage) (sym h.transport.is) ∙ left_of (is_open u.transport.stage) (nat_lt (length u.transport.waiting) 16) may in
       with_transport u v (kept_after_hand u.transport text) (after_hand v.transport text) h (hand u.transport v.transport text h.transport opens l) refl
 
   pub has_next_stands : (u : KUpper) (v : Upper) → UpperStands u v → model.has_next v ≡ kept.has_next u
@@ -237,7 +237,7 @@ module _ (connect : ConnectStands) (accept : AcceptStands) (hand : HandStands) (
   after_next_stands u v h =
       with_transport u v (kept_after_next u.transport) (after_next v.transport) h (next_one u.transport v.transport h.transport).0 (behind_lasts u.transport (kept_turn u.transport))
 
-  taken_stand : (u : KUpper) (v : Upper) → UpperStands u v → 0 < length u.transport.lasts → Stands (kept_after_taken u.transport) (after_taken v.transport)
+  taken_stand : (u : KUpper) (v : Upper) → UpperStands u v → 0 < length u.transport.lasts → StandsForTransport (kept_after_taken u.transport) (after_taken v.transport)
   taken_stand u v h l =
       let n = (counts u.transport v.transport h.transport).0 in
       take_one u.transport v.transport h.transport (omega arith)
@@ -275,11 +275,11 @@ module _ (connect : ConnectStands) (accept : AcceptStands) (hand : HandStands) (
   unfolding upper_deed
   deed_stands tpdu u v h = sym (receive u.transport v.transport tpdu h.transport).1
 
-  behind_at : (d : Deed) (u : KUpper) (v : Upper) (k : Kept) (t : Transport) → UpperStands u v → Stands k t → Lasts u.transport k d
+  behind_at : (d : ReceptionDeed) (u : KUpper) (v : Upper) (k : KeptTransport) (t : Transport) → UpperStands u v → StandsForTransport k t → Lasts u.transport k d
       → Behind UpperStands UpperCalled UpperBrought d (record u { transport = k }) (record v { transport = t })
   behind_at Nothing u v k t h s l = with_transport u v k t h s l
   behind_at (Called user) u v k t h s l =
-      record { stands = with_transport u v k t h s l.0; called = ap (λ (k : Kept). is_called k.stage) (sym s.is) ∙ l.1 }
+      record { stands = with_transport u v k t h s l.0; called = ap (λ (k : KeptTransport). is_called k.stage) (sym s.is) ∙ l.1 }
   behind_at (Confirmed user) u v k t h s l = with_transport u v k t h s l
   behind_at (Message octets) u v k t h s l = record {
     stands = record { transport = s; waits = h.waits; used = h.used; few = omega (arith, l.0, h.few); fewer = l.1; news = h.news };

@@ -1,6 +1,6 @@
 -- Representation: what the way up of a payload comes to before anything goes down; no claim rests on it.
 use Rattle.std.specs.Prelude.{◌≡◌, true, [], Some}
-use Rattle.x224_class2.specs.Tpdus.{Given, Dr, Dc}
+use Rattle.x224_class2.specs.Tpdus.{GivenTpdu, Dr, Dc}
 use Rattle.x224_class2.specs.Transport.{is_called}
 use Rattle.er_end_model.specs.Steps.{Carrier, InCr, InCc, InDt, hand_answer, on_safety_release, answer_dr, send_dr}
 use Rattle.er_end.specs.KeptLayers.{KCore, kept}
@@ -40,6 +40,6 @@ CanCome (came.PeerDisconnects why) x = Unit {0}
 CanCome (came.Refused why reason) x = Unit {0}
 
 -- a TPDU of the end's own
-abbrev pub given_of : OwnTpdu → Given
-given_of (own.Dr reason user) = Dr reason user
-given_of own.Dc = Dc
+abbrev pub given_of_own_tpdu : OwnTpdu → GivenTpdu
+given_of_own_tpdu (own.Dr reason user) = Dr reason user
+given_of_own_tpdu own.Dc = Dc

@@ -16,16 +16,16 @@ use Rattle.er_end.specs.KeptEnds.{KEnd, used_of, told_by}
 use Rattle.er_end.specs.Shown.{refusal_view}
 
 -- the event of the end model, with how KMACs are looked up
-abbrev pub given : Finds → Event → of.Event
-given finds event.Start = of.Start
-given finds (event.Octets octets) = of.Come finds octets.now
-given finds (event.Send user) = of.Send user.now
-given finds event.Take = of.Take
-given finds (event.Release sub) = of.Leave sub
-given finds event.Tick = of.Tick
-given finds event.Ended = of.Ended
-given finds event.Fault = of.Fault
-given finds event.Stalled = of.Stalled
+abbrev pub model_event_of : Finds → Event → of.Event
+model_event_of finds event.Start = of.Start
+model_event_of finds (event.Octets octets) = of.Come finds octets.now
+model_event_of finds (event.Send user) = of.Send user.now
+model_event_of finds event.Take = of.Take
+model_event_of finds (event.Release sub) = of.Leave sub
+model_event_of finds event.Tick = of.Tick
+model_event_of finds event.Ended = of.Ended
+model_event_of finds event.Fault = of.Fault
+model_event_of finds event.Stalled = of.Stalled
 
 -- how many octets of an event are used
 abbrev pub used_by : KEnd → Event → ℕ
@@ -50,17 +50,17 @@ taking_told taking.NotAsked = []
 taking_told taking.Nothing = NothingToTake ∷ []
 taking_told (taking.Message message) = Taken message.now ∷ []
 
-abbrev pub deeds_told : Deeds → List Outcome
-deeds_told d = if_connected d.connected ++ if_accepted (option_map (λ m. m.now) d.accepted) ++ if_released d.released ++ if_octets d.out.now
+abbrev pub outcomes_of_deeds : Deeds → List Outcome
+outcomes_of_deeds d = if_connected d.connected ++ if_accepted (option_map (λ m. m.now) d.accepted) ++ if_released d.released ++ if_octets d.out.now
 
 abbrev pub outcomes_in : Effects → List Outcome
-outcomes_in e = if_refused e.refused ++ taking_told e.taken ++ deeds_told e.deeds
+outcomes_in e = if_refused e.refused ++ taking_told e.taken ++ outcomes_of_deeds e.deeds
 
 -- ---- an event, before anything is lent of it
 
 -- the outcomes that are told at an end which was kept so before the event and is so now, by how the event was done
-abbrev pub TellsSo : Done → Event → List Outcome → KEnd → KEnd → Type 0
-TellsSo (done.Used used) event outcomes old now = (outcomes ≡ told_by now) × (used ≡ used_by old event)
-TellsSo (done.Refused refused) event outcomes old now = (outcomes ≡ Refused (refusal_view refused) ∷ []) × (used_by old event ≡ 0)
-TellsSo done.Nothing event outcomes old now = (outcomes ≡ NothingToTake ∷ told_by now) × (used_by old event ≡ 0)
-TellsSo done.Took event outcomes old now = (outcomes ≡ Taken now.core.upper.inbox.last ∷ told_by now) × (used_by old event ≡ 0)
+abbrev pub TellsEndOutcomes : Done → Event → List Outcome → KEnd → KEnd → Type 0
+TellsEndOutcomes (done.Used used) event outcomes old now = (outcomes ≡ told_by now) × (used ≡ used_by old event)
+TellsEndOutcomes (done.Refused refused) event outcomes old now = (outcomes ≡ Refused (refusal_view refused) ∷ []) × (used_by old event ≡ 0)
+TellsEndOutcomes done.Nothing event outcomes old now = (outcomes ≡ NothingToTake ∷ told_by now) × (used_by old event ≡ 0)
+TellsEndOutcomes done.Took event outcomes old now = (outcomes ≡ Taken now.core.upper.inbox.last ∷ told_by now) × (used_by old event ≡ 0)

@@ -28,9 +28,9 @@ newest_of q = if q.fresh then slice_get q.waits (length q.waits - 1) else None
 
 -- ---- the code's queue, in which a message that was taken in this event still has its slot
 
-abbrev pub behind : Bool → List (List ℕ) → List (List ℕ)
-behind true ms = drop 1 ms
-behind false ms = ms
+abbrev pub messages_behind_take : Bool → List (List ℕ) → List (List ℕ)
+messages_behind_take true ms = drop 1 ms
+messages_behind_take false ms = ms
 
 abbrev pub taken_from : Bool → List (List ℕ) → List ℕ
 taken_from true ms = first_in ms

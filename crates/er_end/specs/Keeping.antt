@@ -4,7 +4,7 @@ use Rattle.er_base.specs.declared.release.Release.{Release}
 use Rattle.er_end_model.specs.Outcomes.{Outcome, ConnectedTo, Accepted, Taken, NothingToTake, Refused, WasReleased, Octets}
 use Rattle.er_end_model.specs.Steps.{Finds}
 use Rattle.er_end_model.specs.Ends.{Event, Start, Come, Send, Take, Leave, Tick, Ended, Fault, Stalled}
-use Rattle.er_end.specs.KeptEnds.{KEnd, happens, tells, used_of, waiting_in, deadline_of}
+use Rattle.er_end.specs.KeptEnds.{KEnd, kept_end_behind_event, tells, used_of, waiting_in, deadline_of}
 
 -- ---- messages that wait
 
@@ -20,20 +20,20 @@ accepted_in (WasReleased release ∷ outcomes) = accepted_in outcomes
 accepted_in (Octets octets ∷ outcomes) = accepted_in outcomes
 
 -- a take takes the oldest
-abbrev pub left_by : Event → List (List ℕ) → List (List ℕ)
-left_by Start messages = messages
-left_by (Come finds octets) messages = messages
-left_by (Send user) messages = messages
-left_by Take messages = drop 1 messages
-left_by (Leave sub) messages = messages
-left_by Tick messages = messages
-left_by Ended messages = messages
-left_by Fault messages = messages
-left_by Stalled messages = messages
+abbrev pub messages_left_by_event : Event → List (List ℕ) → List (List ℕ)
+messages_left_by_event Start messages = messages
+messages_left_by_event (Come finds octets) messages = messages
+messages_left_by_event (Send user) messages = messages
+messages_left_by_event Take messages = drop 1 messages
+messages_left_by_event (Leave sub) messages = messages
+messages_left_by_event Tick messages = messages
+messages_left_by_event Ended messages = messages
+messages_left_by_event Fault messages = messages
+messages_left_by_event Stalled messages = messages
 
 -- behind an event those wait that it left, and what it accepted
 abbrev pub WaitsMove : Type 0
-WaitsMove = (now : ℕ) (event : Event) (k : KEnd) → waiting_in (happens now event k) ≡ left_by event (waiting_in k) ++ accepted_in (tells now event k)
+WaitsMove = (now : ℕ) (event : Event) (k : KEnd) → waiting_in (kept_end_behind_event now event k) ≡ messages_left_by_event event (waiting_in k) ++ accepted_in (tells now event k)
 
 abbrev pub is_octets : Event → Bool
 is_octets Start = false
@@ -54,13 +54,13 @@ OctetsBring = (now : ℕ) (event : Event) (k : KEnd) → is_octets event ≡ fal
 
 -- an end stays released, for this reason
 abbrev pub ReleaseStays : Type 0
-ReleaseStays = (now : ℕ) (event : Event) (k : KEnd) (why : Release) → k.core.released ≡ Some why → (happens now event k).core.released ≡ Some why
+ReleaseStays = (now : ℕ) (event : Event) (k : KEnd) (why : Release) → k.core.released ≡ Some why → (kept_end_behind_event now event k).core.released ≡ Some why
 
 -- an end whose line ended, failed or stalled is released
 pub record BreaksRelease : Type 0 where
-  pub ended : (now : ℕ) (k : KEnd) → is_some (happens now Ended k).core.released ≡ true
-  pub fault : (now : ℕ) (k : KEnd) → is_some (happens now Fault k).core.released ≡ true
-  pub stalled : (now : ℕ) (k : KEnd) → is_some (happens now Stalled k).core.released ≡ true
+  pub ended : (now : ℕ) (k : KEnd) → is_some (kept_end_behind_event now Ended k).core.released ≡ true
+  pub fault : (now : ℕ) (k : KEnd) → is_some (kept_end_behind_event now Fault k).core.released ≡ true
+  pub stalled : (now : ℕ) (k : KEnd) → is_some (kept_end_behind_event now Stalled k).core.released ≡ true
 
 -- a released end wants no tick
 abbrev pub ReleasedWantNone : Type 0

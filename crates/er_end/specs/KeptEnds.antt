@@ -13,13 +13,13 @@ use Rattle.safety_automaton.specs.Safety.{Safety, initiator, responder}
 use Rattle.safety_automaton.specs.Reports as reports
 use Rattle.er_end_model.specs.Outcomes.{Outcome, SendRefusal}
 use Rattle.er_end_model.specs.Steps.{Finds, new_event_at, step_start, step_frame, refusal_of, step_send_unless, step_take, step_release, step_tick, step_break, deadline, outcomes_of, if_taken}
-use Rattle.er_end_model.specs.Ends.{Opening, Call, Answer, Event, Start, Come, Send, Take, Leave, Tick, Ended, Fault, Stalled, if_refused}
+use Rattle.er_end_model.specs.Ends.{Opening, Call, Answer, Event, Start, Come, Send, Take, Leave, Tick, Ended, Fault, Stalled, refusal_or_outcomes}
 use Rattle.er_end.specs.Inboxes.{empty}
 use Rattle.er_end.specs.KeptLayers.{KCore, kept}
 
 -- an end as the code keeps it
 pub record KEnd : Type 0 where
-  pub deframer : deframing.Kept
+  pub deframer : deframing.KeptDeframer
   pub core : KCore
 
 -- ---- its making
@@ -29,7 +29,7 @@ kept_core_made calls settings side now = record {
   line = record { station = line.kept_of (made calls (settings.modulo == 128) settings.window settings.n2 settings.t1); out = [] };
   joined = [];
   upper = record { transport = transport.kept_made calls settings; inbox = empty };
-  safe = reports.made side;
+  safe = reports.kept_side_without_texts side;
   limit = now + settings.setup;
   moment = now;
   connected = None;
@@ -67,8 +67,8 @@ after_octets finds now piece k =
     if is_some k.core.released then with_core k (new_event_at kept now k.core)
     else record { deframer = fed.kept; core = found_comes finds now fed.verdict k.core }
 
-unfoldable pub refusal : List ℕ → KEnd → Option SendRefusal
-refusal user k = refusal_of kept user k.core
+unfoldable pub refusal_of_send : List ℕ → KEnd → Option SendRefusal
+refusal_of_send user k = refusal_of kept user k.core
 
 unfoldable pub after_send : ℕ → List ℕ → KEnd → KEnd
 after_send now user k = with_core k (step_send_unless kept (refusal_of kept user k.core) now user k.core)
@@ -97,16 +97,16 @@ deadline_of k = deadline kept k.core
 -- ---- the same by the event
 
 -- the end behind an event
-abbrev pub happens : ℕ → Event → KEnd → KEnd
-happens now Start k = after_start now k
-happens now (Come finds octets) k = after_octets finds now octets k
-happens now (Send user) k = after_send now user k
-happens now Take k = after_take now k
-happens now (Leave sub) k = after_release now sub k
-happens now Tick k = after_tick now k
-happens now Ended k = after_break LineEnded k
-happens now Fault k = after_break LineFailed k
-happens now Stalled k = after_break LineStalled k
+abbrev pub kept_end_behind_event : ℕ → Event → KEnd → KEnd
+kept_end_behind_event now Start k = after_start now k
+kept_end_behind_event now (Come finds octets) k = after_octets finds now octets k
+kept_end_behind_event now (Send user) k = after_send now user k
+kept_end_behind_event now Take k = after_take now k
+kept_end_behind_event now (Leave sub) k = after_release now sub k
+kept_end_behind_event now Tick k = after_tick now k
+kept_end_behind_event now Ended k = after_break LineEnded k
+kept_end_behind_event now Fault k = after_break LineFailed k
+kept_end_behind_event now Stalled k = after_break LineStalled k
 
 -- the outcomes that the calls show
 abbrev pub told_by : KEnd → List Outcome
@@ -115,7 +115,7 @@ told_by k = outcomes_of kept k.core
 abbrev pub tells : ℕ → Event → KEnd → List Outcome
 tells now Start k = told_by (after_start now k)
 tells now (Come finds octets) k = told_by (after_octets finds now octets k)
-tells now (Send user) k = if_refused (refusal user k) (told_by (after_send now user k))
+tells now (Send user) k = refusal_or_outcomes (refusal_of_send user k) (told_by (after_send now user k))
 tells now Take k = if_taken (kept.oldest k.core.upper) ++ told_by (after_take now k)
 tells now (Leave sub) k = told_by (after_release now sub k)
 tells now Tick k = told_by (after_tick now k)

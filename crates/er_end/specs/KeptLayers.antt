@@ -6,26 +6,26 @@ use Rattle.hdlc_frames.specs.Framing.{Verdict}
 use Rattle.hdlc_station_model.specs.Stations.{Station, Deed as LinkDeed}
 use Rattle.hdlc_station_model.specs.Calls as station
 use Rattle.hdlc_balanced.specs.Kept as line
-use Rattle.hdlc_balanced.specs.Kept.{texts}
+use Rattle.hdlc_balanced.specs.Kept.{octets_of_sent_frames}
 use Rattle.hdlc_balanced.specs.Alike.{model_of}
 use Rattle.x224_class2.specs.Kept as transport
-use Rattle.x224_class2.specs.Transport.{Deed, is_new, is_open}
+use Rattle.x224_class2.specs.Transport.{ReceptionDeed, is_new, is_open}
 use Rattle.er_end_model.specs.Stacks.{Ops, Stack}
 use Rattle.er_end.specs.Inboxes.{KInbox, kept_more, kept_fewer, newest_of}
 
 -- the station, and the octets that it sent in this event
 pub record KLine : Type 0 where
-  pub station : line.Kept
+  pub station : line.KeptStation
   pub out : List ℕ
 
 -- the transport, and the messages that wait for the user
 pub record KUpper : Type 0 where
-  pub transport : transport.Kept
+  pub transport : transport.KeptTransport
   pub inbox : KInbox
 
 -- a call of the station
 abbrev pub ran : KLine → Station → KLine
-ran l s = record { station = line.kept_of s; out = l.out ++ texts s.calling s.extended s.said }
+ran l s = record { station = line.kept_of s; out = l.out ++ octets_of_sent_frames s.calling s.extended s.said }
 
 unfoldable pub line_starts : ℕ → KLine → KLine
 line_starts now l = ran l (station.starts now (model_of l.station))
@@ -58,20 +58,20 @@ abbrev pub line_is_free : KLine → Bool
 line_is_free l = length l.station.ring == l.station.ahead
 
 -- the transport's part of a reception
-unfoldable pub upper_hears : transport.Kept → List ℕ → transport.Kept
+unfoldable pub upper_hears : transport.KeptTransport → List ℕ → transport.KeptTransport
 upper_hears k tpdu = (transport.kept_reception k tpdu).0
 
-unfoldable pub upper_deed : transport.Kept → List ℕ → Deed
+unfoldable pub upper_deed : transport.KeptTransport → List ℕ → ReceptionDeed
 upper_deed k tpdu = (transport.kept_reception k tpdu).1
 
 -- the next TPDU
-unfoldable pub upper_has_next : transport.Kept → Bool
+unfoldable pub upper_has_next : transport.KeptTransport → Bool
 upper_has_next k = is_some (transport.kept_next_tpdu k)
 
-unfoldable pub upper_next : transport.Kept → List ℕ
+unfoldable pub upper_next : transport.KeptTransport → List ℕ
 upper_next k = transport.octets_next (transport.kept_next_tpdu k)
 
-unfoldable pub upper_after_next : transport.Kept → transport.Kept
+unfoldable pub upper_after_next : transport.KeptTransport → transport.KeptTransport
 upper_after_next k = transport.kept_after_next k
 
 abbrev pub kept : Ops KLine KUpper

@@ -7,5 +7,5 @@ use Rattle.er_end.specs.contracts.end.End.{the_row}
 use Rattle.er_end.specs.KeptEnds.{KEnd}
 
 -- once the deeds are let go, this is kept
-abbrev pub Rests : MutBor End → KEnd → Fml
-Rests end k = follows_so the_row the_row end.ghost_name none (λ _ _. ⊤) (λ v. v ≡ k)
+abbrev pub LeavesEndAs : MutBor End → KEnd → Fml
+LeavesEndAs end k = follows_so the_row the_row end.ghost_name none (λ _ _. ⊤) (λ v. v ≡ k)

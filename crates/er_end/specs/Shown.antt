@@ -19,5 +19,5 @@ refusal_view code.NotConnected = RefusedNotConnected
 refusal_view (code.Length found) = RefusedLength found
 refusal_view (code.Full waiting) = RefusedFull waiting
 
-abbrev pub IsRefused : Option SendRefused → Option SendRefusal → Type 0
-IsRefused refused refusal = option_map refusal_view refused ≡ refusal
+abbrev pub ShowsSendRefusal : Option SendRefused → Option SendRefusal → Type 0
+ShowsSendRefusal refused refusal = option_map refusal_view refused ≡ refusal

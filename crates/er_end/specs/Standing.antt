@@ -4,27 +4,27 @@ use Rattle.std.specs.Prelude.{ℕ, ◌≡◌, ◌≤◌, List, [], ◌∷◌, �
 use Rattle.er_settings.specs.Ranges.{AllAllowed}
 use Rattle.hdlc_frames.specs.Deframing as deframing
 use Rattle.hdlc_station_model.specs.Stations.{Station}
-use Rattle.hdlc_balanced.specs.Kept.{kept_of, texts}
+use Rattle.hdlc_balanced.specs.Kept.{kept_of, octets_of_sent_frames}
 use Rattle.hdlc_balanced.specs.Alike.{Sound}
-use Rattle.x224_class2.specs.Standing.{Stands}
+use Rattle.x224_class2.specs.Standing.{StandsForTransport}
 use Rattle.er_end_model.specs.Outcomes.{Outcome}
 use Rattle.er_end_model.specs.Stacks.{Stack}
 use Rattle.er_end_model.specs.Layers.{Upper, Core, model}
 use Rattle.er_end_model.specs.Steps.{deadline}
-use Rattle.er_end_model.specs.Ends.{Opening, Call, Answer, Event, Start, Come, Send, Take, Leave, Tick, Ended, Fault, Stalled, End, opened, step, Moment, run, outcomes}
+use Rattle.er_end_model.specs.Ends.{Opening, Call, Answer, Event, Start, Come, Send, Take, Leave, Tick, Ended, Fault, Stalled, End, opened, step_event, Moment, end_run, outcomes}
 use Rattle.er_end.specs.Inboxes.{newest_of}
 use Rattle.er_end.specs.KeptLayers.{KLine, KUpper, KCore, kept}
-use Rattle.er_end.specs.KeptEnds.{KEnd, kept_opened, happens, tells, used_of, deadline_of}
+use Rattle.er_end.specs.KeptEnds.{KEnd, kept_opened, kept_end_behind_event, tells, used_of, deadline_of}
 
 -- the station is kept so, and these octets are those of the frames that it sent
 pub record LineStands (l : KLine) (s : Station) : Type 0 where
   pub is : l.station ≡ kept_of s
   pub sound : Sound s
-  pub text : l.out ≡ texts s.calling s.extended s.said
+  pub text : l.out ≡ octets_of_sent_frames s.calling s.extended s.said
 
 -- the transport that is kept stands for this one, and the messages that wait are those accepted and not taken yet
 pub record UpperStands (u : KUpper) (v : Upper) : Type 0 where
-  pub transport : Stands u.transport v.transport
+  pub transport : StandsForTransport u.transport v.transport
   pub waits : u.inbox.waits ≡ drop v.used v.accepted
   pub used : v.used ≤ length v.accepted
   pub few : length u.inbox.waits ≤ length u.transport.lasts
@@ -85,27 +85,27 @@ event_of k Stalled = Stalled
 abbrev pub StepsAlike : Type 0
 StepsAlike =
     (now : ℕ) (event : Event) (k : KEnd) (m : End) → EndStands k m
-    → EndStands (happens now event k) (step now (event_of k event) m).0 × (tells now event k ≡ (step now (event_of k event) m).1)
+    → EndStands (kept_end_behind_event now event k) (step_event now (event_of k event) m).0 × (tells now event k ≡ (step_event now (event_of k event) m).1)
 
 -- calls one after the other, each an event at its moment: what is kept behind them, the events of the model that they are, and all
 -- outcomes
 abbrev pub kept_run : List Moment → KEnd → KEnd
 kept_run [] k = k
-kept_run (e ∷ events) k = kept_run events (happens e.now e.event k)
+kept_run (e ∷ events) k = kept_run events (kept_end_behind_event e.now e.event k)
 
 abbrev pub events_of : List Moment → KEnd → List Moment
 events_of [] k = []
-events_of (e ∷ events) k = record { now = e.now; event = event_of k e.event } ∷ events_of events (happens e.now e.event k)
+events_of (e ∷ events) k = record { now = e.now; event = event_of k e.event } ∷ events_of events (kept_end_behind_event e.now e.event k)
 
 abbrev pub kept_outcomes : List Moment → KEnd → List Outcome
 kept_outcomes [] k = []
-kept_outcomes (e ∷ events) k = tells e.now e.event k ++ kept_outcomes events (happens e.now e.event k)
+kept_outcomes (e ∷ events) k = tells e.now e.event k ++ kept_outcomes events (kept_end_behind_event e.now e.event k)
 
 -- a run of calls is a run of the model, with the same outcomes
 abbrev pub RunsAlike : Type 0
 RunsAlike =
     (events : List Moment) (k : KEnd) (m : End) → EndStands k m
-    → EndStands (kept_run events k) (run (events_of events k) m) × (kept_outcomes events k ≡ outcomes (events_of events k) m)
+    → EndStands (kept_run events k) (end_run (events_of events k) m) × (kept_outcomes events k ≡ outcomes (events_of events k) m)
 
 -- what shows between two calls is what the model says
 abbrev pub ShowsAlike : Type 0

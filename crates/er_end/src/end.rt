@@ -3,17 +3,17 @@
 ghost use Rattle.std.specs.Prelude.{◌≡◌, ◌≤◌, ◌<◌, ◌^◌, ◌∷◌, length, option_map, Some, None, IfOk, IfSome, IsNone, MatchResult, MatchOption};
 ghost use Rattle.std.specs.Borrow.{sem};
 ghost use Rattle.er_base.specs.declared.cause.Cause.TheVariants.{LineEnded, LineFailed, LineStalled};
-ghost use Rattle.hdlc_frames.specs.Shown.{shown};
+ghost use Rattle.hdlc_frames.specs.Shown.{verdict_of_octets_found};
 ghost use Rattle.safety_automaton.specs.Keys.{key_at};
 ghost use Rattle.safety_automaton.specs.Safety.{Safety, session_in};
-ghost use Rattle.safety_automaton.specs.Reports.{made};
+ghost use Rattle.safety_automaton.specs.Reports.{kept_side_without_texts};
 ghost use Rattle.x224_class2.specs.Kept.{kept_made};
 ghost use Rattle.er_end_model.specs.Ends.{Call, Answer};
 ghost use Rattle.er_end.specs.Inboxes.{first_in, newest_of};
-ghost use Rattle.er_end.specs.KeptEnds.{kept_opened, kept_core_made, kept_end_made, after_start, used_of, after_octets, refusal, after_send, after_take, after_release, after_tick, after_break, happens, tells, waiting_in, deadline_of};
-ghost use Rattle.er_end.specs.Given.{given, used_by, outcomes_in, TellsSo};
+ghost use Rattle.er_end.specs.KeptEnds.{kept_opened, kept_core_made, kept_end_made, after_start, used_of, after_octets, refusal_of_send, after_send, after_take, after_release, after_tick, after_break, kept_end_behind_event, tells, waiting_in, deadline_of};
+ghost use Rattle.er_end.specs.Given.{model_event_of, used_by, outcomes_in, TellsEndOutcomes};
 ghost use Rattle.er_end.specs.Shown.{Shows, refusal_view};
-ghost use Rattle.er_end.specs.Resting.{Rests};
+ghost use Rattle.er_end.specs.Resting.{LeavesEndAs};
 
 use crate::deeds::{Deeds, SendRefused, Taken};
 use crate::event::{Effects, Event, Taking};
@@ -128,7 +128,7 @@ impl End {
     #[tactic(auto, unfolding(crate::specs::KeptEnds::after_start))]
     pub fn start(&mut self, now: u64) -> Deeds<'_>
         requires { now ≤ 1000000000000000 }
-        ensures* after { sem 𝓛 (Rests self.entry (after_start now self.old)) }
+        ensures* after { sem 𝓛 (LeavesEndAs self.entry (after_start now self.old)) }
         ensures shows { Shows result (after_start now self.old).core }
     {
         self.layers.start_station(Moment::new(now), &mut self.room);
@@ -140,7 +140,7 @@ impl End {
     /// end uses all.
     pub fn octets<K: KeyFinder>(&mut self, keys: &K, now: u64, piece: &[u8]) -> (usize, Deeds<'_>)
         requires { now ≤ 1000000000000000 }
-        ensures* after { sem 𝓛 (Rests self.entry (after_octets (key_at (K.entries keys.now)) now piece.now self.old)) }
+        ensures* after { sem 𝓛 (LeavesEndAs self.entry (after_octets (key_at (K.entries keys.now)) now piece.now self.old)) }
         ensures used { result.0 ≡ used_of self.old piece.now }
         ensures within { result.0 ≤ length piece.now }
         ensures moves { 0 < length piece.now → 0 < result.0 }
@@ -171,13 +171,13 @@ impl End {
     }
 
     /// The user sends a message, 1 to 1,023 octets. A refused send leaves all as it was.
-    #[tactic(auto, unfolding(crate::specs::KeptEnds::refusal, crate::specs::KeptEnds::after_send))]
+    #[tactic(auto, unfolding(crate::specs::KeptEnds::refusal_of_send, crate::specs::KeptEnds::after_send))]
     pub fn send(&mut self, now: u64, user: &[u8]) -> Result<Deeds<'_>, SendRefused>
         requires { now ≤ 1000000000000000 }
-        ensures* after { sem 𝓛 (Rests self.entry (after_send now user.now self.old)) }
+        ensures* after { sem 𝓛 (LeavesEndAs self.entry (after_send now user.now self.old)) }
         ensures answer { MatchResult result
-            (λ deeds. (refusal user.now self.old ≡ None) × Shows deeds (after_send now user.now self.old).core)
-            (λ refused. refusal user.now self.old ≡ Some (refusal_view refused)) }
+            (λ deeds. (refusal_of_send user.now self.old ≡ None) × Shows deeds (after_send now user.now self.old).core)
+            (λ refused. refusal_of_send user.now self.old ≡ Some (refusal_view refused)) }
     {
         if let Some(refused) = self.layers.refusal(user) {
             return Err(refused);
@@ -192,7 +192,7 @@ impl End {
     #[tactic(auto, unfolding(crate::specs::KeptEnds::after_take))]
     pub fn take(&mut self, now: u64) -> Option<Taken<'_>>
         requires { now ≤ 1000000000000000 }
-        ensures* after { sem 𝓛 (Rests self.entry (after_take now self.old)) }
+        ensures* after { sem 𝓛 (LeavesEndAs self.entry (after_take now self.old)) }
         ensures taken { MatchOption result
             (length (waiting_in self.old) ≡ 0)
             (λ taken. (taken.text.now ≡ first_in (waiting_in self.old)) × (0 < length (waiting_in self.old)) × (taken.out.now ≡ (after_take now self.old).core.line.out)) }
@@ -213,7 +213,7 @@ impl End {
     #[tactic(auto, unfolding(crate::specs::KeptEnds::after_release))]
     pub fn release(&mut self, now: u64, sub: u8) -> Deeds<'_>
         requires { now ≤ 1000000000000000 }
-        ensures* after { sem 𝓛 (Rests self.entry (after_release now sub self.old)) }
+        ensures* after { sem 𝓛 (LeavesEndAs self.entry (after_release now sub self.old)) }
         ensures shows { Shows result (after_release now sub self.old).core }
     {
         self.layers
@@ -226,7 +226,7 @@ impl End {
     #[tactic(auto, unfolding(crate::specs::KeptEnds::after_tick))]
     pub fn tick(&mut self, now: u64) -> Deeds<'_>
         requires { now ≤ 1000000000000000 }
-        ensures* after { sem 𝓛 (Rests self.entry (after_tick now self.old)) }
+        ensures* after { sem 𝓛 (LeavesEndAs self.entry (after_tick now self.old)) }
         ensures shows { Shows result (after_tick now self.old).core }
     {
         self.layers.tick(Moment::new(now), &mut self.room);
@@ -237,7 +237,7 @@ impl End {
     /// The line ended.
     #[tactic(auto, unfolding(crate::specs::KeptEnds::after_break))]
     pub fn ended(&mut self) -> Deeds<'_>
-        ensures* after { sem 𝓛 (Rests self.entry (after_break LineEnded self.old)) }
+        ensures* after { sem 𝓛 (LeavesEndAs self.entry (after_break LineEnded self.old)) }
         ensures shows { Shows result (after_break LineEnded self.old).core }
     {
         self.layers.break_off(Cause::LineEnded);
@@ -248,7 +248,7 @@ impl End {
     /// The line failed.
     #[tactic(auto, unfolding(crate::specs::KeptEnds::after_break))]
     pub fn fault(&mut self) -> Deeds<'_>
-        ensures* after { sem 𝓛 (Rests self.entry (after_break LineFailed self.old)) }
+        ensures* after { sem 𝓛 (LeavesEndAs self.entry (after_break LineFailed self.old)) }
         ensures shows { Shows result (after_break LineFailed self.old).core }
     {
         self.layers.break_off(Cause::LineFailed);
@@ -259,7 +259,7 @@ impl End {
     /// The line stalled.
     #[tactic(auto, unfolding(crate::specs::KeptEnds::after_break))]
     pub fn stalled(&mut self) -> Deeds<'_>
-        ensures* after { sem 𝓛 (Rests self.entry (after_break LineStalled self.old)) }
+        ensures* after { sem 𝓛 (LeavesEndAs self.entry (after_break LineStalled self.old)) }
         ensures shows { Shows result (after_break LineStalled self.old).core }
     {
         self.layers.break_off(Cause::LineStalled);
@@ -270,8 +270,8 @@ impl End {
     /// Gives an end any event: does what the call of that event does, and answers all that came of it.
     pub fn apply<K: KeyFinder>(&mut self, keys: &K, now: u64, event: &Event<'_>) -> Effects<'_>
         requires { now ≤ 1000000000000000 }
-        ensures* after { sem 𝓛 (Rests self.entry (happens now (given (key_at (K.entries keys.now)) event.now) self.old)) }
-        ensures told { outcomes_in result ≡ tells now (given (key_at (K.entries keys.now)) event.now) self.old }
+        ensures* after { sem 𝓛 (LeavesEndAs self.entry (kept_end_behind_event now (model_event_of (key_at (K.entries keys.now)) event.now) self.old)) }
+        ensures told { outcomes_in result ≡ tells now (model_event_of (key_at (K.entries keys.now)) event.now) self.old }
         ensures used { result.used ≡ used_by self.old event.now }
     {
         let done = self.give(keys, Moment::new(now), event);
@@ -310,10 +310,10 @@ impl End {
     }
 
     // An event, without what is lent of it.
-    #[tactic(auto, unfolding(crate::specs::KeptEnds::refusal, crate::specs::KeptEnds::after_start, crate::specs::KeptEnds::after_send, crate::specs::KeptEnds::after_take, crate::specs::KeptEnds::after_release, crate::specs::KeptEnds::after_tick, crate::specs::KeptEnds::after_break))]
+    #[tactic(auto, unfolding(crate::specs::KeptEnds::refusal_of_send, crate::specs::KeptEnds::after_start, crate::specs::KeptEnds::after_send, crate::specs::KeptEnds::after_take, crate::specs::KeptEnds::after_release, crate::specs::KeptEnds::after_tick, crate::specs::KeptEnds::after_break))]
     fn give<K: KeyFinder>(&mut self, keys: &K, now: Moment, event: &Event<'_>) -> Done
-        ensures after { self.new ≡ happens now (given (key_at (K.entries keys.now)) event.now) self.old }
-        ensures told { TellsSo result event.now (tells now (given (key_at (K.entries keys.now)) event.now) self.old) self.old self.new }
+        ensures after { self.new ≡ kept_end_behind_event now (model_event_of (key_at (K.entries keys.now)) event.now) self.old }
+        ensures told { TellsEndOutcomes result event.now (tells now (model_event_of (key_at (K.entries keys.now)) event.now) self.old) self.old self.new }
     {
         match *event {
             Event::Start => self.layers.start_station(now, &mut self.room),
@@ -435,7 +435,7 @@ enum Done {
 // A function of its own, so that the stack that its making takes is given back before the end is put together.
 #[inline(never)]
 fn made_transport(alloc: Global, calls: bool, settings: &Settings) -> Result<Transport, NoMemory>
-    ensures { IfOk result (λ made. made ≡ kept_made calls settings.now) }
+    ensures { IfOk result (λ kept_side_without_texts. kept_side_without_texts ≡ kept_made calls settings.now) }
 {
     let _ = &settings.credit;
     if calls {

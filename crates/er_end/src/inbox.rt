@@ -20,11 +20,11 @@ pub struct Inbox {
 
 impl Model for Inbox {
     ghost use Rattle.std.specs.Prelude.{◌≡◌};
-    ghost use Rattle.er_end.specs.Inboxes.{KInbox, behind, taken_from, IsWithin};
+    ghost use Rattle.er_end.specs.Inboxes.{KInbox, messages_behind_take, taken_from, IsWithin};
 
     ghost Value = { KInbox };
 
-    ghost view = { λ i. record { waits = behind i.lent i.messages.waits; last = taken_from i.lent i.messages.waits; fresh = i.fresh } };
+    ghost view = { λ i. record { waits = messages_behind_take i.lent i.messages.waits; last = taken_from i.lent i.messages.waits; fresh = i.fresh } };
 
     ghost invariant = { λ i. (i.messages.slots ≡ 16) × IsWithin i.lent i.messages.waits };
 }

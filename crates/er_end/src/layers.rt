@@ -4,7 +4,7 @@ ghost use Rattle.std.specs.Prelude.{◌≡◌, ◌≤◌, [], Some, length, is_s
 ghost use Rattle.x224_class2.specs.Tpdus.{Dc};
 ghost use Rattle.er_end_model.specs.Steps.{new_event, new_event_at, with_release, hand_tpdu_if_may, close_link, send_owed_answer, send_dr, answer_dr, on_safety_release, hand_text, skip_message, has_next_tpdu, hand_next_tpdu, hand_waiting_tpdus, conclude_event, is_connected, is_spent};
 ghost use Rattle.er_end.specs.KeptLayers.{kept};
-ghost use Rattle.er_end.specs.Coming.{given_of};
+ghost use Rattle.er_end.specs.Coming.{given_of_own_tpdu};
 
 mod events;
 mod rising;
@@ -99,7 +99,7 @@ impl Layers {
 
     // A TPDU of the end's own goes down, where the station may send.
     fn hand_own(&mut self, tpdu: &OwnTpdu, room: &mut SapduRoom)
-        ensures { self.new ≡ hand_tpdu_if_may kept (given_of tpdu.now) self.old }
+        ensures { self.new ≡ hand_tpdu_if_may kept (given_of_own_tpdu tpdu.now) self.old }
     {
         if self.line.may_send() {
             room.write_block(tpdu);

@@ -1,5 +1,5 @@
 ghost use Rattle.std.specs.Prelude.{◌≡◌, ◌≤◌, ◌==◌, [], length, true, IfOk};
-ghost use Rattle.hdlc_frames.specs.Shown.{shown};
+ghost use Rattle.hdlc_frames.specs.Shown.{verdict_of_octets_found};
 ghost use Rattle.hdlc_balanced.specs.Kept.{kept_of};
 ghost use Rattle.hdlc_balanced.specs.Told.{deed_of};
 ghost use Rattle.hdlc_station_model.specs.Stations.{made};
@@ -27,13 +27,13 @@ pub struct Line {
 impl Model for Line {
     ghost use Rattle.std.specs.Prelude.{◌≡◌, ◌≤◌};
     ghost use Rattle.er_end.specs.KeptLayers.{KLine};
-    ghost use Rattle.er_end.specs.FrameRoom.{Fits};
+    ghost use Rattle.er_end.specs.FrameRoom.{FitsFrameRoom};
 
     ghost Value = { KLine };
 
     ghost view = { λ l. record { station = l.station; out = l.out.items } };
 
-    ghost invariant = { λ l. (l.out.capacity ≡ 200208) × (l.station.window ≤ 31) × (l.station.ahead ≤ l.station.window) × Fits l.station l.out.items };
+    ghost invariant = { λ l. (l.out.capacity ≡ 200208) × (l.station.window ≤ 31) × (l.station.ahead ≤ l.station.window) × FitsFrameRoom l.station l.out.items };
 }
 
 impl Line {
@@ -72,8 +72,8 @@ impl Line {
     /// An event begins in which what a deframer found comes.
     #[tactic(auto, unfolding(crate::specs::KeptLayers::line_receives, crate::specs::KeptLayers::line_told))]
     pub fn receive<'f>(&mut self, now: Moment, found: &Found<'f>) -> LinkDeed<'f>
-        ensures line { self.new ≡ line_receives now (shown found.now) (record self.old { out = [] }) }
-        ensures told { deed_of result ≡ line_told now (shown found.now) (record self.old { out = [] }) }
+        ensures line { self.new ≡ line_receives now (verdict_of_octets_found found.now) (record self.old { out = [] }) }
+        ensures told { deed_of result ≡ line_told now (verdict_of_octets_found found.now) (record self.old { out = [] }) }
     {
         self.out.clear();
         self.station.receive(now.get(), found, &mut self.out)

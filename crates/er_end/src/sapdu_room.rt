@@ -4,13 +4,13 @@ ghost use Rattle.std.specs.Prelude.{◌≡◌, ◌≤◌, [], None, length, fals
 ghost use Rattle.sapdu.specs.Spelling.{Di, spelling};
 ghost use Rattle.safety_automaton.specs.Keys.{key_at, no_keys};
 ghost use Rattle.safety_automaton.specs.Reports.{state_of, report_view, report_of, IfAccepted};
-ghost use Rattle.safety_automaton.specs.Safety.{ConnectRequest, Received, DataRequest, DisconnectRequest, step, sent_by};
+ghost use Rattle.safety_automaton.specs.Safety.{ConnectRequest, Received, DataRequest, DisconnectRequest, step, octets_sent_in_outcome};
 ghost use Rattle.safety_automaton.specs.declared.safe_state.SafeState.TheVariants as state;
 ghost use Rattle.t70_header.specs.Blocks.{last_block};
 ghost use Rattle.x224_class2.specs.Tpdus.{octets_given};
-ghost use Rattle.er_end_model.specs.Steps.{kept_by, di_of};
+ghost use Rattle.er_end_model.specs.Steps.{kept_safe_of_step, di_of};
 ghost use Rattle.er_end.specs.KeptLayers.{upper_has_next, upper_next, upper_after_next};
-ghost use Rattle.er_end.specs.Coming.{given_of};
+ghost use Rattle.er_end.specs.Coming.{given_of_own_tpdu};
 
 use crate::own_tpdu::OwnTpdu;
 use crate::short_sapdu::ShortSapdu;
@@ -64,8 +64,8 @@ impl SapduRoom {
     /// An initiator begins: its AU1.
     pub fn start(&mut self, safe: &mut Safe) -> ShortSapdu
         requires { state_of safe.old.safety.phase ≡ state.Ready }
-        ensures safe { safe.new ≡ kept_by (step no_keys safe.old.safety ConnectRequest) }
-        ensures au1 { result ≡ sent_by (step no_keys safe.old.safety ConnectRequest).1 }
+        ensures safe { safe.new ≡ kept_safe_of_step (step no_keys safe.old.safety ConnectRequest) }
+        ensures au1 { result ≡ octets_sent_in_outcome (step no_keys safe.old.safety ConnectRequest).1 }
     {
         self.room.clear();
         safe.start(&mut self.room);
@@ -80,9 +80,9 @@ impl SapduRoom {
         now: Moment,
         text: &'t [u8],
     ) -> (SafeDeed<'t>, ShortSapdu)
-        ensures safe { safe.new ≡ kept_by (step (key_at (K.entries keys.now) now) safe.old.safety (Received text.now)) }
+        ensures safe { safe.new ≡ kept_safe_of_step (step (key_at (K.entries keys.now) now) safe.old.safety (Received text.now)) }
         ensures report { report_view result.0 ≡ report_of (step (key_at (K.entries keys.now) now) safe.old.safety (Received text.now)).1 }
-        ensures answer { result.1 ≡ sent_by (step (key_at (K.entries keys.now) now) safe.old.safety (Received text.now)).1 }
+        ensures answer { result.1 ≡ octets_sent_in_outcome (step (key_at (K.entries keys.now) now) safe.old.safety (Received text.now)).1 }
         ensures accepted { IfAccepted (report_view result.0) (λ user. length user ≤ 1023) }
     {
         self.room.clear();
@@ -92,8 +92,8 @@ impl SapduRoom {
 
     /// The user releases, with a sub-reason: the DI; no octets of a side that was released.
     pub fn release(&mut self, safe: &mut Safe, sub: u8) -> ShortSapdu
-        ensures safe { safe.new ≡ kept_by (step no_keys safe.old.safety (DisconnectRequest sub)) }
-        ensures di { result ≡ sent_by (step no_keys safe.old.safety (DisconnectRequest sub)).1 }
+        ensures safe { safe.new ≡ kept_safe_of_step (step no_keys safe.old.safety (DisconnectRequest sub)) }
+        ensures di { result ≡ octets_sent_in_outcome (step no_keys safe.old.safety (DisconnectRequest sub)).1 }
     {
         self.room.clear();
         safe.release(sub, &mut self.room);
@@ -113,8 +113,8 @@ impl SapduRoom {
 
     /// A message is sealed: the room holds its DT, no octets where the safety side refuses it.
     pub fn seal(&mut self, safe: &mut Safe, user: &[u8])
-        ensures safe { safe.old.sealed ≡ None → safe.old.verified ≡ None → safe.new ≡ kept_by (step no_keys safe.old.safety (DataRequest user.now)) }
-        ensures dt { self.new ≡ sent_by (step no_keys safe.old.safety (DataRequest user.now)).1 }
+        ensures safe { safe.old.sealed ≡ None → safe.old.verified ≡ None → safe.new ≡ kept_safe_of_step (step no_keys safe.old.safety (DataRequest user.now)) }
+        ensures dt { self.new ≡ octets_sent_in_outcome (step no_keys safe.old.safety (DataRequest user.now)).1 }
         ensures most { length self.new ≤ 1032 }
     {
         self.room.clear();
@@ -125,7 +125,7 @@ impl SapduRoom {
 
     /// The room holds a TPDU of the end's own in one block.
     pub fn write_block(&mut self, tpdu: &OwnTpdu)
-        ensures block { self.new ≡ last_block (octets_given (given_of tpdu.now)) }
+        ensures block { self.new ≡ last_block (octets_given (given_of_own_tpdu tpdu.now)) }
         ensures most { length self.new ≤ 1026 }
     {
         x224_tpdu::laws::writing();

@@ -2,13 +2,13 @@
 use Rattle.std.proofs.Common.{◌≡◌, ℕ, Bool, true, false, List, [], ◌∷◌, ◌++◌, take, refl, sym, ap, ◌∙◌, subst}
 use Rattle.std.specs.Prelude.{Option, Some, None, if◌then◌else◌, slice_get}
 use Rattle.er_base.specs.declared.release.Release.{Release as Why}
-use Rattle.safety_automaton.specs.Keys.{Entry, key_at}
+use Rattle.safety_automaton.specs.Keys.{KmacEntry, key_at}
 use Rattle.er_end_model.specs.Outcomes.{Outcome, SendRefusal}
 use Rattle.er_end_model.specs.Steps.{if_connected, if_accepted, if_released, if_octets, if_taken}
-use Rattle.er_end_model.specs.Ends.{Opening, Event, End, opened, step, if_refused}
+use Rattle.er_end_model.specs.Ends.{Opening, Event, End, opened, step_event, refusal_or_outcomes}
 use Rattle.er_end_model.specs.Ends as event
 use Rattle.er_end.specs.Inboxes.{newest_of, first_in}
-use Rattle.er_end.specs.KeptEnds.{KEnd, happens, told_by, used_of, refusal, after_send, waiting_in}
+use Rattle.er_end.specs.KeptEnds.{KEnd, kept_end_behind_event, told_by, used_of, refusal_of_send, after_send, waiting_in}
 use Rattle.er_end.specs.Standing.{IsAllowed, EndStands, MadeStands, StepsAlike, ShowsAlike}
 use Rattle.er_end.specs.Standing as standing
 use Rattle.er_end_c.specs.declared.handle.CEnd.{CEnd}
@@ -16,12 +16,12 @@ use Rattle.er_end_c.specs.declared.held.Held.{Held}
 use Rattle.er_end_c.specs.declared.face.CDeeds.{CDeeds}
 use Rattle.er_end_c.specs.Statuses.{late_moment}
 use Rattle.er_end_c.specs.Deeds.{no_deeds, deeds_told, status_told, release_deeds, counts_shown}
-use Rattle.er_end_c.specs.Handles.{entries_of, entries_in, held_in, with_end}
+use Rattle.er_end_c.specs.Handles.{optional_key_entries, key_entries_of_handle, end_held_in_handle, held_with_end}
 use Rattle.er_end_c.specs.Makings.{held_made}
-use Rattle.er_end_c.specs.Reads.{text_in, text_of, out_of, accepted_of, taken_of, none_or, else_, deadline_status, shown_deadline, shown_release_status, shown_release, waiting_count, shown_counts}
-use Rattle.er_end_c.specs.Calls.{Call, Start, Octets, Send, Take, Release, Tick, Ended, Fault, Stalled, is_late, moment_of, event_of, used_by, finds_in, happens_at, told_at, deeds_at, held_after, status_after, deeds_after, Does}
+use Rattle.er_end_c.specs.Reads.{text_of_held_end, text_or_empty, out_of, newest_accepted_message, message_last_taken, none_or, else_, deadline_status, shown_deadline, shown_release_status, shown_release, count_waiting_at_handle, shown_counts}
+use Rattle.er_end_c.specs.Calls.{HandleCall, Start, Octets, Send, Take, Release, Tick, Ended, Fault, Stalled, is_moment_too_late, moment_of, event_of, octet_count_of_call, finds_in, handle_end_behind_call, told_at, deeds_at, held_after, status_after, deeds_after, DoesHandleCall}
 use Rattle.er_end_c.proofs.Taking.{last_taken}
-use Rattle.er_end_c.specs.Runs.{Answered, HasTexts, Leads, event_used, stepped, model_after, model_run, is_refused, octets_told, accepted_told, taken_told, is_take, IsAnsweredIf, AreAnswered, ReadsAs, RunsAsModel}
+use Rattle.er_end_c.specs.Runs.{Answered, HasTexts, LeadsToHandle, event_used, stepped, model_after, model_run, is_send_refused, octets_told, accepted_told, taken_told, is_take, IsAnsweredIf, AreAnswered, ReadsAs, RunsAsModel}
 
 -- ---- texts
 
@@ -50,7 +50,7 @@ octets_taken : (o : Option (List ℕ)) (xs : List Outcome) → octets_told (if_t
 octets_taken None xs = refl
 octets_taken (Some m) xs = refl
 
-accepted_all : (c : Option ℕ) (n : Option (List ℕ)) (l : Option Why) (os : List ℕ) → accepted_told (if_connected c ++ if_accepted n ++ if_released l ++ if_octets os) ≡ text_of n
+accepted_all : (c : Option ℕ) (n : Option (List ℕ)) (l : Option Why) (os : List ℕ) → accepted_told (if_connected c ++ if_accepted n ++ if_released l ++ if_octets os) ≡ text_or_empty n
 accepted_all None None None [] = refl
 accepted_all None None None (o ∷ os) = refl
 accepted_all None None (Some why) [] = refl
@@ -68,7 +68,7 @@ accepted_all (Some peer) (Some m) None (o ∷ os) = refl
 accepted_all (Some peer) (Some m) (Some why) [] = refl
 accepted_all (Some peer) (Some m) (Some why) (o ∷ os) = refl
 
-accepted_by : (k : KEnd) → accepted_told (told_by k) ≡ accepted_of k
+accepted_by : (k : KEnd) → accepted_told (told_by k) ≡ newest_accepted_message k
 accepted_by k = accepted_all k.core.connected (newest_of k.core.upper.inbox) k.core.leaves k.core.line.out
 
 accepted_taken : (o : Option (List ℕ)) (xs : List Outcome) → accepted_told (if_taken o ++ xs) ≡ accepted_told xs
@@ -76,41 +76,41 @@ accepted_taken None xs = refl
 accepted_taken (Some m) xs = refl
 
 -- a send
-sent_by : (f : List Outcome → List ℕ) (r : Option SendRefusal) (xs : List Outcome) (out : List ℕ) → f xs ≡ out → is_refused (if_refused r xs) ≡ false → f (if_refused r xs) ≡ out
+sent_by : (f : List Outcome → List ℕ) (r : Option SendRefusal) (xs : List Outcome) (out : List ℕ) → f xs ≡ out → is_send_refused (refusal_or_outcomes r xs) ≡ false → f (refusal_or_outcomes r xs) ≡ out
 sent_by f None xs out e n = e
-sent_by f (Some refusal) xs out e n = absurd (cc n)
+sent_by f (Some refusal_of_send) xs out e n = absurd (cc n)
 
-octets_at : (call : Call) (h : Held) → is_refused (told_at call h) ≡ false → octets_told (told_at call h) ≡ out_of (happens_at call h)
-octets_at (Start now) h n = octets_by (happens_at (Start now) h)
-octets_at (Octets now piece) h n = octets_by (happens_at (Octets now piece) h)
-octets_at (Send now text) h n = sent_by octets_told (refusal text h.end) (told_by (after_send now text h.end)) (out_of (after_send now text h.end)) (octets_by (after_send now text h.end)) n
-octets_at (Take now) h n = octets_taken (slice_get h.end.core.upper.inbox.waits 0) (told_by (happens_at (Take now) h)) ∙ octets_by (happens_at (Take now) h)
-octets_at (Release now sub) h n = octets_by (happens_at (Release now sub) h)
-octets_at (Tick now) h n = octets_by (happens_at (Tick now) h)
-octets_at Ended h n = octets_by (happens_at Ended h)
-octets_at Fault h n = octets_by (happens_at Fault h)
-octets_at Stalled h n = octets_by (happens_at Stalled h)
+octets_at : (call : HandleCall) (h : Held) → is_send_refused (told_at call h) ≡ false → octets_told (told_at call h) ≡ out_of (handle_end_behind_call call h)
+octets_at (Start now) h n = octets_by (handle_end_behind_call (Start now) h)
+octets_at (Octets now piece) h n = octets_by (handle_end_behind_call (Octets now piece) h)
+octets_at (Send now text) h n = sent_by octets_told (refusal_of_send text h.end) (told_by (after_send now text h.end)) (out_of (after_send now text h.end)) (octets_by (after_send now text h.end)) n
+octets_at (Take now) h n = octets_taken (slice_get h.end.core.upper.inbox.waits 0) (told_by (handle_end_behind_call (Take now) h)) ∙ octets_by (handle_end_behind_call (Take now) h)
+octets_at (Release now sub) h n = octets_by (handle_end_behind_call (Release now sub) h)
+octets_at (Tick now) h n = octets_by (handle_end_behind_call (Tick now) h)
+octets_at Ended h n = octets_by (handle_end_behind_call Ended h)
+octets_at Fault h n = octets_by (handle_end_behind_call Fault h)
+octets_at Stalled h n = octets_by (handle_end_behind_call Stalled h)
 
-accepted_at : (call : Call) (h : Held) → is_refused (told_at call h) ≡ false → accepted_told (told_at call h) ≡ accepted_of (happens_at call h)
-accepted_at (Start now) h n = accepted_by (happens_at (Start now) h)
-accepted_at (Octets now piece) h n = accepted_by (happens_at (Octets now piece) h)
-accepted_at (Send now text) h n = sent_by accepted_told (refusal text h.end) (told_by (after_send now text h.end)) (accepted_of (after_send now text h.end)) (accepted_by (after_send now text h.end)) n
-accepted_at (Take now) h n = accepted_taken (slice_get h.end.core.upper.inbox.waits 0) (told_by (happens_at (Take now) h)) ∙ accepted_by (happens_at (Take now) h)
-accepted_at (Release now sub) h n = accepted_by (happens_at (Release now sub) h)
-accepted_at (Tick now) h n = accepted_by (happens_at (Tick now) h)
-accepted_at Ended h n = accepted_by (happens_at Ended h)
-accepted_at Fault h n = accepted_by (happens_at Fault h)
-accepted_at Stalled h n = accepted_by (happens_at Stalled h)
+accepted_at : (call : HandleCall) (h : Held) → is_send_refused (told_at call h) ≡ false → accepted_told (told_at call h) ≡ newest_accepted_message (handle_end_behind_call call h)
+accepted_at (Start now) h n = accepted_by (handle_end_behind_call (Start now) h)
+accepted_at (Octets now piece) h n = accepted_by (handle_end_behind_call (Octets now piece) h)
+accepted_at (Send now text) h n = sent_by accepted_told (refusal_of_send text h.end) (told_by (after_send now text h.end)) (newest_accepted_message (after_send now text h.end)) (accepted_by (after_send now text h.end)) n
+accepted_at (Take now) h n = accepted_taken (slice_get h.end.core.upper.inbox.waits 0) (told_by (handle_end_behind_call (Take now) h)) ∙ accepted_by (handle_end_behind_call (Take now) h)
+accepted_at (Release now sub) h n = accepted_by (handle_end_behind_call (Release now sub) h)
+accepted_at (Tick now) h n = accepted_by (handle_end_behind_call (Tick now) h)
+accepted_at Ended h n = accepted_by (handle_end_behind_call Ended h)
+accepted_at Fault h n = accepted_by (handle_end_behind_call Fault h)
+accepted_at Stalled h n = accepted_by (handle_end_behind_call Stalled h)
 
 taken_first : (ms : List (List ℕ)) (xs : List Outcome) → taken_told (if_taken (slice_get ms 0) ++ xs) ≡ first_in ms
 taken_first [] xs = refl
 taken_first (m ∷ ms) xs = refl
 
-taken_at : (call : Call) (h : Held) → is_take call ≡ true → taken_told (told_at call h) ≡ taken_of (happens_at call h)
+taken_at : (call : HandleCall) (h : Held) → is_take call ≡ true → taken_told (told_at call h) ≡ message_last_taken (handle_end_behind_call call h)
 taken_at (Start now) h t = absurd (cc t)
 taken_at (Octets now piece) h t = absurd (cc t)
 taken_at (Send now text) h t = absurd (cc t)
-taken_at (Take now) h t = taken_first (waiting_in h.end) (told_by (happens_at (Take now) h)) ∙ sym (last_taken now h.end)
+taken_at (Take now) h t = taken_first (waiting_in h.end) (told_by (handle_end_behind_call (Take now) h)) ∙ sym (last_taken now h.end)
 taken_at (Release now sub) h t = absurd (cc t)
 taken_at (Tick now) h t = absurd (cc t)
 taken_at Ended h t = absurd (cc t)
@@ -120,17 +120,17 @@ taken_at Stalled h t = absurd (cc t)
 -- ---- one call
 
 -- a handle holds an end that stands for this one, with these keys
-record Holds (end : CEnd) (entries : List Entry) (m : End) : Type 0 where
+record Holds (end : CEnd) (entries : List KmacEntry) (m : End) : Type 0 where
   found : Held
-  there : held_in end ≡ Some found
-  keyed : entries_in found ≡ entries
+  there : end_held_in_handle end ≡ Some found
+  keyed : key_entries_of_handle found ≡ entries
   tied : EndStands found.end m
 
-event_same : (call : Call) (entries : List Entry) (h : Held) (used : ℕ) → entries_in h ≡ entries → used ≡ used_by call h.end
+event_same : (call : HandleCall) (entries : List KmacEntry) (h : Held) (used : ℕ) → key_entries_of_handle h ≡ entries → used ≡ octet_count_of_call call h.end
     → standing.event_of h.end (event_of (finds_in h) call) ≡ event_used (key_at entries) call used
 event_same (Start now) entries h used e u = refl
 event_same (Octets now piece) entries h used e u =
-    ap (λ (es : List Entry). event.Come (key_at es) (take (used_of h.end piece) piece)) e ∙ ap (λ n. event.Come (key_at entries) (take n piece)) (sym u)
+    ap (λ (es : List KmacEntry). event.Come (key_at es) (take (used_of h.end piece) piece)) e ∙ ap (λ n. event.Come (key_at entries) (take n piece)) (sym u)
 event_same (Send now text) entries h used e u = refl
 event_same (Take now) entries h used e u = refl
 event_same (Release now sub) entries h used e u = refl
@@ -139,8 +139,8 @@ event_same Ended entries h used e u = refl
 event_same Fault entries h used e u = refl
 event_same Stalled entries h used e u = refl
 
-one_at : StepsAlike → (late : Bool) (entries : List Entry) (a : Answered) (next : CEnd) (m : End) (h : Held) → entries_in h ≡ entries → EndStands h.end m
-    → held_in next ≡ (if late then Some h else Some (with_end h (happens_at a.call h)))
+one_at : StepsAlike → (late : Bool) (entries : List KmacEntry) (a : Answered) (next : CEnd) (m : End) (h : Held) → key_entries_of_handle h ≡ entries → EndStands h.end m
+    → end_held_in_handle next ≡ (if late then Some h else Some (held_with_end h (handle_end_behind_call a.call h)))
     → a.status ≡ (if late then late_moment else status_told (told_at a.call h))
     → a.deeds ≡ (if late then no_deeds else deeds_at a.call h)
     → HasTexts next a
@@ -148,35 +148,35 @@ one_at : StepsAlike → (late : Bool) (entries : List Entry) (a : Answered) (nex
 one_at steps true entries a next m h e tied there s d t = ((s, d), record { found = h; there = there; keyed = e; tied = tied })
 one_at steps false entries a next m h e tied there s d t =
     let k : KEnd = h.end in let now : ℕ = moment_of a.call in let ev : Event = event_of (finds_in h) a.call in
-    let u : a.deeds.used ≡ used_by a.call k = ap (λ (x : CDeeds). x.used) d in
+    let u : a.deeds.used ≡ octet_count_of_call a.call k = ap (λ (x : CDeeds). x.used) d in
     let same = event_same a.call entries h a.deeds.used e u in
     let p = steps now ev k m tied in
-    let told : told_at a.call h ≡ (stepped (key_at entries) a m).1 = p.1 ∙ ap (λ (x : Event). (step now x m).1) same in
-    let unrefused : is_refused (stepped (key_at entries) a m).1 ≡ false → is_refused (told_at a.call h) ≡ false = λ n. ap is_refused told ∙ n in (
+    let told : told_at a.call h ≡ (stepped (key_at entries) a m).1 = p.1 ∙ ap (λ (x : Event). (step_event now x m).1) same in
+    let unrefused : is_send_refused (stepped (key_at entries) a m).1 ≡ false → is_send_refused (told_at a.call h) ≡ false = λ n. ap is_send_refused told ∙ n in (
       record {
         answer = s ∙ ap status_told told;
-        tells = d ∙ ap (λ (x : List Outcome). record (deeds_told x) { used = used_by a.call k }) told ∙ ap (λ n. record (deeds_told (stepped (key_at entries) a m).1) { used = n }) (sym u);
-        sent = λ n. t.out_there ∙ ap (text_in out_of) there ∙ sym (octets_at a.call h (unrefused n)) ∙ ap octets_told told;
-        came = λ n. t.accepted_there ∙ ap (text_in accepted_of) there ∙ sym (accepted_at a.call h (unrefused n)) ∙ ap accepted_told told;
-        took = λ n. t.taken_there ∙ ap (text_in taken_of) there ∙ sym (taken_at a.call h n) ∙ ap taken_told told;
+        tells = d ∙ ap (λ (x : List Outcome). record (deeds_told x) { used = octet_count_of_call a.call k }) told ∙ ap (λ n. record (deeds_told (stepped (key_at entries) a m).1) { used = n }) (sym u);
+        sent = λ n. t.out_there ∙ ap (text_of_held_end out_of) there ∙ sym (octets_at a.call h (unrefused n)) ∙ ap octets_told told;
+        came = λ n. t.accepted_there ∙ ap (text_of_held_end newest_accepted_message) there ∙ sym (accepted_at a.call h (unrefused n)) ∙ ap accepted_told told;
+        took = λ n. t.taken_there ∙ ap (text_of_held_end message_last_taken) there ∙ sym (taken_at a.call h n) ∙ ap taken_told told;
       },
       record {
-        found = with_end h (happens_at a.call h);
+        found = held_with_end h (handle_end_behind_call a.call h);
         there = there;
         keyed = e;
-        tied = subst (λ (x : Event). EndStands (happens now ev k) (step now x m).0) same p.0;
+        tied = subst (λ (x : Event). EndStands (kept_end_behind_event now ev k) (step_event now x m).0) same p.0;
       },
     )
 
-one : StepsAlike → (entries : List Entry) (a : Answered) (first next : CEnd) (m : End) → Holds first entries m → Does a.call first next a.status a.deeds → HasTexts next a
-    → IsAnsweredIf (is_late (moment_of a.call)) (key_at entries) a m × Holds next entries (model_after (key_at entries) a m)
+one : StepsAlike → (entries : List KmacEntry) (a : Answered) (first next : CEnd) (m : End) → Holds first entries m → DoesHandleCall a.call first next a.status a.deeds → HasTexts next a
+    → IsAnsweredIf (is_moment_too_late (moment_of a.call)) (key_at entries) a m × Holds next entries (model_after (key_at entries) a m)
 one steps entries a first next m holds does texts =
-    one_at steps (is_late (moment_of a.call)) entries a next m holds.found holds.keyed holds.tied
+    one_at steps (is_moment_too_late (moment_of a.call)) entries a next m holds.found holds.keyed holds.tied
     (does.held ∙ ap (held_after a.call) holds.there) (does.answer ∙ ap (status_after a.call) holds.there) (does.tells ∙ ap (deeds_after a.call) holds.there) texts
 
 -- ---- what is read
 
-reads : ShowsAlike → (end : CEnd) (entries : List Entry) (m : End) → Holds end entries m → ReadsAs end m
+reads : ShowsAlike → (end : CEnd) (entries : List KmacEntry) (m : End) → Holds end entries m → ReadsAs end m
 reads shows end entries m holds =
     let k : KEnd = holds.found.end in let s = shows k m holds.tied in
     record {
@@ -184,13 +184,13 @@ reads shows end entries m holds =
       moment = λ before. ap (shown_deadline before) holds.there ∙ ap (else_ before) s.0;
       over = ap shown_release_status holds.there ∙ ap none_or s.1;
       why = ap shown_release holds.there ∙ ap release_deeds s.1;
-      waits = ap waiting_count holds.there ∙ s.2;
+      waits = ap count_waiting_at_handle holds.there ∙ s.2;
       counts = ap shown_counts holds.there ∙ ap counts_shown s.4;
     }
 
 -- ---- a run
 
-run_from : StepsAlike → ShowsAlike → (entries : List Entry) (calls : List Answered) (first last : CEnd) (m : End) → Holds first entries m → Leads calls first last
+run_from : StepsAlike → ShowsAlike → (entries : List KmacEntry) (calls : List Answered) (first last : CEnd) (m : End) → Holds first entries m → LeadsToHandle calls first last
     → AreAnswered (key_at entries) calls m × ReadsAs last (model_run (key_at entries) calls m)
 run_from steps shows entries [] first last m holds same =
     (tt, reads shows last entries m (record { found = holds.found; there = same ∙ holds.there; keyed = holds.keyed; tied = holds.tied }))
@@ -202,5 +202,5 @@ run_from steps shows entries (a ∷ calls) first last m holds leads =
 
 pub runs_as_model : MadeStands → StepsAlike → ShowsAlike → RunsAsModel
 runs_as_model made steps shows opening entries calls first last allowed is leads =
-    run_from steps shows (entries_of entries) calls first last (opened opening)
+    run_from steps shows (optional_key_entries entries) calls first last (opened opening)
     (record { found = held_made opening entries; there = is; keyed = refl; tied = made opening allowed }) leads

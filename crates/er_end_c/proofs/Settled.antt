@@ -6,12 +6,12 @@ use Rattle.er_settings.specs.Values.{Settings}
 use Rattle.er_settings.specs.declared.settings.SettingFault.{SettingFault}
 use Rattle.er_settings.specs.declared.setting_name.SettingName.{SettingName}
 use Rattle.er_settings.specs.declared.setting_name.SettingName.TheVariants as setting
-use Rattle.er_settings.specs.Ranges.{is_allowed, AllAllowed, FirstRefused, settings_of}
+use Rattle.er_settings.specs.Ranges.{is_allowed, AllAllowed, IsFirstRefusedSetting, settings_of}
 use Rattle.er_end_c.specs.declared.face.CSettings.{CSettings}
 use Rattle.er_end_c.specs.declared.handle.CEnd.{CEnd}
-use Rattle.er_end_c.specs.Makings.{are_allowed, settings_from, settings_in, fault_of}
-use Rattle.er_end_c.specs.Handles.{is_open}
-use Rattle.er_end_c.specs.Calls.{is_late}
+use Rattle.er_end_c.specs.Makings.{are_allowed, settings_from, settings_in, fault_of_handle_making}
+use Rattle.er_end_c.specs.Handles.{is_handle_open}
+use Rattle.er_end_c.specs.Calls.{is_moment_too_late}
 
 not_true : (b : Bool) → (b ≡ true → ⊥) → b ≡ false
 not_true true h = absurd (h refl)
@@ -19,7 +19,7 @@ not_true false h = refl
 
 -- a value that is refused, of the modulo m
 refused : (m : ℕ) (c : CSettings) (name : SettingName) (v : ℕ) → (m == 8 || m == 128) ≡ true
-    → FirstRefused m c.window c.credit c.size c.t1 c.n2 c.setup name v
+    → IsFirstRefusedSetting m c.window c.credit c.size c.t1 c.n2 c.setup name v
     → ((m == 8 || m == 128) && is_allowed m setting.Window c.window && is_allowed m setting.Credit c.credit && is_allowed m setting.Size c.size
     && is_allowed m setting.T1 c.t1 && is_allowed m setting.N2 c.n2 && is_allowed m setting.Setup c.setup) ≡ false
 refused m c setting.Window v e h =
@@ -43,7 +43,7 @@ refused m c setting.Setup v e h =
 
 -- what was answered at the modulo m
 pub checked : (m : ℕ) (c : CSettings) (r : Result Settings SettingFault) → c.modulo ≡ m → (m == 8 || m == 128) ≡ true
-    → MatchResult r (λ made. made ≡ settings_of m c.window c.credit c.size c.t1 c.n2 c.setup) (λ fault. FirstRefused m c.window c.credit c.size c.t1 c.n2 c.setup fault.field fault.value)
+    → MatchResult r (λ made. made ≡ settings_of m c.window c.credit c.size c.t1 c.n2 c.setup) (λ fault. IsFirstRefusedSetting m c.window c.credit c.size c.t1 c.n2 c.setup fault.field fault.value)
     → IfOk r (λ made. AllAllowed made) → result_ok r ≡ settings_in c
 checked m c (Ok made) at e is all =
     let s : AllAllowed (settings_of m c.window c.credit c.size c.t1 c.n2 c.setup) = subst (λ (x : Settings). AllAllowed x) is all in
@@ -57,8 +57,8 @@ if_some : {A : Type 0} → (b : Bool) (x t : A) → Some t ≡ (if b then Some x
 if_some true x t h = (refl, cc h)
 if_some false x t h = absurd (cc h)
 
-pub admits : (end : CEnd) (now : ℕ) (numbers : Bool) (s : CSettings) (t : Settings) → is_open end ≡ false → is_late now ≡ false → numbers ≡ true → Some t ≡ settings_in s
-    → (fault_of end now numbers s ≡ None) × (t ≡ settings_from s)
+pub admits : (end : CEnd) (now : ℕ) (numbers : Bool) (s : CSettings) (t : Settings) → is_handle_open end ≡ false → is_moment_too_late now ≡ false → numbers ≡ true → Some t ≡ settings_in s
+    → (fault_of_handle_making end now numbers s ≡ None) × (t ≡ settings_from s)
 admits end now numbers s t closed early n h =
     let b = if_some (are_allowed s) (settings_from s) t h in
     (rw (closed, early, n, b.0) refl, b.1)

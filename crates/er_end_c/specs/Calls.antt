@@ -5,32 +5,32 @@ use Rattle.er_end_model.specs.Steps.{Finds}
 use Rattle.er_end_model.specs.Outcomes.{Outcome}
 use Rattle.er_end_model.specs.Ends as model
 use Rattle.er_end_model.specs.Ends.{Event}
-use Rattle.er_end.specs.KeptEnds.{KEnd, happens, tells, used_of}
+use Rattle.er_end.specs.KeptEnds.{KEnd, kept_end_behind_event, tells, used_of}
 use Rattle.er_end_c.specs.declared.handle.CEnd.{CEnd}
 use Rattle.er_end_c.specs.declared.held.Held.{Held}
 use Rattle.er_end_c.specs.declared.face.CDeeds.{CDeeds}
 use Rattle.er_end_c.specs.Deeds.{no_deeds, deeds_told, status_told}
-use Rattle.er_end_c.specs.Statuses.{closed, late_moment}
-use Rattle.er_end_c.specs.Handles.{held_in, with_end, entries_in}
+use Rattle.er_end_c.specs.Statuses.{closed_handle, late_moment}
+use Rattle.er_end_c.specs.Handles.{end_held_in_handle, held_with_end, key_entries_of_handle}
 
 -- a call that is an event at an end, with what it was passed
-pub data Call : Type 0 where
-  Start : (now : ℕ) → Call
-  Octets : (now : ℕ) (piece : List ℕ) → Call
-  Send : (now : ℕ) (text : List ℕ) → Call
-  Take : (now : ℕ) → Call
-  Release : (now sub : ℕ) → Call
-  Tick : (now : ℕ) → Call
-  Ended : Call
-  Fault : Call
-  Stalled : Call
+pub data HandleCall : Type 0 where
+  Start : (now : ℕ) → HandleCall
+  Octets : (now : ℕ) (piece : List ℕ) → HandleCall
+  Send : (now : ℕ) (text : List ℕ) → HandleCall
+  Take : (now : ℕ) → HandleCall
+  Release : (now sub : ℕ) → HandleCall
+  Tick : (now : ℕ) → HandleCall
+  Ended : HandleCall
+  Fault : HandleCall
+  Stalled : HandleCall
 
 -- a moment above 10 ^ 15 milliseconds
-abbrev pub is_late : ℕ → Bool
-is_late now = nat_lt 1000000000000000 now
+abbrev pub is_moment_too_late : ℕ → Bool
+is_moment_too_late now = nat_lt 1000000000000000 now
 
 -- its moment; three calls have none
-abbrev pub moment_of : Call → ℕ
+abbrev pub moment_of : HandleCall → ℕ
 moment_of (Start now) = now
 moment_of (Octets now piece) = now
 moment_of (Send now text) = now
@@ -42,7 +42,7 @@ moment_of Fault = 0
 moment_of Stalled = 0
 
 -- the event of the end model, where keys are found so
-abbrev pub event_of : Finds → Call → Event
+abbrev pub event_of : Finds → HandleCall → Event
 event_of finds (Start now) = model.Start
 event_of finds (Octets now piece) = model.Come finds piece
 event_of finds (Send now text) = model.Send text
@@ -54,46 +54,46 @@ event_of finds Fault = model.Fault
 event_of finds Stalled = model.Stalled
 
 -- how many octets a call uses
-abbrev pub used_by : Call → KEnd → ℕ
-used_by (Start now) k = 0
-used_by (Octets now piece) k = used_of k piece
-used_by (Send now text) k = 0
-used_by (Take now) k = 0
-used_by (Release now sub) k = 0
-used_by (Tick now) k = 0
-used_by Ended k = 0
-used_by Fault k = 0
-used_by Stalled k = 0
+abbrev pub octet_count_of_call : HandleCall → KEnd → ℕ
+octet_count_of_call (Start now) k = 0
+octet_count_of_call (Octets now piece) k = used_of k piece
+octet_count_of_call (Send now text) k = 0
+octet_count_of_call (Take now) k = 0
+octet_count_of_call (Release now sub) k = 0
+octet_count_of_call (Tick now) k = 0
+octet_count_of_call Ended k = 0
+octet_count_of_call Fault k = 0
+octet_count_of_call Stalled k = 0
 
 -- ---- the call at an end that is held
 
 abbrev pub finds_in : Held → Finds
-finds_in h = key_at (entries_in h)
+finds_in h = key_at (key_entries_of_handle h)
 
-abbrev pub happens_at : Call → Held → KEnd
-happens_at call h = happens (moment_of call) (event_of (finds_in h) call) h.end
+abbrev pub handle_end_behind_call : HandleCall → Held → KEnd
+handle_end_behind_call call h = kept_end_behind_event (moment_of call) (event_of (finds_in h) call) h.end
 
-abbrev pub told_at : Call → Held → List Outcome
+abbrev pub told_at : HandleCall → Held → List Outcome
 told_at call h = tells (moment_of call) (event_of (finds_in h) call) h.end
 
-abbrev pub deeds_at : Call → Held → CDeeds
-deeds_at call h = record (deeds_told (told_at call h)) { used = used_by call h.end }
+abbrev pub deeds_at : HandleCall → Held → CDeeds
+deeds_at call h = record (deeds_told (told_at call h)) { used = octet_count_of_call call h.end }
 
 -- ---- the call at a handle: at one that holds nothing, and at a late moment, nothing happens
 
-abbrev pub held_after : Call → Option Held → Option Held
+abbrev pub held_after : HandleCall → Option Held → Option Held
 held_after call None = None
-held_after call (Some h) = if is_late (moment_of call) then Some h else Some (with_end h (happens_at call h))
+held_after call (Some h) = if is_moment_too_late (moment_of call) then Some h else Some (held_with_end h (handle_end_behind_call call h))
 
-abbrev pub status_after : Call → Option Held → ℤ
-status_after call None = closed
-status_after call (Some h) = if is_late (moment_of call) then late_moment else status_told (told_at call h)
+abbrev pub status_after : HandleCall → Option Held → ℤ
+status_after call None = closed_handle
+status_after call (Some h) = if is_moment_too_late (moment_of call) then late_moment else status_told (told_at call h)
 
-abbrev pub deeds_after : Call → Option Held → CDeeds
+abbrev pub deeds_after : HandleCall → Option Held → CDeeds
 deeds_after call None = no_deeds
-deeds_after call (Some h) = if is_late (moment_of call) then no_deeds else deeds_at call h
+deeds_after call (Some h) = if is_moment_too_late (moment_of call) then no_deeds else deeds_at call h
 
-pub record Does (call : Call) (old new : CEnd) (status : ℤ) (deeds : CDeeds) : Type 0 where
-  pub held : held_in new ≡ held_after call (held_in old)
-  pub answer : status ≡ status_after call (held_in old)
-  pub tells : deeds ≡ deeds_after call (held_in old)
+pub record DoesHandleCall (call : HandleCall) (old new : CEnd) (status : ℤ) (deeds : CDeeds) : Type 0 where
+  pub held : end_held_in_handle new ≡ held_after call (end_held_in_handle old)
+  pub answer : status ≡ status_after call (end_held_in_handle old)
+  pub tells : deeds ≡ deeds_after call (end_held_in_handle old)

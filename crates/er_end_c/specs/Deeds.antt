@@ -7,8 +7,8 @@ use Rattle.er_end_c.specs.declared.face.CDeeds.{CDeeds}
 use Rattle.er_end_c.specs.declared.face.CCounts.{CCounts}
 use Rattle.er_end_c.specs.Statuses.{ok, released, not_connected, wrong_length, full, none}
 
-abbrev pub flag : Bool → ℕ
-flag b = if b then 1 else 0
+abbrev pub deed_flag : Bool → ℕ
+deed_flag b = if b then 1 else 0
 
 abbrev pub no_deeds : CDeeds
 no_deeds = record { out = 0; used = 0; message = 0; connected = 0; peer = 0; released = 0; reason = 0; sub = 0; by_peer = 0; zero = 0 }
@@ -16,7 +16,7 @@ no_deeds = record { out = 0; used = 0; message = 0; connected = 0; peer = 0; rel
 -- ---- what outcomes are as deeds
 
 abbrev pub released_so : Release → CDeeds → CDeeds
-released_so why deeds = record deeds { released = 1; reason = why.reason; sub = why.sub; by_peer = flag why.by_peer }
+released_so why deeds = record deeds { released = 1; reason = why.reason; sub = why.sub; by_peer = deed_flag why.by_peer }
 
 -- the octets that go to the line are so many, the message that was accepted or taken has so many, the safe connection came to stand with
 -- this peer, the end was released for this reason
@@ -54,21 +54,21 @@ abbrev pub release_deeds : Option Release → CDeeds
 release_deeds None = no_deeds
 release_deeds (Some why) = released_so why no_deeds
 
-abbrev pub size_in : Option (List ℕ) → ℕ
-size_in None = 0
-size_in (Some text) = length text
+abbrev pub text_size_or_zero : Option (List ℕ) → ℕ
+text_size_or_zero None = 0
+text_size_or_zero (Some text) = length text
 
-abbrev pub number_in : Option ℕ → ℕ
-number_in None = 0
-number_in (Some n) = n
+abbrev pub number_or_zero : Option ℕ → ℕ
+number_or_zero None = 0
+number_or_zero (Some n) = n
 
-abbrev pub told : ℕ → Option ℕ → Option (List ℕ) → Option Release → List ℕ → CDeeds
-told used connected accepted leaves out = record (release_deeds leaves) {
+abbrev pub deeds_by_outcome_kind : ℕ → Option ℕ → Option (List ℕ) → Option Release → List ℕ → CDeeds
+deeds_by_outcome_kind used connected accepted leaves out = record (release_deeds leaves) {
   out = length out;
   used = used;
-  message = size_in accepted;
-  connected = flag (is_some connected);
-  peer = number_in connected;
+  message = text_size_or_zero accepted;
+  connected = deed_flag (is_some connected);
+  peer = number_or_zero connected;
 }
 
 -- ---- counts

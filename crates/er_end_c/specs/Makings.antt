@@ -1,7 +1,7 @@
 -- Contract: what the makers of an end answer and leave.
 use Rattle.std.specs.Prelude.{ℕ, ℤ, ◌≡◌, ◌==◌, ◌&&◌, ◌||◌, ◌^◌, min, nat_lt, Bool, not, if◌then◌else◌, List, Option, Some, None, Result, Ok, Err, ◌⊎◌, slice_index_or}
 use Rattle.des_block.specs.declared.triple_key.TripleKey.{TripleKey}
-use Rattle.safety_automaton.specs.Keys.{Entry}
+use Rattle.safety_automaton.specs.Keys.{KmacEntry}
 use Rattle.er_settings.specs.Values.{Settings}
 use Rattle.er_settings.specs.declared.setting_name.SettingName.TheVariants as setting
 use Rattle.er_settings.specs.Ranges.{is_allowed, settings_of}
@@ -14,8 +14,8 @@ use Rattle.er_end_c.specs.declared.held.Held.{Held}
 use Rattle.er_end_c.specs.declared.fault.Fault.{Fault}
 use Rattle.er_end_c.specs.declared.fault.Fault.TheVariants.{Open, Moment, Number, Setting, Keys, Memory}
 use Rattle.er_end_c.specs.Statuses.{ok, open_already, late_moment, wrong_number, wrong_setting, wrong_keys, no_memory}
-use Rattle.er_end_c.specs.Handles.{held_in, is_open}
-use Rattle.er_end_c.specs.Calls.{is_late}
+use Rattle.er_end_c.specs.Handles.{end_held_in_handle, is_handle_open}
+use Rattle.er_end_c.specs.Calls.{is_moment_too_late}
 
 -- the modulo is 8 or 128, and each setting has a value that it may have
 abbrev pub are_allowed : CSettings → Bool
@@ -38,10 +38,10 @@ is_number n = nat_lt n (2 ^ 24)
 
 -- the first of these that holds, where one does: the handle holds an end already; the moment is above 10 ^ 15; a number is none; a setting is
 -- out of its range
-abbrev pub fault_of : CEnd → (now : ℕ) → (are_numbers : Bool) → CSettings → Option ℤ
-fault_of end now are_numbers settings =
-    if is_open end then Some open_already
-    else if is_late now then Some late_moment
+abbrev pub fault_of_handle_making : CEnd → (now : ℕ) → (are_numbers : Bool) → CSettings → Option ℤ
+fault_of_handle_making end now are_numbers settings =
+    if is_handle_open end then Some open_already
+    else if is_moment_too_late now then Some late_moment
     else if not are_numbers then Some wrong_number
     else if not (are_allowed settings) then Some wrong_setting
     else None
@@ -52,21 +52,21 @@ fault_of end now are_numbers settings =
 abbrev pub key_of : List ℕ → TripleKey
 key_of numbers = record { first = slice_index_or numbers 0 0; second = slice_index_or numbers 1 0; third = slice_index_or numbers 2 0 }
 
-abbrev pub held_made : Opening → Option (List Entry) → Held
+abbrev pub held_made : Opening → Option (List KmacEntry) → Held
 held_made opening entries = record { end = kept_opened opening; keys = entries }
 
 -- what is made of an opening and of what keys say; nothing where they are refused
-abbrev pub made_with : {E : Type 0} → Opening → Result (List Entry) E → Option Held
+abbrev pub made_with : {E : Type 0} → Opening → Result (List KmacEntry) E → Option Held
 made_with opening (Ok entries) = Some (held_made opening (Some entries))
 made_with opening (Err fault) = None
 
 -- the same of a list of keys, which is refused or isn't
-abbrev pub made_of : Opening → Option (List Entry) → Option Held
+abbrev pub made_of : Opening → Option (List KmacEntry) → Option Held
 made_of opening None = None
 made_of opening (Some entries) = Some (held_made opening (Some entries))
 
 -- a key of an array as an entry; a last moment above 10 ^ 15 counts as 10 ^ 15
-abbrev pub entry_shown : CKey → Entry
+abbrev pub entry_shown : CKey → KmacEntry
 entry_shown key = record { engine = key.engine; rbc = key.rbc; kmac = key_of key.kmac; first = key.from; last = min key.to 1000000000000000 }
 
 -- at a fault its status is answered; else, where the keys are refused, KEYS or that memory ran out, and where they aren't, OK or that memory
@@ -74,11 +74,11 @@ entry_shown key = record { engine = key.engine; rbc = key.rbc; kmac = key_of key
 abbrev pub Makes : (fault : Option ℤ) → (made : Option Held) → (old new : CEnd) → (status : ℤ) → Type 0
 Makes (Some s) made old new status = (status ≡ s) × (new ≡ old)
 Makes None None old new status = ((status ≡ wrong_keys) ⊎ (status ≡ no_memory)) × (new ≡ old)
-Makes None (Some h) old new status = ((status ≡ ok) × (held_in new ≡ Some h)) ⊎ ((status ≡ no_memory) × (new ≡ old))
+Makes None (Some h) old new status = ((status ≡ ok) × (end_held_in_handle new ≡ Some h)) ⊎ ((status ≡ no_memory) × (new ≡ old))
 
 -- the handle holds the end that was opened so, with these keys
-abbrev pub IsMade : CEnd → Opening → Option (List Entry) → Type 0
-IsMade end opening entries = held_in end ≡ Some (held_made opening entries)
+abbrev pub IsHandleMade : CEnd → Opening → Option (List KmacEntry) → Type 0
+IsHandleMade end opening entries = end_held_in_handle end ≡ Some (held_made opening entries)
 
 -- ---- faults, as the code names them
 

@@ -6,42 +6,42 @@ use Rattle.er_end_c.specs.declared.held.Held.{Held}
 use Rattle.er_end_c.specs.declared.face.CDeeds.{CDeeds}
 use Rattle.er_end_c.specs.declared.face.CCounts.{CCounts}
 use Rattle.er_end_c.specs.Deeds.{no_deeds, release_deeds, counts_shown}
-use Rattle.er_end_c.specs.Statuses.{ok, none, closed}
+use Rattle.er_end_c.specs.Statuses.{ok, none, closed_handle}
 
 -- ---- texts, of which as much is copied as fits
 
-abbrev pub text_of : Option (List ℕ) → List ℕ
-text_of None = []
-text_of (Some text) = text
+abbrev pub text_or_empty : Option (List ℕ) → List ℕ
+text_or_empty None = []
+text_or_empty (Some text) = text
 
 -- the octets that the last event sent, the message that it accepted, the message that it took
 abbrev pub out_of : KEnd → List ℕ
 out_of k = k.core.line.out
 
-abbrev pub accepted_of : KEnd → List ℕ
-accepted_of k = text_of (newest_of k.core.upper.inbox)
+abbrev pub newest_accepted_message : KEnd → List ℕ
+newest_accepted_message k = text_or_empty (newest_of k.core.upper.inbox)
 
-abbrev pub taken_of : KEnd → List ℕ
-taken_of k = k.core.upper.inbox.last
+abbrev pub message_last_taken : KEnd → List ℕ
+message_last_taken k = k.core.upper.inbox.last
 
 -- such a text of what is held; no octets where nothing is
-abbrev pub text_in : (KEnd → List ℕ) → Option Held → List ℕ
-text_in text None = []
-text_in text (Some h) = text h.end
+abbrev pub text_of_held_end : (KEnd → List ℕ) → Option Held → List ℕ
+text_of_held_end text None = []
+text_of_held_end text (Some h) = text h.end
 
 -- the part of a text from an index on that fits into so much room
 abbrev pub copied : (text : List ℕ) → (from room : ℕ) → List ℕ
 copied text from room = take room (drop from text)
 
 -- octets in the place of as many others
-abbrev pub written : (octets into : List ℕ) → List ℕ
-written octets into = octets ++ drop (length octets) into
+abbrev pub octets_written_over : (octets into : List ℕ) → List ℕ
+octets_written_over octets into = octets ++ drop (length octets) into
 
 -- ---- numbers
 
-abbrev pub waiting_count : Option Held → ℕ
-waiting_count None = 0
-waiting_count (Some h) = length (waiting_in h.end)
+abbrev pub count_waiting_at_handle : Option Held → ℕ
+count_waiting_at_handle None = 0
+count_waiting_at_handle (Some h) = length (waiting_in h.end)
 
 abbrev pub none_or : {A : Type 0} → Option A → ℤ
 none_or None = none
@@ -52,7 +52,7 @@ else_ other None = other
 else_ other (Some n) = n
 
 abbrev pub deadline_status : Option Held → ℤ
-deadline_status None = closed
+deadline_status None = closed_handle
 deadline_status (Some h) = none_or (deadline_of h.end)
 
 -- the moment changes where a tick is wanted alone
@@ -61,7 +61,7 @@ shown_deadline moment None = moment
 shown_deadline moment (Some h) = else_ moment (deadline_of h.end)
 
 abbrev pub shown_release_status : Option Held → ℤ
-shown_release_status None = closed
+shown_release_status None = closed_handle
 shown_release_status (Some h) = none_or h.end.core.released
 
 abbrev pub shown_release : Option Held → CDeeds
@@ -69,7 +69,7 @@ shown_release None = no_deeds
 shown_release (Some h) = release_deeds h.end.core.released
 
 abbrev pub found_status : Option Held → ℤ
-found_status None = closed
+found_status None = closed_handle
 found_status (Some h) = ok
 
 abbrev pub shown_counts : Option Held → CCounts

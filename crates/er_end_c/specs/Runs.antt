@@ -1,24 +1,24 @@
 -- Contract: calls on one handle, one after the other, from the making of its end on, are events of the end model, one after the other.
 use Rattle.std.specs.Prelude.{ℕ, ℤ, ◌≡◌, Bool, true, false, if◌then◌else◌, List, [], ◌∷◌, take, Option}
-use Rattle.safety_automaton.specs.Keys.{Entry, key_at}
+use Rattle.safety_automaton.specs.Keys.{KmacEntry, key_at}
 use Rattle.er_end_model.specs.Outcomes.{Outcome, ConnectedTo, Accepted, Taken, NothingToTake, Refused, WasReleased, Octets as Sent}
 use Rattle.er_end_model.specs.Steps.{Finds, deadline}
 use Rattle.er_end_model.specs.Layers.{model}
-use Rattle.er_end_model.specs.Ends.{Opening, Event, End, opened, step}
+use Rattle.er_end_model.specs.Ends.{Opening, Event, End, opened, step_event}
 use Rattle.er_end_model.specs.Ends as event
 use Rattle.er_end.specs.Standing.{IsAllowed}
 use Rattle.er_end_c.specs.declared.handle.CEnd.{CEnd}
 use Rattle.er_end_c.specs.declared.face.CDeeds.{CDeeds}
 use Rattle.er_end_c.specs.Statuses.{late_moment}
 use Rattle.er_end_c.specs.Deeds.{no_deeds, deeds_told, status_told, release_deeds, counts_shown}
-use Rattle.er_end_c.specs.Handles.{entries_of, held_in}
-use Rattle.er_end_c.specs.Makings.{IsMade}
-use Rattle.er_end_c.specs.Reads.{text_in, out_of, accepted_of, taken_of, none_or, else_, deadline_status, shown_deadline, shown_release_status, shown_release, waiting_count, shown_counts}
-use Rattle.er_end_c.specs.Calls.{Call, Start, Octets, Send, Take, Release, Tick, Ended, Fault, Stalled, is_late, moment_of, Does}
+use Rattle.er_end_c.specs.Handles.{optional_key_entries, end_held_in_handle}
+use Rattle.er_end_c.specs.Makings.{IsHandleMade}
+use Rattle.er_end_c.specs.Reads.{text_of_held_end, out_of, newest_accepted_message, message_last_taken, none_or, else_, deadline_status, shown_deadline, shown_release_status, shown_release, count_waiting_at_handle, shown_counts}
+use Rattle.er_end_c.specs.Calls.{HandleCall, Start, Octets, Send, Take, Release, Tick, Ended, Fault, Stalled, is_moment_too_late, moment_of, DoesHandleCall}
 
 -- a call, what it answered, and the texts that could be copied behind it
 pub record Answered : Type 0 where
-  pub call : Call
+  pub call : HandleCall
   pub status : ℤ
   pub deeds : CDeeds
   pub out : List ℕ
@@ -27,19 +27,19 @@ pub record Answered : Type 0 where
 
 -- these are the texts of a handle
 pub record HasTexts (end : CEnd) (a : Answered) : Type 0 where
-  pub out_there : a.out ≡ text_in out_of (held_in end)
-  pub accepted_there : a.accepted ≡ text_in accepted_of (held_in end)
-  pub taken_there : a.taken ≡ text_in taken_of (held_in end)
+  pub out_there : a.out ≡ text_of_held_end out_of (end_held_in_handle end)
+  pub accepted_there : a.accepted ≡ text_of_held_end newest_accepted_message (end_held_in_handle end)
+  pub taken_there : a.taken ≡ text_of_held_end message_last_taken (end_held_in_handle end)
 
 -- these calls, one after the other, lead from a handle to a handle; calls that read leave what is held, and so may stand between them
-abbrev pub Leads : List Answered → CEnd → CEnd → Type 0
-Leads [] first last = held_in last ≡ held_in first
-Leads (a ∷ calls) first last = (next : CEnd) × Does a.call first next a.status a.deeds × HasTexts next a × Leads calls next last
+abbrev pub LeadsToHandle : List Answered → CEnd → CEnd → Type 0
+LeadsToHandle [] first last = end_held_in_handle last ≡ end_held_in_handle first
+LeadsToHandle (a ∷ calls) first last = (next : CEnd) × DoesHandleCall a.call first next a.status a.deeds × HasTexts next a × LeadsToHandle calls next last
 
 -- ---- in the end model
 
 -- the event that a call is; octets are those that it used
-abbrev pub event_used : Finds → Call → (used : ℕ) → Event
+abbrev pub event_used : Finds → HandleCall → (used : ℕ) → Event
 event_used finds (Start now) used = event.Start
 event_used finds (Octets now piece) used = event.Come finds (take used piece)
 event_used finds (Send now text) used = event.Send text
@@ -51,26 +51,26 @@ event_used finds Fault used = event.Fault
 event_used finds Stalled used = event.Stalled
 
 abbrev pub stepped : Finds → Answered → End → End × List Outcome
-stepped finds a m = step (moment_of a.call) (event_used finds a.call a.deeds.used) m
+stepped finds a m = step_event (moment_of a.call) (event_used finds a.call a.deeds.used) m
 
 -- the end behind a call; nothing happens at a moment above 10 ^ 15
 abbrev pub model_after : Finds → Answered → End → End
-model_after finds a m = if is_late (moment_of a.call) then m else (stepped finds a m).0
+model_after finds a m = if is_moment_too_late (moment_of a.call) then m else (stepped finds a m).0
 
 abbrev pub model_run : Finds → List Answered → End → End
 model_run finds [] m = m
 model_run finds (a ∷ calls) m = model_run finds calls (model_after finds a m)
 
 -- a send was refused
-abbrev pub is_refused : List Outcome → Bool
-is_refused [] = false
-is_refused (ConnectedTo peer ∷ outcomes) = is_refused outcomes
-is_refused (Accepted message ∷ outcomes) = is_refused outcomes
-is_refused (Taken message ∷ outcomes) = is_refused outcomes
-is_refused (NothingToTake ∷ outcomes) = is_refused outcomes
-is_refused (Refused refusal ∷ outcomes) = true
-is_refused (WasReleased why ∷ outcomes) = is_refused outcomes
-is_refused (Sent octets ∷ outcomes) = is_refused outcomes
+abbrev pub is_send_refused : List Outcome → Bool
+is_send_refused [] = false
+is_send_refused (ConnectedTo peer ∷ outcomes) = is_send_refused outcomes
+is_send_refused (Accepted message ∷ outcomes) = is_send_refused outcomes
+is_send_refused (Taken message ∷ outcomes) = is_send_refused outcomes
+is_send_refused (NothingToTake ∷ outcomes) = is_send_refused outcomes
+is_send_refused (Refused refusal ∷ outcomes) = true
+is_send_refused (WasReleased why ∷ outcomes) = is_send_refused outcomes
+is_send_refused (Sent octets ∷ outcomes) = is_send_refused outcomes
 
 -- the octets that go to the line
 abbrev pub octets_told : List Outcome → List ℕ
@@ -105,7 +105,7 @@ taken_told (Refused refusal ∷ outcomes) = taken_told outcomes
 taken_told (WasReleased why ∷ outcomes) = taken_told outcomes
 taken_told (Sent octets ∷ outcomes) = taken_told outcomes
 
-abbrev pub is_take : Call → Bool
+abbrev pub is_take : HandleCall → Bool
 is_take (Start now) = false
 is_take (Octets now piece) = false
 is_take (Send now text) = false
@@ -121,8 +121,8 @@ is_take Stalled = false
 pub record IsAnswered (a : Answered) (told : List Outcome) : Type 0 where
   pub answer : a.status ≡ status_told told
   pub tells : a.deeds ≡ record (deeds_told told) { used = a.deeds.used }
-  pub sent : is_refused told ≡ false → a.out ≡ octets_told told
-  pub came : is_refused told ≡ false → a.accepted ≡ accepted_told told
+  pub sent : is_send_refused told ≡ false → a.out ≡ octets_told told
+  pub came : is_send_refused told ≡ false → a.accepted ≡ accepted_told told
   pub took : is_take a.call ≡ true → a.taken ≡ taken_told told
 
 abbrev pub IsAnsweredIf : (late : Bool) → Finds → Answered → End → Type 0
@@ -131,20 +131,20 @@ IsAnsweredIf false finds a m = IsAnswered a (stepped finds a m).1
 
 abbrev pub AreAnswered : Finds → List Answered → End → Type 0
 AreAnswered finds [] m = Unit {0}
-AreAnswered finds (a ∷ calls) m = IsAnsweredIf (is_late (moment_of a.call)) finds a m × AreAnswered finds calls (model_after finds a m)
+AreAnswered finds (a ∷ calls) m = IsAnsweredIf (is_moment_too_late (moment_of a.call)) finds a m × AreAnswered finds calls (model_after finds a m)
 
 -- the calls that read answer what the model says of its end
 pub record ReadsAs (end : CEnd) (m : End) : Type 0 where
-  pub wanted : deadline_status (held_in end) ≡ none_or (deadline model m.core)
-  pub moment : (before : ℕ) → shown_deadline before (held_in end) ≡ else_ before (deadline model m.core)
-  pub over : shown_release_status (held_in end) ≡ none_or m.core.released
-  pub why : shown_release (held_in end) ≡ release_deeds m.core.released
-  pub waits : waiting_count (held_in end) ≡ model.untaken m.core.upper
-  pub counts : shown_counts (held_in end) ≡ counts_shown (model.counts m.core.line)
+  pub wanted : deadline_status (end_held_in_handle end) ≡ none_or (deadline model m.core)
+  pub moment : (before : ℕ) → shown_deadline before (end_held_in_handle end) ≡ else_ before (deadline model m.core)
+  pub over : shown_release_status (end_held_in_handle end) ≡ none_or m.core.released
+  pub why : shown_release (end_held_in_handle end) ≡ release_deeds m.core.released
+  pub waits : count_waiting_at_handle (end_held_in_handle end) ≡ model.untaken m.core.upper
+  pub counts : shown_counts (end_held_in_handle end) ≡ counts_shown (model.counts m.core.line)
 
 -- of a handle whose end was made by an opening, with keys
 abbrev pub RunsAsModel : Type 0
 RunsAsModel =
-    (opening : Opening) (entries : Option (List Entry)) (calls : List Answered) (first last : CEnd) → IsAllowed opening → IsMade first opening entries → Leads calls first last
-    → AreAnswered (key_at (entries_of entries)) calls (opened opening)
-    × ReadsAs last (model_run (key_at (entries_of entries)) calls (opened opening))
+    (opening : Opening) (entries : Option (List KmacEntry)) (calls : List Answered) (first last : CEnd) → IsAllowed opening → IsHandleMade first opening entries → LeadsToHandle calls first last
+    → AreAnswered (key_at (optional_key_entries entries)) calls (opened opening)
+    × ReadsAs last (model_run (key_at (optional_key_entries entries)) calls (opened opening))

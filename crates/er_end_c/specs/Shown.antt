@@ -4,10 +4,10 @@ use Rattle.er_end.specs.declared.deeds.Taken.{Taken}
 use Rattle.er_end.specs.Inboxes.{newest_of}
 use Rattle.er_end.specs.KeptEnds.{KEnd}
 use Rattle.er_end_c.specs.declared.face.CDeeds.{CDeeds}
-use Rattle.er_end_c.specs.Deeds.{no_deeds, told}
+use Rattle.er_end_c.specs.Deeds.{no_deeds, deeds_by_outcome_kind}
 
 abbrev pub deeds_of : ℕ → KEnd → CDeeds
-deeds_of used k = told used k.core.connected (newest_of k.core.upper.inbox) k.core.leaves k.core.line.out
+deeds_of used k = deeds_by_outcome_kind used k.core.connected (newest_of k.core.upper.inbox) k.core.leaves k.core.line.out
 
 abbrev pub taken_deeds : List (List ℕ) → KEnd → Option CDeeds
 taken_deeds [] k = None

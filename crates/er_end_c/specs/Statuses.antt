@@ -24,8 +24,8 @@ none = pos 5
 
 -- -1 to -7: the handle holds no end; it holds one already; the moment is above 10 ^ 15; an ETCS number is not below 2 ^ 24; a setting is
 -- out of its range; the keys are refused; memory ran out
-abbrev pub closed : ℤ
-closed = negsuc 0
+abbrev pub closed_handle : ℤ
+closed_handle = negsuc 0
 
 abbrev pub open_already : ℤ
 open_already = negsuc 1

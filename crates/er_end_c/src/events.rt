@@ -1,6 +1,6 @@
 //! The calls that are events at an end.
 
-ghost use Rattle.er_end_c.specs.Calls.{Does, Start, Octets, Send, Take, Release, Tick, Ended, Fault, Stalled};
+ghost use Rattle.er_end_c.specs.Calls.{DoesHandleCall, Start, Octets, Send, Take, Release, Tick, Ended, Fault, Stalled};
 
 use crate::face::CDeeds;
 use crate::handle::CEnd;
@@ -17,7 +17,7 @@ pub extern "C" fn euroradio_start(
     now: u64,
     deeds: &mut CDeeds,
 ) -> i32
-    ensures does { Does (Start now) end.old end.new result deeds.new }
+    ensures does { DoesHandleCall (Start now) end.old end.new result deeds.new }
 {
     *deeds = CDeeds::none();
     let Some(mut held) = end.take_held(alloc) else {
@@ -41,7 +41,7 @@ pub extern "C" fn euroradio_octets(
     piece: &[u8],
     deeds: &mut CDeeds,
 ) -> i32
-    ensures does { Does (Octets now piece.now) end.old end.new result deeds.new }
+    ensures does { DoesHandleCall (Octets now piece.now) end.old end.new result deeds.new }
 {
     *deeds = CDeeds::none();
     let Some(mut held) = end.take_held(alloc) else {
@@ -65,7 +65,7 @@ pub extern "C" fn euroradio_send(
     text: &[u8],
     deeds: &mut CDeeds,
 ) -> i32
-    ensures does { Does (Send now text.now) end.old end.new result deeds.new }
+    ensures does { DoesHandleCall (Send now text.now) end.old end.new result deeds.new }
 {
     *deeds = CDeeds::none();
     let Some(mut held) = end.take_held(alloc) else {
@@ -92,7 +92,7 @@ pub extern "C" fn euroradio_send(
 #[tactic(auto, using(crate::proofs::Taking::take_some, crate::proofs::Taking::take_none))]
 #[unsafe(no_mangle)]
 pub extern "C" fn euroradio_take(alloc: Global, end: &mut CEnd, now: u64, deeds: &mut CDeeds) -> i32
-    ensures does { Does (Take now) end.old end.new result deeds.new }
+    ensures does { DoesHandleCall (Take now) end.old end.new result deeds.new }
 {
     *deeds = CDeeds::none();
     let Some(mut held) = end.take_held(alloc) else {
@@ -124,7 +124,7 @@ pub extern "C" fn euroradio_release(
     sub: u8,
     deeds: &mut CDeeds,
 ) -> i32
-    ensures does { Does (Release now sub) end.old end.new result deeds.new }
+    ensures does { DoesHandleCall (Release now sub) end.old end.new result deeds.new }
 {
     *deeds = CDeeds::none();
     let Some(mut held) = end.take_held(alloc) else {
@@ -142,7 +142,7 @@ pub extern "C" fn euroradio_release(
 /// The moment has come.
 #[unsafe(no_mangle)]
 pub extern "C" fn euroradio_tick(alloc: Global, end: &mut CEnd, now: u64, deeds: &mut CDeeds) -> i32
-    ensures does { Does (Tick now) end.old end.new result deeds.new }
+    ensures does { DoesHandleCall (Tick now) end.old end.new result deeds.new }
 {
     *deeds = CDeeds::none();
     let Some(mut held) = end.take_held(alloc) else {
@@ -160,7 +160,7 @@ pub extern "C" fn euroradio_tick(alloc: Global, end: &mut CEnd, now: u64, deeds:
 /// The line ended.
 #[unsafe(no_mangle)]
 pub extern "C" fn euroradio_ended(alloc: Global, end: &mut CEnd, deeds: &mut CDeeds) -> i32
-    ensures does { Does Ended end.old end.new result deeds.new }
+    ensures does { DoesHandleCall Ended end.old end.new result deeds.new }
 {
     *deeds = CDeeds::none();
     let Some(mut held) = end.take_held(alloc) else {
@@ -174,7 +174,7 @@ pub extern "C" fn euroradio_ended(alloc: Global, end: &mut CEnd, deeds: &mut CDe
 /// The line failed.
 #[unsafe(no_mangle)]
 pub extern "C" fn euroradio_fault(alloc: Global, end: &mut CEnd, deeds: &mut CDeeds) -> i32
-    ensures does { Does Fault end.old end.new result deeds.new }
+    ensures does { DoesHandleCall Fault end.old end.new result deeds.new }
 {
     *deeds = CDeeds::none();
     let Some(mut held) = end.take_held(alloc) else {
@@ -188,7 +188,7 @@ pub extern "C" fn euroradio_fault(alloc: Global, end: &mut CEnd, deeds: &mut CDe
 /// The line takes no more octets.
 #[unsafe(no_mangle)]
 pub extern "C" fn euroradio_stalled(alloc: Global, end: &mut CEnd, deeds: &mut CDeeds) -> i32
-    ensures does { Does Stalled end.old end.new result deeds.new }
+    ensures does { DoesHandleCall Stalled end.old end.new result deeds.new }
 {
     *deeds = CDeeds::none();
     let Some(mut held) = end.take_held(alloc) else {

@@ -2,7 +2,7 @@
 
 ghost use Rattle.std.specs.Prelude.{◌≡◌, option_map, IfSome};
 ghost use Rattle.er_settings.specs.Ranges.{AllAllowed};
-ghost use Rattle.er_end_c.specs.Deeds.{no_deeds, flag, release_deeds, told, size_in, counts_shown};
+ghost use Rattle.er_end_c.specs.Deeds.{no_deeds, deed_flag, release_deeds, deeds_by_outcome_kind, text_size_or_zero, counts_shown};
 ghost use Rattle.key_store.specs.Lists.{as_entry};
 ghost use Rattle.er_end_c.specs.Makings.{settings_in, entry_shown};
 
@@ -141,13 +141,13 @@ impl CKey {
 }
 
 fn flag(holds: bool) -> u32
-    ensures { result ≡ flag holds }
+    ensures { result ≡ deed_flag holds }
 {
     if holds { 1 } else { 0 }
 }
 
 fn size_of(text: &Option<&[u8]>) -> usize
-    ensures { result ≡ size_in (option_map (λ m. m.now) text.now) }
+    ensures { result ≡ text_size_or_zero (option_map (λ m. m.now) text.now) }
 {
     match text {
         Some(text) => text.len(),
@@ -192,7 +192,7 @@ impl CDeeds {
 
     /// What an event told that used so many octets.
     pub fn of_event(used: usize, deeds: &Deeds<'_>) -> CDeeds
-        ensures { result ≡ told used deeds.now.connected (option_map (λ m. m.now) deeds.now.accepted) deeds.now.released deeds.now.out.now }
+        ensures { result ≡ deeds_by_outcome_kind used deeds.now.connected (option_map (λ m. m.now) deeds.now.accepted) deeds.now.released deeds.now.out.now }
     {
         CDeeds {
             out: deeds.out.len(),

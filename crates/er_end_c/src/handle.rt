@@ -23,13 +23,13 @@ pub struct CEnd {
 
 impl CEnd {
     ghost use Rattle.std.specs.Prelude.{◌≡◌, MatchOption, Some, None};
-    ghost use Rattle.er_end_c.specs.Handles.{held_in, is_open};
+    ghost use Rattle.er_end_c.specs.Handles.{end_held_in_handle, is_handle_open};
 
     /// Takes out what it holds, for the length of a call.
     pub fn take_held(&mut self, alloc: Global) -> Option<Box<Held>>
         ensures { MatchOption result
-            ((held_in self.old ≡ None) × (self.new ≡ self.old))
-            (λ held. (held_in self.old ≡ Some held.value) × (held_in self.new ≡ None)) }
+            ((end_held_in_handle self.old ≡ None) × (self.new ≡ self.old))
+            (λ held. (end_held_in_handle self.old ≡ Some held.value) × (end_held_in_handle self.new ≡ None)) }
     {
         if self.open != OPEN {
             return None;
@@ -41,7 +41,7 @@ impl CEnd {
 
     /// Puts it in.
     pub fn put_held(&mut self, held: Box<Held>)
-        ensures { held_in self.new ≡ Some held.value }
+        ensures { end_held_in_handle self.new ≡ Some held.value }
     {
         self.slot = Slot::of(Loose::of(held));
         self.open = OPEN;
@@ -49,7 +49,7 @@ impl CEnd {
 
     /// Whether it holds an end.
     pub fn is_open(&self) -> bool
-        ensures { result ≡ is_open self.now }
+        ensures { result ≡ is_handle_open self.now }
     {
         self.open == OPEN
     }

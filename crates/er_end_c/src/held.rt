@@ -1,10 +1,10 @@
 //! An end with its keys, and what each event at it comes to.
 
 ghost use Rattle.std.specs.Prelude.{◌≡◌, None, Some, MatchResult, option_map};
-ghost use Rattle.er_end.specs.KeptEnds.{after_start, after_octets, after_send, after_take, after_release, after_tick, after_break, used_of, refusal, waiting_in};
+ghost use Rattle.er_end.specs.KeptEnds.{after_start, after_octets, after_send, after_take, after_release, after_tick, after_break, used_of, refusal_of_send, waiting_in};
 ghost use Rattle.er_end_c.specs.Deeds.{refused_status};
 ghost use Rattle.er_end.specs.Shown.{refusal_view};
-ghost use Rattle.er_end_c.specs.Handles.{with_end};
+ghost use Rattle.er_end_c.specs.Handles.{held_with_end};
 ghost use Rattle.er_end_c.specs.Calls.{finds_in};
 ghost use Rattle.er_end_c.specs.Shown.{deeds_of, taken_deeds, taken_shown};
 ghost use Rattle.er_base.specs.declared.cause.Cause.TheVariants.{LineEnded, LineFailed, LineStalled};
@@ -27,7 +27,7 @@ pub struct Held {
 impl Held {
     /// The end begins.
     pub fn start(&mut self, now: Moment) -> CDeeds
-        ensures held { self.new ≡ with_end self.old (after_start now self.old.end) }
+        ensures held { self.new ≡ held_with_end self.old (after_start now self.old.end) }
         ensures deeds { result ≡ deeds_of 0 (after_start now self.old.end) }
     {
         CDeeds::of_event(0, &self.end.start(now.get()))
@@ -35,7 +35,7 @@ impl Held {
 
     /// Octets come.
     pub fn octets(&mut self, now: Moment, piece: &[u8]) -> CDeeds
-        ensures held { self.new ≡ with_end self.old (after_octets (finds_in self.old) now piece.now self.old.end) }
+        ensures held { self.new ≡ held_with_end self.old (after_octets (finds_in self.old) now piece.now self.old.end) }
         ensures deeds { result ≡ deeds_of (used_of self.old.end piece.now) (after_octets (finds_in self.old) now piece.now self.old.end) }
     {
         let (used, deeds) = self.end.octets(&self.keys, now.get(), piece);
@@ -44,10 +44,10 @@ impl Held {
 
     /// The user sends.
     pub fn send(&mut self, now: Moment, text: &[u8]) -> Result<CDeeds, SendRefused>
-        ensures held { self.new ≡ with_end self.old (after_send now text.now self.old.end) }
+        ensures held { self.new ≡ held_with_end self.old (after_send now text.now self.old.end) }
         ensures answer { MatchResult result
-            (λ deeds. (refusal text.now self.old.end ≡ None) × (deeds ≡ deeds_of 0 (after_send now text.now self.old.end)))
-            (λ refused. refusal text.now self.old.end ≡ Some (refusal_view refused)) }
+            (λ deeds. (refusal_of_send text.now self.old.end ≡ None) × (deeds ≡ deeds_of 0 (after_send now text.now self.old.end)))
+            (λ refused. refusal_of_send text.now self.old.end ≡ Some (refusal_view refused)) }
     {
         match self.end.send(now.get(), text) {
             Ok(deeds) => Ok(CDeeds::of_event(0, &deeds)),
@@ -57,7 +57,7 @@ impl Held {
 
     /// The user takes the oldest message. None where none waits.
     pub fn take(&mut self, now: Moment) -> Option<CDeeds>
-        ensures held { self.new ≡ with_end self.old (after_take now self.old.end) }
+        ensures held { self.new ≡ held_with_end self.old (after_take now self.old.end) }
         ensures answer { result ≡ taken_deeds (waiting_in self.old.end) (after_take now self.old.end) }
     {
         taken_deeds(&self.end.take(now.get()))
@@ -65,7 +65,7 @@ impl Held {
 
     /// The user releases.
     pub fn release(&mut self, now: Moment, sub: u8) -> CDeeds
-        ensures held { self.new ≡ with_end self.old (after_release now sub self.old.end) }
+        ensures held { self.new ≡ held_with_end self.old (after_release now sub self.old.end) }
         ensures deeds { result ≡ deeds_of 0 (after_release now sub self.old.end) }
     {
         CDeeds::of_event(0, &self.end.release(now.get(), sub))
@@ -73,7 +73,7 @@ impl Held {
 
     /// The moment has come.
     pub fn tick(&mut self, now: Moment) -> CDeeds
-        ensures held { self.new ≡ with_end self.old (after_tick now self.old.end) }
+        ensures held { self.new ≡ held_with_end self.old (after_tick now self.old.end) }
         ensures deeds { result ≡ deeds_of 0 (after_tick now self.old.end) }
     {
         CDeeds::of_event(0, &self.end.tick(now.get()))
@@ -81,7 +81,7 @@ impl Held {
 
     /// The line ended.
     pub fn ended(&mut self) -> CDeeds
-        ensures held { self.new ≡ with_end self.old (after_break LineEnded self.old.end) }
+        ensures held { self.new ≡ held_with_end self.old (after_break LineEnded self.old.end) }
         ensures deeds { result ≡ deeds_of 0 (after_break LineEnded self.old.end) }
     {
         CDeeds::of_event(0, &self.end.ended())
@@ -89,7 +89,7 @@ impl Held {
 
     /// The line failed.
     pub fn fault(&mut self) -> CDeeds
-        ensures held { self.new ≡ with_end self.old (after_break LineFailed self.old.end) }
+        ensures held { self.new ≡ held_with_end self.old (after_break LineFailed self.old.end) }
         ensures deeds { result ≡ deeds_of 0 (after_break LineFailed self.old.end) }
     {
         CDeeds::of_event(0, &self.end.fault())
@@ -97,7 +97,7 @@ impl Held {
 
     /// The line stalled.
     pub fn stalled(&mut self) -> CDeeds
-        ensures held { self.new ≡ with_end self.old (after_break LineStalled self.old.end) }
+        ensures held { self.new ≡ held_with_end self.old (after_break LineStalled self.old.end) }
         ensures deeds { result ≡ deeds_of 0 (after_break LineStalled self.old.end) }
     {
         CDeeds::of_event(0, &self.end.stalled())

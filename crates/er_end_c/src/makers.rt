@@ -5,8 +5,8 @@ ghost use Rattle.er_settings.specs.Ranges.{AllAllowed};
 ghost use Rattle.er_end_model.specs.Ends.{Call, Answer};
 ghost use Rattle.key_store.specs.KeyFiles.{keys_of};
 ghost use Rattle.key_store.specs.Lists.{as_entry, listed_keys};
-ghost use Rattle.er_end_c.specs.Handles.{held_in};
-ghost use Rattle.er_end_c.specs.Makings.{settings_from, is_number, fault_of, fault_status, key_of, held_made, made_with, made_of, entry_shown, Makes, KeysGive};
+ghost use Rattle.er_end_c.specs.Handles.{end_held_in_handle};
+ghost use Rattle.er_end_c.specs.Makings.{settings_from, is_number, fault_of_handle_making, fault_status, key_of, held_made, made_with, made_of, entry_shown, Makes, KeysGive};
 
 use crate::face::{CKey, CSettings};
 use crate::fault::Fault;
@@ -33,7 +33,7 @@ pub extern "C" fn euroradio_call(
     now: u64,
 ) -> i32
     ensures makes { Makes
-        (fault_of end.old now (is_number me && is_number peer) settings.now)
+        (fault_of_handle_making end.old now (is_number me && is_number peer) settings.now)
         (Some (held_made (Call (settings_from settings.now) me peer (key_of kmac.now) rb now) None))
         end.old end.new result }
 {
@@ -68,7 +68,7 @@ pub extern "C" fn euroradio_answer(
     now: u64,
 ) -> i32
     ensures makes { Makes
-        (fault_of end.old now (is_number me) settings.now)
+        (fault_of_handle_making end.old now (is_number me) settings.now)
         (made_with (Answer (settings_from settings.now) me ra now) (keys_of keys.now))
         end.old end.new result }
 {
@@ -97,7 +97,7 @@ pub extern "C" fn euroradio_answer_keys(
     now: u64,
 ) -> i32
     ensures makes { Makes
-        (fault_of end.old now (is_number me) settings.now)
+        (fault_of_handle_making end.old now (is_number me) settings.now)
         (made_of (Answer (settings_from settings.now) me ra now) (listed_keys (map entry_shown keys.now)))
         end.old end.new result }
 {
@@ -117,7 +117,7 @@ pub extern "C" fn euroradio_answer_keys(
 /// Gives an end's memory back.
 #[unsafe(no_mangle)]
 pub extern "C" fn euroradio_free(alloc: Global, end: &mut CEnd)
-    ensures held { held_in end.new ≡ None }
+    ensures held { end_held_in_handle end.new ≡ None }
 {
     if let Some(held) = end.take_held(alloc) {
         drop(held);
@@ -138,8 +138,8 @@ fn admitted(
     settings: &CSettings,
 ) -> Result<(Settings, Moment), Fault>
     ensures fault { MatchResult result
-        (λ made. (fault_of end.now now are_numbers settings.now ≡ None) × (made.0 ≡ settings_from settings.now))
-        (λ fault. fault_of end.now now are_numbers settings.now ≡ Some (fault_status fault)) }
+        (λ made. (fault_of_handle_making end.now now are_numbers settings.now ≡ None) × (made.0 ≡ settings_from settings.now))
+        (λ fault. fault_of_handle_making end.now now are_numbers settings.now ≡ Some (fault_status fault)) }
     ensures moment { IfOk result (λ made. made.1 ≡ now) }
     ensures numbers { IfOk result (λ made. are_numbers ≡ true) }
 {

@@ -3,8 +3,8 @@
 ghost use Rattle.std.specs.Prelude.{◌≡◌, ◌≤◌, length, option_map, MatchOption};
 ghost use Rattle.er_end.specs.KeptEnds.{waiting_in, deadline_of};
 ghost use Rattle.er_end.specs.Inboxes.{newest_of};
-ghost use Rattle.er_end_c.specs.Handles.{held_in};
-ghost use Rattle.er_end_c.specs.Reads.{text_in, text_of, copied, written, out_of, accepted_of, taken_of, shown_release, shown_release_status, shown_counts, found_status, waiting_count, shown_deadline, deadline_status};
+ghost use Rattle.er_end_c.specs.Handles.{end_held_in_handle};
+ghost use Rattle.er_end_c.specs.Reads.{text_of_held_end, text_or_empty, copied, octets_written_over, out_of, newest_accepted_message, message_last_taken, shown_release, shown_release_status, shown_counts, found_status, count_waiting_at_handle, shown_deadline, deadline_status};
 
 use crate::face::{CCounts, CDeeds};
 use crate::handle::CEnd;
@@ -19,9 +19,9 @@ pub extern "C" fn euroradio_out(
     from: usize,
     into: &mut [u8],
 ) -> usize
-    ensures held { held_in end.new ≡ held_in end.old }
-    ensures copied { into.new ≡ written (copied (text_in out_of (held_in end.old)) from (length into.old)) into.old }
-    ensures count { result ≡ length (copied (text_in out_of (held_in end.old)) from (length into.old)) }
+    ensures held { end_held_in_handle end.new ≡ end_held_in_handle end.old }
+    ensures copied { into.new ≡ octets_written_over (copied (text_of_held_end out_of (end_held_in_handle end.old)) from (length into.old)) into.old }
+    ensures count { result ≡ length (copied (text_of_held_end out_of (end_held_in_handle end.old)) from (length into.old)) }
 {
     let Some(held) = end.take_held(alloc) else {
         return 0;
@@ -34,9 +34,9 @@ pub extern "C" fn euroradio_out(
 /// Copies the message that the last event accepted.
 #[unsafe(no_mangle)]
 pub extern "C" fn euroradio_accepted(alloc: Global, end: &mut CEnd, into: &mut [u8]) -> usize
-    ensures held { held_in end.new ≡ held_in end.old }
-    ensures copied { into.new ≡ written (copied (text_in accepted_of (held_in end.old)) 0 (length into.old)) into.old }
-    ensures count { result ≡ length (copied (text_in accepted_of (held_in end.old)) 0 (length into.old)) }
+    ensures held { end_held_in_handle end.new ≡ end_held_in_handle end.old }
+    ensures copied { into.new ≡ octets_written_over (copied (text_of_held_end newest_accepted_message (end_held_in_handle end.old)) 0 (length into.old)) into.old }
+    ensures count { result ≡ length (copied (text_of_held_end newest_accepted_message (end_held_in_handle end.old)) 0 (length into.old)) }
 {
     let Some(held) = end.take_held(alloc) else {
         return 0;
@@ -49,9 +49,9 @@ pub extern "C" fn euroradio_accepted(alloc: Global, end: &mut CEnd, into: &mut [
 /// Copies the message that the last event, a take, took.
 #[unsafe(no_mangle)]
 pub extern "C" fn euroradio_taken(alloc: Global, end: &mut CEnd, into: &mut [u8]) -> usize
-    ensures held { held_in end.new ≡ held_in end.old }
-    ensures copied { into.new ≡ written (copied (text_in taken_of (held_in end.old)) 0 (length into.old)) into.old }
-    ensures count { result ≡ length (copied (text_in taken_of (held_in end.old)) 0 (length into.old)) }
+    ensures held { end_held_in_handle end.new ≡ end_held_in_handle end.old }
+    ensures copied { into.new ≡ octets_written_over (copied (text_of_held_end message_last_taken (end_held_in_handle end.old)) 0 (length into.old)) into.old }
+    ensures count { result ≡ length (copied (text_of_held_end message_last_taken (end_held_in_handle end.old)) 0 (length into.old)) }
 {
     let Some(held) = end.take_held(alloc) else {
         return 0;
@@ -64,9 +64,9 @@ pub extern "C" fn euroradio_taken(alloc: Global, end: &mut CEnd, into: &mut [u8]
 /// The moment at which a tick is wanted.
 #[unsafe(no_mangle)]
 pub extern "C" fn euroradio_deadline(alloc: Global, end: &mut CEnd, moment: &mut u64) -> i32
-    ensures held { held_in end.new ≡ held_in end.old }
-    ensures answer { result ≡ deadline_status (held_in end.old) }
-    ensures moment { moment.new ≡ shown_deadline moment.old (held_in end.old) }
+    ensures held { end_held_in_handle end.new ≡ end_held_in_handle end.old }
+    ensures answer { result ≡ deadline_status (end_held_in_handle end.old) }
+    ensures moment { moment.new ≡ shown_deadline moment.old (end_held_in_handle end.old) }
 {
     let Some(held) = end.take_held(alloc) else {
         return status::CLOSED;
@@ -85,8 +85,8 @@ pub extern "C" fn euroradio_deadline(alloc: Global, end: &mut CEnd, moment: &mut
 /// How many accepted messages wait to be taken.
 #[unsafe(no_mangle)]
 pub extern "C" fn euroradio_waiting(alloc: Global, end: &mut CEnd) -> usize
-    ensures held { held_in end.new ≡ held_in end.old }
-    ensures count { result ≡ waiting_count (held_in end.old) }
+    ensures held { end_held_in_handle end.new ≡ end_held_in_handle end.old }
+    ensures count { result ≡ count_waiting_at_handle (end_held_in_handle end.old) }
 {
     let Some(held) = end.take_held(alloc) else {
         return 0;
@@ -99,9 +99,9 @@ pub extern "C" fn euroradio_waiting(alloc: Global, end: &mut CEnd) -> usize
 /// Whether and why the end is released.
 #[unsafe(no_mangle)]
 pub extern "C" fn euroradio_released(alloc: Global, end: &mut CEnd, deeds: &mut CDeeds) -> i32
-    ensures held { held_in end.new ≡ held_in end.old }
-    ensures answer { result ≡ shown_release_status (held_in end.old) }
-    ensures deeds { deeds.new ≡ shown_release (held_in end.old) }
+    ensures held { end_held_in_handle end.new ≡ end_held_in_handle end.old }
+    ensures answer { result ≡ shown_release_status (end_held_in_handle end.old) }
+    ensures deeds { deeds.new ≡ shown_release (end_held_in_handle end.old) }
 {
     *deeds = CDeeds::none();
     let Some(held) = end.take_held(alloc) else {
@@ -120,9 +120,9 @@ pub extern "C" fn euroradio_released(alloc: Global, end: &mut CEnd, deeds: &mut 
 /// The frames that the station ignored so far.
 #[unsafe(no_mangle)]
 pub extern "C" fn euroradio_counted(alloc: Global, end: &mut CEnd, counts: &mut CCounts) -> i32
-    ensures held { held_in end.new ≡ held_in end.old }
-    ensures answer { result ≡ found_status (held_in end.old) }
-    ensures counts { counts.new ≡ shown_counts (held_in end.old) }
+    ensures held { end_held_in_handle end.new ≡ end_held_in_handle end.old }
+    ensures answer { result ≡ found_status (end_held_in_handle end.old) }
+    ensures counts { counts.new ≡ shown_counts (end_held_in_handle end.old) }
 {
     *counts = CCounts::none();
     let Some(held) = end.take_held(alloc) else {
@@ -143,7 +143,7 @@ pub extern "C" fn euroradio_version() -> u32
 
 // Copies what fits, from an index on: how many octets.
 fn copy(text: &[u8], from: usize, into: &mut [u8]) -> usize
-    ensures copied { into.new ≡ written (copied text.now from (length into.old)) into.old }
+    ensures copied { into.new ≡ octets_written_over (copied text.now from (length into.old)) into.old }
     ensures count { result ≡ length (copied text.now from (length into.old)) }
 {
     if from >= text.len() {
@@ -156,8 +156,8 @@ fn copy(text: &[u8], from: usize, into: &mut [u8]) -> usize
 }
 
 fn copy_some(text: &Option<&[u8]>, into: &mut [u8]) -> usize
-    ensures copied { into.new ≡ written (copied (text_of (option_map (λ m. m.now) text.now)) 0 (length into.old)) into.old }
-    ensures count { result ≡ length (copied (text_of (option_map (λ m. m.now) text.now)) 0 (length into.old)) }
+    ensures copied { into.new ≡ octets_written_over (copied (text_or_empty (option_map (λ m. m.now) text.now)) 0 (length into.old)) into.old }
+    ensures count { result ≡ length (copied (text_or_empty (option_map (λ m. m.now) text.now)) 0 (length into.old)) }
 {
     match text {
         Some(text) => copy(text, 0, into),

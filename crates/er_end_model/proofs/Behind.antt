@@ -13,7 +13,7 @@ abbrev pub taken_at : ℕ → Verdict → Core → Core
 taken_at now verdict x = record (new_event_at model now x) { line = station_behind x now verdict }
 
 abbrev pub joined_at : ℕ → Verdict → Core → List ℕ → Core
-joined_at now verdict x payload = record (taken_at now verdict x) { joined = (joining.step x.joined payload).0 }
+joined_at now verdict x payload = record (taken_at now verdict x) { joined = (joining.block_step x.joined payload).0 }
 
 abbrev pub heard_at : ℕ → Verdict → Core → List ℕ → List ℕ → Core
 heard_at now verdict x payload tpdu = record (joined_at now verdict x payload) { upper = model.hears (joined_at now verdict x payload).upper tpdu }

@@ -9,7 +9,7 @@ use Rattle.hdlc_station_model.specs.Events.{news}
 use Rattle.er_end_model.specs.Outcomes.{Outcome}
 use Rattle.er_end_model.specs.Steps.{Finds, new_event_at, step_frame, on_frame, outcomes_of}
 use Rattle.er_end_model.specs.Layers.{Core, model}
-use Rattle.er_end_model.specs.Ends.{Come, End, hears_each, told_of_each, step, run, outcomes}
+use Rattle.er_end_model.specs.Ends.{Come, End, hears_each, told_of_each, step_event, end_run, outcomes}
 use Rattle.er_end_model.specs.Laws.{come_in, AnyCut}
 use Rattle.er_end_model.proofs.Behind.{hears_parts, told_parts}
 
@@ -39,7 +39,7 @@ module _ (stands : KeptStandsForStream) where
   -- frames grow at the end alone
   grows : (stream octets : List ℕ) → frames_of (stream ++ octets) ≡ frames_of stream ++ news stream octets
   grows stream octets =
-      let more : List Verdict = frames_of (deframing.stream_of (deframing.kept_of stream) ++ octets) in
+      let more : List Verdict = frames_of (deframing.stream_behind_kept (deframing.kept_of stream) ++ octets) in
       let e : frames_of (stream ++ octets) ≡ frames_of stream ++ more = (stands stream octets).1.0 in
       e ∙ ap (λ (fs : List Verdict). frames_of stream ++ fs) (sym (ap (λ (fs : List Verdict). drop (length (frames_of stream)) fs) e ∙ drop-append_seam (frames_of stream) more))
 
@@ -62,7 +62,7 @@ module _ (stands : KeptStandsForStream) where
       let x : Core = m.core in
       let vs : List Verdict = news m.stream piece in
       let us : List Verdict = news (m.stream ++ piece) (joined pieces) in
-      let rest = all_told finds now pieces (step now (Come finds piece) m).0 in
+      let rest = all_told finds now pieces (step_event now (Come finds piece) m).0 in
       ap₂ (λ (a b : List Outcome). a ++ b) (told_begun finds now vs x) (rest ∙ told_behind finds now vs us x)
       ∙ sym (told_parts finds now vs us x)
       ∙ ap (λ (fs : List Verdict). told_of_each finds now fs x) (sym (news_parts m.stream piece (joined pieces)))
@@ -74,7 +74,7 @@ module _ (stands : KeptStandsForStream) where
   begun_behind finds now (v ∷ us) x = ap (λ (y : Core). new_event_at model now (hears_each finds now us y)) (comes_begun finds now v x)
 
   all_lead : (finds : Finds) (now : ℕ) (pieces : List (List ℕ)) (m : End)
-      → new_event_at model now (run (come_in finds now pieces) m).core ≡ new_event_at model now (hears_each finds now (news m.stream (joined pieces)) m.core)
+      → new_event_at model now (end_run (come_in finds now pieces) m).core ≡ new_event_at model now (hears_each finds now (news m.stream (joined pieces)) m.core)
   all_lead finds now [] m = ap (λ (vs : List Verdict). new_event_at model now (hears_each finds now vs m.core)) (sym (news_none m.stream))
   all_lead finds now (piece ∷ pieces) m =
       let x : Core = m.core in
@@ -82,17 +82,17 @@ module _ (stands : KeptStandsForStream) where
       let us : List Verdict = news (m.stream ++ piece) (joined pieces) in
       let behind : Core = hears_each finds now vs (new_event_at model now x) in
       let e : new_event_at model now behind ≡ new_event_at model now (hears_each finds now vs x) = begun_behind finds now vs x in
-      all_lead finds now pieces (step now (Come finds piece) m).0
+      all_lead finds now pieces (step_event now (Come finds piece) m).0
       ∙ sym (begun_behind finds now us behind)
       ∙ ap (λ (y : Core). new_event_at model now (hears_each finds now us y)) e
       ∙ begun_behind finds now us (hears_each finds now vs x)
       ∙ ap (λ (y : Core). new_event_at model now y) (sym (hears_parts finds now vs us x))
       ∙ ap (λ (fs : List Verdict). new_event_at model now (hears_each finds now fs x)) (sym (news_parts m.stream piece (joined pieces)))
 
-  all_stream : (finds : Finds) (now : ℕ) (pieces : List (List ℕ)) (m : End) → (run (come_in finds now pieces) m).stream ≡ m.stream ++ joined pieces
+  all_stream : (finds : Finds) (now : ℕ) (pieces : List (List ℕ)) (m : End) → (end_run (come_in finds now pieces) m).stream ≡ m.stream ++ joined pieces
   all_stream finds now [] m = sym (append-nil m.stream)
   all_stream finds now (piece ∷ pieces) m =
-      all_stream finds now pieces (step now (Come finds piece) m).0 ∙ append_assoc m.stream piece (joined pieces)
+      all_stream finds now pieces (step_event now (Come finds piece) m).0 ∙ append_assoc m.stream piece (joined pieces)
 
   pub any_cut : AnyCut
   any_cut finds now m pieces others e = (

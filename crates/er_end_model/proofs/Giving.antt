@@ -1,5 +1,6 @@
 -- What an event gives to the safety side is what the layers below made of it, or what the user asked for.
 use Rattle.std.proofs.Common.{◌≡◌, ◌∙◌, ◌-◌, ℕ, Bool, true, false, ◌&&◌, List, [], length, Option, Some, None, Ok, Err, refl, sym, ap, ap₂, subst}
+use Rattle.hdlc_station_model.specs.Receiving.{is_some_octets}
 use Rattle.std.specs.Prelude.{◌==◌, is_some, if◌then◌else◌}
 use Rattle.er_base.specs.declared.release.Release.{Release}
 use Rattle.er_base.specs.declared.cause.Cause.{Cause}
@@ -9,16 +10,16 @@ use Rattle.hdlc_frames.specs.Framing.{Verdict}
 use Rattle.hdlc_station_model.specs.Stations.{Deed as LinkDeed}
 use Rattle.t70_header.specs.Joining as joining
 use Rattle.x224_class2.specs.Refusals.{protocol_error}
-use Rattle.x224_class2.specs.Transport.{Deed, Nothing, Called, Confirmed, Message, Disconnected, reception}
+use Rattle.x224_class2.specs.Transport.{ReceptionDeed, Nothing, Called, Confirmed, Message, Disconnected, reception}
 use Rattle.x224_class2.specs.Transport as transport
 use Rattle.x224_class2.specs.declared.stage.Stage.{Stage}
 use Rattle.sapdu.specs.Spelling.{di_in}
 use Rattle.safety_automaton.specs.Keys.{no_keys}
 use Rattle.safety_automaton.specs.Reports.{Report, ToldAnswered, ToldConnected, ToldAccepted, ToldReleased, ToldIgnored, report_of}
-use Rattle.safety_automaton.specs.Safety.{Safety, SafetyEvent, ConnectRequest, Received, DataRequest, DisconnectRequest, SafetyOutcome, sent_by, peer_flag, step}
-use Rattle.er_end_model.specs.Steps.{Finds, new_event, new_event_at, with_release, send_dr, answer_dr, on_safety_release, why_of, with_safety_step, is_some_octets, hand_text, skip_message, Carrier, InCr, InCc, InDt, hand_answer, keep_message, on_safety_report, on_text, on_transport_deed, on_joined_block, is_ready, connect_with_text, on_link_up, on_link_told, conclude_event, step_start, step_frame, on_send, step_take, step_release, is_spent, normal_disconnect, di_of, on_expiry, step_tick, step_break}
+use Rattle.safety_automaton.specs.Safety.{Safety, SafetyEvent, ConnectRequest, Received, DataRequest, DisconnectRequest, SafetyOutcome, octets_sent_in_outcome, peer_flag, step}
+use Rattle.er_end_model.specs.Steps.{Finds, new_event, new_event_at, with_release, send_dr, answer_dr, on_safety_release, why_of, with_safety_step, hand_text, skip_message, Carrier, InCr, InCc, InDt, hand_answer, keep_message, on_safety_report, on_text, on_transport_deed, on_joined_block, is_ready, connect_with_text, on_link_up, on_link_told, conclude_event, step_start, step_frame, on_send, step_take, step_release, is_spent, normal_disconnect, di_of, on_expiry, step_tick, step_break}
 use Rattle.er_end_model.specs.Layers.{Spoken, Core, model}
-use Rattle.er_end_model.specs.Hearing.{text_in, station_behind, IsTextOf, FrameGives, IsGiven, CallsNow, EventsGive}
+use Rattle.er_end_model.specs.Hearing.{text_in_deed, station_behind, IsTextOf, FrameGives, IsGiven, CallsNow, EventsGive}
 use Rattle.er_end_model.proofs.Behind.{taken_at, joined_at, heard_at}
 use Rattle.er_end_model.proofs.Speaking.{Seen, seen, seen_departs, seen_cut_off, seen_parts, seen_says, seen_concludes}
 
@@ -84,7 +85,7 @@ pub spoke_text : (finds : Finds) (by : Carrier) (text : List ℕ) (x : Core)
     → spoke (on_text model finds by text x) ≡ Some (record { event = Received text; outcome = (step (finds x.moment) x.safe.safety (Received text)).1 })
 spoke_text finds by text x =
     let a : Safety × SafetyOutcome = step (finds x.moment) x.safe.safety (Received text) in
-    spoke_acts by (report_of a.1) (sent_by a.1) (with_safety_step model (Received text) a x)
+    spoke_acts by (report_of a.1) (octets_sent_in_outcome a.1) (with_safety_step model (Received text) a x)
 
 pub spoke_concludes : (x : Core) → spoke (conclude_event model x) ≡ spoke x
 spoke_concludes x = by_seen x (conclude_event model x) (seen_concludes x)
@@ -115,7 +116,7 @@ unless_given event (Some why) x y e g = absurd cc
 -- ---- a frame
 
 module _ (finds : Finds) (now : ℕ) (verdict : Verdict) (x : Core) where
-  deed_gives : (d : Deed) (y : Core) → spoke y ≡ None → ((text : List ℕ) → text_in d ≡ Some text → IsTextOf x now verdict text)
+  deed_gives : (d : ReceptionDeed) (y : Core) → spoke y ≡ None → ((text : List ℕ) → text_in_deed d ≡ Some text → IsTextOf x now verdict text)
       → Gives (FrameGives x now verdict) (spoke (on_transport_deed model finds d y))
   deed_gives Nothing y n h = gives_as (FrameGives x now verdict) (spoke y) None n tt
   deed_gives (Called user) y n h = gives_as (FrameGives x now verdict) (spoke (on_text model finds InCr user y)) _ (spoke_text finds InCr user y) (h user refl)
@@ -128,7 +129,7 @@ module _ (finds : Finds) (now : ℕ) (verdict : Verdict) (x : Core) where
       let why : Release = by_this_end 2 sub in
       gives_as (FrameGives x now verdict) (spoke (send_dr model why reason [] y)) None (by_seen y (send_dr model why reason [] y) (seen_departs why reason [] y) ∙ n) tt
 
-  block_gives : (payload : List ℕ) → (station_behind x now verdict).deed.payload ≡ Some payload → (answer : joining.Answer) → (joining.step x.joined payload).1 ≡ answer
+  block_gives : (payload : List ℕ) → (station_behind x now verdict).deed.payload ≡ Some payload → (answer : joining.BlockJoiningResult) → (joining.block_step x.joined payload).1 ≡ answer
       → Gives (FrameGives x now verdict) (spoke (on_joined_block model finds answer (joined_at now verdict x payload)))
   block_gives payload t (Ok None) e = tt
   block_gives payload t (Ok (Some tpdu)) e =
@@ -143,10 +144,10 @@ module _ (finds : Finds) (now : ℕ) (verdict : Verdict) (x : Core) where
   up_gives up =
       let a : Safety × SafetyOutcome = step no_keys x.safe.safety ConnectRequest in
       let z : Core = with_safety_step model ConnectRequest a (taken_at now verdict x) in
-      let begun : spoke (connect_with_text model (sent_by a.1) z) ≡ Some (record { event = ConnectRequest; outcome = a.1 }) =
-      spoke_if (is_some_octets (sent_by a.1)) _ z (Some (record { event = ConnectRequest; outcome = a.1 })) refl refl in
-      up_or (model.may_connect (taken_at now verdict x).upper && is_ready (taken_at now verdict x).safe.safety.phase) (connect_with_text model (sent_by a.1) z)
-      (gives_as (FrameGives x now verdict) (spoke (connect_with_text model (sent_by a.1) z)) (Some (record { event = ConnectRequest; outcome = a.1 })) begun up)
+      let begun : spoke (connect_with_text model (octets_sent_in_outcome a.1) z) ≡ Some (record { event = ConnectRequest; outcome = a.1 }) =
+      spoke_if (is_some_octets (octets_sent_in_outcome a.1)) _ z (Some (record { event = ConnectRequest; outcome = a.1 })) refl refl in
+      up_or (model.may_connect (taken_at now verdict x).upper && is_ready (taken_at now verdict x).safe.safety.phase) (connect_with_text model (octets_sent_in_outcome a.1) z)
+      (gives_as (FrameGives x now verdict) (spoke (connect_with_text model (octets_sent_in_outcome a.1) z)) (Some (record { event = ConnectRequest; outcome = a.1 })) begun up)
     where
       up_or : (b : Bool) (y : Core) → Gives (FrameGives x now verdict) (spoke y) → Gives (FrameGives x now verdict) (spoke (if b then y else (taken_at now verdict x)))
       up_or true y g = g
@@ -154,7 +155,7 @@ module _ (finds : Finds) (now : ℕ) (verdict : Verdict) (x : Core) where
 
   link_gives : (payload : Option (List ℕ)) (up : Bool) (released : Option Release) → (station_behind x now verdict).deed.payload ≡ payload → (station_behind x now verdict).deed.up ≡ up
       → Gives (FrameGives x now verdict) (spoke (on_link_told model finds payload up released (taken_at now verdict x)))
-  link_gives (Some payload) up released t u = block_gives payload t (joining.step x.joined payload).1 refl
+  link_gives (Some payload) up released t u = block_gives payload t (joining.block_step x.joined payload).1 refl
   link_gives None true released t u = up_gives u
   link_gives None false (Some why) t u = tt
   link_gives None false None t u = tt
@@ -167,7 +168,7 @@ module _ (finds : Finds) (now : ℕ) (verdict : Verdict) (x : Core) where
       (gives_as (FrameGives x now verdict) (spoke (conclude_event model y)) (spoke y) (spoke_concludes y) (link_gives d.payload d.up d.released refl refl))
 
   -- each text is given
-  deed_given : (d : Deed) (y : Core) (text : List ℕ) → text_in d ≡ Some text → IsGiven (Received text) (spoke (on_transport_deed model finds d y))
+  deed_given : (d : ReceptionDeed) (y : Core) (text : List ℕ) → text_in_deed d ≡ Some text → IsGiven (Received text) (spoke (on_transport_deed model finds d y))
   deed_given Nothing y text e = absurd cc
   deed_given (Called user) y text e = given_as (Received text) (spoke (on_text model finds InCr user y)) _ (spoke_text finds InCr user y) cc
   deed_given (Confirmed user) y text e = given_as (Received text) (spoke (on_text model finds InCc user y)) _ (spoke_text finds InCc user y) cc
@@ -181,8 +182,8 @@ module _ (finds : Finds) (now : ℕ) (verdict : Verdict) (x : Core) where
       let y : Core = on_link_told model finds d.payload d.up d.released (taken_at now verdict x) in
       let heard : IsGiven (Received text) (spoke (on_transport_deed model finds (reception x.upper.transport is.tpdu).1 (heard_at now verdict x is.payload is.tpdu))) =
       deed_given (reception x.upper.transport is.tpdu).1 (heard_at now verdict x is.payload is.tpdu) text is.brought in
-      let block : IsGiven (Received text) (spoke (on_joined_block model finds (joining.step x.joined is.payload).1 (joined_at now verdict x is.payload))) =
-      subst (λ (answer : joining.Answer). IsGiven (Received text) (spoke (on_joined_block model finds answer (joined_at now verdict x is.payload)))) (sym is.joined) heard in
+      let block : IsGiven (Received text) (spoke (on_joined_block model finds (joining.block_step x.joined is.payload).1 (joined_at now verdict x is.payload))) =
+      subst (λ (answer : joining.BlockJoiningResult). IsGiven (Received text) (spoke (on_joined_block model finds answer (joined_at now verdict x is.payload)))) (sym is.joined) heard in
       let link : IsGiven (Received text) (spoke y) =
       subst (λ (p : Option (List ℕ)). IsGiven (Received text) (spoke (on_link_told model finds p d.up d.released (taken_at now verdict x)))) (sym is.taken) block in
       unless_given (Received text) x.released (new_event_at model now x) (conclude_event model y) live
@@ -197,11 +198,11 @@ module _ (finds : Finds) (now : ℕ) (verdict : Verdict) (x : Core) where
       let a : Safety × SafetyOutcome = step no_keys x.safe.safety ConnectRequest in
       let z : Core = with_safety_step model ConnectRequest a b in
       let told : Option Spoken = Some (record { event = ConnectRequest; outcome = a.1 }) in
-      let begun : spoke (connect_with_text model (sent_by a.1) z) ≡ told = spoke_if (is_some_octets (sent_by a.1)) _ z told refl refl in
+      let begun : spoke (connect_with_text model (octets_sent_in_outcome a.1) z) ≡ told = spoke_if (is_some_octets (octets_sent_in_outcome a.1)) _ z told refl refl in
       let may : (x.upper.transport.is_caller && transport.is_new x.upper.transport.stage && is_ready x.safe.safety.phase) ≡ true =
       ap₂ (λ (p q : Bool). p && q) (ap₂ (λ (p : Bool) (g : Stage). p && transport.is_new g) c.transport.0 c.transport.1) c.ready in
       let up : IsGiven ConnectRequest (spoke (on_link_up model b)) =
-      given_as ConnectRequest (spoke (on_link_up model b)) told (ap (λ (p : Bool). spoke (if p then connect_with_text model (sent_by a.1) z else b)) may ∙ begun) refl in
+      given_as ConnectRequest (spoke (on_link_up model b)) told (ap (λ (p : Bool). spoke (if p then connect_with_text model (octets_sent_in_outcome a.1) z else b)) may ∙ begun) refl in
       let link : IsGiven ConnectRequest (spoke y) =
       subst (λ (e : LinkDeed). IsGiven ConnectRequest (spoke (on_link_told model finds e.payload e.up e.released b))) (sym c.up) up in
       unless_given ConnectRequest x.released (new_event_at model now x) (conclude_event model y) live
@@ -229,7 +230,7 @@ sent_shows now user x =
     let a : Safety × SafetyOutcome = step no_keys x.safe.safety (DataRequest user) in
     let y : Core = with_safety_step model (DataRequest user) a b in
     let z : Core = record y { upper = model.sends y.upper user } in
-    shown_concludes (hand_text model (sent_by a.1) z) ∙ shown_as z (hand_text model (sent_by a.1) z) (seen_says (sent_by a.1) z)
+    shown_concludes (hand_text model (octets_sent_in_outcome a.1) z) ∙ shown_as z (hand_text model (octets_sent_in_outcome a.1) z) (seen_says (octets_sent_in_outcome a.1) z)
 
 pub uses_show : (now : ℕ) (x : Core) → shown (step_take model now x) ≡ silence
 uses_show now x =
@@ -241,13 +242,13 @@ uses_show now x =
 abbrev left_at : ℕ → ℕ → Core → Core
 left_at now sub x =
     let a = step no_keys x.safe.safety (DisconnectRequest sub) in
-    send_dr model (release_of (User sub)) normal_disconnect (sent_by a.1) (with_safety_step model (DisconnectRequest sub) a (new_event_at model now x))
+    send_dr model (release_of (User sub)) normal_disconnect (octets_sent_in_outcome a.1) (with_safety_step model (DisconnectRequest sub) a (new_event_at model now x))
 
 left_shows : (now sub : ℕ) (x : Core) → shown (left_at now sub x) ≡ word (DisconnectRequest sub) (step no_keys x.safe.safety (DisconnectRequest sub)).1
 left_shows now sub x =
     let a : Safety × SafetyOutcome = step no_keys x.safe.safety (DisconnectRequest sub) in
     let z : Core = with_safety_step model (DisconnectRequest sub) a (new_event_at model now x) in
-    shown_as z (left_at now sub x) (seen_departs (release_of (User sub)) normal_disconnect (sent_by a.1) z)
+    shown_as z (left_at now sub x) (seen_departs (release_of (User sub)) normal_disconnect (octets_sent_in_outcome a.1) z)
 
 time_shows : (given_up : Option Release) (x : Core) → shown (on_expiry model given_up x) ≡ shown x
 time_shows (Some why) x = refl

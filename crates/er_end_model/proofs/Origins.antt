@@ -1,5 +1,6 @@
 -- What an end tells of its peer is the doing of a text that a frame brought.
 use Rattle.std.proofs.Common.{◌≡◌, ◌∙◌, ℕ, max, Bool, true, false, ◌&&◌, List, [], ◌∷◌, ◌++◌, Option, Some, None, Ok, Err, refl, sym, ap, subst, append_assoc, append-nil}
+use Rattle.hdlc_station_model.specs.Receiving.{is_some_octets}
 use Rattle.std.specs.Prelude.{is_some, if◌then◌else◌}
 use Rattle.std.specs.List.{flat_map, All}
 use Rattle.std.proofs.lemmas.List.Elements.{All-nil, All-cons, All-append, All-weaker}
@@ -11,22 +12,22 @@ use Rattle.hdlc_frames.specs.Framing.{Verdict}
 use Rattle.hdlc_station_model.specs.Events.{news}
 use Rattle.t70_header.specs.Joining as joining
 use Rattle.x224_class2.specs.Refusals.{protocol_error}
-use Rattle.x224_class2.specs.Transport.{Deed, Nothing, Called, Confirmed, Message, Disconnected, reception}
+use Rattle.x224_class2.specs.Transport.{ReceptionDeed, Nothing, Called, Confirmed, Message, Disconnected, reception}
 use Rattle.x224_class2.specs.Transport as transport
 use Rattle.sapdu.specs.Spelling.{di_in}
 use Rattle.safety_automaton.specs.Keys.{no_keys}
 use Rattle.safety_automaton.specs.Reports.{report_of}
-use Rattle.safety_automaton.specs.Safety.{Safety, ConnectRequest, Received, DataRequest, SafetyOutcome, SentAu1, SentAu2, SentAu3, SentAr, ReceivedAr, AcceptedDt, SentDt, Refused, ReleasedLocally, ReleasedByPeer, NothingDone, sent_by, peer_flag, step}
+use Rattle.safety_automaton.specs.Safety.{Safety, ConnectRequest, Received, DataRequest, SafetyOutcome, SentAu1, SentAu2, SentAu3, SentAr, ReceivedAr, AcceptedDt, SentDt, Refused, ReleasedLocally, ReleasedByPeer, NothingDone, octets_sent_in_outcome, peer_flag, step}
 use Rattle.safety_automaton.specs.Rules.{StepsOnly, IsStep}
 use Rattle.safety_automaton.specs.Laws.{AcceptsVerified}
 use Rattle.er_end_model.specs.Outcomes.{Outcome, ConnectedTo, Accepted, SendRefusal}
 use Rattle.er_end_model.specs.Outcomes as told
-use Rattle.er_end_model.specs.Steps.{Finds, new_event_at, send_dr, answer_dr, on_safety_release, why_of, with_safety_step, is_some_octets, Carrier, InCr, InCc, InDt, hand_answer, keep_message, on_safety_report, on_text, on_transport_deed, on_joined_block, is_ready, connect_with_text, on_link_up, on_link_told, conclude_event, step_start, step_frame, refusal_of, step_send_unless, on_send, step_take, step_release, step_tick, step_break, if_connected, if_accepted, if_released, if_octets, outcomes_of, if_taken}
+use Rattle.er_end_model.specs.Steps.{Finds, new_event_at, send_dr, answer_dr, on_safety_release, why_of, with_safety_step, Carrier, InCr, InCc, InDt, hand_answer, keep_message, on_safety_report, on_text, on_transport_deed, on_joined_block, is_ready, connect_with_text, on_link_up, on_link_told, conclude_event, step_start, step_frame, refusal_of, step_send_unless, on_send, step_take, step_release, step_tick, step_break, if_connected, if_accepted, if_released, if_octets, outcomes_of, if_taken}
 use Rattle.er_end_model.specs.Layers.{Core, model}
-use Rattle.er_end_model.specs.Ends.{Event, Start, Come, Send, Take, Leave, Tick, Ended, Fault, Stalled, End, Moment, hears_each, told_of_each, if_refused, run, outcomes}
+use Rattle.er_end_model.specs.Ends.{Event, Start, Come, Send, Take, Leave, Tick, Ended, Fault, Stalled, End, Moment, hears_each, told_of_each, refusal_or_outcomes, end_run, outcomes}
 use Rattle.er_end_model.specs.Ends as end
-use Rattle.er_end_model.specs.Hearing.{text_in, station_behind, IsTextOf}
-use Rattle.er_end_model.specs.Origins.{BringsMessage, ConnectsWith, ByAu3, ByAr, behind, Brings, Origin, OctetsAreHeard, BringsIn, RunsAreHeard, octets_in, StreamIsWhole}
+use Rattle.er_end_model.specs.Hearing.{text_in_deed, station_behind, IsTextOf}
+use Rattle.er_end_model.specs.Origins.{BringsMessage, ConnectsWith, ByAu3, ByAr, core_behind_frames, Brings, Origin, OctetOutcomesHaveOrigin, BringsIn, RunsAreHeard, octets_brought_by_event, StreamIsWhole}
 use Rattle.er_end_model.proofs.Behind.{taken_at, joined_at, heard_at, hears_parts}
 use Rattle.er_end_model.proofs.Speaking.{seen, seen_departs, seen_cut_off, seen_parts, seen_concludes}
 use Rattle.er_end_model.proofs.Giving.{Shown, shown, silence, word, shown_as, shown_if, shown_answers, starts_show, sent_shows, uses_show, ticks_show, breaks_show, IsQuiet, quiet_silence, quiet_word, quiet_leaves}
@@ -60,14 +61,14 @@ module _ (steps : StepsOnly) (accepts_only : AcceptsVerified) where
       stays : (o : SafetyOutcome) (z : Core) → seen z ≡ seen (after o) → Tells (shown z)
       stays o z e = tells_as (shown (after o)) (shown z) (shown_as (after o) z e) (quiet_tells (shown (after o)) c n)
 
-      answered : (by : Carrier) (o : SafetyOutcome) → Tells (shown (hand_answer model by (sent_by o) (after o)))
-      answered by o = tells_as (shown (after o)) (shown (hand_answer model by (sent_by o) (after o))) (shown_answers by (sent_by o) (after o)) (quiet_tells (shown (after o)) c n)
+      answered : (by : Carrier) (o : SafetyOutcome) → Tells (shown (hand_answer model by (octets_sent_in_outcome o) (after o)))
+      answered by o = tells_as (shown (after o)) (shown (hand_answer model by (octets_sent_in_outcome o) (after o))) (shown_answers by (octets_sent_in_outcome o) (after o)) (quiet_tells (shown (after o)) c n)
 
       connected : (by : Carrier) (o : SafetyOutcome) (peer : ℕ) → ConnectsWith peer x.safe.safety text
-          → Tells (shown (record (hand_answer model by (sent_by o) (after o)) { connected = Some peer }))
+          → Tells (shown (record (hand_answer model by (octets_sent_in_outcome o) (after o)) { connected = Some peer }))
       connected by o peer on_transport_deed =
-          let z : Core = record (hand_answer model by (sent_by o) (after o)) { connected = Some peer } in
-          let e : shown z ≡ record (shown (after o)) { connected = Some peer } = ap (λ (v : Shown). record v { connected = Some peer }) (shown_answers by (sent_by o) (after o)) in
+          let z : Core = record (hand_answer model by (octets_sent_in_outcome o) (after o)) { connected = Some peer } in
+          let e : shown z ≡ record (shown (after o)) { connected = Some peer } = ap (λ (v : Shown). record v { connected = Some peer }) (shown_answers by (octets_sent_in_outcome o) (after o)) in
           tells_as (record (shown (after o)) { connected = Some peer }) (shown z) e (record {
             peers = λ p f. let g : peer ≡ p = cc in (text, is, subst (λ (k : ℕ). ConnectsWith k x.safe.safety text) g on_transport_deed);
             messages = λ message f. absurd (let g = sym n ∙ f in cc);
@@ -84,7 +85,7 @@ module _ (steps : StepsOnly) (accepts_only : AcceptsVerified) where
       row : (o : SafetyOutcome) → Comes o → IsStep key_of x.safe.safety (Received text) (step key_of x.safe.safety (Received text)).0 o
       row o e = subst (λ (p : SafetyOutcome). IsStep key_of x.safe.safety (Received text) (step key_of x.safe.safety (Received text)).0 p) e (steps key_of x.safe.safety (Received text))
 
-      acts_tell : (by : Carrier) (o : SafetyOutcome) → Comes o → Tells (shown (on_safety_report model by (report_of o) (sent_by o) (after o)))
+      acts_tell : (by : Carrier) (o : SafetyOutcome) → Comes o → Tells (shown (on_safety_report model by (report_of o) (octets_sent_in_outcome o) (after o)))
       acts_tell by (SentAu1 octets) e = stays (SentAu1 octets) (after (SentAu1 octets)) refl
       acts_tell by (SentAu2 session sealed octets) e = answered by (SentAu2 session sealed octets)
       acts_tell by (SentAu3 session verified sealed octets) e = answered by (SentAu3 session verified sealed octets)
@@ -110,7 +111,7 @@ module _ (steps : StepsOnly) (accepts_only : AcceptsVerified) where
         let a : Safety × SafetyOutcome = step key_of x.safe.safety (Received text) in
         acts_tell text is key_of a.0 (heard_at now verdict x payload tpdu) refl refl by a.1 refl
 
-    deed_tells : (payload tpdu : List ℕ) (d : Deed) → ((text : List ℕ) → text_in d ≡ Some text → IsTextOf x now verdict text)
+    deed_tells : (payload tpdu : List ℕ) (d : ReceptionDeed) → ((text : List ℕ) → text_in_deed d ≡ Some text → IsTextOf x now verdict text)
         → Tells (shown (on_transport_deed model finds d (heard_at now verdict x payload tpdu)))
     deed_tells payload tpdu Nothing h = quiet_tells (shown (heard_at now verdict x payload tpdu)) refl refl
     deed_tells payload tpdu (Called user) h = text_tells payload tpdu InCr user (h user refl)
@@ -125,7 +126,7 @@ module _ (steps : StepsOnly) (accepts_only : AcceptsVerified) where
         let why : Release = by_this_end 2 sub in
         tells_as silence (shown (send_dr model why reason [] y)) (shown_as y (send_dr model why reason [] y) (seen_departs why reason [] y)) (quiet_tells silence refl refl)
 
-    block_tells : (payload : List ℕ) → (station_behind x now verdict).deed.payload ≡ Some payload → (answer : joining.Answer) → (joining.step x.joined payload).1 ≡ answer
+    block_tells : (payload : List ℕ) → (station_behind x now verdict).deed.payload ≡ Some payload → (answer : joining.BlockJoiningResult) → (joining.block_step x.joined payload).1 ≡ answer
         → Tells (shown (on_joined_block model finds answer (joined_at now verdict x payload)))
     block_tells payload t (Ok None) e = quiet_tells silence refl refl
     block_tells payload t (Ok (Some tpdu)) e =
@@ -140,8 +141,8 @@ module _ (steps : StepsOnly) (accepts_only : AcceptsVerified) where
         let a : Safety × SafetyOutcome = step no_keys x.safe.safety ConnectRequest in
         let z : Core = with_safety_step model ConnectRequest a (taken_at now verdict x) in
         let v : Shown = word ConnectRequest a.1 in
-        up_or (model.may_connect (taken_at now verdict x).upper && is_ready (taken_at now verdict x).safe.safety.phase) (connect_with_text model (sent_by a.1) z)
-        (tells_as v (shown (connect_with_text model (sent_by a.1) z)) (shown_if (is_some_octets (sent_by a.1)) _ z v refl refl) (quiet_tells v refl refl))
+        up_or (model.may_connect (taken_at now verdict x).upper && is_ready (taken_at now verdict x).safe.safety.phase) (connect_with_text model (octets_sent_in_outcome a.1) z)
+        (tells_as v (shown (connect_with_text model (octets_sent_in_outcome a.1) z)) (shown_if (is_some_octets (octets_sent_in_outcome a.1)) _ z v refl refl) (quiet_tells v refl refl))
       where
         up_or : (b : Bool) (y : Core) → Tells (shown y) → Tells (shown (if b then y else (taken_at now verdict x)))
         up_or true y t = t
@@ -149,7 +150,7 @@ module _ (steps : StepsOnly) (accepts_only : AcceptsVerified) where
 
     link_tells : (payload : Option (List ℕ)) (up : Bool) (released : Option Release) → (station_behind x now verdict).deed.payload ≡ payload
         → Tells (shown (on_link_told model finds payload up released (taken_at now verdict x)))
-    link_tells (Some payload) up released t = block_tells payload t (joining.step x.joined payload).1 refl
+    link_tells (Some payload) up released t = block_tells payload t (joining.block_step x.joined payload).1 refl
     link_tells None true released t = up_tells
     link_tells None false (Some why) t = quiet_tells silence refl refl
     link_tells None false None t = quiet_tells silence refl refl
@@ -200,12 +201,12 @@ module _ (P : Outcome → Type 0) (releases : (why : Release) → P (told.WasRel
 
 module _ (steps : StepsOnly) (accepts_only : AcceptsVerified) where
   module _ (finds : Finds) (now : ℕ) (octets : List ℕ) (m : End) where
-    each_told : (first vs : List Verdict) → news m.stream octets ≡ first ++ vs → (x : Core) → behind finds now first m ≡ x
+    each_told : (first vs : List Verdict) → news m.stream octets ≡ first ++ vs → (x : Core) → core_behind_frames finds now first m ≡ x
         → All (Origin (Brings finds now octets m)) (told_of_each finds now vs x)
     each_told first [] e x is = All-nil (Origin (Brings finds now octets m))
     each_told first (v ∷ vs) e x is =
         let P : Outcome → Type 0 = Origin (Brings finds now octets m) in
-        let b : Core = behind finds now first m in
+        let b : Core = core_behind_frames finds now first m in
         let y : Core = step_frame model finds now v x in
         let t = frame_tells steps accepts_only finds now v b in
         let same : step_frame model finds now v b ≡ y = ap (λ (z : Core). step_frame model finds now v z) is in
@@ -217,7 +218,7 @@ module _ (steps : StepsOnly) (accepts_only : AcceptsVerified) where
         each_told (first ++ v ∷ []) vs (e ∙ sym (append_assoc first (v ∷ []) vs)) y (hears_parts finds now first (v ∷ []) (new_event_at model now m.core) ∙ same) in
         All-append P (outcomes_of model y) (told_of_each finds now vs y) (subst (λ (z : Core). All P (outcomes_of model z)) same one) rest
 
-  pub octets_are_heard : OctetsAreHeard
+  pub octets_are_heard : OctetOutcomesHaveOrigin
   octets_are_heard finds now octets m = each_told finds now octets m [] (news m.stream octets) refl (new_event_at model now m.core) refl
 
   -- ---- a run
@@ -226,17 +227,17 @@ module _ (steps : StepsOnly) (accepts_only : AcceptsVerified) where
   Told events m = Origin (BringsIn events m)
 
   step_told : (events before after : List Moment) (m : End) (now : ℕ) (event : Event) → events ≡ before ++ record { now = now; event = event } ∷ after
-      → All (Told events m) (end.step now event (run before m)).1
+      → All (Told events m) (end.step_event now event (end_run before m)).1
   step_told events before after m now Start e =
-      let k : Core = (run before m).core in
+      let k : Core = (end_run before m).core in
       quiet_all (Told events m) (λ why. tt) (λ os. tt) (step_start model now k) (quiet_silence (step_start model now k) (starts_show now k))
   step_told events before after m now (Come finds octets) e =
-      All-weaker (Origin (Brings finds now octets (run before m))) (Told events m) came (end.step now (Come finds octets) (run before m)).1 (octets_are_heard finds now octets (run before m))
+      All-weaker (Origin (Brings finds now octets (end_run before m))) (Told events m) came (end.step_event now (Come finds octets) (end_run before m)).1 (octets_are_heard finds now octets (end_run before m))
     where
-      carried : (Does : Safety → List ℕ → Type 0) → Brings finds now octets (run before m) Does → BringsIn events m Does
+      carried : (Does : Safety → List ℕ → Type 0) → Brings finds now octets (end_run before m) Does → BringsIn events m Does
       carried Does b = record { before = before; now = now; finds = finds; octets = octets; after = after; events_are = e; brings = b }
 
-      came : (o : Outcome) → Origin (Brings finds now octets (run before m)) o → Told events m o
+      came : (o : Outcome) → Origin (Brings finds now octets (end_run before m)) o → Told events m o
       came (ConnectedTo peer) b = carried (ConnectsWith peer) b
       came (Accepted message) b = carried (BringsMessage message) b
       came (told.Taken message) b = tt
@@ -244,16 +245,16 @@ module _ (steps : StepsOnly) (accepts_only : AcceptsVerified) where
       came (told.Refused refusal) b = tt
       came (told.WasReleased release) b = tt
       came (told.Octets os) b = tt
-  step_told events before after m now (Send user) e = unless (refusal_of model user (run before m).core)
+  step_told events before after m now (Send user) e = unless (refusal_of model user (end_run before m).core)
     where
-      unless : (r : Option SendRefusal) → All (Told events m) (if_refused r (outcomes_of model (step_send_unless model r now user (run before m).core)))
+      unless : (r : Option SendRefusal) → All (Told events m) (refusal_or_outcomes r (outcomes_of model (step_send_unless model r now user (end_run before m).core)))
       unless (Some refusal) = All-cons (Told events m) (told.Refused refusal) [] tt (All-nil (Told events m))
       unless None =
-          let k : Core = (run before m).core in
+          let k : Core = (end_run before m).core in
           let y : Core = on_send model user (new_event_at model now k) in
           quiet_all (Told events m) (λ why. tt) (λ os. tt) y (quiet_word y (DataRequest user) (step no_keys k.safe.safety (DataRequest user)).1 (sent_shows now user k))
   step_told events before after m now Take e =
-      let k : Core = (run before m).core in
+      let k : Core = (end_run before m).core in
       All-append (Told events m) (if_taken (model.oldest k.upper)) (outcomes_of model (step_take model now k)) (taken_all (model.oldest k.upper))
       (quiet_all (Told events m) (λ why. tt) (λ os. tt) (step_take model now k) (quiet_silence (step_take model now k) (uses_show now k)))
     where
@@ -261,40 +262,40 @@ module _ (steps : StepsOnly) (accepts_only : AcceptsVerified) where
       taken_all None = All-cons (Told events m) told.NothingToTake [] tt (All-nil (Told events m))
       taken_all (Some message) = All-cons (Told events m) (told.Taken message) [] tt (All-nil (Told events m))
   step_told events before after m now (Leave sub) e =
-      let k : Core = (run before m).core in
+      let k : Core = (end_run before m).core in
       quiet_all (Told events m) (λ why. tt) (λ os. tt) (step_release model now sub k) (quiet_leaves now sub k)
   step_told events before after m now Tick e =
-      let k : Core = (run before m).core in
+      let k : Core = (end_run before m).core in
       quiet_all (Told events m) (λ why. tt) (λ os. tt) (step_tick model now k) (quiet_silence (step_tick model now k) (ticks_show now k))
   step_told events before after m now Ended e =
-      let k : Core = (run before m).core in
+      let k : Core = (end_run before m).core in
       quiet_all (Told events m) (λ why. tt) (λ os. tt) (step_break model LineEnded k) (quiet_silence (step_break model LineEnded k) (breaks_show LineEnded k))
   step_told events before after m now Fault e =
-      let k : Core = (run before m).core in
+      let k : Core = (end_run before m).core in
       quiet_all (Told events m) (λ why. tt) (λ os. tt) (step_break model LineFailed k) (quiet_silence (step_break model LineFailed k) (breaks_show LineFailed k))
   step_told events before after m now Stalled e =
-      let k : Core = (run before m).core in
+      let k : Core = (end_run before m).core in
       quiet_all (Told events m) (λ why. tt) (λ os. tt) (step_break model LineStalled k) (quiet_silence (step_break model LineStalled k) (breaks_show LineStalled k))
 
-  run_told : (events before after : List Moment) (m n : End) → events ≡ before ++ after → run before m ≡ n → All (Told events m) (outcomes after n)
+  run_told : (events before after : List Moment) (m n : End) → events ≡ before ++ after → end_run before m ≡ n → All (Told events m) (outcomes after n)
   run_told events before [] m n e is = All-nil (Told events m)
   run_told events before (moment ∷ after) m n e is =
       let one = step_told events before after m moment.now moment.event e in
-      let here : All (Told events m) (end.step moment.now moment.event n).1 = subst (λ (k : End). All (Told events m) (end.step moment.now moment.event k).1) is one in
-      All-append (Told events m) (end.step moment.now moment.event n).1 (outcomes after (end.step moment.now moment.event n).0) here
-      (run_told events (before ++ moment ∷ []) after m (end.step moment.now moment.event n).0 (e ∙ sym (append_assoc before (moment ∷ []) after))
-      (run_last before moment m ∙ ap (λ (k : End). (end.step moment.now moment.event k).0) is))
+      let here : All (Told events m) (end.step_event moment.now moment.event n).1 = subst (λ (k : End). All (Told events m) (end.step_event moment.now moment.event k).1) is one in
+      All-append (Told events m) (end.step_event moment.now moment.event n).1 (outcomes after (end.step_event moment.now moment.event n).0) here
+      (run_told events (before ++ moment ∷ []) after m (end.step_event moment.now moment.event n).0 (e ∙ sym (append_assoc before (moment ∷ []) after))
+      (run_last before moment m ∙ ap (λ (k : End). (end.step_event moment.now moment.event k).0) is))
     where
-      run_last : (before : List Moment) (moment : Moment) (m : End) → run (before ++ moment ∷ []) m ≡ (end.step moment.now moment.event (run before m)).0
+      run_last : (before : List Moment) (moment : Moment) (m : End) → end_run (before ++ moment ∷ []) m ≡ (end.step_event moment.now moment.event (end_run before m)).0
       run_last [] moment m = refl
-      run_last (e ∷ before) moment m = run_last before moment (end.step e.now e.event m).0
+      run_last (e ∷ before) moment m = run_last before moment (end.step_event e.now e.event m).0
 
   pub runs_are_heard : RunsAreHeard
   runs_are_heard events m = run_told events [] events m m refl refl
 
 -- ---- the stream
 
-step_stream : (now : ℕ) (event : Event) (m : End) → (end.step now event m).0.stream ≡ m.stream ++ octets_in event
+step_stream : (now : ℕ) (event : Event) (m : End) → (end.step_event now event m).0.stream ≡ m.stream ++ octets_brought_by_event event
 step_stream now Start m = sym (append-nil m.stream)
 step_stream now (Come finds octets) m = refl
 step_stream now (Send user) m = sym (append-nil m.stream)
@@ -308,6 +309,6 @@ step_stream now Stalled m = sym (append-nil m.stream)
 pub stream_is_whole : StreamIsWhole
 stream_is_whole [] m = sym (append-nil m.stream)
 stream_is_whole (e ∷ events) m =
-    stream_is_whole events (end.step e.now e.event m).0
-    ∙ ap (λ (s : List ℕ). s ++ flat_map (λ (k : Moment). octets_in k.event) events) (step_stream e.now e.event m)
-    ∙ append_assoc m.stream (octets_in e.event) (flat_map (λ (k : Moment). octets_in k.event) events)
+    stream_is_whole events (end.step_event e.now e.event m).0
+    ∙ ap (λ (s : List ℕ). s ++ flat_map (λ (k : Moment). octets_brought_by_event k.event) events) (step_stream e.now e.event m)
+    ∙ append_assoc m.stream (octets_brought_by_event e.event) (flat_map (λ (k : Moment). octets_brought_by_event k.event) events)

@@ -1,5 +1,6 @@
 -- An end is released exactly where a row of the table of releases is met.
 use Rattle.std.proofs.Common.{◌≡◌, ◌+◌, ◌≤◌, ◌⊎◌, inl, inr, ◌∙◌, ◌-◌, ℕ, zero, suc, max, Bool, true, false, ◌&&◌, not, List, [], ◌∷◌, ◌++◌, length, Option, Some, None, Result, Ok, Err, refl, sym, ap, ap₂, subst, append_assoc, leb-true}
+use Rattle.hdlc_station_model.specs.Receiving.{is_some_octets}
 use Rattle.std.specs.Prelude.{◌==◌, nat_lt, nat_le, is_some, if◌then◌else◌}
 use Rattle.std.specs.List.{All, Contains}
 use Rattle.std.proofs.lemmas.Bool.{le-leb}
@@ -16,26 +17,26 @@ use Rattle.hdlc_station_model.specs.Events.{news}
 use Rattle.hdlc_station_model.specs.Laws as stations
 use Rattle.t70_header.specs.Joining as joining
 use Rattle.x224_tpdu.specs.declared.fault.TpFault.{TpFault}
-use Rattle.x224_tpdu.specs.Spelling.{Pdu, connection_request, connection_confirm, disconnect_request, disconnect_confirm, data_tpdu, acknowledgement, tpdu_error}
+use Rattle.x224_tpdu.specs.Spelling.{TransportPdu, connection_request, connection_confirm, disconnect_request, disconnect_confirm, data_tpdu, acknowledgement, tpdu_error}
 use Rattle.x224_tpdu.specs.Function.{reading}
 use Rattle.x224_class2.specs.Refusals.{tpdu_refused, message_too_long}
-use Rattle.x224_class2.specs.Transport.{Transport, Deed, Nothing, Called, Confirmed, Message, Disconnected, is_new, is_calling, is_open, is_over, reception, on_reading, number_named, on_named, is_expected}
+use Rattle.x224_class2.specs.Transport.{Transport, ReceptionDeed, Nothing, Called, Confirmed, Message, Disconnected, is_new, is_calling, is_open, is_over, reception, on_reading, number_named, on_named, is_expected}
 use Rattle.x224_class2.specs.Transport as transport
 use Rattle.x224_class2.specs.Segments.{text_so_far}
 use Rattle.sapdu.specs.Spelling.{di_in}
 use Rattle.safety_automaton.specs.Keys.{no_keys}
 use Rattle.safety_automaton.specs.Reports.{report_of}
-use Rattle.safety_automaton.specs.Safety.{Safety, SafetyEvent, ConnectRequest, Received, DataRequest, DisconnectRequest, SafetyOutcome, SentAu1, SentAu2, SentAu3, SentAr, ReceivedAr, AcceptedDt, SentDt, Refused, ReleasedLocally, ReleasedByPeer, NothingDone, sent_by, peer_flag}
+use Rattle.safety_automaton.specs.Safety.{Safety, SafetyEvent, ConnectRequest, Received, DataRequest, DisconnectRequest, SafetyOutcome, SentAu1, SentAu2, SentAu3, SentAr, ReceivedAr, AcceptedDt, SentDt, Refused, ReleasedLocally, ReleasedByPeer, NothingDone, octets_sent_in_outcome, peer_flag}
 use Rattle.safety_automaton.specs.Safety as safety
 use Rattle.safety_automaton.specs.Rules.{StepsOnly, StepsEach, CauseReleases, IsStep}
 use Rattle.er_end_model.specs.Outcomes.{Outcome, ConnectedTo, Accepted, Taken, NothingToTake, WasReleased, Octets, SendRefusal}
 use Rattle.er_end_model.specs.Outcomes as told
-use Rattle.er_end_model.specs.Steps.{Finds, new_event, new_event_at, with_release, send_dr, answer_dr, end_after_di, on_safety_release, why_of, with_safety_step, is_some_octets, hand_text, skip_message, Carrier, InCr, InCc, InDt, hand_answer, keep_message, on_safety_report, on_text, on_transport_deed, on_joined_block, is_ready, connect_with_text, on_link_up, on_link_told, on_link_deed, hand_next_tpdu, has_next_tpdu, hand_waiting_tpdus, most_offers, send_owed_answer, conclude_event, step_start, step_frame, refusal_of, step_send_unless, on_send, step_take, step_release, is_spent, is_connected, normal_disconnect, di_of, on_expiry, step_tick, step_break, if_connected, if_accepted, if_released, if_octets, outcomes_of, if_taken}
+use Rattle.er_end_model.specs.Steps.{Finds, new_event, new_event_at, with_release, send_dr, answer_dr, end_after_di, on_safety_release, why_of, with_safety_step, hand_text, skip_message, Carrier, InCr, InCc, InDt, hand_answer, keep_message, on_safety_report, on_text, on_transport_deed, on_joined_block, is_ready, connect_with_text, on_link_up, on_link_told, on_link_deed, hand_next_tpdu, has_next_tpdu, hand_waiting_tpdus, most_offers, send_owed_answer, conclude_event, step_start, step_frame, refusal_of, step_send_unless, on_send, step_take, step_release, is_spent, is_connected, normal_disconnect, di_of, on_expiry, step_tick, step_break, if_connected, if_accepted, if_released, if_octets, outcomes_of, if_taken}
 use Rattle.er_end_model.specs.Layers.{Core, model}
-use Rattle.er_end_model.specs.Ends.{Event, Start, Come, Send, Take, Leave, Tick, Ended, Fault, Stalled, End, Moment, hears_each, told_of_each, if_refused, step, run}
-use Rattle.er_end_model.specs.Hearing.{text_in, station_behind, IsTextOf}
-use Rattle.er_end_model.specs.Origins.{behind}
-use Rattle.er_end_model.specs.Releasing.{FrameFact, AtFrame, StationReleases, BlockIsFaulty, IsTpduOf, TpduIsRefused, IsDr, DrHasNoDi, SafetyMet, PeersDi, InDr, InOther, station_at, Met, ReleaseMet, ForCause, ByPeer, EndReleases, ReleasedIn, RunsRelease}
+use Rattle.er_end_model.specs.Ends.{Event, Start, Come, Send, Take, Leave, Tick, Ended, Fault, Stalled, End, Moment, hears_each, told_of_each, refusal_or_outcomes, step_event, end_run}
+use Rattle.er_end_model.specs.Hearing.{text_in_deed, station_behind, IsTextOf}
+use Rattle.er_end_model.specs.Origins.{core_behind_frames}
+use Rattle.er_end_model.specs.Releasing.{FrameFact, AtFrame, StationReleases, BlockIsFaulty, IsTpduOf, TpduIsRefused, IsDr, DrHasNoDi, SafetyMet, PeersDi, InDr, InOther, station_at, MeetsReleaseCause, ReleaseMet, ForCause, ByPeer, EndReleases, ReleasedIn, RunsRelease}
 use Rattle.er_end_model.proofs.Behind.{taken_at, joined_at, heard_at, hears_parts, told_parts}
 
 -- ---- what is kept of a release
@@ -104,7 +105,7 @@ fate_as : (Why : Release → Type 0) (k l : Kept) → l ≡ k → Fate Why k →
 fate_as Why k l e f = subst (λ (j : Kept). Fate Why j) (sym e) f
 
 -- a transport refuses by 2.2 or by 2.3
-abbrev Refuses : Deed → Type 0
+abbrev Refuses : ReceptionDeed → Type 0
 Refuses Nothing = Unit {0}
 Refuses (Called user) = Unit {0}
 Refuses (Confirmed user) = Unit {0}
@@ -112,7 +113,7 @@ Refuses (Message message) = Unit {0}
 Refuses (Disconnected user) = Unit {0}
 Refuses (transport.Refused sub reason) = (sub ≡ tpdu_refused) ⊎ (sub ≡ message_too_long)
 
-refuses_if : (b : Bool) (x y : Transport × Deed) → Refuses x.1 → Refuses y.1 → Refuses (if b then x else y).1
+refuses_if : (b : Bool) (x y : Transport × ReceptionDeed) → Refuses x.1 → Refuses y.1 → Refuses (if b then x else y).1
 refuses_if true x y h g = h
 refuses_if false x y h g = g
 
@@ -124,7 +125,7 @@ message_refuses : (last : Bool) (text : List ℕ) → Refuses (if last then Mess
 message_refuses true text = tt
 message_refuses false text = tt
 
-reading_refuses : (t : Transport) (answer : Result Pdu TpFault) → Refuses (on_reading t answer).1
+reading_refuses : (t : Transport) (answer : Result TransportPdu TpFault) → Refuses (on_reading t answer).1
 reading_refuses t (Ok (connection_request credit dst src size user)) = refuses_if (not t.is_caller && is_new t.stage && (dst == 0) && (src == 1)) _ _ tt (inl refl)
 reading_refuses t (Ok (connection_confirm credit dst src size user)) = refuses_if (is_calling t.stage && (dst == 1) && (src == 1) && nat_le size t.size) _ _ tt (inl refl)
 reading_refuses t (Ok (disconnect_request dst src reason user)) = refuses_if (not (is_new t.stage) && (dst == 1) && (src == 1)) _ _ tt (inl refl)
@@ -166,7 +167,7 @@ module _ (receives : stations.ReceivesGive) (steps_only : StepsOnly) (steps_each
       row : (o : SafetyOutcome) → Comes o → IsStep key_of x.safe.safety (Received text) (safety.step key_of x.safe.safety (Received text)).0 o
       row o e = subst (λ (p : SafetyOutcome). IsStep key_of x.safe.safety (Received text) (safety.step key_of x.safe.safety (Received text)).0 p) e (steps_only key_of x.safe.safety (Received text))
 
-      acts_fate : (by : Carrier) (o : SafetyOutcome) → Comes o → Fated (on_safety_report model by (report_of o) (sent_by o) (after o))
+      acts_fate : (by : Carrier) (o : SafetyOutcome) → Comes o → Fated (on_safety_report model by (report_of o) (octets_sent_in_outcome o) (after o))
       acts_fate by (SentAu1 octets) e = stays (after (SentAu1 octets)) refl
       acts_fate by (SentAu2 session sealed octets) e = stays (hand_answer model by octets (after (SentAu2 session sealed octets))) (kept_answers by octets (after (SentAu2 session sealed octets)))
       acts_fate by (SentAu3 session verified sealed octets) e =
@@ -210,21 +211,21 @@ module _ (receives : stations.ReceivesGive) (steps_only : StepsOnly) (steps_each
       refused_fate tpdu sub reason y is e (inr s) =
           Goes (by_this_end 2 sub) refl (IsLong (tpdu, reason, is, e ∙ ap (λ (n : ℕ). transport.Refused n reason) s) (ap (λ (n : ℕ). by_this_end 2 n) s))
 
-      deed_fate : (payload tpdu : List ℕ) → (station_behind x now verdict).deed.payload ≡ Some payload → (joining.step x.joined payload).1 ≡ Ok (Some tpdu)
-          → (d : Deed) → (reception x.upper.transport tpdu).1 ≡ d → Refuses d → Fated (on_transport_deed model finds d (heard_at now verdict x payload tpdu))
+      deed_fate : (payload tpdu : List ℕ) → (station_behind x now verdict).deed.payload ≡ Some payload → (joining.block_step x.joined payload).1 ≡ Ok (Some tpdu)
+          → (d : ReceptionDeed) → (reception x.upper.transport tpdu).1 ≡ d → Refuses d → Fated (on_transport_deed model finds d (heard_at now verdict x payload tpdu))
       deed_fate payload tpdu t j Nothing e r = Stays begun
       deed_fate payload tpdu t j (Called user) e r =
-          text_fate payload tpdu InCr user (record { payload = payload; taken = t; tpdu = tpdu; joined = j; brought = ap text_in e })
+          text_fate payload tpdu InCr user (record { payload = payload; taken = t; tpdu = tpdu; joined = j; brought = ap text_in_deed e })
       deed_fate payload tpdu t j (Confirmed user) e r =
-          text_fate payload tpdu InCc user (record { payload = payload; taken = t; tpdu = tpdu; joined = j; brought = ap text_in e })
+          text_fate payload tpdu InCc user (record { payload = payload; taken = t; tpdu = tpdu; joined = j; brought = ap text_in_deed e })
       deed_fate payload tpdu t j (Message message) e r =
-          text_fate payload tpdu InDt message (record { payload = payload; taken = t; tpdu = tpdu; joined = j; brought = ap text_in e })
+          text_fate payload tpdu InDt message (record { payload = payload; taken = t; tpdu = tpdu; joined = j; brought = ap text_in_deed e })
       deed_fate payload tpdu t j (Disconnected user) e r =
           dr_fate user (heard_at now verdict x payload tpdu) (tpdu, record { payload = payload; taken = t; joined = j }, e) (di_in user (peer_flag x.safe.safety)) refl
       deed_fate payload tpdu t j (transport.Refused sub reason) e r =
           refused_fate tpdu sub reason (heard_at now verdict x payload tpdu) (record { payload = payload; taken = t; joined = j }) e r
 
-      block_fate : (payload : List ℕ) → (station_behind x now verdict).deed.payload ≡ Some payload → (answer : joining.Answer) → (joining.step x.joined payload).1 ≡ answer
+      block_fate : (payload : List ℕ) → (station_behind x now verdict).deed.payload ≡ Some payload → (answer : joining.BlockJoiningResult) → (joining.block_step x.joined payload).1 ≡ answer
           → Fated (on_joined_block model finds answer (joined_at now verdict x payload))
       block_fate payload t (Ok None) e = Stays begun
       block_fate payload t (Ok (Some tpdu)) e =
@@ -236,8 +237,8 @@ module _ (receives : stations.ReceivesGive) (steps_only : StepsOnly) (steps_each
           let a : Safety × SafetyOutcome = safety.step no_keys x.safe.safety ConnectRequest in
           let y : Core = taken_at now verdict x in
           let z : Core = with_safety_step model ConnectRequest a y in
-          kept_if (model.may_connect y.upper && is_ready y.safe.safety.phase) (connect_with_text model (sent_by a.1) z) y calm
-          (kept_if (is_some_octets (sent_by a.1)) _ z calm begun begun) begun
+          kept_if (model.may_connect y.upper && is_ready y.safe.safety.phase) (connect_with_text model (octets_sent_in_outcome a.1) z) y calm
+          (kept_if (is_some_octets (octets_sent_in_outcome a.1)) _ z calm begun begun) begun
 
       -- the station tells one thing
       one_deed : (why : Release) (d : LinkDeed) → d.payload ≡ None → d.more ≡ [] → d.up ≡ false → d.released ≡ Some why → d ≡ record { up = false; payload = None; more = []; released = Some why }
@@ -260,7 +261,7 @@ module _ (receives : stations.ReceivesGive) (steps_only : StepsOnly) (steps_each
       link_fate : (payload : Option (List ℕ)) (up : Bool) (released : Option Release) → (station_behind x now verdict).deed.payload ≡ payload
           → (station_behind x now verdict).deed.up ≡ up → (station_behind x now verdict).deed.released ≡ released
           → Fated (on_link_told model finds payload up released (taken_at now verdict x))
-      link_fate (Some payload) up released p u r = block_fate payload p (joining.step x.joined payload).1 refl
+      link_fate (Some payload) up released p u r = block_fate payload p (joining.block_step x.joined payload).1 refl
       link_fate None true released p u r = Stays up_calm
       link_fate None false (Some why) p u r =
           let given = receives (max x.moment now) verdict (settled x.line) refl in
@@ -291,7 +292,7 @@ module _ (receives : stations.ReceivesGive) (steps_only : StepsOnly) (steps_each
       station_gone why e = link_gone why (subst (λ (d : LinkDeed). Gone why (on_link_deed model finds d (taken_at now verdict x))) (sym e) refl)
 
       payload_gone : (why : Release) (payload : List ℕ) → (station_behind x now verdict).deed.payload ≡ Some payload
-          → Gone why (on_joined_block model finds (joining.step x.joined payload).1 (joined_at now verdict x payload)) → Gone why (step_frame model finds now verdict x)
+          → Gone why (on_joined_block model finds (joining.block_step x.joined payload).1 (joined_at now verdict x payload)) → Gone why (step_frame model finds now verdict x)
       payload_gone why payload t g =
           let d = (station_behind x now verdict).deed in
           link_gone why (subst (λ (p : Option (List ℕ)). Gone why (on_link_told model finds p d.up d.released (taken_at now verdict x))) (sym t) g)
@@ -299,33 +300,33 @@ module _ (receives : stations.ReceivesGive) (steps_only : StepsOnly) (steps_each
       block_gone : BlockIsFaulty finds now x verdict → Gone (release_of cause.BlockRefused) (step_frame model finds now verdict x)
       block_gone (payload, fault, t, e) =
           let why : Release = release_of cause.BlockRefused in
-          payload_gone why payload t (subst (λ (a : joining.Answer). Gone why (on_joined_block model finds a (joined_at now verdict x payload))) (sym e) refl)
+          payload_gone why payload t (subst (λ (a : joining.BlockJoiningResult). Gone why (on_joined_block model finds a (joined_at now verdict x payload))) (sym e) refl)
 
       tpdu_gone : (why : Release) (tpdu : List ℕ) (is : IsTpduOf x now verdict tpdu)
           → Gone why (on_transport_deed model finds (reception x.upper.transport tpdu).1 (heard_at now verdict x is.payload tpdu)) → Gone why (step_frame model finds now verdict x)
       tpdu_gone why tpdu is g =
-          payload_gone why is.payload is.taken (subst (λ (a : joining.Answer). Gone why (on_joined_block model finds a (joined_at now verdict x is.payload))) (sym is.joined) g)
+          payload_gone why is.payload is.taken (subst (λ (a : joining.BlockJoiningResult). Gone why (on_joined_block model finds a (joined_at now verdict x is.payload))) (sym is.joined) g)
 
       refused_gone : (sub : ℕ) → TpduIsRefused sub finds now x verdict → Gone (by_this_end 2 sub) (step_frame model finds now verdict x)
       refused_gone sub (tpdu, reason, is, e) =
           let why : Release = by_this_end 2 sub in
-          tpdu_gone why tpdu is (subst (λ (d : Deed). Gone why (on_transport_deed model finds d (heard_at now verdict x is.payload tpdu))) (sym e) refl)
+          tpdu_gone why tpdu is (subst (λ (d : ReceptionDeed). Gone why (on_transport_deed model finds d (heard_at now verdict x is.payload tpdu))) (sym e) refl)
 
       dr_gone : (user : List ℕ) (di : Option (ℕ × ℕ)) → IsDr user finds now x verdict → di_in user (peer_flag x.safe.safety) ≡ di → Gone (why_of di) (step_frame model finds now verdict x)
       dr_gone user di (tpdu, is, e) f =
           let y : Core = heard_at now verdict x is.payload tpdu in
-          tpdu_gone (why_of di) tpdu is (subst (λ (d : Deed). Gone (why_of di) (on_transport_deed model finds d y)) (sym e)
+          tpdu_gone (why_of di) tpdu is (subst (λ (d : ReceptionDeed). Gone (why_of di) (on_transport_deed model finds d y)) (sym e)
           (subst (λ (o : Option (ℕ × ℕ)). Gone (why_of di) (answer_dr model (why_of o) y)) (sym f) refl))
 
       -- a text at which the safety side is released
       text_gone : (why : Release) (text : List ℕ) → IsTextOf x now verdict text
-          → ((by : Carrier) (y : Core) → Gone why (on_safety_report model by (report_of (safety.step key_of x.safe.safety (Received text)).1) (sent_by (safety.step key_of x.safe.safety (Received text)).1) y))
+          → ((by : Carrier) (y : Core) → Gone why (on_safety_report model by (report_of (safety.step key_of x.safe.safety (Received text)).1) (octets_sent_in_outcome (safety.step key_of x.safe.safety (Received text)).1) y))
           → Gone why (step_frame model finds now verdict x)
       text_gone why text is h =
           let y : Core = heard_at now verdict x is.payload is.tpdu in
           tpdu_gone why is.tpdu (record { payload = is.payload; taken = is.taken; joined = is.joined }) (by_deed (reception x.upper.transport is.tpdu).1 is.brought)
         where
-          by_deed : (d : Deed) → text_in d ≡ Some text → Gone why (on_transport_deed model finds d (heard_at now verdict x is.payload is.tpdu))
+          by_deed : (d : ReceptionDeed) → text_in_deed d ≡ Some text → Gone why (on_transport_deed model finds d (heard_at now verdict x is.payload is.tpdu))
           by_deed Nothing e = absurd cc
           by_deed (Called user) e = by_text InCr user cc
             where
@@ -345,7 +346,7 @@ module _ (receives : stations.ReceivesGive) (steps_only : StepsOnly) (steps_each
       safety_gone : (of : Cause) → SafetyMet of finds now x verdict → Gone (release_of of) (step_frame model finds now verdict x)
       safety_gone of (text, is, met) =
           let r = causes key_of x.safe.safety (Received text) of met in
-          text_gone (release_of of) text is (λ by y. subst (λ (o : SafetyOutcome). Gone (release_of of) (on_safety_report model by (report_of o) (sent_by o) y)) (sym (ap (λ (a : Safety × SafetyOutcome). a.1) r.3))
+          text_gone (release_of of) text is (λ by y. subst (λ (o : SafetyOutcome). Gone (release_of of) (on_safety_report model by (report_of o) (octets_sent_in_outcome o) y)) (sym (ap (λ (a : Safety × SafetyOutcome). a.1) r.3))
           (kept_parts r.1 r.2 y ∙ ap gone r.4.release_is))
 
       peers_gone : (reason sub : ℕ) → PeersDi reason sub finds now x verdict → Gone (by_peer_di reason sub) (step_frame model finds now verdict x)
@@ -362,7 +363,7 @@ module _ (receives : stations.ReceivesGive) (steps_only : StepsOnly) (steps_each
             release_is = refl;
             next_is = refl;
           }) in
-          text_gone why text is (λ by y. subst (λ (o : SafetyOutcome). Gone why (on_safety_report model by (report_of o) (sent_by o) y)) (sym (ap (λ (a : Safety × SafetyOutcome). a.1) e)) (kept_parts why [] y))
+          text_gone why text is (λ by y. subst (λ (o : SafetyOutcome). Gone why (on_safety_report model by (report_of o) (octets_sent_in_outcome o) y)) (sym (ap (λ (a : Safety × SafetyOutcome). a.1) e)) (kept_parts why [] y))
 
 -- ---- what an event told
 
@@ -448,7 +449,7 @@ hears_stays finds now (v ∷ vs) x why e = hears_stays finds now vs (step_frame 
 -- ---- the events
 
 abbrev StepGone : ℕ → Event → End → Release → Type 0
-StepGone now event m why = ((step now event m).0.core.released ≡ Some why) × Contains (step now event m).1 (WasReleased why)
+StepGone now event m why = ((step_event now event m).0.core.released ≡ Some why) × Contains (step_event now event m).1 (WasReleased why)
 
 -- behind a fact of a frame the end is released, and tells it
 at_frame : (now : ℕ) (event : Event) (m : End) (Fact : FrameFact) (why : Release) → AtFrame now event m Fact
@@ -456,7 +457,7 @@ at_frame : (now : ℕ) (event : Event) (m : End) (Fact : FrameFact) (why : Relea
     → StepGone now event m why
 at_frame now event m Fact why h goes =
     let b : Core = new_event_at model now m.core in
-    let x : Core = behind h.finds now h.first m in
+    let x : Core = core_behind_frames h.finds now h.first m in
     let y : Core = step_frame model h.finds now h.verdict x in
     let g = goes h.finds x h.verdict h.live h.met in
     let kept_on : (hears_each h.finds now h.later y).released ≡ Some why = hears_stays h.finds now h.later y why (ap (λ (k : Kept). k.released) g) in
@@ -480,14 +481,14 @@ module _ (receives : stations.ReceivesGive) (time : stations.TicksGive) (steps_o
     came = Come finds octets
 
     -- a fact of a frame is a row of the table
-    row_of : (first : List Verdict) (v : Verdict) (later : List Verdict) → news m.stream octets ≡ first ++ v ∷ later → (behind finds now first m).released ≡ None
-        → (why : Release) → FrameWhy finds now (behind finds now first m) v why → ReleaseMet now came m why
+    row_of : (first : List Verdict) (v : Verdict) (later : List Verdict) → news m.stream octets ≡ first ++ v ∷ later → (core_behind_frames finds now first m).released ≡ None
+        → (why : Release) → FrameWhy finds now (core_behind_frames finds now first m) v why → ReleaseMet now came m why
     row_of first v later e live why w = by_why w
       where
-        at : (Fact : FrameFact) → Fact finds now (behind finds now first m) v → AtFrame now came m Fact
+        at : (Fact : FrameFact) → Fact finds now (core_behind_frames finds now first m) v → AtFrame now came m Fact
         at Fact met = record { finds = finds; octets = octets; came = refl; first = first; verdict = v; later = later; frames = e; live = live; met = met }
 
-        by_safety : (of : Cause) → SafetyMet of finds now (behind finds now first m) v → why ≡ release_of of → ReleaseMet now came m why
+        by_safety : (of : Cause) → SafetyMet of finds now (core_behind_frames finds now first m) v → why ≡ release_of of → ReleaseMet now came m why
         by_safety (cause.User sub) f r = absurd (let g = f.2.1 in cc)
         by_safety cause.SetUpUnanswered f r = absurd f.2
         by_safety cause.NoProgress f r = absurd f.2
@@ -512,7 +513,7 @@ module _ (receives : stations.ReceivesGive) (time : stations.TicksGive) (steps_o
         by_safety cause.Malformed f r = ForCause cause.Malformed (at (SafetyMet cause.Malformed) f) r
         by_safety cause.SetUpTimeSpent f r = absurd f.2
 
-        by_why : FrameWhy finds now (behind finds now first m) v why → ReleaseMet now came m why
+        by_why : FrameWhy finds now (core_behind_frames finds now first m) v why → ReleaseMet now came m why
         by_why (IsError f r) = ForCause cause.FrameError (at (StationReleases (release_of cause.FrameError)) f) r
         by_why (IsDisconnect f r) = ForCause cause.PeerDisconnected (at (StationReleases (release_of cause.PeerDisconnected)) f) r
         by_why (IsBlock f r) = ForCause cause.BlockRefused (at BlockIsFaulty f) r
@@ -522,26 +523,26 @@ module _ (receives : stations.ReceivesGive) (time : stations.TicksGive) (steps_o
         by_why (IsSafety of f r) = by_safety of f r
         by_why (IsPeer reason sub f r) = ByPeer reason sub (at (PeersDi reason sub) f) r
 
-    come_only : (first vs : List Verdict) → news m.stream octets ≡ first ++ vs → (x : Core) → behind finds now first m ≡ x → x.released ≡ None
+    come_only : (first vs : List Verdict) → news m.stream octets ≡ first ++ vs → (x : Core) → core_behind_frames finds now first m ≡ x → x.released ≡ None
         → (why : Release) → (hears_each finds now vs x).released ≡ Some why → ReleaseMet now came m why
     come_only first [] e x is live why r = absurd (let f = sym live ∙ r in cc)
     come_only first (v ∷ vs) e x is live why r =
-        let b : Core = behind finds now first m in
+        let b : Core = core_behind_frames finds now first m in
         let y : Core = step_frame model finds now v x in
         let before : b.released ≡ None = ap (λ (z : Core). z.released) is ∙ live in
         let same : step_frame model finds now v b ≡ y = ap (λ (z : Core). step_frame model finds now v z) is in
         by_fate (kept (step_frame model finds now v b)) (ap kept same) before (frame_fate receives steps_only steps_each causes finds now v b before)
         (λ l. come_only (first ++ v ∷ []) vs (e ∙ sym (append_assoc first (v ∷ []) vs)) y (hears_parts finds now first (v ∷ []) (new_event_at model now m.core) ∙ same) l why r)
       where
-        by_fate : (k : Kept) → k ≡ kept (step_frame model finds now v x) → (behind finds now first m).released ≡ None
-            → Fate (λ w. FrameWhy finds now (behind finds now first m) v w) k
+        by_fate : (k : Kept) → k ≡ kept (step_frame model finds now v x) → (core_behind_frames finds now first m).released ≡ None
+            → Fate (λ w. FrameWhy finds now (core_behind_frames finds now first m) v w) k
             → ((step_frame model finds now v x).released ≡ None → ReleaseMet now came m why) → ReleaseMet now came m why
         by_fate k s before (Stays c) more = more (ap (λ (j : Kept). j.released) (sym s ∙ c))
         by_fate k s before (Goes w c f) more =
             let y : Core = step_frame model finds now v x in
             let last : (hears_each finds now vs y).released ≡ Some w = hears_stays finds now vs y w (ap (λ (j : Kept). j.released) (sym s ∙ c)) in
             let same : w ≡ why = let g = sym last ∙ r in cc in
-            row_of first v vs e before why (subst (λ (q : Release). FrameWhy finds now (behind finds now first m) v q) same f)
+            row_of first v vs e before why (subst (λ (q : Release). FrameWhy finds now (core_behind_frames finds now first m) v q) same f)
 
     -- what is told of a frame
     frame_told : (v : Verdict) (x : Core) (why : Release) → (step_frame model finds now v x).leaves ≡ Some why → (step_frame model finds now v x).released ≡ Some why
@@ -583,7 +584,7 @@ module _ (receives : stations.ReceivesGive) (time : stations.TicksGive) (steps_o
       let a : Safety × SafetyOutcome = safety.step no_keys x.safe.safety (DataRequest user) in
       let y : Core = with_safety_step model (DataRequest user) a b in
       let z : Core = record y { upper = model.sends y.upper user } in
-      kept_concludes (hand_text model (sent_by a.1) z) ∙ kept_says (sent_by a.1) z ∙ begun_calm x live now
+      kept_concludes (hand_text model (octets_sent_in_outcome a.1) z) ∙ kept_says (octets_sent_in_outcome a.1) z ∙ begun_calm x live now
 
   uses_calm : (now : ℕ) (x : Core) → x.released ≡ None → kept (step_take model now x) ≡ calm
   uses_calm now x live =
@@ -595,7 +596,7 @@ module _ (receives : stations.ReceivesGive) (time : stations.TicksGive) (steps_o
   leaves_gone now sub x live =
       let b : Core = new_event_at model now x in
       let a : Safety × SafetyOutcome = safety.step no_keys x.safe.safety (DisconnectRequest sub) in
-      ap kept (unless_live x live b (send_dr model (release_of (cause.User sub)) normal_disconnect (sent_by a.1) (with_safety_step model (DisconnectRequest sub) a b)))
+      ap kept (unless_live x live b (send_dr model (release_of (cause.User sub)) normal_disconnect (octets_sent_in_outcome a.1) (with_safety_step model (DisconnectRequest sub) a b)))
 
   breaks_gone : (of : Cause) (x : Core) → x.released ≡ None → kept (step_break model of x) ≡ gone (release_of of)
   breaks_gone of x live = ap kept (unless_live x live (new_event model x) (with_release (release_of of) (new_event model x)))
@@ -675,10 +676,10 @@ module _ (receives : stations.ReceivesGive) (time : stations.TicksGive) (steps_o
       fate_as (λ why. ReleaseMet now Tick m why) (kept (on_expiry model (station_at m.core now).deed.released (timed_at now m.core))) (kept (step_tick model now m.core))
       (ticks_kept now m.core live) (tick_fate now m live (station_at m.core now).deed.released refl)
 
-  broken_made : (now : ℕ) (event : Event) (m : End) (of : Cause) → Met now event m of → m.core.released ≡ None → Made now event m (step_break model of m.core)
+  broken_made : (now : ℕ) (event : Event) (m : End) (of : Cause) → MeetsReleaseCause now event m of → m.core.released ≡ None → Made now event m (step_break model of m.core)
   broken_made now event m of met live = Goes (release_of of) (breaks_gone of m.core live) (ForCause of met refl)
 
-  only : (now : ℕ) (event : Event) (m : End) (why : Release) → m.core.released ≡ None → (step now event m).0.core.released ≡ Some why → ReleaseMet now event m why
+  only : (now : ℕ) (event : Event) (m : End) (why : Release) → m.core.released ≡ None → (step_event now event m).0.core.released ≡ Some why → ReleaseMet now event m why
   only now Start m why live r = fate_why (λ w. ReleaseMet now Start m w) why (kept (step_start model now m.core)) (start_made now m live) r
   only now (Come finds octets) m why live r = come_only now finds octets m [] (news m.stream octets) refl (new_event_at model now m.core) refl live why r
   only now (Send user) m why live r = absurd (let f = sym (unless_made now user m (refusal_of model user m.core) live) ∙ r in cc)
@@ -696,7 +697,7 @@ module _ (receives : stations.ReceivesGive) (time : stations.TicksGive) (steps_o
   at_text : (now : ℕ) (event : Event) (m : End) (of : Cause) → AtFrame now event m (SafetyMet of) → StepGone now event m (release_of of)
   at_text now event m of met = at_frame now event m (SafetyMet of) (release_of of) met (λ finds x verdict l f. safety_gone receives steps_only steps_each causes finds now verdict x l of f)
 
-  each_cause : (now : ℕ) (event : Event) (m : End) (of : Cause) → m.core.released ≡ None → Met now event m of → StepGone now event m (release_of of)
+  each_cause : (now : ℕ) (event : Event) (m : End) (of : Cause) → m.core.released ≡ None → MeetsReleaseCause now event m of → StepGone now event m (release_of of)
   each_cause now event m (cause.User sub) live met =
       subst (λ (e : Event). StepGone now e m (release_of (cause.User sub))) (sym met) (gone_step (release_of (cause.User sub)) (step_release model now sub m.core) (leaves_gone now sub m.core live))
   each_cause now event m cause.SetUpUnanswered live met =
@@ -751,7 +752,7 @@ module _ (receives : stations.ReceivesGive) (time : stations.TicksGive) (steps_o
       subst (λ (w : Release). StepGone now event m w) (sym e)
       (at_frame now event m (PeersDi reason sub) (by_peer_di reason sub) met (λ finds x verdict l f. peers_gone receives steps_only steps_each causes finds now verdict x l reason sub f))
 
-  event_told : (now : ℕ) (event : Event) (m : End) → m.core.released ≡ None → All (Told (step now event m).0.core.released) (step now event m).1
+  event_told : (now : ℕ) (event : Event) (m : End) → m.core.released ≡ None → All (Told (step_event now event m).0.core.released) (step_event now event m).1
   event_told now Start m live =
       let y : Core = step_start model now m.core in
       told_all y.released y (λ why l. fate_told (λ w. ReleaseMet now Start m w) why (kept y) (start_made now m live) l)
@@ -761,7 +762,7 @@ module _ (receives : stations.ReceivesGive) (time : stations.TicksGive) (steps_o
       come_told now finds octets m vs x (hears_each finds now vs x).released refl
   event_told now (Send user) m live = by_refusal (refusal_of model user m.core)
     where
-      by_refusal : (r : Option SendRefusal) → All (Told (step_send_unless model r now user m.core).released) (if_refused r (outcomes_of model (step_send_unless model r now user m.core)))
+      by_refusal : (r : Option SendRefusal) → All (Told (step_send_unless model r now user m.core).released) (refusal_or_outcomes r (outcomes_of model (step_send_unless model r now user m.core)))
       by_refusal (Some refusal) = All-cons (Told m.core.released) (told.Refused refusal) [] tt (All-nil (Told m.core.released))
       by_refusal None =
           let y : Core = on_send model user (new_event_at model now m.core) in
@@ -790,7 +791,7 @@ module _ (receives : stations.ReceivesGive) (time : stations.TicksGive) (steps_o
   end_releases = record {
     only = only;
     each = each;
-    told = λ now event m why live c. All-contains (Told (step now event m).0.core.released) (step now event m).1 (WasReleased why) (event_told now event m live) c;
+    told = λ now event m why live c. All-contains (Told (step_event now event m).0.core.released) (step_event now event m).1 (WasReleased why) (event_told now event m live) c;
   }
 
   -- ---- a run
@@ -812,9 +813,9 @@ module _ (receives : stations.ReceivesGive) (time : stations.TicksGive) (steps_o
       let a : Safety × SafetyOutcome = safety.step no_keys x.safe.safety (DataRequest user) in
       let y : Core = with_safety_step model (DataRequest user) a b in
       let z : Core = record y { upper = model.sends y.upper user } in
-      ap (λ (k : Kept). k.released) (kept_concludes (hand_text model (sent_by a.1) z) ∙ kept_says (sent_by a.1) z) ∙ e
+      ap (λ (k : Kept). k.released) (kept_concludes (hand_text model (octets_sent_in_outcome a.1) z) ∙ kept_says (octets_sent_in_outcome a.1) z) ∙ e
 
-  step_stays : (now : ℕ) (event : Event) (m : End) (why : Release) → m.core.released ≡ Some why → (step now event m).0.core.released ≡ Some why
+  step_stays : (now : ℕ) (event : Event) (m : End) (why : Release) → m.core.released ≡ Some why → (step_event now event m).0.core.released ≡ Some why
   step_stays now Start m why e = stays_if why m.core.released (new_event_at model now m.core) _ e e
   step_stays now (Come finds octets) m why e = hears_stays finds now (news m.stream octets) (new_event_at model now m.core) why e
   step_stays now (Send user) m why e = stays_sends now user m.core why e (refusal_of model user m.core)
@@ -825,29 +826,29 @@ module _ (receives : stations.ReceivesGive) (time : stations.TicksGive) (steps_o
   step_stays now Fault m why e = stays_if why m.core.released (new_event model m.core) _ e e
   step_stays now Stalled m why e = stays_if why m.core.released (new_event model m.core) _ e e
 
-  run_stays : (events : List Moment) (m : End) (why : Release) → m.core.released ≡ Some why → (run events m).core.released ≡ Some why
+  run_stays : (events : List Moment) (m : End) (why : Release) → m.core.released ≡ Some why → (end_run events m).core.released ≡ Some why
   run_stays [] m why e = e
-  run_stays (moment ∷ events) m why e = run_stays events (step moment.now moment.event m).0 why (step_stays moment.now moment.event m why e)
+  run_stays (moment ∷ events) m why e = run_stays events (step_event moment.now moment.event m).0 why (step_stays moment.now moment.event m why e)
 
-  run_last : (before : List Moment) (moment : Moment) (m : End) → run (before ++ moment ∷ []) m ≡ (step moment.now moment.event (run before m)).0
+  run_last : (before : List Moment) (moment : Moment) (m : End) → end_run (before ++ moment ∷ []) m ≡ (step_event moment.now moment.event (end_run before m)).0
   run_last [] moment m = refl
-  run_last (e ∷ before) moment m = run_last before moment (step e.now e.event m).0
+  run_last (e ∷ before) moment m = run_last before moment (step_event e.now e.event m).0
 
-  run_only : (events before after : List Moment) (m n : End) (why : Release) → events ≡ before ++ after → run before m ≡ n → n.core.released ≡ None
-      → (run after n).core.released ≡ Some why → ReleasedIn events m why
+  run_only : (events before after : List Moment) (m n : End) (why : Release) → events ≡ before ++ after → end_run before m ≡ n → n.core.released ≡ None
+      → (end_run after n).core.released ≡ Some why → ReleasedIn events m why
   run_only events before [] m n why e is live r = absurd (let f = sym live ∙ r in cc)
   run_only events before (moment ∷ after) m n why e is live r =
-      let l : (run before m).core.released ≡ None = ap (λ (k : End). k.core.released) is ∙ live in
-      let next : End = (step moment.now moment.event n).0 in
-      let same : (step moment.now moment.event (run before m)).0 ≡ next = ap (λ (k : End). (step moment.now moment.event k).0) is in
+      let l : (end_run before m).core.released ≡ None = ap (λ (k : End). k.core.released) is ∙ live in
+      let next : End = (step_event moment.now moment.event n).0 in
+      let same : (step_event moment.now moment.event (end_run before m)).0 ≡ next = ap (λ (k : End). (step_event moment.now moment.event k).0) is in
       by_step next.core.released refl same l
       (λ still. run_only events (before ++ moment ∷ []) after m next why (e ∙ sym (append_assoc before (moment ∷ []) after)) (run_last before moment m ∙ same) still r)
     where
-      by_step : (o : Option Release) → (step moment.now moment.event n).0.core.released ≡ o → (step moment.now moment.event (run before m)).0 ≡ (step moment.now moment.event n).0
-          → (run before m).core.released ≡ None → ((step moment.now moment.event n).0.core.released ≡ None → ReleasedIn events m why) → ReleasedIn events m why
+      by_step : (o : Option Release) → (step_event moment.now moment.event n).0.core.released ≡ o → (step_event moment.now moment.event (end_run before m)).0 ≡ (step_event moment.now moment.event n).0
+          → (end_run before m).core.released ≡ None → ((step_event moment.now moment.event n).0.core.released ≡ None → ReleasedIn events m why) → ReleasedIn events m why
       by_step None f same l more = more f
       by_step (Some w) f same l more =
-          let last : (run after (step moment.now moment.event n).0).core.released ≡ Some w = run_stays after (step moment.now moment.event n).0 w f in
+          let last : (end_run after (step_event moment.now moment.event n).0).core.released ≡ Some w = run_stays after (step_event moment.now moment.event n).0 w f in
           let is_why : w ≡ why = let g = sym last ∙ r in cc in
           record {
             before = before;
@@ -856,7 +857,7 @@ module _ (receives : stations.ReceivesGive) (time : stations.TicksGive) (steps_o
             after = after;
             events_are = e;
             live = l;
-            met = only moment.now moment.event (run before m) why l (ap (λ (k : End). k.core.released) same ∙ f ∙ ap (λ (v : Release). Some v) is_why);
+            met = only moment.now moment.event (end_run before m) why l (ap (λ (k : End). k.core.released) same ∙ f ∙ ap (λ (v : Release). Some v) is_why);
           }
 
   pub runs_release : RunsRelease

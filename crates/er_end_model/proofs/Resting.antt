@@ -5,9 +5,9 @@ use Rattle.std.proofs.lemmas.Bool.{cases_Bool}
 use Rattle.er_base.specs.declared.release.Release.{Release}
 use Rattle.er_end_model.specs.Steps.{step_take}
 use Rattle.er_end_model.specs.Layers.{Core, model}
-use Rattle.er_end_model.specs.Laws.{IsSilent, ReleasedRest}
+use Rattle.er_end_model.specs.Laws.{IsSilentAfterRelease, ReleasedRest}
 
-uses_rest : (x : Core) (why : Release) → x.released ≡ Some why → (now : ℕ) → IsSilent why (step_take model now x)
+uses_rest : (x : Core) (why : Release) → x.released ≡ Some why → (now : ℕ) → IsSilentAfterRelease why (step_take model now x)
 uses_rest x why e now = elim (cases_Bool (length x.upper.accepted - x.upper.used == 0)) [
   | inl y ↦ rw y (e, refl)
   | inr n ↦ rw n (rw e (refl, refl))

@@ -1,5 +1,6 @@
 -- An event of an end is at most one step of its safety side.
 use Rattle.std.proofs.Common.{◌≡◌, inl, inr, ◌+◌, ◌-◌, ◌∙◌, ℕ, zero, suc, max, Bool, true, false, ◌&&◌, not, List, [], ◌∷◌, ◌++◌, length, Option, Some, None, Result, Ok, Err, refl, sym, ap, subst}
+use Rattle.hdlc_station_model.specs.Receiving.{is_some_octets}
 use Rattle.std.specs.Prelude.{◌==◌, nat_lt, nat_le, is_some, if◌then◌else◌}
 use Rattle.std.proofs.lemmas.Bool.{cases_Bool}
 use Rattle.er_base.specs.declared.release.Release.{Release}
@@ -8,28 +9,28 @@ use Rattle.des_block.specs.declared.triple_key.TripleKey.{TripleKey}
 use Rattle.hdlc_frames.specs.Framing.{Verdict}
 use Rattle.t70_header.specs.Joining as joining
 use Rattle.x224_tpdu.specs.declared.fault.TpFault.{TpFault}
-use Rattle.x224_tpdu.specs.Spelling.{Pdu, connection_request, connection_confirm, disconnect_request, disconnect_confirm, data_tpdu, acknowledgement, tpdu_error}
+use Rattle.x224_tpdu.specs.Spelling.{TransportPdu, connection_request, connection_confirm, disconnect_request, disconnect_confirm, data_tpdu, acknowledgement, tpdu_error}
 use Rattle.x224_tpdu.specs.Function.{reading}
 use Rattle.x224_class2.specs.declared.stage.Stage.{Stage}
 use Rattle.x224_class2.specs.declared.stage.Stage.TheVariants as stages
 use Rattle.x224_class2.specs.Refusals.{protocol_error}
-use Rattle.x224_class2.specs.Tpdus.{Given, Dr, Dc}
+use Rattle.x224_class2.specs.Tpdus.{GivenTpdu, Dr, Dc}
 use Rattle.x224_class2.specs.Segments.{text_so_far}
-use Rattle.x224_class2.specs.Transport.{Transport, Deed, Nothing, Called, Confirmed, Message, Disconnected, is_new, is_calling, is_open, is_over, Turn, Rest, Opening, Acknowledgement, Data, refusal, on_request, on_confirm, on_disconnect, is_expected, on_data, number_named, on_named, on_acknowledgement, on_reading, reception, turn_of, tpdu_at, state_behind, with_given, next_tpdu, after_next}
+use Rattle.x224_class2.specs.Transport.{Transport, ReceptionDeed, Nothing, Called, Confirmed, Message, Disconnected, is_new, is_calling, is_open, is_over, TpduTurn, Rest, Opening, Acknowledgement, Data, refusal_of_tpdu, on_request, on_confirm, on_disconnect, is_expected, on_data, number_named, on_named, on_acknowledgement, on_reading, reception, turn_of, tpdu_at, state_behind, with_given, next_tpdu, after_next}
 use Rattle.x224_class2.specs.Transport as transport
 use Rattle.safety_automaton.specs.Keys.{no_keys}
-use Rattle.safety_automaton.specs.Reports.{KeptSafe, report_of, made}
-use Rattle.safety_automaton.specs.Safety.{Safety, Connection, Phase, Ready, WaitAu1, WaitAu2, WaitAu3, WaitAr, Connected, Released, SafetyEvent, ConnectRequest, Received, DataRequest, DisconnectRequest, SafetyOutcome, SentAu1, SentAu2, SentAu3, SentAr, ReceivedAr, AcceptedDt, SentDt, Refused, ReleasedLocally, ReleasedByPeer, NothingDone, sealed_by, verified_by, sent_by, peer_flag, step}
+use Rattle.safety_automaton.specs.Reports.{KeptSafe, report_of, kept_side_without_texts}
+use Rattle.safety_automaton.specs.Safety.{Safety, Connection, Phase, Ready, WaitAu1, WaitAu2, WaitAu3, WaitAr, Connected, Released, SafetyEvent, ConnectRequest, Received, DataRequest, DisconnectRequest, SafetyOutcome, SentAu1, SentAu2, SentAu3, SentAr, ReceivedAr, AcceptedDt, SentDt, Refused, ReleasedLocally, ReleasedByPeer, NothingDone, sealed_by, verified_by, octets_sent_in_outcome, peer_flag, step}
 use Rattle.safety_automaton.specs.Laws.{AcceptsVerified}
 use Rattle.sapdu.specs.Messages.{is_message}
 use Rattle.sapdu.specs.Spelling.{di_in}
 use Rattle.er_base.specs.Causes.{by_this_end, release_of}
 use Rattle.er_base.specs.declared.cause.Cause.TheVariants.{User, BlockRefused, SetUpTimeSpent}
 use Rattle.safety_automaton.specs.Safety as safety
-use Rattle.er_end_model.specs.Steps.{Finds, new_event, new_event_at, with_release, hand_tpdu_if_may, send_owed_answer, send_dr, answer_dr, on_safety_release, why_of, with_safety_step, is_some_octets, hand_text, skip_message, Carrier, InCr, InCc, InDt, hand_answer, keep_message, on_safety_report, on_text, on_transport_deed, on_joined_block, is_ready, connect_with_text, on_link_up, on_link_told, hand_next_tpdu, has_next_tpdu, hand_waiting_tpdus, most_offers, conclude_event, step_start, step_frame, is_connected, on_send, step_take, step_release, is_spent, normal_disconnect, di_of, on_expiry, step_tick, step_break}
+use Rattle.er_end_model.specs.Steps.{Finds, new_event, new_event_at, with_release, hand_tpdu_if_may, send_owed_answer, send_dr, answer_dr, on_safety_release, why_of, with_safety_step, hand_text, skip_message, Carrier, InCr, InCc, InDt, hand_answer, keep_message, on_safety_report, on_text, on_transport_deed, on_joined_block, is_ready, connect_with_text, on_link_up, on_link_told, hand_next_tpdu, has_next_tpdu, hand_waiting_tpdus, most_offers, conclude_event, step_start, step_frame, is_connected, on_send, step_take, step_release, is_spent, normal_disconnect, di_of, on_expiry, step_tick, step_break}
 use Rattle.er_end_model.specs.Layers.{Spoken, Core, model}
 use Rattle.er_end_model.specs.Ends.{Opening as End_opening, Call, Answer, opened}
-use Rattle.er_end_model.specs.Laws.{connected_by, accepted_by, IsStep, is_early, IsSane, SpeaksOnce, EventsSpeakOnce}
+use Rattle.er_end_model.specs.Laws.{connected_by, accepted_safety_message, ShowsSafetyStep, is_early, IsSane, SpeaksOnce, EventsSpeakOnce}
 
 -- what an end shows of its safety side, and how far its transport is
 pub record Seen : Type 0 where
@@ -48,7 +49,7 @@ seen_if : (b : Bool) (x y : Core) (v : Seen) → (b ≡ true → seen x ≡ v) �
 seen_if true x y v h g = h refl
 seen_if false x y v h g = g refl
 
-seen_gives : (g : Given) (x : Core) → seen (hand_tpdu_if_may model g x) ≡ seen x
+seen_gives : (g : GivenTpdu) (x : Core) → seen (hand_tpdu_if_may model g x) ≡ seen x
 seen_gives g x = seen_if (model.may_send x.line) _ x (seen x) (λ e. refl) (λ e. refl)
 
 pub seen_departs : (why : Release) (reason : ℕ) (user : List ℕ) (x : Core) → seen (send_dr model why reason user x) ≡ seen x
@@ -63,7 +64,7 @@ seen_parts why di x = seen_if why.by_peer _ _ (seen x) (λ e. refl) (λ e. seen_
 pub seen_says : (text : List ℕ) (x : Core) → seen (hand_text model text x) ≡ seen x
 seen_says text x = seen_if (is_some_octets text && model.may_hand x.upper) _ x (seen x) (λ e. refl) (λ e. refl)
 
-turn_stage : (t : Transport) (turn : Turn) (g : Option Given) → (with_given (state_behind t turn) g).stage ≡ t.stage
+turn_stage : (t : Transport) (turn : TpduTurn) (g : Option GivenTpdu) → (with_given (state_behind t turn) g).stage ≡ t.stage
 turn_stage t Rest None = refl
 turn_stage t Rest (Some g) = refl
 turn_stage t (Opening user) None = refl
@@ -89,13 +90,13 @@ seen_concludes x = seen_if (is_some x.released) x (send_owed_answer model (hand_
 -- ---- what is claimed, of what is seen
 
 abbrev Step : (ℕ → ℕ → Option TripleKey) → Safety → Option Spoken → Seen → Type 0
-Step key_of s None v = (v.safe ≡ made s) × (v.connected ≡ None) × (v.news ≡ None)
+Step key_of s None v = (v.safe ≡ kept_side_without_texts s) × (v.connected ≡ None) × (v.news ≡ None)
 Step key_of s (Some t) v =
     (step key_of s t.event ≡ (v.safe.safety, t.outcome))
     × (v.safe.sealed ≡ sealed_by t.outcome)
     × (v.safe.verified ≡ verified_by t.outcome)
     × (v.connected ≡ connected_by t.outcome)
-    × (v.news ≡ accepted_by t.outcome)
+    × (v.news ≡ accepted_safety_message t.outcome)
 
 abbrev Sane : Seen → Type 0
 Sane v = is_early v.stage ≡ true → is_connected v.safe.safety.phase ≡ false
@@ -103,7 +104,7 @@ Sane v = is_early v.stage ≡ true → is_connected v.safe.safety.phase ≡ fals
 abbrev Good : (ℕ → ℕ → Option TripleKey) → Safety → Seen → Type 0
 Good key_of s v = Step key_of s v.spoke v × Sane v
 
-step_of : (key_of : ℕ → ℕ → Option TripleKey) (s : Safety) (o : Option Spoken) (y : Core) → Step key_of s o (seen y) → IsStep key_of s o y
+step_of : (key_of : ℕ → ℕ → Option TripleKey) (s : Safety) (o : Option Spoken) (y : Core) → Step key_of s o (seen y) → ShowsSafetyStep key_of s o y
 step_of key_of s None y h = h
 step_of key_of s (Some t) y h = h
 
@@ -134,8 +135,8 @@ seen_answers InDt text x e = (x.upper.transport.stage, e, seen_says text (skip_m
 
 -- an outcome of a text, by which TPDU it came
 abbrev CanCome : Carrier → SafetyOutcome → Type 0
-CanCome InCr o = accepted_by o ≡ None
-CanCome InCc o = accepted_by o ≡ None
+CanCome InCr o = accepted_safety_message o ≡ None
+CanCome InCc o = accepted_safety_message o ≡ None
 CanCome InDt o = Unit {0}
 
 module _ (key_of : ℕ → ℕ → Option TripleKey) (s q : Safety) (event : SafetyEvent) (x : Core) (quiet : x.connected ≡ None) (none : x.upper.news ≡ None) (is_late : is_early x.upper.transport.stage ≡ false) where
@@ -144,26 +145,26 @@ module _ (key_of : ℕ → ℕ → Option TripleKey) (s q : Safety) (event : Saf
 
   -- what is told then
   told_good : (o : SafetyOutcome) (stage : Stage) (connected : Option ℕ) (news : Option (List ℕ)) (y : Core) → step key_of s event ≡ (q, o) → is_early stage ≡ false
-      → connected ≡ connected_by o → news ≡ accepted_by o
+      → connected ≡ connected_by o → news ≡ accepted_safety_message o
       → seen y ≡ record (seen (after o)) { stage = stage; connected = connected; news = news } → Good key_of s (seen y)
   told_good o stage connected news y e l c n is =
       good_from key_of s (record (seen (after o)) { stage = stage; connected = connected; news = news }) (seen y) is
       ((e, refl, refl, c, n), λ f. absurd (late stage l f))
 
-  quiet_good : (o : SafetyOutcome) (y : Core) → step key_of s event ≡ (q, o) → connected_by o ≡ None → accepted_by o ≡ None → seen y ≡ seen (after o) → Good key_of s (seen y)
+  quiet_good : (o : SafetyOutcome) (y : Core) → step key_of s event ≡ (q, o) → connected_by o ≡ None → accepted_safety_message o ≡ None → seen y ≡ seen (after o) → Good key_of s (seen y)
   quiet_good o y e c n is = told_good o x.upper.transport.stage x.connected x.upper.news y e is_late (quiet ∙ sym c) (none ∙ sym n) is
 
-  answer_good : (by : Carrier) (o : SafetyOutcome) → step key_of s event ≡ (q, o) → connected_by o ≡ None → accepted_by o ≡ None
-      → Good key_of s (seen (hand_answer model by (sent_by o) (after o)))
+  answer_good : (by : Carrier) (o : SafetyOutcome) → step key_of s event ≡ (q, o) → connected_by o ≡ None → accepted_safety_message o ≡ None
+      → Good key_of s (seen (hand_answer model by (octets_sent_in_outcome o) (after o)))
   answer_good by o e c n =
-      let a = seen_answers by (sent_by o) (after o) is_late in
-      told_good o a.0 x.connected x.upper.news (hand_answer model by (sent_by o) (after o)) e a.1 (quiet ∙ sym c) (none ∙ sym n) a.2
+      let a = seen_answers by (octets_sent_in_outcome o) (after o) is_late in
+      told_good o a.0 x.connected x.upper.news (hand_answer model by (octets_sent_in_outcome o) (after o)) e a.1 (quiet ∙ sym c) (none ∙ sym n) a.2
 
-  connect_good : (by : Carrier) (o : SafetyOutcome) (peer : ℕ) → step key_of s event ≡ (q, o) → connected_by o ≡ Some peer → accepted_by o ≡ None
-      → Good key_of s (seen (record (hand_answer model by (sent_by o) (after o)) { connected = Some peer }))
+  connect_good : (by : Carrier) (o : SafetyOutcome) (peer : ℕ) → step key_of s event ≡ (q, o) → connected_by o ≡ Some peer → accepted_safety_message o ≡ None
+      → Good key_of s (seen (record (hand_answer model by (octets_sent_in_outcome o) (after o)) { connected = Some peer }))
   connect_good by o peer e c n =
-      let a = seen_answers by (sent_by o) (after o) is_late in
-      told_good o a.0 (Some peer) x.upper.news (record (hand_answer model by (sent_by o) (after o)) { connected = Some peer }) e a.1 (sym c) (none ∙ sym n)
+      let a = seen_answers by (octets_sent_in_outcome o) (after o) is_late in
+      told_good o a.0 (Some peer) x.upper.news (record (hand_answer model by (octets_sent_in_outcome o) (after o)) { connected = Some peer }) e a.1 (sym c) (none ∙ sym n)
       (ap (λ (v : Seen). record v { connected = Some peer }) a.2)
 
   keep_good : (by : Carrier) (session : TripleKey) (user verified : List ℕ) → step key_of s event ≡ (q, AcceptedDt session user verified) → CanCome by (AcceptedDt session user verified)
@@ -173,7 +174,7 @@ module _ (key_of : ℕ → ℕ → Option TripleKey) (s q : Safety) (event : Saf
   keep_good InDt session user verified e can =
       told_good (AcceptedDt session user verified) x.upper.transport.stage x.connected (Some user) (keep_message model InDt user (after (AcceptedDt session user verified))) e is_late quiet refl refl
 
-  acts_good : (by : Carrier) (o : SafetyOutcome) → step key_of s event ≡ (q, o) → CanCome by o → Good key_of s (seen (on_safety_report model by (report_of o) (sent_by o) (after o)))
+  acts_good : (by : Carrier) (o : SafetyOutcome) → step key_of s event ≡ (q, o) → CanCome by o → Good key_of s (seen (on_safety_report model by (report_of o) (octets_sent_in_outcome o) (after o)))
   acts_good by (SentAu1 octets) e can = quiet_good (SentAu1 octets) (after (SentAu1 octets)) e refl refl refl
   acts_good by (SentAu2 session sealed octets) e can = answer_good by (SentAu2 session sealed octets) e refl refl
   acts_good by (SentAu3 session verified sealed octets) e can = answer_good by (SentAu3 session verified sealed octets) e refl refl
@@ -181,7 +182,7 @@ module _ (key_of : ℕ → ℕ → Option TripleKey) (s q : Safety) (event : Saf
   acts_good by (ReceivedAr connection verified) e can = connect_good by (ReceivedAr connection verified) connection.peer e refl refl
   acts_good by (AcceptedDt session user verified) e can = keep_good by session user verified e can
   acts_good by (SentDt session user sealed octets) e can = quiet_good (SentDt session user sealed octets) (after (SentDt session user sealed octets)) e refl refl refl
-  acts_good by (Refused refusal) e can = quiet_good (Refused refusal) (after (Refused refusal)) e refl refl refl
+  acts_good by (Refused refusal_of_tpdu) e can = quiet_good (Refused refusal_of_tpdu) (after (Refused refusal_of_tpdu)) e refl refl refl
   acts_good by (ReleasedLocally release octets) e can =
       quiet_good (ReleasedLocally release octets) (on_safety_release model release octets (after (ReleasedLocally release octets))) e refl refl (seen_parts release octets (after (ReleasedLocally release octets)))
   acts_good by (ReleasedByPeer release) e can =
@@ -191,7 +192,7 @@ module _ (key_of : ℕ → ℕ → Option TripleKey) (s q : Safety) (event : Saf
 -- ---- the transport
 
 -- what a reception tells of the stages
-abbrev Told : Transport → Transport → Deed → Type 0
+abbrev Told : Transport → Transport → ReceptionDeed → Type 0
 Told t u Nothing = u.stage ≡ t.stage
 Told t u (Called user) = (is_early t.stage ≡ true) × (is_early u.stage ≡ false)
 Told t u (Confirmed user) = (is_early t.stage ≡ true) × (is_early u.stage ≡ false)
@@ -199,7 +200,7 @@ Told t u (Message octets) = is_early u.stage ≡ false
 Told t u (Disconnected user) = is_early u.stage ≡ false
 Told t u (transport.Refused sub reason) = is_early u.stage ≡ false
 
-told_if : (t : Transport) (b : Bool) (x y : Transport × Deed) → (b ≡ true → Told t x.0 x.1) → (b ≡ false → Told t y.0 y.1) → Told t (if b then x else y).0 (if b then x else y).1
+told_if : (t : Transport) (b : Bool) (x y : Transport × ReceptionDeed) → (b ≡ true → Told t x.0 x.1) → (b ≡ false → Told t y.0 y.1) → Told t (if b then x else y).0 (if b then x else y).1
 told_if t true x y h g = h refl
 told_if t false x y h g = g refl
 
@@ -251,7 +252,7 @@ named_told : (t : Transport) (credit : ℕ) (n : Option ℕ) → Told t (on_name
 named_told t credit None = refl
 named_told t credit (Some n) = told_if t (nat_lt (n + credit) t.edge) _ _ (λ e. refl) (λ e. refl)
 
-reading_told : (t : Transport) (answer : Result Pdu TpFault) → Told t (on_reading t answer).0 (on_reading t answer).1
+reading_told : (t : Transport) (answer : Result TransportPdu TpFault) → Told t (on_reading t answer).0 (on_reading t answer).1
 reading_told t (Ok (connection_request credit dst src size user)) =
     told_if t (not t.is_caller && is_new t.stage && (dst == 0) && (src == 1)) _ _
     (λ e. (new_early t.stage (right_part (not t.is_caller) (is_new t.stage) (left_part (not t.is_caller && is_new t.stage) (dst == 0) (left_part (not t.is_caller && is_new t.stage && (dst == 0)) (src == 1) e))), refl)) (λ e. refl)
@@ -276,7 +277,7 @@ reception_told t octets = told_if t (is_over t.stage) _ _ (λ e. refl) (λ e. re
 
 -- nothing is accepted before the safe connection stands
 module _ (accepts_only : AcceptsVerified) where
-  accepts_none : (key_of : ℕ → ℕ → Option TripleKey) (s : Safety) (text : List ℕ) (o : SafetyOutcome) → (step key_of s (Received text)).1 ≡ o → is_connected s.phase ≡ false → accepted_by o ≡ None
+  accepts_none : (key_of : ℕ → ℕ → Option TripleKey) (s : Safety) (text : List ℕ) (o : SafetyOutcome) → (step key_of s (Received text)).1 ≡ o → is_connected s.phase ≡ false → accepted_safety_message o ≡ None
   accepts_none key_of s text (SentAu1 octets) e n = refl
   accepts_none key_of s text (SentAu2 session sealed octets) e n = refl
   accepts_none key_of s text (SentAu3 session verified sealed octets) e n = refl
@@ -286,12 +287,12 @@ module _ (accepts_only : AcceptsVerified) where
       let v = accepts_only key_of s session text user verified e in
       absurd (let z = ap is_connected v.connected in cc)
   accepts_none key_of s text (SentDt session user sealed octets) e n = refl
-  accepts_none key_of s text (Refused refusal) e n = refl
+  accepts_none key_of s text (Refused refusal_of_tpdu) e n = refl
   accepts_none key_of s text (ReleasedLocally release octets) e n = refl
   accepts_none key_of s text (ReleasedByPeer release) e n = refl
   accepts_none key_of s text NothingDone e n = refl
 
-  module _ (finds : Finds) (x : Core) (quiet : x.connected ≡ None) (none : x.upper.news ≡ None) (still : x.upper.spoke ≡ None) (texts : x.safe ≡ made x.safe.safety) (sane : IsSane x) where
+  module _ (finds : Finds) (x : Core) (quiet : x.connected ≡ None) (none : x.upper.news ≡ None) (still : x.upper.spoke ≡ None) (texts : x.safe ≡ kept_side_without_texts x.safe.safety) (sane : IsSane x) where
     abbrev key_of : ℕ → ℕ → Option TripleKey
     key_of = finds x.moment
 
@@ -314,7 +315,7 @@ module _ (accepts_only : AcceptsVerified) where
         let a : Safety × SafetyOutcome = step key_of x.safe.safety (Received text) in
         acts_good key_of x.safe.safety a.0 (Received text) (record x { upper = record (x.upper) { transport = t } }) quiet none l by a.1 refl (can a.1 refl)
 
-    does_good : (d : Deed) (t : Transport) → Told x.upper.transport t d → Good key_of x.safe.safety (seen (on_transport_deed model finds d (record x { upper = record (x.upper) { transport = t } })))
+    does_good : (d : ReceptionDeed) (t : Transport) → Told x.upper.transport t d → Good key_of x.safe.safety (seen (on_transport_deed model finds d (record x { upper = record (x.upper) { transport = t } })))
     does_good Nothing t h = still_good (record x { upper = record (x.upper) { transport = t } }) (ap (λ (s : Stage). record (seen x) { stage = s }) h)
     does_good (Called user) t h = text_good InCr t user h.1 (λ o e. accepts_none key_of x.safe.safety user o e (sane h.0))
     does_good (Confirmed user) t h = text_good InCc t user h.1 (λ o e. accepts_none key_of x.safe.safety user o e (sane h.0))
@@ -336,7 +337,7 @@ module _ (accepts_only : AcceptsVerified) where
     quiet : x.connected ≡ None
     none : x.upper.news ≡ None
     still : x.upper.spoke ≡ None
-    texts : x.safe ≡ made x.safe.safety
+    texts : x.safe ≡ kept_side_without_texts x.safe.safety
     sane : IsSane x
 
   begun_fresh : (x : Core) → IsSane x → Fresh (new_event model x)
@@ -345,7 +346,7 @@ module _ (accepts_only : AcceptsVerified) where
   fresh_good : (finds : Finds) (x : Core) → Fresh x → (y : Core) → seen y ≡ seen x → Good (finds x.moment) x.safe.safety (seen y)
   fresh_good finds x f y is = still_good finds x f.quiet f.none f.still f.texts f.sane y is
 
-  block_good : (finds : Finds) (x : Core) → Fresh x → (answer : joining.Answer) → Good (finds x.moment) x.safe.safety (seen (on_joined_block model finds answer x))
+  block_good : (finds : Finds) (x : Core) → Fresh x → (answer : joining.BlockJoiningResult) → Good (finds x.moment) x.safe.safety (seen (on_joined_block model finds answer x))
   block_good finds x f (Ok None) = fresh_good finds x f x refl
   block_good finds x f (Ok (Some tpdu)) =
       does_good finds x f.quiet f.none f.still f.texts f.sane (reception x.upper.transport tpdu).1 (reception x.upper.transport tpdu).0 (reception_told x.upper.transport tpdu)
@@ -354,14 +355,14 @@ module _ (accepts_only : AcceptsVerified) where
   -- ---- the end's own requests
 
   own_good : (key_of : ℕ → ℕ → Option TripleKey) (x : Core) → Fresh x → (event : SafetyEvent) (a : Safety × SafetyOutcome) → step key_of x.safe.safety event ≡ a
-      → connected_by a.1 ≡ None → accepted_by a.1 ≡ None → (stage : Stage) → (is_early stage ≡ true → is_connected a.0.phase ≡ false)
+      → connected_by a.1 ≡ None → accepted_safety_message a.1 ≡ None → (stage : Stage) → (is_early stage ≡ true → is_connected a.0.phase ≡ false)
       → (y : Core) → seen y ≡ record (seen (with_safety_step model event a x)) { stage = stage } → Good key_of x.safe.safety (seen y)
   own_good key_of x f event a e c n stage sane y is =
       good_from key_of x.safe.safety (record (seen (with_safety_step model event a x)) { stage = stage }) (seen y) is
       ((e, refl, refl, f.quiet ∙ sym c, f.none ∙ sym n), sane)
 
   connects_tell : (s : Safety) (p : Phase) → is_ready p ≡ true
-      → (connected_by (safety.connects s p).1 ≡ None) × (accepted_by (safety.connects s p).1 ≡ None) × (is_connected (safety.connects s p).0.phase ≡ false)
+      → (connected_by (safety.connects s p).1 ≡ None) × (accepted_safety_message (safety.connects s p).1 ≡ None) × (is_connected (safety.connects s p).0.phase ≡ false)
   connects_tell s (Ready peer kmac rb) r = (refl, refl, refl)
   connects_tell s (WaitAu1 ra) r = absurd cc
   connects_tell s (WaitAu2 peer kmac rb) r = absurd cc
@@ -371,7 +372,7 @@ module _ (accepts_only : AcceptsVerified) where
   connects_tell s (Released release session) r = absurd cc
 
   sends_tell : (s : Safety) (p : Phase) (user : List ℕ)
-      → (connected_by (safety.sends s p user).1 ≡ None) × (accepted_by (safety.sends s p user).1 ≡ None) × ((safety.sends s p user).0 ≡ s)
+      → (connected_by (safety.sends s p user).1 ≡ None) × (accepted_safety_message (safety.sends s p user).1 ≡ None) × ((safety.sends s p user).0 ≡ s)
   sends_tell s (Ready peer kmac rb) user = (refl, refl, refl)
   sends_tell s (WaitAu1 ra) user = (refl, refl, refl)
   sends_tell s (WaitAu2 peer kmac rb) user = (refl, refl, refl)
@@ -384,7 +385,7 @@ module _ (accepts_only : AcceptsVerified) where
   sends_tell s (Released release session) user = (refl, refl, refl)
 
   disconnects_tell : (s : Safety) (p : Phase) (sub : ℕ) → s.phase ≡ p
-      → (connected_by (safety.disconnects s p sub).1 ≡ None) × (accepted_by (safety.disconnects s p sub).1 ≡ None) × (is_connected (safety.disconnects s p sub).0.phase ≡ false)
+      → (connected_by (safety.disconnects s p sub).1 ≡ None) × (accepted_safety_message (safety.disconnects s p sub).1 ≡ None) × (is_connected (safety.disconnects s p sub).0.phase ≡ false)
   disconnects_tell s (Ready peer kmac rb) sub e = (refl, refl, refl)
   disconnects_tell s (WaitAu1 ra) sub e = (refl, refl, refl)
   disconnects_tell s (WaitAu2 peer kmac rb) sub e = (refl, refl, refl)
@@ -402,16 +403,16 @@ module _ (accepts_only : AcceptsVerified) where
         let a : Safety × SafetyOutcome = step no_keys x.safe.safety ConnectRequest in
         let t = connects_tell x.safe.safety x.safe.safety.phase (right_part (model.may_connect x.upper) (is_ready x.safe.safety.phase) y) in
         let z : Core = with_safety_step model ConnectRequest a x in
-        rw y (elim (cases_Bool (is_some_octets (sent_by a.1))) [
-          | inl some ↦ own_good (finds x.moment) x f ConnectRequest a refl t.0 t.1 stages.Calling (λ early. t.2) (connect_with_text model (sent_by a.1) z) (rw some refl)
-          | inr none ↦ own_good (finds x.moment) x f ConnectRequest a refl t.0 t.1 x.upper.transport.stage (λ early. t.2) (connect_with_text model (sent_by a.1) z) (rw none refl)
+        rw y (elim (cases_Bool (is_some_octets (octets_sent_in_outcome a.1))) [
+          | inl some ↦ own_good (finds x.moment) x f ConnectRequest a refl t.0 t.1 stages.Calling (λ early. t.2) (connect_with_text model (octets_sent_in_outcome a.1) z) (rw some refl)
+          | inr none ↦ own_good (finds x.moment) x f ConnectRequest a refl t.0 t.1 x.upper.transport.stage (λ early. t.2) (connect_with_text model (octets_sent_in_outcome a.1) z) (rw none refl)
         ])
   ]
 
   link_good : (finds : Finds) (payload : Option (List ℕ)) (up : Bool) (released : Option Release) (x : Core) → Fresh x
       → Good (finds x.moment) x.safe.safety (seen (on_link_told model finds payload up released x))
   link_good finds (Some payload) up released x f =
-      let j = joining.step x.joined payload in
+      let j = joining.block_step x.joined payload in
       block_good finds (record x { joined = j.0 }) (record { quiet = f.quiet; none = f.none; still = f.still; texts = f.texts; sane = f.sane }) j.1
   link_good finds None true released x f = up_good finds x f
   link_good finds None false (Some why) x f = fresh_good finds x f (with_release why x) refl
@@ -463,8 +464,8 @@ module _ (accepts_only : AcceptsVerified) where
       let y : Core = with_safety_step model (DataRequest user) a b in
       let z : Core = record y { upper = model.sends y.upper user } in
       let g = own_good no_keys b (begins_fresh now x sane) (DataRequest user) a refl t.0 t.1 x.upper.transport.stage
-      (λ early. ap (λ (s : Safety). is_connected s.phase) t.2 ∙ sane early) (hand_text model (sent_by a.1) z) (seen_says (sent_by a.1) z) in
-      speaks no_keys x (on_send model user b) (concluded no_keys x.safe.safety (hand_text model (sent_by a.1) z) g)
+      (λ early. ap (λ (s : Safety). is_connected s.phase) t.2 ∙ sane early) (hand_text model (octets_sent_in_outcome a.1) z) (seen_says (octets_sent_in_outcome a.1) z) in
+      speaks no_keys x (on_send model user b) (concluded no_keys x.safe.safety (hand_text model (octets_sent_in_outcome a.1) z) g)
 
   uses_speak : (now : ℕ) (x : Core) → IsSane x → SpeaksOnce no_keys x (step_take model now x)
   uses_speak now x sane =
@@ -484,10 +485,10 @@ module _ (accepts_only : AcceptsVerified) where
       let t = disconnects_tell x.safe.safety x.safe.safety.phase sub refl in
       let z : Core = with_safety_step model (DisconnectRequest sub) a b in
       let why : Release = release_of (User sub) in
-      let y : Core = send_dr model why normal_disconnect (sent_by a.1) z in
+      let y : Core = send_dr model why normal_disconnect (octets_sent_in_outcome a.1) z in
       speaks no_keys x (step_release model now sub x)
       (unless_good no_keys x.safe.safety x.released b y (fresh_good no_finds b f b refl)
-      (own_good no_keys b f (DisconnectRequest sub) a refl t.0 t.1 x.upper.transport.stage (λ early. t.2) y (seen_departs why normal_disconnect (sent_by a.1) z)))
+      (own_good no_keys b f (DisconnectRequest sub) a refl t.0 t.1 x.upper.transport.stage (λ early. t.2) y (seen_departs why normal_disconnect (octets_sent_in_outcome a.1) z)))
 
   time_good : (given_up : Option Release) (x : Core) → Fresh x → Good no_keys x.safe.safety (seen (on_expiry model given_up x))
   time_good (Some why) x f = fresh_good no_finds x f (with_release why x) refl

@@ -15,25 +15,25 @@ use Rattle.hdlc_station_model.specs.declared.phase.Phase.TheVariants.{Idle, Sett
 use Rattle.hdlc_station_model.specs.Frames.{Rr, Rej, SetUp, modulo}
 use Rattle.hdlc_station_model.specs.Stations.{Station, is_down, sees, puts}
 use Rattle.hdlc_station_model.specs.Sending.{can_send, waiting, sends_next, sends_up_to, sends_waiting, sends_again, starts_timer, settles, gives_up, counts_expiry, expires_at, expires, expires_if_due, is_due, refuses_frame}
-use Rattle.hdlc_station_model.specs.Receiving.{strays, is_known_address, is_addressed, is_error, errs, named, acknowledges, acknowledging, accepts, rejects, takes, marks_busy, repeats_rejected, agrees, sets_up_again, row, hears, hears_control}
+use Rattle.hdlc_station_model.specs.Receiving.{strays, is_known_address, is_addressed, is_error, errs, number_shown_as, acknowledges, acknowledging, accepts, rejects, takes, marks_busy, repeats_rejected, agrees, sets_up_again, row_of_phase, hears, hears_control, is_some_octets}
 use Rattle.hdlc_station_model.specs.Calls.{starts_at, closes_at}
 use Rattle.hdlc_station_model.specs.Calls as station
 use Rattle.hdlc_station_model.specs.Events.{news}
 use Rattle.t70_header.specs.Blocks.{last_block}
 use Rattle.t70_header.specs.Joining as joining
-use Rattle.x224_class2.specs.Tpdus.{Given, Dr, Dc, octets_given}
+use Rattle.x224_class2.specs.Tpdus.{GivenTpdu, Dr, Dc, octets_given}
 use Rattle.x224_class2.specs.Refusals.{protocol_error}
-use Rattle.x224_class2.specs.Transport.{Deed, Nothing, Called, Confirmed, Message, Disconnected, reception}
+use Rattle.x224_class2.specs.Transport.{ReceptionDeed, Nothing, Called, Confirmed, Message, Disconnected, reception}
 use Rattle.x224_class2.specs.Transport as transport
 use Rattle.sapdu.specs.Spelling.{di_in}
 use Rattle.safety_automaton.specs.Keys.{no_keys}
 use Rattle.safety_automaton.specs.Reports.{Report, ToldAnswered, ToldConnected, ToldAccepted, ToldReleased, ToldIgnored, report_of}
-use Rattle.safety_automaton.specs.Safety.{Safety, ConnectRequest, Received, DataRequest, DisconnectRequest, SafetyOutcome, sent_by, peer_flag}
+use Rattle.safety_automaton.specs.Safety.{Safety, ConnectRequest, Received, DataRequest, DisconnectRequest, SafetyOutcome, octets_sent_in_outcome, peer_flag}
 use Rattle.safety_automaton.specs.Safety as safety
 use Rattle.er_end_model.specs.Outcomes.{SendRefusal}
-use Rattle.er_end_model.specs.Steps.{Finds, new_event, new_event_at, with_release, hand_tpdu, hand_tpdu_if_may, send_dr, answer_dr, end_after_di, on_safety_release, why_of, with_safety_step, is_some_octets, hand_text, skip_message, Carrier, InCr, InCc, InDt, hand_answer, keep_message, on_safety_report, on_text, on_transport_deed, on_joined_block, is_ready, connect_with_text, on_link_up, on_link_told, hand_next_tpdu, has_next_tpdu, hand_waiting_tpdus, most_offers, send_owed_answer, conclude_event, step_start, step_frame, refusal_of, step_send_unless, on_send, step_take, step_release, is_connected, is_spent, normal_disconnect, di_of, on_expiry, step_tick, step_break, first_of}
+use Rattle.er_end_model.specs.Steps.{Finds, new_event, new_event_at, with_release, hand_tpdu, hand_tpdu_if_may, send_dr, answer_dr, end_after_di, on_safety_release, why_of, with_safety_step, hand_text, skip_message, Carrier, InCr, InCc, InDt, hand_answer, keep_message, on_safety_report, on_text, on_transport_deed, on_joined_block, is_ready, connect_with_text, on_link_up, on_link_told, hand_next_tpdu, has_next_tpdu, hand_waiting_tpdus, most_offers, send_owed_answer, conclude_event, step_start, step_frame, refusal_of, step_send_unless, on_send, step_take, step_release, is_connected, is_spent, normal_disconnect, di_of, on_expiry, step_tick, step_break, earlier_of_moments}
 use Rattle.er_end_model.specs.Layers.{Core, model}
-use Rattle.er_end_model.specs.Ends.{Opening, Call, Answer, Event, Start, Come, Send, Take, Leave, Tick, Ended, Fault, Stalled, End, Moment, opened, finds_expired, hears_each, step, run}
+use Rattle.er_end_model.specs.Ends.{Opening, Call, Answer, Event, Start, Come, Send, Take, Leave, Tick, Ended, Fault, Stalled, End, Moment, opened, finds_expired, hears_each, step_event, end_run}
 use Rattle.er_end_model.specs.Timing.{IsDue, ExpiresAtDeadline, IsTimely, TimelyEnds}
 
 -- ---- what a station sees of moments
@@ -63,7 +63,7 @@ repeated x y e = cond_both (nat_lt y.acked y.sent) (starts_timer (sends_again y)
 set_up : (poll : Bool) (x : Station) → Same x (sets_up_again poll x)
 set_up poll x = cond_both (length x.taken == 0) (agrees poll (record x { gap = false })) (refuses_frame x) (Same x) (λ e. refl) (λ e. refl)
 
-rowed : (p : Phase) (c : Control) (information : List ℕ) (x : Station) → Same x (row p x c information)
+rowed : (p : Phase) (c : Control) (information : List ℕ) (x : Station) → Same x (row_of_phase p x c information)
 rowed Idle (control.Info ns nr) information x = refl
 rowed Idle (control.Rr nr) information x = refl
 rowed Idle (control.Rnr nr) information x = refl
@@ -87,11 +87,11 @@ rowed Setting control.Ua information x = refl
 rowed Setting control.Dm information x = refl
 rowed Setting control.Frmr information x = refl
 rowed Up (control.Info ns nr) information x =
-    numbered (named x.extended x.acked (x.sent - x.acked) nr) (takes ns information) x (λ n. took ns information x (acknowledges n x) refl)
-rowed Up (control.Rr nr) information x = numbered (named x.extended x.acked (x.sent - x.acked) nr) (marks_busy false) x (λ n. refl)
-rowed Up (control.Rnr nr) information x = numbered (named x.extended x.acked (x.sent - x.acked) nr) (marks_busy true) x (λ n. refl)
+    numbered (number_shown_as x.extended x.acked (x.sent - x.acked) nr) (takes ns information) x (λ n. took ns information x (acknowledges n x) refl)
+rowed Up (control.Rr nr) information x = numbered (number_shown_as x.extended x.acked (x.sent - x.acked) nr) (marks_busy false) x (λ n. refl)
+rowed Up (control.Rnr nr) information x = numbered (number_shown_as x.extended x.acked (x.sent - x.acked) nr) (marks_busy true) x (λ n. refl)
 rowed Up (control.Rej nr) information x =
-    numbered (named x.extended x.acked (x.sent - x.acked) nr) (λ t. repeats_rejected (marks_busy false t)) x (λ n. repeated x (marks_busy false (acknowledges n x)) refl)
+    numbered (number_shown_as x.extended x.acked (x.sent - x.acked) nr) (λ t. repeats_rejected (marks_busy false t)) x (λ n. repeated x (marks_busy false (acknowledges n x)) refl)
 rowed Up (control.Srej nr) information x = refl
 rowed Up (control.Sabm poll) information x = set_up poll x
 rowed Up (control.Sabme poll) information x = set_up poll x
@@ -110,8 +110,8 @@ erred Down x = refl
 heard_control : (address : ℕ) (o : Option (Control × List ℕ)) (x : Station) → Same x (hears_control address o x)
 heard_control address None x = erred x.phase x
 heard_control address (Some read) x =
-    cond_both (is_addressed x.calling address read.0) (if is_error x.calling read.0 read.1 then errs x.phase x else row x.phase x read.0 read.1) (strays x) (Same x)
-    (λ e. cond_both (is_error x.calling read.0 read.1) (errs x.phase x) (row x.phase x read.0 read.1) (Same x) (λ e. erred x.phase x) (λ e. rowed x.phase read.0 read.1 x))
+    cond_both (is_addressed x.calling address read.0) (if is_error x.calling read.0 read.1 then errs x.phase x else row_of_phase x.phase x read.0 read.1) (strays x) (Same x)
+    (λ e. cond_both (is_error x.calling read.0 read.1) (errs x.phase x) (row_of_phase x.phase x read.0 read.1) (Same x) (λ e. erred x.phase x) (λ e. rowed x.phase read.0 read.1 x))
     (λ e. refl)
 
 heard : (v : Verdict) (x : Station) → Same x (hears v x)
@@ -199,7 +199,7 @@ module _ (n : ℕ) where
   at_own : (x : Core) (f : ℕ → Station) → OnTime n x → Till n (f n) → Till n (f x.moment)
   at_own x f o t = subst (λ (k : ℕ). Till n (f k)) (sym o.moment) t
 
-  on_gives : (g : Given) (x : Core) → OnTime n x → OnTime n (hand_tpdu_if_may model g x)
+  on_gives : (g : GivenTpdu) (x : Core) → OnTime n x → OnTime n (hand_tpdu_if_may model g x)
   on_gives g x o =
       let payload : List ℕ = last_block (octets_given g) in
       on_if (model.may_send x.line) (hand_tpdu model g x) x
@@ -245,9 +245,9 @@ module _ (n : ℕ) where
   text_on_time : (finds : Finds) (by : Carrier) (text : List ℕ) (x : Core) → OnTime n x → OnTime n (on_text model finds by text x)
   text_on_time finds by text x o =
       let a : Safety × SafetyOutcome = safety.step (finds x.moment) x.safe.safety (Received text) in
-      on_acts by (report_of a.1) (sent_by a.1) (with_safety_step model (Received text) a x) (record { line = o.line; moment = o.moment })
+      on_acts by (report_of a.1) (octets_sent_in_outcome a.1) (with_safety_step model (Received text) a x) (record { line = o.line; moment = o.moment })
 
-  on_does : (finds : Finds) (d : Deed) (x : Core) → OnTime n x → OnTime n (on_transport_deed model finds d x)
+  on_does : (finds : Finds) (d : ReceptionDeed) (x : Core) → OnTime n x → OnTime n (on_transport_deed model finds d x)
   on_does finds Nothing x o = o
   on_does finds (Called user) x o = text_on_time finds InCr user x o
   on_does finds (Confirmed user) x o = text_on_time finds InCc user x o
@@ -255,7 +255,7 @@ module _ (n : ℕ) where
   on_does finds (Disconnected user) x o = on_cut_off (why_of (di_in user (peer_flag x.safe.safety))) x o
   on_does finds (transport.Refused sub reason) x o = on_departs (by_this_end 2 sub) reason [] x o
 
-  block_on_time : (finds : Finds) (answer : joining.Answer) (x : Core) → OnTime n x → OnTime n (on_joined_block model finds answer x)
+  block_on_time : (finds : Finds) (answer : joining.BlockJoiningResult) (x : Core) → OnTime n x → OnTime n (on_joined_block model finds answer x)
   block_on_time finds (Ok None) x o = o
   block_on_time finds (Ok (Some tpdu)) x o =
       on_does finds (reception x.upper.transport tpdu).1 (record x { upper = model.hears x.upper tpdu }) (record { line = o.line; moment = o.moment })
@@ -265,12 +265,12 @@ module _ (n : ℕ) where
   on_up x o =
       let a : Safety × SafetyOutcome = safety.step no_keys x.safe.safety ConnectRequest in
       let z : Core = with_safety_step model ConnectRequest a x in
-      on_if (model.may_connect x.upper && is_ready x.safe.safety.phase) (connect_with_text model (sent_by a.1) z) x
-      (on_if (is_some_octets (sent_by a.1)) _ z (record { line = o.line; moment = o.moment }) (record { line = o.line; moment = o.moment })) o
+      on_if (model.may_connect x.upper && is_ready x.safe.safety.phase) (connect_with_text model (octets_sent_in_outcome a.1) z) x
+      (on_if (is_some_octets (octets_sent_in_outcome a.1)) _ z (record { line = o.line; moment = o.moment }) (record { line = o.line; moment = o.moment })) o
 
   on_link : (finds : Finds) (payload : Option (List ℕ)) (up : Bool) (released : Option Release) (x : Core) → OnTime n x → OnTime n (on_link_told model finds payload up released x)
   on_link finds (Some payload) up released x o =
-      block_on_time finds (joining.step x.joined payload).1 (record x { joined = (joining.step x.joined payload).0 }) (record { line = o.line; moment = o.moment })
+      block_on_time finds (joining.block_step x.joined payload).1 (record x { joined = (joining.block_step x.joined payload).0 }) (record { line = o.line; moment = o.moment })
   on_link finds None true released x o = on_up x o
   on_link finds None false (Some why) x o = record { line = o.line; moment = o.moment }
   on_link finds None false None x o = o
@@ -331,7 +331,7 @@ sends_timely now user x t None =
     let a : Safety × SafetyOutcome = safety.step no_keys x.safe.safety (DataRequest user) in
     let y : Core = with_safety_step model (DataRequest user) a b in
     let z : Core = record y { upper = model.sends y.upper user } in
-    timely n (on_send model user b) (on_concludes n (hand_text model (sent_by a.1) z) (on_says n (sent_by a.1) z (record { line = o.line; moment = refl })))
+    timely n (on_send model user b) (on_concludes n (hand_text model (octets_sent_in_outcome a.1) z) (on_says n (octets_sent_in_outcome a.1) z (record { line = o.line; moment = refl })))
 
 uses_timely : (now : ℕ) (x : Core) → IsTimely x → IsTimely (step_take model now x)
 uses_timely now x t =
@@ -348,8 +348,8 @@ leaves_timely now sub x t =
     let o = begun now x t in
     let a : Safety × SafetyOutcome = safety.step no_keys x.safe.safety (DisconnectRequest sub) in
     let z : Core = with_safety_step model (DisconnectRequest sub) a b in
-    let y : Core = send_dr model (release_of (User sub)) normal_disconnect (sent_by a.1) z in
-    timely_if x.released b y (timely n b o) (timely n y (on_departs n (release_of (User sub)) normal_disconnect (sent_by a.1) z (record { line = o.line; moment = refl })))
+    let y : Core = send_dr model (release_of (User sub)) normal_disconnect (octets_sent_in_outcome a.1) z in
+    timely_if x.released b y (timely n b o) (timely n y (on_departs n (release_of (User sub)) normal_disconnect (octets_sent_in_outcome a.1) z (record { line = o.line; moment = refl })))
 
 ticks_timely : (now : ℕ) (x : Core) → IsTimely x → IsTimely (step_tick model now x)
 ticks_timely now x t =
@@ -374,7 +374,7 @@ hears_timely : (finds : Finds) (now : ℕ) (vs : List Verdict) (x : Core) → Is
 hears_timely finds now [] x t = t
 hears_timely finds now (v ∷ vs) x t = hears_timely finds now vs (step_frame model finds now v x) (comes_timely finds now v x t)
 
-step_timely : (now : ℕ) (event : Event) (m : End) → IsTimely m.core → IsTimely (step now event m).0.core
+step_timely : (now : ℕ) (event : Event) (m : End) → IsTimely m.core → IsTimely (step_event now event m).0.core
 step_timely now Start m t = starts_timely now m.core t
 step_timely now (Come finds octets) m t =
     hears_timely finds now (news m.stream octets) (new_event_at model now m.core) (timely (max m.core.moment now) (new_event_at model now m.core) (begun now m.core t))
@@ -386,9 +386,9 @@ step_timely now Ended m t = breaks_timely LineEnded m.core t
 step_timely now Fault m t = breaks_timely LineFailed m.core t
 step_timely now Stalled m t = breaks_timely LineStalled m.core t
 
-run_timely : (events : List Moment) (m : End) → IsTimely m.core → IsTimely (run events m).core
+run_timely : (events : List Moment) (m : End) → IsTimely m.core → IsTimely (end_run events m).core
 run_timely [] m t = t
-run_timely (e ∷ events) m t = run_timely events (step e.now e.event m).0 (step_timely e.now e.event m t)
+run_timely (e ∷ events) m t = run_timely events (step_event e.now e.event m).0 (step_timely e.now e.event m t)
 
 opened_timely : (opening : Opening) → IsTimely (opened opening).core
 opened_timely (Call settings me peer kmac rb now) = omega arith
@@ -405,7 +405,7 @@ expired_of : (r : Option Release) (timer : Option ℕ) (connected : Bool) (limit
 expired_of r timer connected limit n = not (is_some r) && (is_due timer n || not connected && nat_le limit n)
 
 deadline_of : (r : Option Release) (timer : Option ℕ) (connected : Bool) (limit : ℕ) → Option ℕ
-deadline_of r timer connected limit = if is_some r then None else first_of timer (if connected then None else Some limit)
+deadline_of r timer connected limit = if is_some r then None else earlier_of_moments timer (if connected then None else Some limit)
 
 abbrev Due : Option ℕ → ℕ → Type 0
 Due o n = (due : ℕ) × (o ≡ Some due) × (due ≤ n)
@@ -470,7 +470,7 @@ deadline_exactly now x t =
 
 pub expires_at_deadline : ExpiresAtDeadline
 expires_at_deadline opening events now =
-    let m : End = run events (opened opening) in
+    let m : End = end_run events (opened opening) in
     deadline_exactly now m.core (run_timely events (opened opening) (opened_timely opening))
 
 pub timely_ends : TimelyEnds

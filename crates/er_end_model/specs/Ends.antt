@@ -51,7 +51,7 @@ core_made calls settings side now = record {
   line = made calls (settings.modulo == 128) settings.window settings.n2 settings.t1;
   joined = [];
   upper = upper_made calls settings;
-  safe = reports.made side;
+  safe = reports.kept_side_without_texts side;
   limit = now + settings.setup;
   moment = now;
   connected = None;
@@ -90,40 +90,40 @@ with_core m x = record m { core = x }
 abbrev pub led : End → Core → End × List Outcome
 led m x = (with_core m x, outcomes_of model x)
 
-abbrev pub if_refused : Option SendRefusal → List Outcome → List Outcome
-if_refused (Some refusal) told = Refused refusal ∷ []
-if_refused None told = told
+abbrev pub refusal_or_outcomes : Option SendRefusal → List Outcome → List Outcome
+refusal_or_outcomes (Some refusal) told = Refused refusal ∷ []
+refusal_or_outcomes None told = told
 
-abbrev pub step : ℕ → Event → End → End × List Outcome
-step now Start m = led m (step_start model now m.core)
-step now (Come finds octets) m =
+abbrev pub step_event : ℕ → Event → End → End × List Outcome
+step_event now Start m = led m (step_start model now m.core)
+step_event now (Come finds octets) m =
     let x = new_event_at model now m.core in
     let verdicts = news m.stream octets in (
       record { stream = m.stream ++ octets; core = hears_each finds now verdicts x },
       told_of_each finds now verdicts x,
     )
-step now (Send user) m =
+step_event now (Send user) m =
     let refusal = refusal_of model user m.core in
     let x = step_send_unless model refusal now user m.core in
-    (with_core m x, if_refused refusal (outcomes_of model x))
-step now Take m =
+    (with_core m x, refusal_or_outcomes refusal (outcomes_of model x))
+step_event now Take m =
     let x = step_take model now m.core in
     (with_core m x, if_taken (model.oldest m.core.upper) ++ outcomes_of model x)
-step now (Leave sub) m = led m (step_release model now sub m.core)
-step now Tick m = led m (step_tick model now m.core)
-step now Ended m = led m (step_break model LineEnded m.core)
-step now Fault m = led m (step_break model LineFailed m.core)
-step now Stalled m = led m (step_break model LineStalled m.core)
+step_event now (Leave sub) m = led m (step_release model now sub m.core)
+step_event now Tick m = led m (step_tick model now m.core)
+step_event now Ended m = led m (step_break model LineEnded m.core)
+step_event now Fault m = led m (step_break model LineFailed m.core)
+step_event now Stalled m = led m (step_break model LineStalled m.core)
 
 -- events, each at its moment: the end behind them, and all outcomes
 pub record Moment : Type 0 where
   pub now : ℕ
   pub event : Event
 
-abbrev pub run : List Moment → End → End
-run [] m = m
-run (e ∷ events) m = run events (step e.now e.event m).0
+abbrev pub end_run : List Moment → End → End
+end_run [] m = m
+end_run (e ∷ events) m = end_run events (step_event e.now e.event m).0
 
 abbrev pub outcomes : List Moment → End → List Outcome
 outcomes [] m = []
-outcomes (e ∷ events) m = (step e.now e.event m).1 ++ outcomes events (step e.now e.event m).0
+outcomes (e ∷ events) m = (step_event e.now e.event m).1 ++ outcomes events (step_event e.now e.event m).0

@@ -7,19 +7,19 @@ use Rattle.hdlc_station_model.specs.Stations.{Station, settled}
 use Rattle.hdlc_station_model.specs.Calls.{receives}
 use Rattle.t70_header.specs.Joining as joining
 use Rattle.x224_class2.specs.declared.stage.Stage.TheVariants.{New}
-use Rattle.x224_class2.specs.Transport.{Deed, Nothing, Called, Confirmed, Message, Disconnected, Refused, reception}
+use Rattle.x224_class2.specs.Transport.{ReceptionDeed, Nothing, Called, Confirmed, Message, Disconnected, Refused, reception}
 use Rattle.safety_automaton.specs.Safety.{SafetyEvent, ConnectRequest, Received, DataRequest, DisconnectRequest}
 use Rattle.er_end_model.specs.Steps.{Finds, new_event_at, is_ready, step_start, step_frame, on_send, step_take, step_release, step_tick, step_break}
 use Rattle.er_end_model.specs.Layers.{Spoken, Core, model}
 
 -- the text that a TPDU brought: the user data of a CR or a CC, or the message that a DT completes
-abbrev pub text_in : Deed → Option (List ℕ)
-text_in Nothing = None
-text_in (Called user) = Some user
-text_in (Confirmed user) = Some user
-text_in (Message message) = Some message
-text_in (Disconnected user) = None
-text_in (Refused sub reason) = None
+abbrev pub text_in_deed : ReceptionDeed → Option (List ℕ)
+text_in_deed Nothing = None
+text_in_deed (Called user) = Some user
+text_in_deed (Confirmed user) = Some user
+text_in_deed (Message message) = Some message
+text_in_deed (Disconnected user) = None
+text_in_deed (Refused sub reason) = None
 
 -- the station behind a frame that came to this end at a moment
 abbrev pub station_behind : Core → ℕ → Verdict → Station
@@ -30,8 +30,8 @@ pub record IsTextOf (x : Core) (now : ℕ) (verdict : Verdict) (text : List ℕ)
   pub payload : List ℕ
   pub taken : (station_behind x now verdict).deed.payload ≡ Some payload
   pub tpdu : List ℕ
-  pub joined : (joining.step x.joined payload).1 ≡ Ok (Some tpdu)
-  pub brought : text_in (reception x.upper.transport tpdu).1 ≡ Some text
+  pub joined : (joining.block_step x.joined payload).1 ≡ Ok (Some tpdu)
+  pub brought : text_in_deed (reception x.upper.transport tpdu).1 ≡ Some text
 
 -- what a frame may give: the request to connect where by it the link came up, or such a text
 abbrev pub FrameGives : Core → ℕ → Verdict → SafetyEvent → Type 0

@@ -9,12 +9,12 @@ use Rattle.hdlc_station_model.specs.Stations.{is_down}
 use Rattle.x224_class2.specs.declared.stage.Stage.{Stage}
 use Rattle.x224_class2.specs.declared.stage.Stage.TheVariants as stages
 use Rattle.safety_automaton.specs.Keys.{no_keys}
-use Rattle.safety_automaton.specs.Reports.{made}
+use Rattle.safety_automaton.specs.Reports.{kept_side_without_texts}
 use Rattle.safety_automaton.specs.Safety.{Safety, SafetyOutcome, SentAu1, SentAu2, SentAu3, SentAr, ReceivedAr, AcceptedDt, SentDt, Refused, ReleasedLocally, ReleasedByPeer, NothingDone, sealed_by, verified_by, step}
 use Rattle.er_end_model.specs.Outcomes.{RefusedReleased}
 use Rattle.er_end_model.specs.Steps.{Finds, new_event_at, has_next_tpdu, hand_waiting_tpdus, most_offers, step_start, step_frame, refusal_of, on_send, step_take, step_release, step_tick, step_break, is_connected, outcomes_of}
 use Rattle.er_end_model.specs.Layers.{Spoken, Core, model}
-use Rattle.er_end_model.specs.Ends.{Opening, Come, End, Moment, opened, run, outcomes}
+use Rattle.er_end_model.specs.Ends.{Opening, Come, End, Moment, opened, end_run, outcomes}
 
 -- ---- the safety side
 
@@ -32,28 +32,28 @@ connected_by (ReleasedLocally release octets) = None
 connected_by (ReleasedByPeer release) = None
 connected_by NothingDone = None
 
-abbrev pub accepted_by : SafetyOutcome → Option (List ℕ)
-accepted_by (SentAu1 octets) = None
-accepted_by (SentAu2 session sealed octets) = None
-accepted_by (SentAu3 session verified sealed octets) = None
-accepted_by (SentAr connection verified sealed octets) = None
-accepted_by (ReceivedAr connection verified) = None
-accepted_by (AcceptedDt session user verified) = Some user
-accepted_by (SentDt session user sealed octets) = None
-accepted_by (Refused refusal) = None
-accepted_by (ReleasedLocally release octets) = None
-accepted_by (ReleasedByPeer release) = None
-accepted_by NothingDone = None
+abbrev pub accepted_safety_message : SafetyOutcome → Option (List ℕ)
+accepted_safety_message (SentAu1 octets) = None
+accepted_safety_message (SentAu2 session sealed octets) = None
+accepted_safety_message (SentAu3 session verified sealed octets) = None
+accepted_safety_message (SentAr connection verified sealed octets) = None
+accepted_safety_message (ReceivedAr connection verified) = None
+accepted_safety_message (AcceptedDt session user verified) = Some user
+accepted_safety_message (SentDt session user sealed octets) = None
+accepted_safety_message (Refused refusal) = None
+accepted_safety_message (ReleasedLocally release octets) = None
+accepted_safety_message (ReleasedByPeer release) = None
+accepted_safety_message NothingDone = None
 
 -- what an event shows of the safety side that was s before it: nothing, or all that one step of it says
-abbrev pub IsStep : (ℕ → ℕ → Option TripleKey) → Safety → Option Spoken → Core → Type 0
-IsStep key_of s None y = (y.safe ≡ made s) × (y.connected ≡ None) × (y.upper.news ≡ None)
-IsStep key_of s (Some t) y =
+abbrev pub ShowsSafetyStep : (ℕ → ℕ → Option TripleKey) → Safety → Option Spoken → Core → Type 0
+ShowsSafetyStep key_of s None y = (y.safe ≡ kept_side_without_texts s) × (y.connected ≡ None) × (y.upper.news ≡ None)
+ShowsSafetyStep key_of s (Some t) y =
     (step key_of s t.event ≡ (y.safe.safety, t.outcome))
     × (y.safe.sealed ≡ sealed_by t.outcome)
     × (y.safe.verified ≡ verified_by t.outcome)
     × (y.connected ≡ connected_by t.outcome)
-    × (y.upper.news ≡ accepted_by t.outcome)
+    × (y.upper.news ≡ accepted_safety_message t.outcome)
 
 -- the transport isn't called or connected yet
 abbrev pub is_early : Stage → Bool
@@ -70,7 +70,7 @@ IsSane x = is_early x.upper.transport.stage ≡ true → is_connected x.safe.saf
 -- at most one step of the safety side
 pub record SpeaksOnce (key_of : ℕ → ℕ → Option TripleKey) (x y : Core) : Type 0 where
   pub sane : IsSane y
-  pub step : IsStep key_of x.safe.safety y.upper.spoke y
+  pub step : ShowsSafetyStep key_of x.safe.safety y.upper.spoke y
 
 -- each event of an end is at most one step of its safety side; of octets, each frame that they close
 pub record EventsSpeakOnce : Type 0 where
@@ -86,21 +86,21 @@ pub record EventsSpeakOnce : Type 0 where
 -- ---- rest
 
 -- an end stays released for this reason, and an event told nothing
-abbrev pub IsSilent : Release → Core → Type 0
-IsSilent why y = (y.released ≡ Some why) × (outcomes_of model y ≡ [])
+abbrev pub IsSilentAfterRelease : Release → Core → Type 0
+IsSilentAfterRelease why y = (y.released ≡ Some why) × (outcomes_of model y ≡ [])
 
 -- after a release every event but a take and a send has no outcome, a take sends nothing, and a send is refused for that reason
-pub record Rests (x : Core) (why : Release) : Type 0 where
-  pub starts : (now : ℕ) → IsSilent why (step_start model now x)
-  pub comes : (finds : Finds) (now : ℕ) (verdict : Verdict) → IsSilent why (step_frame model finds now verdict x)
+pub record IsEndInertAfterRelease (x : Core) (why : Release) : Type 0 where
+  pub starts : (now : ℕ) → IsSilentAfterRelease why (step_start model now x)
+  pub comes : (finds : Finds) (now : ℕ) (verdict : Verdict) → IsSilentAfterRelease why (step_frame model finds now verdict x)
   pub sends : (user : List ℕ) → refusal_of model user x ≡ Some (RefusedReleased why)
-  pub uses : (now : ℕ) → IsSilent why (step_take model now x)
-  pub leaves : (now sub : ℕ) → IsSilent why (step_release model now sub x)
-  pub ticks : (now : ℕ) → IsSilent why (step_tick model now x)
-  pub breaks : (cause : Cause) → IsSilent why (step_break model cause x)
+  pub uses : (now : ℕ) → IsSilentAfterRelease why (step_take model now x)
+  pub leaves : (now sub : ℕ) → IsSilentAfterRelease why (step_release model now sub x)
+  pub ticks : (now : ℕ) → IsSilentAfterRelease why (step_tick model now x)
+  pub breaks : (cause : Cause) → IsSilentAfterRelease why (step_break model cause x)
 
 abbrev pub ReleasedRest : Type 0
-ReleasedRest = (x : Core) (why : Release) → x.released ≡ Some why → Rests x why
+ReleasedRest = (x : Core) (why : Release) → x.released ≡ Some why → IsEndInertAfterRelease x why
 
 -- ---- what goes down
 
@@ -122,5 +122,5 @@ AnyCut =
     (finds : Finds) (now : ℕ) (m : End) (pieces others : List (List ℕ))
     → flat_map (λ piece. piece) pieces ≡ flat_map (λ piece. piece) others
     → (outcomes (come_in finds now pieces) m ≡ outcomes (come_in finds now others) m)
-    × ((run (come_in finds now pieces) m).stream ≡ (run (come_in finds now others) m).stream)
-    × (new_event_at model now (run (come_in finds now pieces) m).core ≡ new_event_at model now (run (come_in finds now others) m).core)
+    × ((end_run (come_in finds now pieces) m).stream ≡ (end_run (come_in finds now others) m).stream)
+    × (new_event_at model now (end_run (come_in finds now pieces) m).core ≡ new_event_at model now (end_run (come_in finds now others) m).core)

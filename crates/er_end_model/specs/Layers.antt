@@ -6,7 +6,7 @@ use Rattle.hdlc_station_model.specs.Frames.{sent_octets}
 use Rattle.hdlc_station_model.specs.Stations.{Station, settled}
 use Rattle.hdlc_station_model.specs.Sending.{waiting}
 use Rattle.hdlc_station_model.specs.Calls as station
-use Rattle.x224_class2.specs.Tpdus.{Given, octets_given}
+use Rattle.x224_class2.specs.Tpdus.{GivenTpdu, octets_given}
 use Rattle.x224_class2.specs.Transport.{Transport, is_new, is_open, after_connect, after_accept, after_hand, after_taken, waiting_count, reception, next_tpdu, after_next, with_given}
 use Rattle.safety_automaton.specs.Safety.{SafetyEvent, SafetyOutcome}
 use Rattle.er_end_model.specs.Stacks.{Ops, Stack}
@@ -29,7 +29,7 @@ abbrev pub written_by : Station → List ℕ
 written_by s = flat_map (sent_octets s.calling s.extended) s.said
 
 -- the octets of the TPDU that is due
-abbrev pub octets_due : Option Given → List ℕ
+abbrev pub octets_due : Option GivenTpdu → List ℕ
 octets_due None = []
 octets_due (Some tpdu) = octets_given tpdu
 

@@ -20,9 +20,9 @@ use Rattle.hdlc_station_model.specs.Events.{news}
 use Rattle.er_end_model.specs.Outcomes.{WasReleased}
 use Rattle.er_end_model.specs.Steps.{Finds, is_connected}
 use Rattle.er_end_model.specs.Layers.{Core}
-use Rattle.er_end_model.specs.Ends.{Event, Come, Leave, Tick, Ended, Fault, Stalled, End, Moment, step, run}
+use Rattle.er_end_model.specs.Ends.{Event, Come, Leave, Tick, Ended, Fault, Stalled, End, Moment, step_event, end_run}
 use Rattle.er_end_model.specs.Hearing.{station_behind, IsTextOf}
-use Rattle.er_end_model.specs.Origins.{behind}
+use Rattle.er_end_model.specs.Origins.{core_behind_frames}
 
 -- ---- what a frame comes to, at an end, in a moment
 
@@ -39,8 +39,8 @@ pub record AtFrame (now : ℕ) (event : Event) (m : End) (Fact : FrameFact) : Ty
   pub verdict : Verdict
   pub later : List Verdict
   pub frames : news m.stream octets ≡ first ++ verdict ∷ later
-  pub live : (behind finds now first m).released ≡ None
-  pub met : Fact finds now (behind finds now first m) verdict
+  pub live : (core_behind_frames finds now first m).released ≡ None
+  pub met : Fact finds now (core_behind_frames finds now first m) verdict
 
 -- the station told a release, and nothing besides
 abbrev pub StationReleases : Release → FrameFact
@@ -49,13 +49,13 @@ StationReleases why finds now x verdict = (station_behind x now verdict).deed �
 -- the payload that the station took is no block, or makes a TPDU that is too long
 abbrev pub BlockIsFaulty : FrameFact
 BlockIsFaulty finds now x verdict =
-    (payload : List ℕ) × (fault : BlockFault) × ((station_behind x now verdict).deed.payload ≡ Some payload) × ((joining.step x.joined payload).1 ≡ Err fault)
+    (payload : List ℕ) × (fault : BlockFault) × ((station_behind x now verdict).deed.payload ≡ Some payload) × ((joining.block_step x.joined payload).1 ≡ Err fault)
 
 -- a TPDU that the station and the blocks made of a frame
 pub record IsTpduOf (x : Core) (now : ℕ) (verdict : Verdict) (tpdu : List ℕ) : Type 0 where
   pub payload : List ℕ
   pub taken : (station_behind x now verdict).deed.payload ≡ Some payload
-  pub joined : (joining.step x.joined payload).1 ≡ Ok (Some tpdu)
+  pub joined : (joining.block_step x.joined payload).1 ≡ Ok (Some tpdu)
 
 -- the transport refused it, by this sub-reason
 abbrev pub TpduIsRefused : (sub : ℕ) → FrameFact
@@ -88,36 +88,36 @@ abbrev pub station_at : Core → ℕ → Station
 station_at x now = station.ticks (max x.moment now) (settled x.line)
 
 -- what an event must meet where an end is released for a cause
-abbrev pub Met : (now : ℕ) → Event → End → Cause → Type 0
-Met now event m (cause.User sub) = event ≡ Leave sub
-Met now event m cause.SetUpUnanswered = (event ≡ Tick) × ((station_at m.core now).deed.released ≡ Some (release_of cause.SetUpUnanswered))
-Met now event m cause.NoProgress = (event ≡ Tick) × ((station_at m.core now).deed.released ≡ Some (release_of cause.NoProgress))
-Met now event m cause.FrameError = AtFrame now event m (StationReleases (release_of cause.FrameError))
-Met now event m cause.PeerDisconnected = AtFrame now event m (StationReleases (release_of cause.PeerDisconnected))
-Met now event m cause.LineEnded = event ≡ Ended
-Met now event m cause.LineFailed = event ≡ Fault
-Met now event m cause.LineStalled = event ≡ Stalled
-Met now event m cause.DisconnectWithoutDi = AtFrame now event m DrHasNoDi
-Met now event m cause.TpduRefused = AtFrame now event m (TpduIsRefused tpdu_refused)
-Met now event m cause.MessageTooLong = AtFrame now event m (TpduIsRefused message_too_long)
-Met now event m cause.BlockRefused = AtFrame now event m BlockIsFaulty
-Met now event m cause.NoKey = AtFrame now event m (SafetyMet cause.NoKey)
-Met now event m cause.Au2MacWrong = AtFrame now event m (SafetyMet cause.Au2MacWrong)
-Met now event m cause.Au3MacWrong = AtFrame now event m (SafetyMet cause.Au3MacWrong)
-Met now event m cause.ArMacWrong = AtFrame now event m (SafetyMet cause.ArMacWrong)
-Met now event m cause.OtherResponder = AtFrame now event m (SafetyMet cause.OtherResponder)
-Met now event m cause.OtherFeature = AtFrame now event m (SafetyMet cause.OtherFeature)
-Met now event m cause.DtMacWrong = AtFrame now event m (SafetyMet cause.DtMacWrong)
-Met now event m cause.WrongDirection = AtFrame now event m (SafetyMet cause.WrongDirection)
-Met now event m cause.Unexpected = AtFrame now event m (SafetyMet cause.Unexpected)
-Met now event m cause.Malformed = AtFrame now event m (SafetyMet cause.Malformed)
+abbrev pub MeetsReleaseCause : (now : ℕ) → Event → End → Cause → Type 0
+MeetsReleaseCause now event m (cause.User sub) = event ≡ Leave sub
+MeetsReleaseCause now event m cause.SetUpUnanswered = (event ≡ Tick) × ((station_at m.core now).deed.released ≡ Some (release_of cause.SetUpUnanswered))
+MeetsReleaseCause now event m cause.NoProgress = (event ≡ Tick) × ((station_at m.core now).deed.released ≡ Some (release_of cause.NoProgress))
+MeetsReleaseCause now event m cause.FrameError = AtFrame now event m (StationReleases (release_of cause.FrameError))
+MeetsReleaseCause now event m cause.PeerDisconnected = AtFrame now event m (StationReleases (release_of cause.PeerDisconnected))
+MeetsReleaseCause now event m cause.LineEnded = event ≡ Ended
+MeetsReleaseCause now event m cause.LineFailed = event ≡ Fault
+MeetsReleaseCause now event m cause.LineStalled = event ≡ Stalled
+MeetsReleaseCause now event m cause.DisconnectWithoutDi = AtFrame now event m DrHasNoDi
+MeetsReleaseCause now event m cause.TpduRefused = AtFrame now event m (TpduIsRefused tpdu_refused)
+MeetsReleaseCause now event m cause.MessageTooLong = AtFrame now event m (TpduIsRefused message_too_long)
+MeetsReleaseCause now event m cause.BlockRefused = AtFrame now event m BlockIsFaulty
+MeetsReleaseCause now event m cause.NoKey = AtFrame now event m (SafetyMet cause.NoKey)
+MeetsReleaseCause now event m cause.Au2MacWrong = AtFrame now event m (SafetyMet cause.Au2MacWrong)
+MeetsReleaseCause now event m cause.Au3MacWrong = AtFrame now event m (SafetyMet cause.Au3MacWrong)
+MeetsReleaseCause now event m cause.ArMacWrong = AtFrame now event m (SafetyMet cause.ArMacWrong)
+MeetsReleaseCause now event m cause.OtherResponder = AtFrame now event m (SafetyMet cause.OtherResponder)
+MeetsReleaseCause now event m cause.OtherFeature = AtFrame now event m (SafetyMet cause.OtherFeature)
+MeetsReleaseCause now event m cause.DtMacWrong = AtFrame now event m (SafetyMet cause.DtMacWrong)
+MeetsReleaseCause now event m cause.WrongDirection = AtFrame now event m (SafetyMet cause.WrongDirection)
+MeetsReleaseCause now event m cause.Unexpected = AtFrame now event m (SafetyMet cause.Unexpected)
+MeetsReleaseCause now event m cause.Malformed = AtFrame now event m (SafetyMet cause.Malformed)
 -- T1 first: where the station gives up at the same tick, it is 1.1 or 1.2
-Met now event m cause.SetUpTimeSpent =
+MeetsReleaseCause now event m cause.SetUpTimeSpent =
     (event ≡ Tick) × ((station_at m.core now).deed.released ≡ None) × (is_connected m.core.safe.safety.phase ≡ false) × (m.core.limit ≤ max m.core.moment now)
 
 -- why an end is released: for one of these causes, or by the peer's DI with its two octets
 pub data ReleaseMet (now : ℕ) (event : Event) (m : End) (why : Release) : Type 0 where
-  ForCause : (of : Cause) → Met now event m of → why ≡ release_of of → ReleaseMet now event m why
+  ForCause : (of : Cause) → MeetsReleaseCause now event m of → why ≡ release_of of → ReleaseMet now event m why
   ByPeer : (reason sub : ℕ) → AtFrame now event m (PeersDi reason sub) → why ≡ by_peer_di reason sub → ReleaseMet now event m why
 
 -- ---- an end is released exactly so
@@ -126,11 +126,11 @@ pub data ReleaseMet (now : ℕ) (event : Event) (m : End) (why : Release) : Type
 -- and it tells no other release
 pub record EndReleases : Type 0 where
   pub only : (now : ℕ) (event : Event) (m : End) (why : Release) → m.core.released ≡ None
-      → (step now event m).0.core.released ≡ Some why → ReleaseMet now event m why
+      → (step_event now event m).0.core.released ≡ Some why → ReleaseMet now event m why
   pub each : (now : ℕ) (event : Event) (m : End) (why : Release) → m.core.released ≡ None → ReleaseMet now event m why
-      → ((step now event m).0.core.released ≡ Some why) × Contains (step now event m).1 (WasReleased why)
+      → ((step_event now event m).0.core.released ≡ Some why) × Contains (step_event now event m).1 (WasReleased why)
   pub told : (now : ℕ) (event : Event) (m : End) (why : Release) → m.core.released ≡ None
-      → Contains (step now event m).1 (WasReleased why) → (step now event m).0.core.released ≡ Some why
+      → Contains (step_event now event m).1 (WasReleased why) → (step_event now event m).0.core.released ≡ Some why
 
 -- a release in a run is that of one of its events
 pub record ReleasedIn (events : List Moment) (m : End) (why : Release) : Type 0 where
@@ -139,8 +139,8 @@ pub record ReleasedIn (events : List Moment) (m : End) (why : Release) : Type 0 
   pub event : Event
   pub after : List Moment
   pub events_are : events ≡ before ++ record { now = now; event = event } ∷ after
-  pub live : (run before m).core.released ≡ None
-  pub met : ReleaseMet now event (run before m) why
+  pub live : (end_run before m).core.released ≡ None
+  pub met : ReleaseMet now event (end_run before m) why
 
 abbrev pub RunsRelease : Type 0
-RunsRelease = (events : List Moment) (m : End) (why : Release) → m.core.released ≡ None → (run events m).core.released ≡ Some why → ReleasedIn events m why
+RunsRelease = (events : List Moment) (m : End) (why : Release) → m.core.released ≡ None → (end_run events m).core.released ≡ Some why → ReleasedIn events m why

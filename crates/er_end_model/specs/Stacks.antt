@@ -5,8 +5,8 @@ use Rattle.er_base.specs.declared.release.Release.{Release}
 use Rattle.hdlc_frames.specs.Framing.{Verdict}
 use Rattle.hdlc_station_model.specs.Stations.{Deed as LinkDeed}
 use Rattle.hdlc_station_model.specs.declared.counts.Counts.{Counts}
-use Rattle.x224_class2.specs.Tpdus.{Given}
-use Rattle.x224_class2.specs.Transport.{Deed}
+use Rattle.x224_class2.specs.Tpdus.{GivenTpdu}
+use Rattle.x224_class2.specs.Transport.{ReceptionDeed}
 use Rattle.safety_automaton.specs.Reports.{KeptSafe}
 use Rattle.safety_automaton.specs.Safety.{SafetyEvent, SafetyOutcome}
 
@@ -46,7 +46,7 @@ pub record Ops (S U : Type 0) : Type 0 where
   pub connects : U → List ℕ → U
   -- a TPDU comes, and what it comes to
   pub hears : U → List ℕ → U
-  pub deed : U → List ℕ → Deed
+  pub deed : U → List ℕ → ReceptionDeed
   -- the call that came is accepted with this user data
   pub accepts : U → List ℕ → U
   -- the connection is made, and fewer messages than sixteen wait for their last segment to be given; a message is handed
@@ -59,7 +59,7 @@ pub record Ops (S U : Type 0) : Type 0 where
   pub next : U → List ℕ
   pub after_next : U → U
   -- the end gives a TPDU of its own, DR or DC
-  pub gives : U → Given → U
+  pub gives : U → GivenTpdu → U
   -- the safety side took a step
   pub speaks : U → SafetyEvent → SafetyOutcome → U
   -- the user's message was sent

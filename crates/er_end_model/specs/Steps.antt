@@ -1,6 +1,7 @@
 -- What an end does with an event (this profile): how its layers are joined. Frames go up from the station to the blocks, the
 -- transport and the safety side. What these answer goes down; then, while no payload waits at the station, the next TPDU is handed
 -- down in a block; last comes the answer that the station still owes. An event that releases the end does neither, unless a line says so.
+use Rattle.hdlc_station_model.specs.Receiving.{is_some_octets}
 use Rattle.std.specs.Prelude.{ℕ, zero, suc, ◌==◌, nat_lt, nat_le, max, min, Bool, true, false, not, ◌&&◌, if◌then◌else◌, List, [], ◌∷◌, ◌++◌, length, Option, Some, None, is_some, Ok, Err}
 use Rattle.er_base.specs.declared.release.Release.{Release}
 use Rattle.er_base.specs.declared.cause.Cause.{Cause}
@@ -11,8 +12,8 @@ use Rattle.hdlc_frames.specs.Framing.{Verdict}
 use Rattle.hdlc_station_model.specs.Stations.{Deed as LinkDeed}
 use Rattle.t70_header.specs.Blocks.{last_block}
 use Rattle.t70_header.specs.Joining as joining
-use Rattle.x224_class2.specs.Tpdus.{Given, Dr, Dc, octets_given}
-use Rattle.x224_class2.specs.Transport.{Deed, Nothing, Called, Confirmed, Message, Disconnected}
+use Rattle.x224_class2.specs.Tpdus.{GivenTpdu, Dr, Dc, octets_given}
+use Rattle.x224_class2.specs.Transport.{ReceptionDeed, Nothing, Called, Confirmed, Message, Disconnected}
 use Rattle.x224_class2.specs.Transport as transport
 use Rattle.x224_class2.specs.Refusals.{protocol_error}
 use Rattle.sapdu.specs.Spelling.{Di, spelling, di_in}
@@ -20,7 +21,7 @@ use Rattle.sapdu.specs.Messages.{is_message}
 use Rattle.safety_automaton.specs.Keys.{no_keys}
 use Rattle.safety_automaton.specs.Reports.{KeptSafe, Report, ToldAnswered, ToldConnected, ToldAccepted, ToldReleased, ToldIgnored, report_of}
 use Rattle.safety_automaton.specs.Reports as reports
-use Rattle.safety_automaton.specs.Safety.{Safety, Phase, Ready, WaitAu1, WaitAu2, WaitAu3, WaitAr, Connected, Released, SafetyEvent, ConnectRequest, Received, DataRequest, DisconnectRequest, SafetyOutcome, flag_of, peer_flag, sealed_by, verified_by, sent_by, step}
+use Rattle.safety_automaton.specs.Safety.{Safety, Phase, Ready, WaitAu1, WaitAu2, WaitAu3, WaitAr, Connected, Released, SafetyEvent, ConnectRequest, Received, DataRequest, DisconnectRequest, SafetyOutcome, flag_of, peer_flag, sealed_by, verified_by, octets_sent_in_outcome, step}
 use Rattle.er_end_model.specs.Outcomes.{SendRefusal, RefusedReleased, RefusedNotConnected, RefusedLength, RefusedFull, Outcome, ConnectedTo, Accepted, Taken, NothingToTake, WasReleased, Octets}
 use Rattle.er_end_model.specs.Stacks.{Ops, Stack}
 
@@ -33,7 +34,7 @@ abbrev pub new_event : {S U : Type 0} → Ops S U → Stack S U → Stack S U
 new_event o x = record x {
   line = o.settled x.line;
   upper = o.opened x.upper;
-  safe = reports.made x.safe.safety;
+  safe = reports.kept_side_without_texts x.safe.safety;
   connected = None;
   leaves = None;
 }
@@ -49,13 +50,13 @@ abbrev pub with_release : {S U : Type 0} → Release → Stack S U → Stack S U
 with_release why x = record x { leaves = Some why; released = Some why }
 
 -- a TPDU of the end's own is handed down in one block, where the station may send
-abbrev pub hand_tpdu : {S U : Type 0} → Ops S U → Given → Stack S U → Stack S U
+abbrev pub hand_tpdu : {S U : Type 0} → Ops S U → GivenTpdu → Stack S U → Stack S U
 hand_tpdu o tpdu x = record x {
   line = o.hands x.moment (last_block (octets_given tpdu)) x.line;
   upper = o.gives x.upper tpdu;
 }
 
-abbrev pub hand_tpdu_if_may : {S U : Type 0} → Ops S U → Given → Stack S U → Stack S U
+abbrev pub hand_tpdu_if_may : {S U : Type 0} → Ops S U → GivenTpdu → Stack S U → Stack S U
 hand_tpdu_if_may o tpdu x = if o.may_send x.line then hand_tpdu o tpdu x else x
 
 abbrev pub close_link : {S U : Type 0} → Ops S U → Stack S U → Stack S U
@@ -93,15 +94,12 @@ why_of (Some di) = by_peer_di di.0 di.1
 -- ---- what the safety side says
 
 -- a safety side behind a step
-abbrev pub kept_by : Safety × SafetyOutcome → KeptSafe
-kept_by a = record { safety = a.0; sealed = sealed_by a.1; verified = verified_by a.1 }
+abbrev pub kept_safe_of_step : Safety × SafetyOutcome → KeptSafe
+kept_safe_of_step a = record { safety = a.0; sealed = sealed_by a.1; verified = verified_by a.1 }
 
 -- a step of the safety side
 abbrev pub with_safety_step : {S U : Type 0} → Ops S U → SafetyEvent → Safety × SafetyOutcome → Stack S U → Stack S U
-with_safety_step o event a x = record x { safe = kept_by a; upper = o.speaks x.upper event a.1 }
-
-abbrev pub is_some_octets : List ℕ → Bool
-is_some_octets octets = nat_lt 0 (length octets)
+with_safety_step o event a x = record x { safe = kept_safe_of_step a; upper = o.speaks x.upper event a.1 }
 
 -- a text is handed to the transport as a message, where there is one
 abbrev pub hand_text : {S U : Type 0} → Ops S U → List ℕ → Stack S U → Stack S U
@@ -143,11 +141,11 @@ on_safety_report o carrier ToldIgnored octets x = x
 abbrev pub on_text : {S U : Type 0} → Ops S U → Finds → Carrier → List ℕ → Stack S U → Stack S U
 on_text o finds carrier text x =
     let a = step (finds x.moment) x.safe.safety (Received text) in
-    on_safety_report o carrier (report_of a.1) (sent_by a.1) (with_safety_step o (Received text) a x)
+    on_safety_report o carrier (report_of a.1) (octets_sent_in_outcome a.1) (with_safety_step o (Received text) a x)
 
 -- ---- what the transport tells
 
-abbrev pub on_transport_deed : {S U : Type 0} → Ops S U → Finds → Deed → Stack S U → Stack S U
+abbrev pub on_transport_deed : {S U : Type 0} → Ops S U → Finds → ReceptionDeed → Stack S U → Stack S U
 on_transport_deed o finds Nothing x = x
 on_transport_deed o finds (Called user) x = on_text o finds InCr user x
 on_transport_deed o finds (Confirmed user) x = on_text o finds InCc user x
@@ -160,14 +158,14 @@ on_tpdu o finds tpdu x = on_transport_deed o finds (o.deed x.upper tpdu) (record
 
 -- ---- what the blocks come to
 
-abbrev pub on_joined_block : {S U : Type 0} → Ops S U → Finds → joining.Answer → Stack S U → Stack S U
+abbrev pub on_joined_block : {S U : Type 0} → Ops S U → Finds → joining.BlockJoiningResult → Stack S U → Stack S U
 on_joined_block o finds (Ok None) x = x
 on_joined_block o finds (Ok (Some tpdu)) x = on_tpdu o finds tpdu x
 on_joined_block o finds (Err fault) x = send_dr o (release_of BlockRefused) protocol_error [] x
 
 abbrev pub on_block : {S U : Type 0} → Ops S U → Finds → List ℕ → Stack S U → Stack S U
 on_block o finds block x =
-    let joined = joining.step x.joined block in on_joined_block o finds joined.1 (record x { joined = joined.0 })
+    let joined = joining.block_step x.joined block in on_joined_block o finds joined.1 (record x { joined = joined.0 })
 
 -- ---- what the station tells
 
@@ -188,7 +186,7 @@ connect_with_text o text x = if is_some_octets text then record x { upper = o.co
 abbrev pub on_link_up : {S U : Type 0} → Ops S U → Stack S U → Stack S U
 on_link_up o x =
     let a = step no_keys x.safe.safety ConnectRequest in
-    if o.may_connect x.upper && is_ready x.safe.safety.phase then connect_with_text o (sent_by a.1) (with_safety_step o ConnectRequest a x) else x
+    if o.may_connect x.upper && is_ready x.safe.safety.phase then connect_with_text o (octets_sent_in_outcome a.1) (with_safety_step o ConnectRequest a x) else x
 
 -- a payload that was taken, the link that came up, or a release of the station, which sent its last frame
 abbrev pub on_link_told : {S U : Type 0} → Ops S U → Finds → Option (List ℕ) → Bool → Option Release → Stack S U → Stack S U
@@ -269,7 +267,7 @@ abbrev pub on_send : {S U : Type 0} → Ops S U → List ℕ → Stack S U → S
 on_send o user x =
     let a = step no_keys x.safe.safety (DataRequest user) in
     let y = with_safety_step o (DataRequest user) a x in
-    conclude_event o (hand_text o (sent_by a.1) (record y { upper = o.sends y.upper user }))
+    conclude_event o (hand_text o (octets_sent_in_outcome a.1) (record y { upper = o.sends y.upper user }))
 
 -- the user sends; a send that is refused leaves all as it was
 abbrev pub step_send_unless : {S U : Type 0} → Ops S U → Option SendRefusal → ℕ → List ℕ → Stack S U → Stack S U
@@ -291,7 +289,7 @@ abbrev pub on_release : {S U : Type 0} → Ops S U → ℕ → Stack S U → Sta
 on_release o sub x =
     let a = step no_keys x.safe.safety (DisconnectRequest sub) in
     if is_some x.released then x
-    else send_dr o (release_of (User sub)) normal_disconnect (sent_by a.1) (with_safety_step o (DisconnectRequest sub) a x)
+    else send_dr o (release_of (User sub)) normal_disconnect (octets_sent_in_outcome a.1) (with_safety_step o (DisconnectRequest sub) a x)
 
 abbrev pub step_release : {S U : Type 0} → Ops S U → ℕ → ℕ → Stack S U → Stack S U
 step_release o now sub x = on_release o sub (new_event_at o now x)
@@ -328,15 +326,15 @@ step_break o cause x = on_break cause (new_event o x)
 -- ---- what shows
 
 -- the moment at which the end wants a tick: the first of those at which T1 expires and at which the time for the set-up is spent
-abbrev pub first_of : Option ℕ → Option ℕ → Option ℕ
-first_of None b = b
-first_of (Some a) None = Some a
-first_of (Some a) (Some b) = Some (min a b)
+abbrev pub earlier_of_moments : Option ℕ → Option ℕ → Option ℕ
+earlier_of_moments None b = b
+earlier_of_moments (Some a) None = Some a
+earlier_of_moments (Some a) (Some b) = Some (min a b)
 
 abbrev pub deadline : {S U : Type 0} → Ops S U → Stack S U → Option ℕ
 deadline o x =
     if is_some x.released then None
-    else first_of (o.expiry x.line) (if is_connected x.safe.safety.phase then None else Some x.limit)
+    else earlier_of_moments (o.expiry x.line) (if is_connected x.safe.safety.phase then None else Some x.limit)
 
 -- what an event told, in this order
 abbrev pub if_connected : Option ℕ → List Outcome

@@ -5,7 +5,7 @@ ghost use Rattle.er_end_model.specs.Laws.{EventsSpeakOnce, ReleasedRest, OffersR
 ghost use Rattle.er_end_model.specs.Hearing.{EventsGive};
 ghost use Rattle.er_end_model.specs.Releasing.{EndReleases, RunsRelease};
 ghost use Rattle.er_end_model.specs.Timing.{ExpiresAtDeadline, TimelyEnds};
-ghost use Rattle.er_end_model.specs.Origins.{OctetsAreHeard, RunsAreHeard, StreamIsWhole};
+ghost use Rattle.er_end_model.specs.Origins.{OctetOutcomesHaveOrigin, RunsAreHeard, StreamIsWhole};
 
 /// An event of an end is at most one step of its safety side, and what it tells, seals and verifies is what that step says. Of octets
 /// this holds of each frame that they close.
@@ -25,7 +25,7 @@ pub fn events_give()
 /// made of one of the frames that octets from the line closed: of one event, and of a run of events. Frames are cut out of all octets that came,
 /// in their order.
 pub fn octets_are_heard()
-    ensures event { OctetsAreHeard }
+    ensures event { OctetOutcomesHaveOrigin }
     ensures run { RunsAreHeard }
     ensures stream { StreamIsWhole }
 {

@@ -2,11 +2,11 @@
 use Rattle.std.proofs.Common.{◌≡◌, ℕ, ◌≤◌, true, false, List, [], ◌∷◌, length, take, zero, suc, None, refl, ap, arith}
 use Rattle.safety_automaton.specs.Safety.{Safety, Phase}
 use Rattle.x224_class2.specs.Segments.{messages_in}
-use Rattle.x224_class2.specs.Tpdus.{Given, Cr, Cc, Dt, Ak, Dr, Dc}
+use Rattle.x224_class2.specs.Tpdus.{GivenTpdu, Cr, Cc, Dt, Ak, Dr, Dc}
 use Rattle.er_end_model.specs.Layers.{Core}
-use Rattle.er_end_pair_laws.specs.Links.{Link}
-use Rattle.er_end_pair_laws.specs.Phases.{IsEngines, IsCentres}
-use Rattle.er_end_pair_laws.specs.Laws.{after}
+use Rattle.er_end_pair_laws.specs.Links.{EndLink}
+use Rattle.er_end_pair_laws.specs.Phases.{IsEnginesPhase, IsCentres}
+use Rattle.er_end_pair_laws.specs.Laws.{end_link_after}
 use Rattle.er_end_pair_laws.specs.Ordered.{begins_with_cc, InStepWhileOrdered}
 use Rattle.er_end_pair_laws.proofs.Locals.{drs, Opens}
 use Rattle.er_end_pair_laws.proofs.Own.{heard}
@@ -15,7 +15,7 @@ use Rattle.er_end_pair_laws.proofs.Ordered.{after_holds}
 use Rattle.er_end_pair_laws.proofs.Together.{engines, centres, known_open, gave_known, none_of, came_some, e_said, r_said, messages_from, open_heard}
 
 -- of what a callee gave, the first that a live caller heard is a CC
-first_cc : (C S n : ℕ) (gave : List Given) → 1 ≤ length (take n gave) → Opens false C S gave → length (drs (take n gave)) ≡ 0 → begins_with_cc gave ≡ true
+first_cc : (C S n : ℕ) (gave : List GivenTpdu) → 1 ≤ length (take n gave) → Opens false C S gave → length (drs (take n gave)) ≡ 0 → begins_with_cc gave ≡ true
 first_cc C S zero gave some opens none = absurd (omega arith)
 first_cc C S (suc n) [] some opens none = absurd (omega arith)
 first_cc C S (suc n) (Cr credit size user ∷ gs) some opens none = absurd opens.0
@@ -25,13 +25,13 @@ first_cc C S (suc n) (Ak credit m ∷ gs) some opens none = absurd opens.0
 first_cc C S (suc n) (Dr reason user ∷ gs) some opens none = absurd (omega (arith, none))
 first_cc C S (suc n) (Dc ∷ gs) some opens none = absurd opens.0
 
-some_given : (gave : List Given) → begins_with_cc gave ≡ true → 1 ≤ length gave
+some_given : (gave : List GivenTpdu) → begins_with_cc gave ≡ true → 1 ≤ length gave
 some_given [] e = absurd cc
 some_given (g ∷ gs) e = omega arith
 
 pub in_step_while_ordered : Below → InStepWhileOrdered
 in_step_while_ordered below s steps fits agree kept =
-    let l : Link = after s steps in
+    let l : EndLink = end_link_after s steps in
     let two = (after_holds below s steps fits kept).two in
     let e : Core = l.e.core in
     let r : Core = l.r.core in
@@ -41,7 +41,7 @@ in_step_while_ordered below s steps fits agree kept =
     let pr : Phase = r.safe.safety.phase in
     let lives_e = two.own_e.lives in
     let lives_r = two.own_r.lives in
-    let of_e : e.released ≡ None → IsEngines s.engine s.rbc s.kmac s.ra s.rb pe = λ live.
+    let of_e : e.released ≡ None → IsEnginesPhase s.engine s.rbc s.kmac s.ra s.rb pe = λ live.
     let v = lives_e live in
     engines s te.stage pe (messages_in te.segments) e.upper.sent (messages_in te.contents) e.upper.accepted v.trusting.joint (v.trusting.phase_is agree) in
     let of_r : r.released ≡ None → IsCentres s.engine s.rbc s.kmac s.ra s.rb pr = λ live.

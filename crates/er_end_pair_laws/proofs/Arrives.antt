@@ -5,11 +5,11 @@ use Rattle.std.proofs.lemmas.Bool.{cond_both}
 use Rattle.er_base.specs.declared.release.Release.{Release}
 use Rattle.hdlc_station_model.specs.Frames.{Frame}
 use Rattle.x224_class2.specs.Segments.{Segment, segments_of, messages_in}
-use Rattle.x224_class2.specs.Tpdus.{Given}
+use Rattle.x224_class2.specs.Tpdus.{GivenTpdu}
 use Rattle.std.proofs.lemmas.List.{take-append-le}
 use Rattle.er_end_model.specs.Layers.{Core, model}
 use Rattle.er_end_model.specs.Steps.{on_safety_release, send_dr, end_after_di, conclude_event, normal_disconnect}
-use Rattle.er_end_pair_laws.specs.Openings.{Opening, Agree}
+use Rattle.er_end_pair_laws.specs.Openings.{EndLinkOpening, Agree}
 use Rattle.er_end_pair_laws.proofs.Lists.{Each, each_push, each_join, number, Ends, flat_none, flat_push}
 use Rattle.er_end_pair_laws.proofs.Segments.{IsShort, carried_each, messages_push}
 use Rattle.er_end_pair_laws.proofs.Locals.{dt_of, ak_of, dr_of, drs, Cuts}
@@ -22,22 +22,22 @@ use Rattle.er_end_pair_laws.proofs.Concludes.{concludes_keeps, gone_concludes}
 use Rattle.er_end_pair_laws.proofs.Leaves.{LeaveOk, departs_gone, deserted_gone}
 
 -- x is live or was released; where the keys agree, a live peer releases no end
-pub record Arrived (s : Opening) (c : Bool) (k : ℕ) (w : List Frame) (x : Core) (l : List Frame) (y : Core) : Type 0 where
+pub record Arrived (s : EndLinkOpening) (c : Bool) (k : ℕ) (w : List Frame) (x : Core) (l : List Frame) (y : Core) : Type 0 where
   pub state : ((x.released ≡ None) × Busy s c k w x l y) ⊎ ((why : Release) × (x.released ≡ Some why) × Gone s c k w x l y)
   pub good : Agree s → y.released ≡ None → x.released ≡ None
 
-pub arrived_done : Below → (s : Opening) (c : Bool) (k : ℕ) (w : List Frame) (x : Core) (l : List Frame) (y : Core) → Arrived s c k w x l y → Done s c k w (conclude_event model x) l y
+pub arrived_done : Below → (s : EndLinkOpening) (c : Bool) (k : ℕ) (w : List Frame) (x : Core) (l : List Frame) (y : Core) → Arrived s c k w x l y → Done s c k w (conclude_event model x) l y
 arrived_done below s c k w x l y b =
     elim b.state [
       | inl live ↦ concludes_keeps below s c k w x l y live.0 live.1
       | inr gone ↦ gone_concludes s c k w x l y gone.0 gone.1 gone.2
     ]
 
-pub live_arrived : (s : Opening) (c : Bool) (k : ℕ) (w : List Frame) (x : Core) (l : List Frame) (y : Core) → x.released ≡ None → Busy s c k w x l y → Arrived s c k w x l y
+pub live_arrived : (s : EndLinkOpening) (c : Bool) (k : ℕ) (w : List Frame) (x : Core) (l : List Frame) (y : Core) → x.released ≡ None → Busy s c k w x l y → Arrived s c k w x l y
 live_arrived s c k w x l y live b = record { state = inl (live, b); good = λ a p. live }
 
 -- the safety side was released, which isn't where the keys agree
-pub parted : Below → (s : Opening) (c : Bool) (k : ℕ) (w : List Frame) (x : Core) (l : List Frame) (y : Core) (why : Release) (octets : List ℕ) → length octets ≤ 32
+pub parted : Below → (s : EndLinkOpening) (c : Bool) (k : ℕ) (w : List Frame) (x : Core) (l : List Frame) (y : Core) (why : Release) (octets : List ℕ) → length octets ≤ 32
     → LeaveOk c x.upper.transport.gave x.line.phase → (Agree s → ⊥) → Gone s c k w x l y → Arrived s c k w (on_safety_release model why octets x) l y
 parted below s c k w x l y why octets short ok none b =
     cond_both why.by_peer (end_after_di model why x) (send_dr model why normal_disconnect octets x) (λ z. Arrived s c k w z l y)
@@ -58,8 +58,8 @@ parted below s c k w x l y why octets short ok none b =
 -- ---- what was heard grows
 
 -- a TPDU that is neither DT nor AK; the edge is as it comes to be
-pub always_heard : (s : Opening) (c : Bool) (segs : List Segment) (given acked edge newest : ℕ) (contents : List Segment) (gave : List Given)
-    (sent accepted : List (List ℕ)) (h : List Given) (g : Given) (edge' : ℕ) → dt_of g ≡ [] → ak_of g ≡ [] → given ≤ edge' → edge' ≤ acked + s.settings.credit
+pub always_heard : (s : EndLinkOpening) (c : Bool) (segs : List Segment) (given acked edge newest : ℕ) (contents : List Segment) (gave : List GivenTpdu)
+    (sent accepted : List (List ℕ)) (h : List GivenTpdu) (g : GivenTpdu) (edge' : ℕ) → dt_of g ≡ [] → ak_of g ≡ [] → given ≤ edge' → edge' ≤ acked + s.settings.credit
     → Always s c segs given acked edge newest contents gave sent accepted h → Always s c segs given acked edge' newest contents gave sent accepted (h ++ g ∷ [])
 always_heard s c segs given acked edge newest contents gave sent accepted h g edge' d a low near v = record {
   gives = record { all = v.gives.all; most = v.gives.most; below = low; near = near; behind = v.gives.behind; tells = v.gives.tells; lag = v.gives.lag };
@@ -76,7 +76,7 @@ always_heard s c segs given acked edge newest contents gave sent accepted h g ed
 -- ---- what is said grows by a message
 
 -- segments of whole messages, with those of one message more
-pub cuts_more : Below → (s : Opening) (segs : List Segment) (m : List ℕ) → 0 < length m → length m ≤ 1032 → Cuts s.settings.size segs
+pub cuts_more : Below → (s : EndLinkOpening) (segs : List Segment) (m : List ℕ) → 0 < length m → length m ≤ 1032 → Cuts s.settings.size segs
     → Cuts s.settings.size (segs ++ segments_of s.settings.size m)
 cuts_more below s segs m some small v =
     let S : ℕ = s.settings.size in
@@ -89,7 +89,7 @@ cuts_more below s segs m some small v =
           ∙ sym (ap (flat_map (segments_of S)) p.0 ∙ flat_push (segments_of S) (messages_in segs) m);
     }
 
-pub said_more : Below → (s : Opening) (segs : List Segment) (m : List ℕ) → Cuts s.settings.size segs
+pub said_more : Below → (s : EndLinkOpening) (segs : List Segment) (m : List ℕ) → Cuts s.settings.size segs
     → messages_in (segs ++ segments_of s.settings.size m) ≡ messages_in segs ++ m ∷ []
 said_more below s segs m v = (messages_push below.joined below.parts s.settings.size segs m v.closed).0
 
@@ -97,8 +97,8 @@ pub users_more : (ms : List (List ℕ)) (m : List ℕ) → users (ms ++ m ∷ []
 users_more ms m = flat_push users_of ms m
 
 -- a message is handed to the transport
-pub always_handed : Below → (s : Opening) (c : Bool) (segs : List Segment) (given acked edge newest : ℕ) (contents : List Segment) (gave : List Given)
-    (sent sent' accepted : List (List ℕ)) (h : List Given) (m : List ℕ) → 0 < length m → length m ≤ 1032 → sent' ≡ sent ++ users_of m → Each Sendable sent'
+pub always_handed : Below → (s : EndLinkOpening) (c : Bool) (segs : List Segment) (given acked edge newest : ℕ) (contents : List Segment) (gave : List GivenTpdu)
+    (sent sent' accepted : List (List ℕ)) (h : List GivenTpdu) (m : List ℕ) → 0 < length m → length m ≤ 1032 → sent' ≡ sent ++ users_of m → Each Sendable sent'
     → Always s c segs given acked edge newest contents gave sent accepted h
     → Always s c (segs ++ segments_of s.settings.size m) given acked edge newest contents gave sent' accepted h
 always_handed below s c segs given acked edge newest contents gave sent sent' accepted h m some small e sendable v =

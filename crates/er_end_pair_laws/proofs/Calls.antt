@@ -1,5 +1,6 @@
 -- The events at one end: a frame comes, time goes on, the user sends, takes, releases; and the start.
 use Rattle.std.proofs.Common.{◌≡◌, ℕ, ◌≤◌, inl, inr, Bool, true, false, ◌&&◌, List, ◌∷◌, ◌++◌, length, Option, Some, None, refl, sym, ◌∙◌, ap, subst, arith, lt-ltb, true≢false, append-nil}
+use Rattle.hdlc_station_model.specs.Receiving.{is_some_octets}
 use Rattle.std.specs.Prelude.{if◌then◌else◌}
 use Rattle.std.specs.Option.{option_to_list}
 use Rattle.std.proofs.lemmas.Bool.{cases_Bool, cond_both, and_parts}
@@ -7,19 +8,19 @@ use Rattle.er_base.specs.declared.release.Release.{Release}
 use Rattle.des_block.specs.declared.triple_key.TripleKey.{TripleKey}
 use Rattle.sapdu.specs.Spelling.{Au1, spelling}
 use Rattle.safety_automaton.specs.Keys.{no_keys}
-use Rattle.safety_automaton.specs.Safety.{Safety, Phase, Ready, WaitAu1, WaitAu2, WaitAu3, WaitAr, Connected, Released, ConnectRequest, SafetyOutcome, sent_by, step}
+use Rattle.safety_automaton.specs.Safety.{Safety, Phase, Ready, WaitAu1, WaitAu2, WaitAu3, WaitAr, Connected, Released, ConnectRequest, SafetyOutcome, octets_sent_in_outcome, step}
 use Rattle.hdlc_station_model.specs.declared.phase.Phase.{Phase as Link_phase}
 use Rattle.hdlc_station_model.specs.Frames.{Frame}
 use Rattle.hdlc_station_model.specs.Stations.{Station, no_deed, is_up}
 use Rattle.hdlc_pair_laws.specs.Keeping.{found}
 use Rattle.x224_class2.specs.Segments.{messages_in}
-use Rattle.x224_class2.specs.Tpdus.{Given}
+use Rattle.x224_class2.specs.Tpdus.{GivenTpdu}
 use Rattle.x224_class2.specs.Transport.{Transport, is_new, after_connect}
 use Rattle.x224_class2.specs.declared.stage.Stage.{Stage}
 use Rattle.x224_class2.specs.declared.stage.Stage.TheVariants as stages
 use Rattle.er_end_model.specs.Layers.{Core, model}
-use Rattle.er_end_model.specs.Steps.{with_release, is_some_octets, connect_with_text, on_link_up, is_ready, with_safety_step, on_link_told}
-use Rattle.er_end_pair_laws.specs.Openings.{Opening}
+use Rattle.er_end_model.specs.Steps.{with_release, connect_with_text, on_link_up, is_ready, with_safety_step, on_link_told}
+use Rattle.er_end_pair_laws.specs.Openings.{EndLinkOpening}
 use Rattle.er_end_pair_laws.proofs.Constants.{side_in, own_number, flag_at, greeting}
 use Rattle.er_end_pair_laws.proofs.Follows.{some_octets}
 use Rattle.er_end_pair_laws.proofs.Own.{AlwaysOf, Stages, AliveOf, Joint, PhaseIs, heard, Busy}
@@ -37,7 +38,7 @@ is_new_only stages.Called h = absurd cc
 is_new_only stages.Open h = absurd cc
 is_new_only stages.Over h = absurd cc
 
-ready_joint : (s : Opening) (p : Phase) → Joint s true stages.New p → (is_ready p ≡ true) × ((peer : ℕ) × (kmac : TripleKey) × (rb : ℕ) × (p ≡ Ready peer kmac rb) × (peer ≡ s.rbc) × (kmac ≡ s.kmac) × (rb ≡ s.rb))
+ready_joint : (s : EndLinkOpening) (p : Phase) → Joint s true stages.New p → (is_ready p ≡ true) × ((peer : ℕ) × (kmac : TripleKey) × (rb : ℕ) × (p ≡ Ready peer kmac rb) × (peer ≡ s.rbc) × (kmac ≡ s.kmac) × (rb ≡ s.rb))
 ready_joint s (Ready peer kmac rb) j = (refl, (peer, kmac, rb, refl, j.1, j.2, j.3))
 ready_joint s (WaitAu1 ra) j = absurd (let e = j.0 in let u : ⊥ = cc in u)
 ready_joint s (WaitAu2 peer kmac rb) j = absurd j
@@ -47,7 +48,7 @@ ready_joint s (Connected peer key) j = absurd j
 ready_joint s (Released release known) j = absurd j
 
 -- a station that is up: of a caller that didn't connect yet, nothing else
-stages_up : (c : Bool) (st : Stage) (due : Option (List ℕ)) (h gave : List Given) (p q : Link_phase) → (c ≡ true → st ≡ stages.New → ⊥) → is_up q ≡ true → Stages c st due h gave p → Stages c st due h gave q
+stages_up : (c : Bool) (st : Stage) (due : Option (List ℕ)) (h gave : List GivenTpdu) (p q : Link_phase) → (c ≡ true → st ≡ stages.New → ⊥) → is_up q ≡ true → Stages c st due h gave p → Stages c st due h gave q
 stages_up true stages.New due h gave p q none up a = absurd (none refl refl)
 stages_up false stages.New due h gave p q none up a = a
 stages_up true stages.Calling due h gave p q none up a = (a.0, a.1, up)
@@ -56,7 +57,7 @@ stages_up c stages.Called due h gave p q none up a = a
 stages_up c stages.Open due h gave p q none up a = a
 stages_up c stages.Over due h gave p q none up a = a
 
-module _ (below : Below) (s : Opening) (c : Bool) (k : ℕ) (w : List Frame) (x : Core) (f : Frame) (fs : List Frame) (y : Core) where
+module _ (below : Below) (s : EndLinkOpening) (c : Bool) (k : ℕ) (w : List Frame) (x : Core) (f : Frame) (fs : List Frame) (y : Core) where
   abbrev line : Station
   line = line_behind below s c k w x f fs y
 
@@ -70,10 +71,10 @@ module _ (below : Below) (s : Opening) (c : Bool) (k : ℕ) (w : List Frame) (x 
 
   -- the caller connects
   connects_by : x.line.deed ≡ no_deed → line.deed.payload ≡ None → is_up line.phase ≡ true → c ≡ true → x.upper.transport.stage ≡ stages.New → x.released ≡ None → Busy s c k w x (f ∷ fs) y
-      → State s c k w (connect_with_text model (sent_by (step no_keys x.safe.safety ConnectRequest).1) (with_safety_step model ConnectRequest (step no_keys x.safe.safety ConnectRequest) x_line)) fs y
+      → State s c k w (connect_with_text model (octets_sent_in_outcome (step no_keys x.safe.safety ConnectRequest).1) (with_safety_step model ConnectRequest (step no_keys x.safe.safety ConnectRequest) x_line)) fs y
   connects_by quiet none up role e live b =
       let t : Transport = x.upper.transport in
-      let h : List Given = heard x y in
+      let h : List GivenTpdu = heard x y in
       let r = below.received x.moment (found y.line f) x.line quiet in
       let same = taken_same quiet none in
       let p : Phase = x.safe.safety.phase in
@@ -92,15 +93,15 @@ module _ (below : Below) (s : Opening) (c : Bool) (k : ℕ) (w : List Frame) (x 
       let z : Core = record y' { upper = record (y'.upper) { transport = after_connect t text } } in
       let both = both_behind below s c k w x f fs y b in
       let hs = sym (heard_same x y line same) in
-      subst (λ (sf : Safety). State s c k w (connect_with_text model (sent_by (step no_keys sf ConnectRequest).1) (with_safety_step model ConnectRequest (step no_keys sf ConnectRequest) x_line)) fs y) (sym side)
+      subst (λ (sf : Safety). State s c k w (connect_with_text model (octets_sent_in_outcome (step no_keys sf ConnectRequest).1) (with_safety_step model ConnectRequest (step no_keys sf ConnectRequest) x_line)) fs y) (sym side)
       (subst (λ (d : Bool). State s c k w (if d then z else y') fs y) (sym test)
       (inl (
         live,
         record {
           beside = (both, r.handed ∙ b.beside.1, b.beside.2, b.beside.3);
-          always = subst (λ (i : List Given). AlwaysOf s c x_line i) hs b.always;
+          always = subst (λ (i : List GivenTpdu). AlwaysOf s c x_line i) hs b.always;
           told = b.told;
-          alive = subst (λ (i : List Given). AliveOf s c z i) hs (record {
+          alive = subst (λ (i : List GivenTpdu). AliveOf s c z i) hs (record {
             stages = subst (λ (b : Bool). Stages b stages.Calling (Some text) h t.gave line.phase) (sym role) (st.1, λ none. absurd (let u : ⊥ = cc in u), up);
             role_is = b.alive.role_is;
             size_is = b.alive.size_is;
@@ -144,7 +145,7 @@ module _ (below : Below) (s : Opening) (c : Bool) (k : ℕ) (w : List Frame) (x 
       let up = t.came came in
       let u : Transport = x.upper.transport in
       cond_both (u.is_caller && is_new u.stage && is_ready x.safe.safety.phase)
-      (connect_with_text model (sent_by (step no_keys x.safe.safety ConnectRequest).1) (with_safety_step model ConnectRequest (step no_keys x.safe.safety ConnectRequest) x_line)) x_line (λ z. State s c k w z fs y)
+      (connect_with_text model (octets_sent_in_outcome (step no_keys x.safe.safety ConnectRequest).1) (with_safety_step model ConnectRequest (step no_keys x.safe.safety ConnectRequest) x_line)) x_line (λ z. State s c k w z fs y)
       (λ first.
       let p = and_parts (u.is_caller && is_new u.stage) (is_ready x.safe.safety.phase) first in
       let q = and_parts u.is_caller (is_new u.stage) p.0 in
@@ -185,11 +186,11 @@ module _ (below : Below) (s : Opening) (c : Bool) (k : ℕ) (w : List Frame) (x 
       let a = payload_by below s c k w x f fs y p quiet e1 due live b in record { state = a.state; good = λ none. a.good }
   link_by None true told e1 e2 e3 quiet due live b = record { state = up_by quiet e1 e2 live b; good = λ none agree peer. up_live (x.upper.transport.is_caller && is_new x.upper.transport.stage && is_ready x.safe.safety.phase) }
     where
-      up_live : (d : Bool) → (if d then connect_with_text model (sent_by (step no_keys x.safe.safety ConnectRequest).1) (with_safety_step model ConnectRequest (step no_keys x.safe.safety ConnectRequest) x_line) else x_line).released ≡ None
-      up_live true = connects_live (is_some_octets (sent_by (step no_keys x.safe.safety ConnectRequest).1))
+      up_live : (d : Bool) → (if d then connect_with_text model (octets_sent_in_outcome (step no_keys x.safe.safety ConnectRequest).1) (with_safety_step model ConnectRequest (step no_keys x.safe.safety ConnectRequest) x_line) else x_line).released ≡ None
+      up_live true = connects_live (is_some_octets (octets_sent_in_outcome (step no_keys x.safe.safety ConnectRequest).1))
         where
           connects_live : (d : Bool) → (if d then record (with_safety_step model ConnectRequest (step no_keys x.safe.safety ConnectRequest) x_line) {
-            upper = record ((with_safety_step model ConnectRequest (step no_keys x.safe.safety ConnectRequest) x_line).upper) { transport = after_connect x.upper.transport (sent_by (step no_keys x.safe.safety ConnectRequest).1) };
+            upper = record ((with_safety_step model ConnectRequest (step no_keys x.safe.safety ConnectRequest) x_line).upper) { transport = after_connect x.upper.transport (octets_sent_in_outcome (step no_keys x.safe.safety ConnectRequest).1) };
           } else with_safety_step model ConnectRequest (step no_keys x.safe.safety ConnectRequest) x_line).released ≡ None
           connects_live true = live
           connects_live false = live

@@ -1,5 +1,6 @@
 -- Each event at one end, on a loss-free line between two ends whose keys agree: the end lives on, and what flows keeps its shape.
 use Rattle.std.proofs.Common.{◌≡◌, ℕ, ◌+◌, ◌-◌, Bool, false, ◌&&◌, List, ◌∷◌, length, Option, None, refl, sym, ◌∙◌, subst}
+use Rattle.hdlc_station_model.specs.Receiving.{is_some_octets}
 use Rattle.std.specs.Prelude.{◌==◌, if◌then◌else◌, is_some, nat_lt}
 use Rattle.std.proofs.lemmas.Bool.{cond_both}
 use Rattle.er_base.specs.declared.release.Release.{Release}
@@ -13,11 +14,11 @@ use Rattle.hdlc_station_model.specs.Events.{is_late}
 use Rattle.hdlc_pair_laws.specs.Flowing.{Midway, Ended}
 use Rattle.hdlc_pair_laws.specs.Keeping.{found}
 use Rattle.safety_automaton.specs.Keys.{no_keys}
-use Rattle.safety_automaton.specs.Safety.{DataRequest, step, sent_by}
+use Rattle.safety_automaton.specs.Safety.{DataRequest, step, octets_sent_in_outcome}
 use Rattle.x224_class2.specs.Transport.{is_open, waiting_count}
 use Rattle.er_end_model.specs.Layers.{Core, model}
-use Rattle.er_end_model.specs.Steps.{is_some_octets, with_safety_step, on_link_deed, conclude_event, on_frame, on_tick, on_expiry, send_dr, di_of, is_spent, on_take, on_send, on_start}
-use Rattle.er_end_pair_laws.specs.Openings.{Opening, Agree}
+use Rattle.er_end_model.specs.Steps.{with_safety_step, on_link_deed, conclude_event, on_frame, on_tick, on_expiry, send_dr, di_of, is_spent, on_take, on_send, on_start}
+use Rattle.er_end_pair_laws.specs.Openings.{EndLinkOpening, Agree}
 use Rattle.er_end_pair_laws.proofs.Own.{Done}
 use Rattle.er_end_pair_laws.proofs.Events.{with_line}
 use Rattle.er_end_pair_laws.proofs.Happens.{received_good}
@@ -25,13 +26,13 @@ use Rattle.er_end_pair_laws.proofs.Stations.{Free, link_stays, concluded_sent, c
 
 -- ---- a frame comes
 
-abbrev behind : Opening → Core → Frame → Core → Station
+abbrev behind : EndLinkOpening → Core → Frame → Core → Station
 behind s x f y = station.receives x.moment (found y.line f) x.line
 
-abbrev heard_core : Opening → Core → Frame → Core → Core
+abbrev heard_core : EndLinkOpening → Core → Frame → Core → Core
 heard_core s x f y = on_link_deed model s.finder (behind s x f y).deed (with_line x (behind s x f y))
 
-pub received_went : Free → (s : Opening) (c : Bool) (k n : ℕ) (w : List Frame) (x : Core) (f : Frame) (fs : List Frame) (y : Core) → x.line.deed ≡ no_deed → x.released ≡ None
+pub received_went : Free → (s : EndLinkOpening) (c : Bool) (k n : ℕ) (w : List Frame) (x : Core) (f : Frame) (fs : List Frame) (y : Core) → x.line.deed ≡ no_deed → x.released ≡ None
     → Agree s → y.released ≡ None → Done s c k w x (f ∷ fs) y → Midway c n w x.line (f ∷ fs) y.line → Went c (n + 1) w (on_frame model s.finder (found y.line f) x) fs y.line
 received_went free s c k n w x f fs y quiet live agree peer d m =
     let line : Station = behind s x f y in
@@ -44,7 +45,7 @@ received_went free s c k n w x f fs y quiet live agree peer d m =
     subst (λ (o : Option Release). Went c (n + 1) w (if is_some o then x else conclude_event model z) fs y.line) (sym live)
     (concluded free.keep c (n + 1) w z fs y.line alive (subst (λ (t : Station). Midway c (n + 1) w t fs y.line) (sym same) m'))
 
-pub received_sent : (s : Opening) (verdict : Verdict) (x : Core) → (on_frame model s.finder verdict x).upper.sent ≡ x.upper.sent
+pub received_sent : (s : EndLinkOpening) (verdict : Verdict) (x : Core) → (on_frame model s.finder verdict x).upper.sent ≡ x.upper.sent
 received_sent s verdict x =
     let line : Station = station.receives x.moment verdict x.line in
     let z : Core = on_link_deed model s.finder line.deed (with_line x line) in
@@ -53,7 +54,7 @@ received_sent s verdict x =
 
 -- ---- time goes on
 
-pub ticked_went : Free → (s : Opening) (c : Bool) (k n : ℕ) (w : List Frame) (x : Core) (l : List Frame) (y : Core) → x.line.deed ≡ no_deed → x.released ≡ None
+pub ticked_went : Free → (s : EndLinkOpening) (c : Bool) (k n : ℕ) (w : List Frame) (x : Core) (l : List Frame) (y : Core) → x.line.deed ≡ no_deed → x.released ≡ None
     → is_late x.moment x.line ≡ false → is_spent x ≡ false → Midway c n w x.line l y.line → Went c n w (on_tick model x) l y.line
 ticked_went free s c k n w x l y quiet live late spent m =
     let line : Station = station.ticks x.moment x.line in
@@ -75,9 +76,9 @@ sent_went free c n w x l y user live m =
     let a = step no_keys x.safe.safety (DataRequest user) in
     let z : Core = with_safety_step model (DataRequest user) a x in
     let z' : Core = record z { upper = model.sends z.upper user } in
-    cond_both (is_some_octets (sent_by a.1) && (is_open z'.upper.transport.stage && nat_lt (waiting_count z'.upper.transport) 16))
-    (record z' { upper = model.hands_message z'.upper (sent_by a.1) }) z' (λ t. Went c n w (conclude_event model t) l y)
-    (λ e. concluded free.keep c n w (record z' { upper = model.hands_message z'.upper (sent_by a.1) }) l y live m)
+    cond_both (is_some_octets (octets_sent_in_outcome a.1) && (is_open z'.upper.transport.stage && nat_lt (waiting_count z'.upper.transport) 16))
+    (record z' { upper = model.hands_message z'.upper (octets_sent_in_outcome a.1) }) z' (λ t. Went c n w (conclude_event model t) l y)
+    (λ e. concluded free.keep c n w (record z' { upper = model.hands_message z'.upper (octets_sent_in_outcome a.1) }) l y live m)
     (λ e. concluded free.keep c n w z' l y live m)
 
 -- where none waits for the user nothing changes

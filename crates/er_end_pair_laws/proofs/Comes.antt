@@ -3,16 +3,16 @@ use Rattle.std.proofs.Common.{◌≡◌, ℕ, ◌≤◌, Bool, false, not, List,
 use Rattle.std.specs.Prelude.{if◌then◌else◌}
 use Rattle.er_base.specs.declared.release.Release.{Release}
 use Rattle.safety_automaton.specs.Reports.{report_of}
-use Rattle.safety_automaton.specs.Safety.{Safety, Phase, WaitAu1, Received, SafetyOutcome, SentAu1, SentAu2, SentAu3, SentAr, ReceivedAr, AcceptedDt, SentDt, Refused, ReleasedLocally, ReleasedByPeer, NothingDone, sent_by}
+use Rattle.safety_automaton.specs.Safety.{Safety, Phase, WaitAu1, Received, SafetyOutcome, SentAu1, SentAu2, SentAu3, SentAr, ReceivedAr, AcceptedDt, SentDt, Refused, ReleasedLocally, ReleasedByPeer, NothingDone, octets_sent_in_outcome}
 use Rattle.hdlc_station_model.specs.Frames.{Frame}
 use Rattle.x224_class2.specs.Segments.{Segment, messages_in}
-use Rattle.x224_class2.specs.Tpdus.{Given, Cr}
+use Rattle.x224_class2.specs.Tpdus.{GivenTpdu, Cr}
 use Rattle.x224_class2.specs.Transport.{Transport, after_accept}
 use Rattle.x224_class2.specs.declared.stage.Stage.{Stage}
 use Rattle.x224_class2.specs.declared.stage.Stage.TheVariants as stages
 use Rattle.er_end_model.specs.Layers.{Core, model}
 use Rattle.er_end_model.specs.Steps.{InCr, with_safety_step, on_safety_report, on_safety_release}
-use Rattle.er_end_pair_laws.specs.Openings.{Opening, Agree}
+use Rattle.er_end_pair_laws.specs.Openings.{EndLinkOpening, Agree}
 use Rattle.er_end_pair_laws.proofs.Lists.{Each, flat_none, length_push}
 use Rattle.er_end_pair_laws.proofs.Locals.{dr_of}
 use Rattle.er_end_pair_laws.proofs.Follows.{Follows}
@@ -39,19 +39,19 @@ spoke x text next o = with_safety_step model (Received text) (next, o) x
 abbrev pub At : Core → Stage → Type 0
 At x st = x.upper.transport.stage ≡ st
 
-pub stages_at : (s : Opening) (c : Bool) (x : Core) (h : List Given) (st : Stage) → At x st → AliveOf s c x h → Stages c st (Side x).due h (Side x).gave x.line.phase
+pub stages_at : (s : EndLinkOpening) (c : Bool) (x : Core) (h : List GivenTpdu) (st : Stage) → At x st → AliveOf s c x h → Stages c st (Side x).due h (Side x).gave x.line.phase
 stages_at s c x h st e a = subst (λ (q : Stage). Stages c q (Side x).due h (Side x).gave x.line.phase) e a.stages
 
-pub edge_at : (s : Opening) (c : Bool) (x : Core) (h : List Given) (st : Stage) → At x st → AliveOf s c x h → EdgeIs st (Side x).acked (Side x).edge s.settings.credit
+pub edge_at : (s : EndLinkOpening) (c : Bool) (x : Core) (h : List GivenTpdu) (st : Stage) → At x st → AliveOf s c x h → EdgeIs st (Side x).acked (Side x).edge s.settings.credit
 edge_at s c x h st e a = subst (λ (q : Stage). EdgeIs q (Side x).acked (Side x).edge s.settings.credit) e a.edge_is
 
-pub phase_at : (s : Opening) (c : Bool) (x : Core) (p : Phase) → x.safe.safety.phase ≡ p → TrustingOf s c x → Agree s
+pub phase_at : (s : EndLinkOpening) (c : Bool) (x : Core) (p : Phase) → x.safe.safety.phase ≡ p → TrustingOf s c x → Agree s
     → PhaseIs s c p (messages_in (Side x).segments) x.upper.sent (messages_in (Side x).contents) x.upper.accepted
 phase_at s c x p e v a =
     subst (λ (q : Phase). PhaseIs s c q (messages_in (Side x).segments) x.upper.sent (messages_in (Side x).contents) x.upper.accepted) e (v.phase_is a)
 
 -- released by a text
-pub gone_of : (s : Opening) (c : Bool) (k : ℕ) (w : List Frame) (x : Core) (l : List Frame) (y : Core) (h : List Given) (g : Given) (t : Transport) (text : List ℕ) (next : Safety) (o : SafetyOutcome)
+pub gone_of : (s : EndLinkOpening) (c : Bool) (k : ℕ) (w : List Frame) (x : Core) (l : List Frame) (y : Core) (h : List GivenTpdu) (g : GivenTpdu) (t : Transport) (text : List ℕ) (next : Safety) (o : SafetyOutcome)
     → Hears s c k w x l y h g → t.gave ≡ (Side x).gave → t.segments ≡ (Side x).segments → AlwaysOf s c (with_transport x t) (h ++ g ∷ [])
     → Gone s c k w (spoke (with_transport x t) text next o) l y
 gone_of s c k w x l y h g t text next o b same segs v = record {
@@ -59,9 +59,9 @@ gone_of s c k w x l y h g t text next o b same segs v = record {
     b.beside.0,
     b.beside.1 ∙ ap (map block) (sym same),
     b.beside.2,
-    subst (λ (q : List Given). Own s (not c) y (take (length y.line.taken) q)) (sym same) b.beside.3,
+    subst (λ (q : List GivenTpdu). Own s (not c) y (take (length y.line.taken) q)) (sym same) b.beside.3,
   );
-  always = subst (λ (q : List Given). AlwaysOf s c (with_transport x t) q) (sym b.heard_is) v;
+  always = subst (λ (q : List GivenTpdu). AlwaysOf s c (with_transport x t) q) (sym b.heard_is) v;
   told = λ a.
       let d = b.told a in
       record {
@@ -73,8 +73,8 @@ gone_of s c k w x l y h g t text next o b same segs v = record {
 
 -- ---- CR: the callee is called
 
-module _ (below : Below) (s : Opening) (k : ℕ) (w : List Frame) (x : Core) (l : List Frame) (y : Core) (h : List Given) (user : List ℕ) where
-  abbrev pub the_cr : Given
+module _ (below : Below) (s : EndLinkOpening) (k : ℕ) (w : List Frame) (x : Core) (l : List Frame) (y : Core) (h : List GivenTpdu) (user : List ℕ) where
+  abbrev pub the_cr : GivenTpdu
   the_cr = Cr s.settings.credit s.settings.size user
 
   abbrev pub called_side : Transport
@@ -95,7 +95,7 @@ module _ (below : Below) (s : Opening) (k : ℕ) (w : List Frame) (x : Core) (l 
       (gone_of s false k w x l y h the_cr called_side text next o b refl refl (called_always e b))
 
   pub called_by : (ra : ℕ) (next : Safety) (o : SafetyOutcome) → Follows s false (WaitAu1 ra) user next o → At x stages.New → x.safe.safety.phase ≡ WaitAu1 ra
-      → Hears s false k w x l y h the_cr → Arrived s false k w (on_safety_report model InCr (report_of o) (sent_by o) (spoke (with_transport x called_side) user next o)) l y
+      → Hears s false k w x l y h the_cr → Arrived s false k w (on_safety_report model InCr (report_of o) (octets_sent_in_outcome o) (spoke (with_transport x called_side) user next o)) l y
   called_by ra next (SentAu1 octets) f e p b = absurd f
   called_by ra next (SentAu2 key sealed octets) f e p b =
       let st = stages_at s false x h stages.New e b.alive in
@@ -104,9 +104,9 @@ module _ (below : Below) (s : Opening) (k : ℕ) (w : List Frame) (x : Core) (l 
       subst (λ (t : Bool). Arrived s false k w (if t then z else spoke (with_transport x called_side) user next (SentAu2 key sealed octets)) l y) (sym (lt-ltb 0 (length octets) f.4))
       (live_arrived s false k w z l y b.live (record {
         beside = b.beside;
-        always = subst (λ (r : List Given). AlwaysOf s false z r) (sym b.heard_is) (called_always e b);
+        always = subst (λ (r : List GivenTpdu). AlwaysOf s false z r) (sym b.heard_is) (called_always e b);
         told = b.told;
-        alive = subst (λ (r : List Given). AliveOf s false z r) (sym b.heard_is) (record {
+        alive = subst (λ (r : List GivenTpdu). AliveOf s false z r) (sym b.heard_is) (record {
           stages = (omega (arith, length_push h the_cr), λ none. absurd (let u : ⊥ = cc in u));
           role_is = b.alive.role_is;
           size_is = b.alive.size_is;

@@ -8,18 +8,18 @@ use Rattle.hdlc_station_model.specs.Frames.{Frame}
 use Rattle.hdlc_station_model.specs.Stations.{Station, is_down}
 use Rattle.hdlc_station_model.specs.Sending.{waiting, settles}
 use Rattle.hdlc_station_model.specs.Calls as station
-use Rattle.x224_class2.specs.Tpdus.{Given}
-use Rattle.x224_class2.specs.Transport.{Transport, is_over, Turn, Rest, Opening as Opens_next, Acknowledgement, Data, turn_among, turn_of, ack_of, tpdu_at, state_behind, with_given, next_tpdu, after_next}
+use Rattle.x224_class2.specs.Tpdus.{GivenTpdu}
+use Rattle.x224_class2.specs.Transport.{Transport, is_over, TpduTurn, Rest, Opening as Opens_next, Acknowledgement, Data, turn_among, turn_of, ack_of, tpdu_at, state_behind, with_given, next_tpdu, after_next}
 use Rattle.er_end_model.specs.Layers.{Core, model}
 use Rattle.er_end_model.specs.Steps.{hand_next_tpdu, has_next_tpdu, hand_waiting_tpdus, most_offers, send_owed_answer, conclude_event}
-use Rattle.er_end_pair_laws.specs.Openings.{Opening}
+use Rattle.er_end_pair_laws.specs.Openings.{EndLinkOpening}
 use Rattle.er_end_pair_laws.proofs.Own.{AlwaysOf, Alive, AliveOf, DueIs, Rested, heard, block, Beside, Busy, Gone, Done}
 use Rattle.er_end_pair_laws.proofs.Below.{Below}
 use Rattle.er_end_pair_laws.proofs.Moves.{turn_live, turn_is, live_stage, credit_known, next_keeps}
 
 -- ---- while no payload waits
 
-pub offers_keeps : Below → (n : ℕ) (s : Opening) (c : Bool) (k : ℕ) (w : List Frame) (x : Core) (l : List Frame) (y : Core) → Busy s c k w x l y → Busy s c k w (hand_waiting_tpdus model n x) l y
+pub offers_keeps : Below → (n : ℕ) (s : EndLinkOpening) (c : Bool) (k : ℕ) (w : List Frame) (x : Core) (l : List Frame) (y : Core) → Busy s c k w x l y → Busy s c k w (hand_waiting_tpdus model n x) l y
 unfolding hand_waiting_tpdus
 offers_keeps below zero s c k w x l y b = b
 offers_keeps below (suc n) s c k w x l y b =
@@ -42,13 +42,13 @@ due_count (Some user) = 1
 abbrev left_of : Transport → ℕ
 left_of t = due_count t.due + one_if (nat_lt t.newest (ack_of t)) + (min (length t.segments) t.edge - t.given)
 
-abbrev behind : Transport → Turn → Transport
+abbrev behind : Transport → TpduTurn → Transport
 behind t u = with_given (state_behind t u) (tpdu_at t u)
 
-abbrev Falls : Transport → Turn → Type 0
+abbrev Falls : Transport → TpduTurn → Type 0
 Falls t u = suc (left_of (behind t u)) ≤ left_of t
 
-turn_falls : (t : Transport) (u : Turn) → turn_live t ≡ u → is_some (tpdu_at t u) ≡ true → Falls t u
+turn_falls : (t : Transport) (u : TpduTurn) → turn_live t ≡ u → is_some (tpdu_at t u) ≡ true → Falls t u
 turn_falls t Rest e some = absurd cc
 turn_falls t (Opens_next user) e some =
     let d : due_count t.due ≡ 1 = opened t.due (nat_lt t.newest (ack_of t)) (nat_lt t.given (length t.segments) && nat_lt t.given t.edge) user e in omega arith
@@ -81,9 +81,9 @@ turn_falls t Data e some =
 next_falls : (t : Transport) → is_over t.stage ≡ false → is_some (next_tpdu t) ≡ true → suc (left_of (after_next t)) ≤ left_of t
 next_falls t live some =
     let e = turn_is t live in
-    subst (Falls t) (sym e) (turn_falls t (turn_live t) refl (sym (ap (λ (u : Turn). is_some (tpdu_at t u)) e) ∙ some))
+    subst (Falls t) (sym e) (turn_falls t (turn_live t) refl (sym (ap (λ (u : TpduTurn). is_some (tpdu_at t u)) e) ∙ some))
 
-stage_stays : (t : Transport) (u : Turn) → (behind t u).stage ≡ t.stage
+stage_stays : (t : Transport) (u : TpduTurn) → (behind t u).stage ≡ t.stage
 stage_stays t Rest = refl
 stage_stays t (Opens_next user) = refl
 stage_stays t Acknowledgement = refl
@@ -98,7 +98,7 @@ none_left t live few =
           let b : t.given < t.edge = ltb-true t.given t.edge p.1 in let u : ⊥ = omega arith in u)
       | inr e ↦ e
     ] in
-    ap (λ (u : Turn). is_some (tpdu_at t u)) (turn_is t live ∙ rests t.due (nat_lt t.newest (ack_of t)) granted not_granted (omega arith))
+    ap (λ (u : TpduTurn). is_some (tpdu_at t u)) (turn_is t live ∙ rests t.due (nat_lt t.newest (ack_of t)) granted not_granted (omega arith))
   where
     rests : (due : Option (List ℕ)) (owed granted : Bool) → granted ≡ false → due_count due + one_if owed ≤ 0 → turn_among due owed granted ≡ Rest
     rests (Some u) owed granted e h = absurd (let u : ⊥ = omega arith in u)
@@ -122,7 +122,7 @@ offers_rests (suc n) x live few =
 
 -- ---- what is due goes down first
 
-due_stays : (t : Transport) (u : Turn) → t.due ≡ None → (behind t u).due ≡ None
+due_stays : (t : Transport) (u : TpduTurn) → t.due ≡ None → (behind t u).due ≡ None
 due_stays t Rest e = e
 due_stays t (Opens_next user) e = refl
 due_stays t Acknowledgement e = e
@@ -136,7 +136,7 @@ offers_due (suc n) x e =
     (λ g. offers_due n (hand_next_tpdu model x) (due_stays x.upper.transport (turn_of x.upper.transport) e)) (λ g. e)
 
 -- nothing was handed down before the first TPDU
-none_waits : (s : Opening) (c : Bool) (k : ℕ) (w : List Frame) (x : Core) (l : List Frame) (y : Core) (user : List ℕ) → x.upper.transport.due ≡ Some user
+none_waits : (s : EndLinkOpening) (c : Bool) (k : ℕ) (w : List Frame) (x : Core) (l : List Frame) (y : Core) (user : List ℕ) → x.upper.transport.due ≡ Some user
     → Busy s c k w x l y → (waiting x.line == 0) ≡ true
 none_waits s c k w x l y user e b =
     let d = subst (λ (o : Option (List ℕ)). DueIs s c o x.upper.transport.gave) e b.alive.due_is in
@@ -154,11 +154,11 @@ offers_opened n x user live e free =
     let t : Transport = x.upper.transport in
     let u = opening_turn t user live e in
     let goes : has_next_tpdu model x ≡ true =
-    ap (λ (b : Bool). b && is_some (next_tpdu t)) free ∙ ap (λ (v : Turn). is_some (tpdu_at t v)) u in
+    ap (λ (b : Bool). b && is_some (next_tpdu t)) free ∙ ap (λ (v : TpduTurn). is_some (tpdu_at t v)) u in
     ap (λ (b : Bool). (if b then hand_waiting_tpdus model n (hand_next_tpdu model x) else x).upper.transport.due) goes
-    ∙ offers_due n (hand_next_tpdu model x) (ap (λ (v : Turn). (behind t v).due) u)
+    ∙ offers_due n (hand_next_tpdu model x) (ap (λ (v : TpduTurn). (behind t v).due) u)
 
-due_gone : (n : ℕ) (s : Opening) (c : Bool) (k : ℕ) (w : List Frame) (x : Core) (l : List Frame) (y : Core) (o : Option (List ℕ)) → x.upper.transport.due ≡ o
+due_gone : (n : ℕ) (s : EndLinkOpening) (c : Bool) (k : ℕ) (w : List Frame) (x : Core) (l : List Frame) (y : Core) (o : Option (List ℕ)) → x.upper.transport.due ≡ o
     → Busy s c k w x l y → (hand_waiting_tpdus model (suc n) x).upper.transport.due ≡ None
 due_gone n s c k w x l y None e b = offers_due (suc n) x e
 due_gone n s c k w x l y (Some user) e b =
@@ -173,10 +173,10 @@ waiting_same x = cond_both (is_down x.phase) x (settles x) (λ t. waiting t ≡ 
 pub finishes_heard : Below → (x y : Core) → heard (send_owed_answer model x) y ≡ heard x y
 finishes_heard below x y = ap (λ (t : List (List ℕ)). take (length t) y.upper.transport.gave) (below.others 0 x.line).1.1
 
-pub finishes_beside : Below → (s : Opening) (c : Bool) (k : ℕ) (w : List Frame) (x : Core) (l : List Frame) (y : Core) → Beside s c k w x l y → Beside s c k w (send_owed_answer model x) l y
+pub finishes_beside : Below → (s : EndLinkOpening) (c : Bool) (k : ℕ) (w : List Frame) (x : Core) (l : List Frame) (y : Core) → Beside s c k w x l y → Beside s c k w (send_owed_answer model x) l y
 finishes_beside below s c k w x l y b = (below.keep.finished false k w x.line l y.line b.0, (below.others 0 x.line).1.0 ∙ b.1, b.2, b.3)
 
-finished : Below → (s : Opening) (c : Bool) (k : ℕ) (w : List Frame) (x : Core) (l : List Frame) (y : Core) → Rested x → Busy s c k w x l y → Done s c k w (send_owed_answer model x) l y
+finished : Below → (s : EndLinkOpening) (c : Bool) (k : ℕ) (w : List Frame) (x : Core) (l : List Frame) (y : Core) → Rested x → Busy s c k w x l y → Done s c k w (send_owed_answer model x) l y
 finished below s c k w x l y rested b =
     let z : Core = send_owed_answer model x in
     let e = sym (finishes_heard below x y) in
@@ -185,10 +185,10 @@ finished below s c k w x l y rested b =
     record {
       beside = finishes_beside below s c k w x l y b.beside;
       own = record {
-        always = subst (λ (h : List Given). AlwaysOf s c z h) e b.always;
+        always = subst (λ (h : List GivenTpdu). AlwaysOf s c z h) e b.always;
         told = b.told;
         lives = λ r. record {
-          alive = subst (λ (h : List Given). AliveOf s c z h) e
+          alive = subst (λ (h : List GivenTpdu). AliveOf s c z h) e
               (subst (λ p. Alive s c t.stage t.is_caller t.credit t.size t.due t.gave (heard x y) t.given t.acked t.edge t.newest x.joined p) phase b.alive);
           trusting = b.trusting;
           rested = (rested.0, ap (λ (n : ℕ). (n == 0) && is_some (next_tpdu t)) (waiting_same x.line) ∙ rested.1);
@@ -196,7 +196,7 @@ finished below s c k w x l y rested b =
       };
     }
 
-few_left : Below → (s : Opening) (c : Bool) (k : ℕ) (w : List Frame) (x : Core) (l : List Frame) (y : Core) → Busy s c k w x l y → left_of x.upper.transport ≤ most_offers
+few_left : Below → (s : EndLinkOpening) (c : Bool) (k : ℕ) (w : List Frame) (x : Core) (l : List Frame) (y : Core) → Busy s c k w x l y → left_of x.upper.transport ≤ most_offers
 few_left below s c k w x l y b =
     let t : Transport = x.upper.transport in
     let a = b.always.gives.near in
@@ -213,7 +213,7 @@ few_left below s c k w x l y b =
     one_owed true = omega arith
     one_owed false = omega arith
 
-pub concludes_keeps : Below → (s : Opening) (c : Bool) (k : ℕ) (w : List Frame) (x : Core) (l : List Frame) (y : Core) → x.released ≡ None → Busy s c k w x l y → Done s c k w (conclude_event model x) l y
+pub concludes_keeps : Below → (s : EndLinkOpening) (c : Bool) (k : ℕ) (w : List Frame) (x : Core) (l : List Frame) (y : Core) → x.released ≡ None → Busy s c k w x l y → Done s c k w (conclude_event model x) l y
 concludes_keeps below s c k w x l y live b =
     let t : Transport = x.upper.transport in
     let stage = live_stage c t.stage t.due (heard x y) t.gave x.line.phase b.alive.stages in
@@ -223,7 +223,7 @@ concludes_keeps below s c k w x l y live b =
     (offers_keeps below most_offers s c k w x l y b))
 
 -- a released end does nothing more
-pub gone_concludes : (s : Opening) (c : Bool) (k : ℕ) (w : List Frame) (x : Core) (l : List Frame) (y : Core) (why : Release) → x.released ≡ Some why → Gone s c k w x l y → Done s c k w (conclude_event model x) l y
+pub gone_concludes : (s : EndLinkOpening) (c : Bool) (k : ℕ) (w : List Frame) (x : Core) (l : List Frame) (y : Core) (why : Release) → x.released ≡ Some why → Gone s c k w x l y → Done s c k w (conclude_event model x) l y
 gone_concludes s c k w x l y why e b =
     subst (λ (z : Core). Done s c k w z l y) (sym (ap (λ (o : Option Release). if is_some o then x else send_owed_answer model (hand_waiting_tpdus model most_offers x)) e))
     (record { beside = b.beside; own = record { always = b.always; told = b.told; lives = λ none. absurd (let u : Some why ≡ None = sym e ∙ none in let v : ⊥ = cc in v) } })

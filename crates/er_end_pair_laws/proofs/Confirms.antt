@@ -1,19 +1,20 @@
 -- A CC comes to a caller, a message comes to any live end.
 use Rattle.std.proofs.Common.{◌≡◌, ℕ, ◌+◌, ◌≤◌, inr, Bool, true, ◌&&◌, List, [], ◌∷◌, ◌++◌, length, refl, sym, ◌∙◌, ap, subst, arith, lt-ltb, true≢false, append-nil}
+use Rattle.hdlc_station_model.specs.Receiving.{is_some_octets}
 use Rattle.std.specs.Prelude.{nat_lt}
 use Rattle.std.proofs.lemmas.Bool.{cond_both}
 use Rattle.er_base.specs.declared.release.Release.{Release}
 use Rattle.des_block.specs.declared.triple_key.TripleKey.{TripleKey}
 use Rattle.safety_automaton.specs.Reports.{report_of}
-use Rattle.safety_automaton.specs.Safety.{Safety, WaitAu2, SafetyOutcome, SentAu1, SentAu2, SentAu3, SentAr, ReceivedAr, AcceptedDt, SentDt, Refused, ReleasedLocally, ReleasedByPeer, NothingDone, sent_by}
+use Rattle.safety_automaton.specs.Safety.{Safety, WaitAu2, SafetyOutcome, SentAu1, SentAu2, SentAu3, SentAr, ReceivedAr, AcceptedDt, SentDt, Refused, ReleasedLocally, ReleasedByPeer, NothingDone, octets_sent_in_outcome}
 use Rattle.hdlc_station_model.specs.Frames.{Frame}
 use Rattle.x224_class2.specs.Segments.{Segment, segments_of, messages_in}
-use Rattle.x224_class2.specs.Tpdus.{Given, Cc, Dt}
+use Rattle.x224_class2.specs.Tpdus.{GivenTpdu, Cc, Dt}
 use Rattle.x224_class2.specs.Transport.{Transport, after_hand, waiting_count}
 use Rattle.x224_class2.specs.declared.stage.Stage.TheVariants as stages
 use Rattle.er_end_model.specs.Layers.{Core, model}
-use Rattle.er_end_model.specs.Steps.{InCc, on_safety_report, on_safety_release, is_some_octets}
-use Rattle.er_end_pair_laws.specs.Openings.{Opening, Agree}
+use Rattle.er_end_model.specs.Steps.{InCc, on_safety_report, on_safety_release}
+use Rattle.er_end_pair_laws.specs.Openings.{EndLinkOpening, Agree}
 use Rattle.er_end_pair_laws.proofs.Lists.{Head, number, number_push, Ends, flat_none, flat_one, length_push}
 use Rattle.er_end_pair_laws.proofs.Locals.{dt_of, ak_of, dr_of, dcs}
 use Rattle.er_end_pair_laws.proofs.Constants.{opening_text, said_all}
@@ -26,14 +27,14 @@ use Rattle.er_end_pair_laws.proofs.Hears.{Hears, none_waiting}
 use Rattle.er_end_pair_laws.proofs.Comes.{At, Side, with_transport, spoke, stages_at, edge_at, phase_at, gone_of}
 
 -- one thing said where nothing was said before
-pub first_said : (s : Opening) (c : Bool) (ms sent : List (List ℕ)) (m : List ℕ) → ms ≡ [] → sent ≡ [] → m ≡ opening_text s c → ms ++ m ∷ [] ≡ said_all s c sent
+pub first_said : (s : EndLinkOpening) (c : Bool) (ms sent : List (List ℕ)) (m : List ℕ) → ms ≡ [] → sent ≡ [] → m ≡ opening_text s c → ms ++ m ∷ [] ≡ said_all s c sent
 first_said s c ms sent m e n o =
     ap (λ (t : List (List ℕ)). t ++ m ∷ []) e ∙ ap (λ (t : List ℕ). t ∷ []) o ∙ ap (λ (t : List (List ℕ)). said_all s c t) (sym n)
 
 -- ---- CC: the caller is connected
 
-module _ (below : Below) (s : Opening) (k : ℕ) (w : List Frame) (x : Core) (l : List Frame) (y : Core) (h : List Given) (user : List ℕ) where
-  abbrev pub the_cc : Given
+module _ (below : Below) (s : EndLinkOpening) (k : ℕ) (w : List Frame) (x : Core) (l : List Frame) (y : Core) (h : List GivenTpdu) (user : List ℕ) where
+  abbrev pub the_cc : GivenTpdu
   the_cc = Cc s.settings.credit s.settings.size user
 
   abbrev pub open_side : Transport
@@ -91,9 +92,9 @@ module _ (below : Below) (s : Opening) (k : ℕ) (w : List Frame) (x : Core) (l 
       said ∙ first_said s true (messages_in t.segments) x.upper.sent octets q.0 q.1 (f.8 a).1 in
       live_arrived s true k w z l y b.live (subst (λ (ss : List Segment). Busy s true k w (spoke (with_transport x (record open_side { segments = ss })) user next o) l y) (sym sized) (record {
         beside = b.beside;
-        always = subst (λ (r : List Given). AlwaysOf s true (with_transport x (record open_side { segments = segs })) r) (sym b.heard_is) always;
+        always = subst (λ (r : List GivenTpdu). AlwaysOf s true (with_transport x (record open_side { segments = segs })) r) (sym b.heard_is) always;
         told = λ a. let d = b.told a in record { proper = d.proper; said = inr (out a); good = d.good };
-        alive = subst (λ (r : List Given). AliveOf s true (with_transport x open_side) r) (sym b.heard_is) (open_alive e b);
+        alive = subst (λ (r : List GivenTpdu). AliveOf s true (with_transport x open_side) r) (sym b.heard_is) (open_alive e b);
         trusting = subst (λ (n : Safety). Trusting s true stages.Open n segs t.contents x.upper.sent x.upper.accepted t.taken x.upper.used) (sym f.3) (record {
           joint = refl;
           side_is = refl;
@@ -115,9 +116,9 @@ module _ (below : Below) (s : Opening) (k : ℕ) (w : List Frame) (x : Core) (l 
       let z : Core = spoke (with_transport x open_side) user next o in
       live_arrived s true k w z l y b.live (record {
         beside = b.beside;
-        always = subst (λ (r : List Given). AlwaysOf s true (with_transport x open_side) r) (sym b.heard_is) (open_always e b);
+        always = subst (λ (r : List GivenTpdu). AlwaysOf s true (with_transport x open_side) r) (sym b.heard_is) (open_always e b);
         told = b.told;
-        alive = subst (λ (r : List Given). AliveOf s true (with_transport x open_side) r) (sym b.heard_is) (open_alive e b);
+        alive = subst (λ (r : List GivenTpdu). AliveOf s true (with_transport x open_side) r) (sym b.heard_is) (open_alive e b);
         trusting = subst (λ (n : Safety). Trusting s true stages.Open n t.segments t.contents x.upper.sent x.upper.accepted t.taken x.upper.used) (sym f.3) (record {
           joint = refl;
           side_is = refl;
@@ -129,7 +130,7 @@ module _ (below : Below) (s : Opening) (k : ℕ) (w : List Frame) (x : Core) (l 
 
   pub confirmed_by : (peer rb : ℕ) (kmac : TripleKey) (next : Safety) (o : SafetyOutcome) → Follows s true (WaitAu2 peer kmac rb) user next o → At x stages.Calling
       → x.safe.safety.phase ≡ WaitAu2 peer kmac rb → Hears s true k w x l y h the_cc
-      → Arrived s true k w (on_safety_report model InCc (report_of o) (sent_by o) (spoke (with_transport x open_side) user next o)) l y
+      → Arrived s true k w (on_safety_report model InCc (report_of o) (octets_sent_in_outcome o) (spoke (with_transport x open_side) user next o)) l y
   confirmed_by peer rb kmac next (SentAu1 octets) f e p b = absurd f
   confirmed_by peer rb kmac next (SentAu2 key sealed octets) f e p b = absurd (let q = f.1 in let u : ⊥ = cc in u)
   confirmed_by peer rb kmac next (SentAu3 key verified sealed octets) f e p b =
@@ -152,8 +153,8 @@ module _ (below : Below) (s : Opening) (k : ℕ) (w : List Frame) (x : Core) (l 
 -- ---- a DT
 
 -- what was heard and got, with this segment
-pub always_got : Below → (s : Opening) (c : Bool) (segs : List Segment) (given acked edge newest : ℕ) (contents contents' : List Segment) (gave : List Given)
-    (sent accepted : List (List ℕ)) (h : List Given) (last : Bool) (n : ℕ) (user : List ℕ) → n ≡ length contents → contents' ≡ contents ++ (last, user) ∷ []
+pub always_got : Below → (s : EndLinkOpening) (c : Bool) (segs : List Segment) (given acked edge newest : ℕ) (contents contents' : List Segment) (gave : List GivenTpdu)
+    (sent accepted : List (List ℕ)) (h : List GivenTpdu) (last : Bool) (n : ℕ) (user : List ℕ) → n ≡ length contents → contents' ≡ contents ++ (last, user) ∷ []
     → Head accepted (users (messages_in contents'))
     → Always s c segs given acked edge newest contents gave sent accepted h
     → Always s c segs given acked edge newest contents' gave sent accepted (h ++ Dt last n user ∷ [])

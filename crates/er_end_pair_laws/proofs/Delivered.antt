@@ -10,17 +10,17 @@ use Rattle.hdlc_station_model.specs.Frames.{Frame}
 use Rattle.hdlc_station_model.specs.Stations.{is_up}
 use Rattle.hdlc_station_model.specs.Sending.{waiting}
 use Rattle.hdlc_pair_laws.specs.Flowing.{Shape}
-use Rattle.hdlc_pair_laws.specs.Invariant.{Pair}
+use Rattle.hdlc_pair_laws.specs.Invariant.{IsStationPair}
 use Rattle.x224_class2.specs.Segments.{Segment, messages_in}
-use Rattle.x224_class2.specs.Tpdus.{Given}
-use Rattle.x224_class2.specs.Transport.{Transport, Turn, is_over, turn_among, ack_of, tpdu_at, next_tpdu}
+use Rattle.x224_class2.specs.Tpdus.{GivenTpdu}
+use Rattle.x224_class2.specs.Transport.{Transport, TpduTurn, is_over, turn_among, ack_of, tpdu_at, next_tpdu}
 use Rattle.x224_class2.specs.declared.stage.Stage.{Stage}
 use Rattle.x224_class2.specs.declared.stage.Stage.TheVariants as stages
 use Rattle.er_end_model.specs.Layers.{Core, model}
 use Rattle.er_end_model.specs.Steps.{has_next_tpdu, is_connected}
-use Rattle.er_end_pair_laws.specs.Openings.{Opening, Agree}
-use Rattle.er_end_pair_laws.specs.Links.{Link}
-use Rattle.er_end_pair_laws.specs.Laws.{after, IsEmpty, HasAll, Delivery}
+use Rattle.er_end_pair_laws.specs.Openings.{EndLinkOpening, Agree}
+use Rattle.er_end_pair_laws.specs.Links.{EndLink}
+use Rattle.er_end_pair_laws.specs.Laws.{end_link_after, IsEmpty, HasAll, Delivery}
 use Rattle.er_end_pair_laws.proofs.Lists.{number, number_same, ends_one}
 use Rattle.er_end_pair_laws.proofs.Locals.{dts, aks}
 use Rattle.er_end_pair_laws.proofs.Constants.{said_all}
@@ -38,7 +38,7 @@ use Rattle.er_end_pair_laws.proofs.Drained.{after_flows}
 resting : (t : Transport) → is_over t.stage ≡ false → t.due ≡ None → is_some (next_tpdu t) ≡ false → (nat_lt t.newest (ack_of t) ≡ false) × ((nat_lt t.given (length t.segments) && nat_lt t.given t.edge) ≡ false)
 resting t live none rest =
     both t (nat_lt t.newest (ack_of t)) (nat_lt t.given (length t.segments) && nat_lt t.given t.edge)
-    (sym (ap (λ (u : Turn). is_some (tpdu_at t u)) (turn_is t live ∙ ap (λ (o : Option (List ℕ)). turn_among o (nat_lt t.newest (ack_of t)) (nat_lt t.given (length t.segments) && nat_lt t.given t.edge)) none)) ∙ rest)
+    (sym (ap (λ (u : TpduTurn). is_some (tpdu_at t u)) (turn_is t live ∙ ap (λ (o : Option (List ℕ)). turn_among o (nat_lt t.newest (ack_of t)) (nat_lt t.given (length t.segments) && nat_lt t.given t.edge)) none)) ∙ rest)
   where
     both : (t : Transport) (owed granted : Bool) → is_some (tpdu_at t (turn_among None owed granted)) ≡ false → (owed ≡ false) × (granted ≡ false)
     both t true granted h = absurd cc
@@ -59,10 +59,10 @@ all_heard x y spelled taken =
 -- ---- two live ends that are open, at rest, and heard all
 
 -- each DT of x was received by y
-got_is : (gave : List Given) (segs got : List Segment) (given : ℕ) → dts gave ≡ number 0 (take given segs) → dts gave ≡ number 0 got → got ≡ take given segs
+got_is : (gave : List GivenTpdu) (segs got : List Segment) (given : ℕ) → dts gave ≡ number 0 (take given segs) → dts gave ≡ number 0 got → got ≡ take given segs
 got_is gave segs got given a b = number_same 0 got (take given segs) (sym b ∙ a)
 
-pub record QuietPair (s : Opening) (c : Bool) (x y : Core) : Type 0 where
+pub record QuietPair (s : EndLinkOpening) (c : Bool) (x y : Core) : Type 0 where
   pub own_x : Own s c x y.upper.transport.gave
   pub own_y : Own s (not c) y x.upper.transport.gave
   pub live_x : x.released ≡ None
@@ -80,7 +80,7 @@ rest_of x opened none free rest =
     resting x.upper.transport (ap is_over opened) none (sym (ap (λ (b : Bool). b && is_some (next_tpdu x.upper.transport)) free) ∙ rest)
 
 -- all segments of x were given and came to y
-pub all_given : Below → (s : Opening) (c : Bool) (x y : Core) → QuietPair s c x y → y.upper.transport.contents ≡ x.upper.transport.segments
+pub all_given : Below → (s : EndLinkOpening) (c : Bool) (x y : Core) → QuietPair s c x y → y.upper.transport.contents ≡ x.upper.transport.segments
 all_given below s c x y r =
     let t : Transport = x.upper.transport in
     let u : Transport = y.upper.transport in
@@ -109,25 +109,25 @@ all_given below s c x y r =
     first false b e h = refl
 
 -- so each accepted what the other sent
-pub all_accepted : Below → (s : Opening) (c : Bool) (x y : Core) → QuietPair s c x y → y.upper.accepted ≡ x.upper.sent
+pub all_accepted : Below → (s : EndLinkOpening) (c : Bool) (x y : Core) → QuietPair s c x y → y.upper.accepted ≡ x.upper.sent
 all_accepted below s c x y r =
     sym (r.own_y.lives r.live_y).trusting.users_is ∙ ap (λ (ss : List Segment). users (messages_in ss)) (all_given below s c x y r) ∙ r.own_x.always.out
 
 -- ---- a link whose lines are empty
 
 -- a caller whose station is up gave a TPDU
-caller_gave : (stage : Stage) (due : Option (List ℕ)) (h gave : List Given) (phase : Link_phase) → phase ≡ Up → due ≡ None → Stages true stage due h gave phase → 1 ≤ length gave
+caller_gave : (stage : Stage) (due : Option (List ℕ)) (h gave : List GivenTpdu) (phase : Link_phase) → phase ≡ Up → due ≡ None → Stages true stage due h gave phase → 1 ≤ length gave
 caller_gave stages.New due h gave phase up none a = absurd (true≢false (sym (ap is_up up) ∙ a.3))
 caller_gave stages.Calling due h gave phase up none a = a.1 none
 caller_gave stages.Called due h gave phase up none a = absurd a
 caller_gave stages.Open due h gave phase up none a = a.1 none
 caller_gave stages.Over due h gave phase up none a = absurd a
 
-some_heard : (h : List Given) → h ≡ [] → 1 ≤ length h → ⊥
+some_heard : (h : List GivenTpdu) → h ≡ [] → 1 ≤ length h → ⊥
 some_heard h e some = let n : length h ≡ 0 = ap length e in omega arith
 
 -- a side that heard a TPDU is open, and gave one
-is_open : (c : Bool) (stage : Stage) (due : Option (List ℕ)) (h gave : List Given) (phase : Link_phase) → 1 ≤ length h → due ≡ None → Stages c stage due h gave phase
+is_open : (c : Bool) (stage : Stage) (due : Option (List ℕ)) (h gave : List GivenTpdu) (phase : Link_phase) → 1 ≤ length h → due ≡ None → Stages c stage due h gave phase
     → (stage ≡ stages.Open) × (1 ≤ length gave)
 is_open true stages.New due h gave phase some none a = absurd (some_heard h a.1 some)
 is_open false stages.New due h gave phase some none a = absurd (some_heard h a.1 some)
@@ -138,12 +138,12 @@ is_open c stages.Open due h gave phase some none a = (refl, a.1 none)
 is_open c stages.Over due h gave phase some none a = absurd a
 
 -- both ends: open and at rest, each heard all that the other gave
-pub record Quiet (s : Opening) (l : Link) : Type 0 where
+pub record Quiet (s : EndLinkOpening) (l : EndLink) : Type 0 where
   pub to_r : QuietPair s true l.e.core l.r.core
   pub to_e : QuietPair s false l.r.core l.e.core
 
 -- of the stations: the calling one is up, and each took what the other was handed, the calling one where it was handed a payload itself
-pub quiet_at : (s : Opening) (l : Link) (h : Holds s l) → l.e.core.released ≡ None → l.r.core.released ≡ None → IsEmpty l → l.e.core.line.phase ≡ Up
+pub quiet_at : (s : EndLinkOpening) (l : EndLink) (h : Holds s l) → l.e.core.released ≡ None → l.r.core.released ≡ None → IsEmpty l → l.e.core.line.phase ≡ Up
     → l.r.core.line.taken ≡ l.e.core.line.handed → (1 ≤ length l.e.core.line.handed → l.e.core.line.taken ≡ l.r.core.line.handed) → Quiet s l
 quiet_at s l h live_e live_r empty up took_r took =
     let e : Core = l.e.core in
@@ -152,8 +152,8 @@ quiet_at s l h live_e live_r empty up took_r took =
     let tr : Transport = r.upper.transport in
     let ne : h.fe ≡ [] = none_on_line e.line h.fe (sym empty.0 ∙ h.lined_e) in
     let nr : h.fr ≡ [] = none_on_line r.line h.fr (sym empty.1 ∙ h.lined_r) in
-    let p : Pair false h.k [] e.line [] r.line =
-    subst (λ (t : List Frame). Pair false h.k t e.line [] r.line) ne (subst (λ (t : List Frame). Pair false h.k h.fe e.line t r.line) nr h.two.lines) in
+    let p : IsStationPair false h.k [] e.line [] r.line =
+    subst (λ (t : List Frame). IsStationPair false h.k t e.line [] r.line) ne (subst (λ (t : List Frame). IsStationPair false h.k h.fe e.line t r.line) nr h.two.lines) in
     let ve = h.two.own_e.lives live_e in
     let vr = h.two.own_r.lives live_r in
     let gave_e : 1 ≤ length te.gave = caller_gave te.stage te.due (heard e r) te.gave e.line.phase up ve.rested.0 ve.alive.stages in
@@ -161,8 +161,8 @@ quiet_at s l h live_e live_r empty up took_r took =
     let took_e : e.line.taken ≡ r.line.handed = took (omega arith) in
     let all_r : heard r e ≡ te.gave = all_heard r e h.two.spelled_e took_r in
     let all_e : heard e r ≡ tr.gave = all_heard e r h.two.spelled_r took_e in
-    let own_e : Own s true e tr.gave = subst (λ (t : List Given). Own s true e t) all_e h.two.own_e in
-    let own_r : Own s false r te.gave = subst (λ (t : List Given). Own s false r t) all_r h.two.own_r in
+    let own_e : Own s true e tr.gave = subst (λ (t : List GivenTpdu). Own s true e t) all_e h.two.own_e in
+    let own_r : Own s false r te.gave = subst (λ (t : List GivenTpdu). Own s false r t) all_r h.two.own_r in
     let open_r = is_open false tr.stage tr.due te.gave tr.gave r.line.phase gave_e vr.rested.0 (own_r.lives live_r).alive.stages in
     let open_e = is_open true te.stage te.due tr.gave te.gave e.line.phase open_r.1 ve.rested.0 (own_e.lives live_e).alive.stages in
     let free_e = none_waits r.line.taken e.line.handed e.line.sent took_r p.0.0.chain in
@@ -192,15 +192,15 @@ quiet_at s l h live_e live_r empty up took_r took =
       };
     }
 
-pub quiet : Free → (s : Opening) (l : Link) → Flows s l → IsEmpty l → Quiet s l
+pub quiet : Free → (s : EndLinkOpening) (l : EndLink) → Flows s l → IsEmpty l → Quiet s l
 quiet free s l g empty =
     let h = g.holds in
     let e : Core = l.e.core in
     let r : Core = l.r.core in
     let ne : h.fe ≡ [] = none_on_line e.line h.fe (sym empty.0 ∙ h.lined_e) in
     let nr : h.fr ≡ [] = none_on_line r.line h.fr (sym empty.1 ∙ h.lined_r) in
-    let p : Pair false h.k [] e.line [] r.line =
-    subst (λ (t : List Frame). Pair false h.k t e.line [] r.line) ne (subst (λ (t : List Frame). Pair false h.k h.fe e.line t r.line) nr h.two.lines) in
+    let p : IsStationPair false h.k [] e.line [] r.line =
+    subst (λ (t : List Frame). IsStationPair false h.k t e.line [] r.line) ne (subst (λ (t : List Frame). IsStationPair false h.k h.fe e.line t r.line) nr h.two.lines) in
     let q : Shape l.passes [] e.line [] r.line =
     subst (λ (t : List Frame). Shape l.passes t e.line [] r.line) ne (subst (λ (t : List Frame). Shape l.passes h.fe e.line t r.line) nr g.shape) in
     let b = free.bounds.emptied false h.k l.passes e.line r.line p q in
@@ -209,7 +209,7 @@ quiet free s l g empty =
 -- ---- both are connected
 
 -- an initiator that is open said something
-e_said : (s : Opening) (p : Phase) (out sent came accepted : List (List ℕ)) → Joint s true stages.Open p → PhaseIs s true p out sent came accepted → out ≡ [] → ⊥
+e_said : (s : EndLinkOpening) (p : Phase) (out sent came accepted : List (List ℕ)) → Joint s true stages.Open p → PhaseIs s true p out sent came accepted → out ≡ [] → ⊥
 e_said s (Ready peer kmac rb) out sent came accepted j h none = j
 e_said s (WaitAu1 ra) out sent came accepted j h none = j
 e_said s (WaitAu2 peer kmac rb) out sent came accepted j h none = j
@@ -219,7 +219,7 @@ e_said s (Connected peer key) out sent came accepted j h none = let e : said_all
 e_said s (Released release known) out sent came accepted j h none = j
 
 -- a responder to which something came is connected, and said something
-r_connected : (s : Opening) (p : Phase) (out sent came accepted : List (List ℕ)) → Joint s false stages.Open p → PhaseIs s false p out sent came accepted → (came ≡ [] → ⊥)
+r_connected : (s : EndLinkOpening) (p : Phase) (out sent came accepted : List (List ℕ)) → Joint s false stages.Open p → PhaseIs s false p out sent came accepted → (came ≡ [] → ⊥)
     → (is_connected p ≡ true) × (out ≡ [] → ⊥)
 r_connected s (Ready peer kmac rb) out sent came accepted j h some = absurd j
 r_connected s (WaitAu1 ra) out sent came accepted j h some = absurd j
@@ -230,7 +230,7 @@ r_connected s (Connected peer key) out sent came accepted j h some = (refl, λ n
 r_connected s (Released release known) out sent came accepted j h some = absurd j
 
 -- an initiator to which something came is connected
-e_connected : (s : Opening) (p : Phase) (out sent came accepted : List (List ℕ)) → Joint s true stages.Open p → PhaseIs s true p out sent came accepted → (came ≡ [] → ⊥) → is_connected p ≡ true
+e_connected : (s : EndLinkOpening) (p : Phase) (out sent came accepted : List (List ℕ)) → Joint s true stages.Open p → PhaseIs s true p out sent came accepted → (came ≡ [] → ⊥) → is_connected p ≡ true
 e_connected s (Ready peer kmac rb) out sent came accepted j h some = absurd j
 e_connected s (WaitAu1 ra) out sent came accepted j h some = absurd j
 e_connected s (WaitAu2 peer kmac rb) out sent came accepted j h some = absurd j
@@ -239,7 +239,7 @@ e_connected s (WaitAr connection) out sent came accepted j h some = absurd (some
 e_connected s (Connected peer key) out sent came accepted j h some = refl
 e_connected s (Released release known) out sent came accepted j h some = absurd j
 
-pub has_all : Below → (s : Opening) → Agree s → (l : Link) → l.e.core.released ≡ None → l.r.core.released ≡ None → Quiet s l → HasAll l
+pub has_all : Below → (s : EndLinkOpening) → Agree s → (l : EndLink) → l.e.core.released ≡ None → l.r.core.released ≡ None → Quiet s l → HasAll l
 has_all below s agree l live_e live_r q =
     let e : Core = l.e.core in
     let r : Core = l.r.core in
@@ -264,6 +264,6 @@ has_all below s agree l live_e live_r q =
 
 pub delivery : Free → Delivery
 delivery free s steps fits agree clean empty =
-    let l : Link = after s steps in
+    let l : EndLink = end_link_after s steps in
     let g = after_flows free s steps fits agree clean in
     has_all free.below s agree l g.live_e g.live_r (quiet free s l g empty)

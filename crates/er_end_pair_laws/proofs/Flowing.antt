@@ -9,16 +9,16 @@ use Rattle.hdlc_station_model.specs.Frames.{Frame}
 use Rattle.hdlc_station_model.specs.Stations.{settled}
 use Rattle.hdlc_station_model.specs.Events.{is_late}
 use Rattle.hdlc_pair_laws.specs.Flowing.{Shape, Midway}
-use Rattle.hdlc_pair_laws.specs.Keeping.{found, octets_from}
+use Rattle.hdlc_pair_laws.specs.Keeping.{found, frame_octets_of_station}
 use Rattle.x224_class2.specs.Transport.{waiting_count}
 use Rattle.er_end_model.specs.Outcomes.{SendRefusal}
 use Rattle.er_end_model.specs.Layers.{Core, model}
 use Rattle.er_end_model.specs.Steps.{new_event_at, refusal_at, is_connected, is_spent, step_send_unless, on_send, step_take, step_tick}
 use Rattle.er_end_model.specs.Ends.{End, finds_expired}
 use Rattle.er_end_model.specs.Ends as event
-use Rattle.er_end_pair_laws.specs.Openings.{Opening, Agree}
-use Rattle.er_end_pair_laws.specs.Links.{Link, end_of, line_of, frames_said, frames_unless, give, opened}
-use Rattle.er_end_pair_laws.specs.Steps.{pass, expires_at, tick}
+use Rattle.er_end_pair_laws.specs.Openings.{EndLinkOpening, Agree}
+use Rattle.er_end_pair_laws.specs.Links.{EndLink, end_of, frames_from_end, frames_said, frames_unless, give, opened_end_link}
+use Rattle.er_end_pair_laws.specs.Steps.{pass, is_end_expired_at, tick}
 use Rattle.er_end_pair_laws.proofs.Own.{Done}
 use Rattle.er_end_pair_laws.proofs.Happens.{received_keeps, ticked_keeps, used_keeps, sent_keeps, e_begins, r_begins}
 use Rattle.er_end_pair_laws.proofs.Worlds.{Holds, e_event, r_event, e_did, r_did, other_parts, first_of_line, r_behind, e_behind, e_passes, r_passes, r_waits, e_waits}
@@ -26,7 +26,7 @@ use Rattle.er_end_pair_laws.proofs.Ordered.{made_ends, made_holds, opened_holds}
 use Rattle.er_end_pair_laws.proofs.Stations.{Free, Went}
 use Rattle.er_end_pair_laws.proofs.Clean.{received_went, received_sent, ticked_went, sent_went, used_went, started_went}
 
-pub record Flows (s : Opening) (l : Link) : Type 0 where
+pub record Flows (s : EndLinkOpening) (l : EndLink) : Type 0 where
   pub holds : Holds s l
   pub live_e : l.e.core.released ≡ None
   pub live_r : l.r.core.released ≡ None
@@ -34,32 +34,32 @@ pub record Flows (s : Opening) (l : Link) : Type 0 where
 
 -- ---- an event at an end leads to this core
 
-e_flows : (free : Free) (s : Opening) (l : Link) (g : Flows s l) (x : Core) → Done s true g.holds.k g.holds.fe x g.holds.fr l.r.core → Went true l.passes g.holds.fe x g.holds.fr l.r.core.line
+e_flows : (free : Free) (s : EndLinkOpening) (l : EndLink) (g : Flows s l) (x : Core) → Done s true g.holds.k g.holds.fe x g.holds.fr l.r.core → Went true l.passes g.holds.fe x g.holds.fr l.r.core.line
     → Flows s (record l { e = record (l.e) { core = x }; from_e = l.from_e ++ frames_said x })
 unfolding e_event e_did
 e_flows free s l g x d went = record { holds = e_event free.below s l g.holds x d; live_e = went.live; live_r = g.live_r; shape = went.ended }
 
-r_flows : (free : Free) (s : Opening) (l : Link) (g : Flows s l) (x : Core) → Done s false g.holds.k g.holds.fr x g.holds.fe l.e.core → Went false l.passes g.holds.fr x g.holds.fe l.e.core.line
+r_flows : (free : Free) (s : EndLinkOpening) (l : EndLink) (g : Flows s l) (x : Core) → Done s false g.holds.k g.holds.fr x g.holds.fe l.e.core → Went false l.passes g.holds.fr x g.holds.fe l.e.core.line
     → Flows s (record l { r = record (l.r) { core = x }; from_r = l.from_r ++ frames_said x })
 unfolding r_event r_did
 r_flows free s l g x d went = record { holds = r_event free.below s l g.holds x d; live_e = g.live_e; live_r = went.live; shape = went.ended }
 
 -- an event begins at e, at r
-e_midway : (free : Free) (s : Opening) (l : Link) (g : Flows s l) → Midway true l.passes g.holds.fe (settled l.e.core.line) g.holds.fr l.r.core.line
+e_midway : (free : Free) (s : EndLinkOpening) (l : EndLink) (g : Flows s l) → Midway true l.passes g.holds.fe (settled l.e.core.line) g.holds.fr l.r.core.line
 e_midway free s l g = free.keep.calling_begins false g.holds.k l.passes g.holds.fe l.e.core.line g.holds.fr l.r.core.line g.holds.two.lines g.shape
 
-r_midway : (free : Free) (s : Opening) (l : Link) (g : Flows s l) → Midway false l.passes g.holds.fr (settled l.r.core.line) g.holds.fe l.e.core.line
+r_midway : (free : Free) (s : EndLinkOpening) (l : EndLink) (g : Flows s l) → Midway false l.passes g.holds.fr (settled l.r.core.line) g.holds.fe l.e.core.line
 r_midway free s l g = free.keep.called_begins false g.holds.k l.passes g.holds.fe l.e.core.line g.holds.fr l.r.core.line g.holds.two.lines g.shape
 
 -- the flags and the moment aren't read
-other_flows : (s : Opening) (l : Link) (moment : ℕ) (order_kept loss_free : Bool) → Flows s l → Flows s (record l { moment = moment; order_kept = order_kept; loss_free = loss_free })
+other_flows : (s : EndLinkOpening) (l : EndLink) (moment : ℕ) (order_kept loss_free : Bool) → Flows s l → Flows s (record l { moment = moment; order_kept = order_kept; loss_free = loss_free })
 unfolding other_parts
 other_flows s l moment order_kept loss_free g =
     record { holds = other_parts s l moment l.passes order_kept loss_free g.holds; live_e = g.live_e; live_r = g.live_r; shape = g.shape }
 
 -- ---- the users
 
-e_sends : Free → (s : Opening) (l : Link) (user : List ℕ) (o : Option SendRefusal) → AreOctets user → refusal_at l.e.core.released (is_connected l.e.core.safe.safety.phase) user (waiting_count l.e.core.upper.transport) ≡ o
+e_sends : Free → (s : EndLinkOpening) (l : EndLink) (user : List ℕ) (o : Option SendRefusal) → AreOctets user → refusal_at l.e.core.released (is_connected l.e.core.safe.safety.phase) user (waiting_count l.e.core.upper.transport) ≡ o
     → Flows s l → Flows s (record l { e = record (l.e) { core = step_send_unless model o l.moment user l.e.core }; from_e = l.from_e ++ frames_unless o (step_send_unless model o l.moment user l.e.core) })
 e_sends free s l user (Some refusal) are e g = subst (λ (line : List (List ℕ)). Flows s (record l { from_e = line })) (sym (append-nil l.from_e)) g
 e_sends free s l user None are e g =
@@ -68,7 +68,7 @@ e_sends free s l user None are e g =
     e_flows free s l g (on_send model user x) (sent_keeps free.below s true h.k h.fe x h.fr l.r.core user are e (e_begins s h.k h.fe l.e.core h.fr l.r.core l.moment h.two))
     (sent_went free true l.passes h.fe x h.fr l.r.core.line user g.live_e (e_midway free s l g))
 
-r_sends : Free → (s : Opening) (l : Link) (user : List ℕ) (o : Option SendRefusal) → AreOctets user → refusal_at l.r.core.released (is_connected l.r.core.safe.safety.phase) user (waiting_count l.r.core.upper.transport) ≡ o
+r_sends : Free → (s : EndLinkOpening) (l : EndLink) (user : List ℕ) (o : Option SendRefusal) → AreOctets user → refusal_at l.r.core.released (is_connected l.r.core.safe.safety.phase) user (waiting_count l.r.core.upper.transport) ≡ o
     → Flows s l → Flows s (record l { r = record (l.r) { core = step_send_unless model o l.moment user l.r.core }; from_r = l.from_r ++ frames_unless o (step_send_unless model o l.moment user l.r.core) })
 r_sends free s l user (Some refusal) are e g = subst (λ (line : List (List ℕ)). Flows s (record l { from_r = line })) (sym (append-nil l.from_r)) g
 r_sends free s l user None are e g =
@@ -77,13 +77,13 @@ r_sends free s l user None are e g =
     r_flows free s l g (on_send model user x) (sent_keeps free.below s false h.k h.fr x h.fe l.e.core user are e (r_begins free.below s h.k h.fe l.e.core h.fr l.r.core l.moment h.two))
     (sent_went free false l.passes h.fr x h.fe l.e.core.line user g.live_r (r_midway free s l g))
 
-pub send_flows : Free → (s : Opening) (side : Side) (l : Link) (user : List ℕ) → AreOctets user → Flows s l → Flows s (give side (event.Send user) l)
+pub send_flows : Free → (s : EndLinkOpening) (side : Side) (l : EndLink) (user : List ℕ) → AreOctets user → Flows s l → Flows s (give side (event.Send user) l)
 send_flows free s E l user are g =
     e_sends free s l user (refusal_at l.e.core.released (is_connected l.e.core.safe.safety.phase) user (waiting_count l.e.core.upper.transport)) are refl g
 send_flows free s R l user are g =
     r_sends free s l user (refusal_at l.r.core.released (is_connected l.r.core.safe.safety.phase) user (waiting_count l.r.core.upper.transport)) are refl g
 
-pub take_flows : Free → (s : Opening) (side : Side) (l : Link) → Flows s l → Flows s (give side event.Take l)
+pub take_flows : Free → (s : EndLinkOpening) (side : Side) (l : EndLink) → Flows s l → Flows s (give side event.Take l)
 take_flows free s E l g =
     let h = g.holds in
     let x : Core = new_event_at model l.moment l.e.core in
@@ -106,7 +106,7 @@ unexpired x live e =
     either false true h = absurd cc
     either false false h = (refl, refl)
 
-tick_flows : Free → (s : Opening) (side : Side) (l : Link) → expires_at l.moment (end_of l side) ≡ false → Flows s l → Flows s (give side event.Tick l)
+tick_flows : Free → (s : EndLinkOpening) (side : Side) (l : EndLink) → is_end_expired_at l.moment (end_of l side) ≡ false → Flows s l → Flows s (give side event.Tick l)
 tick_flows free s E l e g =
     let h = g.holds in
     let x : Core = new_event_at model l.moment l.e.core in
@@ -129,13 +129,13 @@ both_false false b c h = absurd cc
 -- ---- a frame is passed
 
 -- behind a pass: one delivery more, and what the users sent stays
-pub record Passed (s : Opening) (l l' : Link) : Type 0 where
+pub record Passed (s : EndLinkOpening) (l l' : EndLink) : Type 0 where
   pub flows : Flows s l'
   pub count : l'.passes ≡ l.passes + 1
   pub sent_e : l'.e.core.upper.sent ≡ l.e.core.upper.sent
   pub sent_r : l'.r.core.upper.sent ≡ l.r.core.upper.sent
 
-pub e_pass : Free → (s : Opening) → Agree s → (l : Link) (octets : List ℕ) (rest : List (List ℕ)) → l.from_e ≡ octets ∷ rest → Flows s l → Passed s l (pass s.finder E (octets ∷ rest) l)
+pub e_pass : Free → (s : EndLinkOpening) → Agree s → (l : EndLink) (octets : List ℕ) (rest : List (List ℕ)) → l.from_e ≡ octets ∷ rest → Flows s l → Passed s l (pass s.finder E (octets ∷ rest) l)
 unfolding r_did other_parts
 e_pass free s agree l octets rest e g =
     let h = g.holds in
@@ -143,7 +143,7 @@ e_pass free s agree l octets rest e g =
     let x : Core = new_event_at model l.moment (new_event_at model l.moment l.r.core) in
     let z : Core = r_behind s l f.frame in
     let d = r_waits free.below s l h octets rest f in
-    let stream : List ℕ = l.r.stream ++ octets_from l.e.core.line f.frame in
+    let stream : List ℕ = l.r.stream ++ frame_octets_of_station l.e.core.line f.frame in
     let m : Midway false l.passes h.fr x.line (f.frame ∷ f.frames) l.e.core.line =
     subst (λ (t : List Frame). Midway false l.passes h.fr x.line t l.e.core.line) f.all (r_midway free s l g) in
     let went = received_went free s false h.k l.passes h.fr x f.frame f.frames l.e.core refl g.live_r agree g.live_e d m in
@@ -161,7 +161,7 @@ e_pass free s agree l octets rest e g =
       sent_r = received_sent s (found l.e.core.line f.frame) x;
     })
 
-pub r_pass : Free → (s : Opening) → Agree s → (l : Link) (octets : List ℕ) (rest : List (List ℕ)) → l.from_r ≡ octets ∷ rest → Flows s l → Passed s l (pass s.finder R (octets ∷ rest) l)
+pub r_pass : Free → (s : EndLinkOpening) → Agree s → (l : EndLink) (octets : List ℕ) (rest : List (List ℕ)) → l.from_r ≡ octets ∷ rest → Flows s l → Passed s l (pass s.finder R (octets ∷ rest) l)
 unfolding e_did other_parts
 r_pass free s agree l octets rest e g =
     let h = g.holds in
@@ -169,7 +169,7 @@ r_pass free s agree l octets rest e g =
     let x : Core = new_event_at model l.moment (new_event_at model l.moment l.e.core) in
     let z : Core = e_behind s l f.frame in
     let d = e_waits free.below s l h octets rest f in
-    let stream : List ℕ = l.e.stream ++ octets_from l.r.core.line f.frame in
+    let stream : List ℕ = l.e.stream ++ frame_octets_of_station l.r.core.line f.frame in
     let m : Midway true l.passes h.fe x.line (f.frame ∷ f.frames) l.r.core.line =
     subst (λ (t : List Frame). Midway true l.passes h.fe x.line t l.r.core.line) f.all (e_midway free s l g) in
     let went = received_went free s true h.k l.passes h.fe x f.frame f.frames l.r.core refl g.live_e agree g.live_r d m in
@@ -187,35 +187,35 @@ r_pass free s agree l octets rest e g =
       sent_r = refl;
     })
 
-e_line : Free → (s : Opening) → Agree s → (l : Link) (line : List (List ℕ)) → l.from_e ≡ line → Flows s l → Flows s (pass s.finder E line l)
+e_line : Free → (s : EndLinkOpening) → Agree s → (l : EndLink) (line : List (List ℕ)) → l.from_e ≡ line → Flows s l → Flows s (pass s.finder E line l)
 e_line free s agree l [] e g = g
 e_line free s agree l (octets ∷ rest) e g = (e_pass free s agree l octets rest e g).flows
 
-r_line : Free → (s : Opening) → Agree s → (l : Link) (line : List (List ℕ)) → l.from_r ≡ line → Flows s l → Flows s (pass s.finder R line l)
+r_line : Free → (s : EndLinkOpening) → Agree s → (l : EndLink) (line : List (List ℕ)) → l.from_r ≡ line → Flows s l → Flows s (pass s.finder R line l)
 r_line free s agree l [] e g = g
 r_line free s agree l (octets ∷ rest) e g = (r_pass free s agree l octets rest e g).flows
 
-pub pass_flows : Free → (s : Opening) → Agree s → (side : Side) (l : Link) → Flows s l → Flows s (pass s.finder side (line_of l side) l)
+pub pass_flows : Free → (s : EndLinkOpening) → Agree s → (side : Side) (l : EndLink) → Flows s l → Flows s (pass s.finder side (frames_from_end l side) l)
 pass_flows free s agree E l g = e_line free s agree l l.from_e refl g
 pass_flows free s agree R l g = r_line free s agree l l.from_r refl g
 
 -- ---- a tick
 
-pub link_tick_flows : Free → (s : Opening) (l : Link) (now : ℕ) → (tick now l).loss_free ≡ true → (l.loss_free ≡ true → Flows s l) → Flows s (tick now l)
+pub link_tick_flows : Free → (s : EndLinkOpening) (l : EndLink) (now : ℕ) → (tick now l).loss_free ≡ true → (l.loss_free ≡ true → Flows s l) → Flows s (tick now l)
 link_tick_flows free s l now e h =
     let to : ℕ = max l.moment now in
-    let f = both_false l.loss_free (expires_at to l.e) (expires_at to l.r) e in
-    let flag : Bool = l.loss_free && not (expires_at to l.e || expires_at to l.r) in
-    let first : Link = record l { moment = to; loss_free = flag } in
+    let f = both_false l.loss_free (is_end_expired_at to l.e) (is_end_expired_at to l.r) e in
+    let flag : Bool = l.loss_free && not (is_end_expired_at to l.e || is_end_expired_at to l.r) in
+    let first : EndLink = record l { moment = to; loss_free = flag } in
     let g : Flows s first = other_flows s l to l.order_kept flag (h f.0) in
     tick_flows free s R (give E event.Tick first) f.2 (tick_flows free s E first f.1 g)
 
 -- ---- a link that was just opened
 
-pub opened_flows : (free : Free) (s : Opening) → Flows s (opened s)
+pub opened_flows : (free : Free) (s : EndLinkOpening) → Flows s (opened_end_link s)
 unfolding opened_holds made_holds e_event e_did
 opened_flows free s =
-    let l : Link = made_ends s in
+    let l : EndLink = made_ends s in
     let x : Core = new_event_at model l.moment l.e.core in
     let b = free.below.bounded s.settings s.allowed in
     let m = free.keep.started (s.settings.modulo == 128) s.settings.window s.settings.n2 s.settings.t1 x.moment b.window.0 in

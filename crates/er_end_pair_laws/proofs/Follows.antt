@@ -4,11 +4,11 @@ use Rattle.er_base.specs.declared.release.Release.{Release}
 use Rattle.des_block.specs.declared.triple_key.TripleKey.{TripleKey}
 use Rattle.cbc_mac.specs.Mac.{mac_of}
 use Rattle.cbc_mac.specs.Laws.{MacBelow}
-use Rattle.sapdu.specs.Spelling.{Pdu, Au1, Au2, Au3, Ar, Dt, spelling, read_of, IsReadBack}
-use Rattle.safety_automaton.specs.Safety.{Safety, Connection, Phase, Ready, WaitAu1, WaitAu2, WaitAu3, WaitAr, Connected, Released, Received, SafetyOutcome, SentAu1, SentAu2, SentAu3, SentAr, ReceivedAr, AcceptedDt, SentDt, Refused, ReleasedLocally, ReleasedByPeer, NothingDone, peer_flag, au2_text, au3_text, ar_text, message_text, sent_by, step}
+use Rattle.sapdu.specs.Spelling.{SafetyPdu, Au1, Au2, Au3, Ar, Dt, spelling, read_of, IsReadBack}
+use Rattle.safety_automaton.specs.Safety.{Safety, Connection, Phase, Ready, WaitAu1, WaitAu2, WaitAu3, WaitAr, Connected, Released, Received, SafetyOutcome, SentAu1, SentAu2, SentAu3, SentAr, ReceivedAr, AcceptedDt, SentDt, Refused, ReleasedLocally, ReleasedByPeer, NothingDone, peer_flag, au2_text, au3_text, ar_text, message_text, octets_sent_in_outcome, step}
 use Rattle.safety_automaton.specs.Rules.{IsOpen, IsReceived, IsStep, StaysIdle, AtReceived, AtDisconnect, AtConnect, StepsOnly, StepsEach}
 use Rattle.safety_automaton.specs.Laws.{SendsFew}
-use Rattle.er_end_pair_laws.specs.Openings.{Opening, Agree}
+use Rattle.er_end_pair_laws.specs.Openings.{EndLinkOpening, Agree}
 use Rattle.er_end_pair_laws.proofs.Constants.{side_in, own_number, flag_at, session, connection_at, greeting, opening_text, sealed_text, users_of, users_of_reading, Sendable}
 
 -- the laws of the safety layer that this rests on
@@ -31,10 +31,10 @@ pub reads_dt : SafetyLaws → (user : List ℕ) (key : TripleKey) (text : List �
     → read_of (spelling (Dt user (mac_of key text)) flag) ≡ Ok (Dt user (mac_of key text), flag)
 reads_dt laws user key text flag h = laws.back (Dt user (mac_of key text)) flag (record { user = h.0; octets = (h.1, laws.below key text) })
 
-pub reads_au1 : SafetyLaws → (s : Opening) → read_of (greeting s true) ≡ Ok (Au1 s.engine 1 s.rb, false)
+pub reads_au1 : SafetyLaws → (s : EndLinkOpening) → read_of (greeting s true) ≡ Ok (Au1 s.engine 1 s.rb, false)
 reads_au1 laws s = laws.back (Au1 s.engine 1 s.rb) false (record { user = tt; octets = (s.engine_fits, omega arith, s.rb_fits) })
 
-pub reads_au2 : SafetyLaws → (s : Opening) → read_of (greeting s false) ≡ Ok (Au2 s.rbc 1 s.ra (mac_of (session s) (au2_text true s.engine s.rbc 1 s.ra s.rb)), true)
+pub reads_au2 : SafetyLaws → (s : EndLinkOpening) → read_of (greeting s false) ≡ Ok (Au2 s.rbc 1 s.ra (mac_of (session s) (au2_text true s.engine s.rbc 1 s.ra s.rb)), true)
 reads_au2 laws s =
     laws.back (Au2 s.rbc 1 s.ra (mac_of (session s) (au2_text true s.engine s.rbc 1 s.ra s.rb))) true
     (record { user = tt; octets = (s.rbc_fits, omega arith, s.ra_fits, laws.below (session s) (au2_text true s.engine s.rbc 1 s.ra s.rb)) })
@@ -42,7 +42,7 @@ reads_au2 laws s =
 -- ---- what is exact where the keys agree
 
 -- the text that a phase waits for, the phase being one of a side whose keys agree
-abbrev pub Awaits : Opening → Bool → Phase → List ℕ → Type 0
+abbrev pub Awaits : EndLinkOpening → Bool → Phase → List ℕ → Type 0
 Awaits s c (Ready peer kmac rb) text = ⊥
 Awaits s c (WaitAu1 ra) text = (c ≡ false) × (ra ≡ s.ra) × (text ≡ greeting s true)
 Awaits s c (WaitAu2 peer kmac rb) text = (c ≡ true) × (peer ≡ s.rbc) × (kmac ≡ s.kmac) × (rb ≡ s.rb) × (text ≡ greeting s false)
@@ -52,7 +52,7 @@ Awaits s c (Connected peer key) text = (peer ≡ own_number s (not c)) × (key �
 Awaits s c (Released release known) text = ⊥
 
 -- what comes of it
-abbrev pub Exact : Opening → Bool → Phase → List ℕ → Safety → SafetyOutcome → Type 0
+abbrev pub Exact : EndLinkOpening → Bool → Phase → List ℕ → Safety → SafetyOutcome → Type 0
 Exact s c (Ready peer kmac rb) text next outcome = ⊥
 Exact s c (WaitAu1 ra) text next outcome =
     (sealed : List ℕ) × (next ≡ side_in s c (WaitAu3 (connection_at s c))) × (outcome ≡ SentAu2 (session s) sealed (greeting s false))
@@ -66,13 +66,13 @@ Exact s c (Connected peer key) text next outcome =
     (user : List ℕ) × (verified : List ℕ) × (next ≡ side_in s c (Connected peer key)) × (outcome ≡ AcceptedDt (session s) user verified) × (text ≡ sealed_text s (not c) user)
 Exact s c (Released release known) text next outcome = ⊥
 
-abbrev pub answer_of : Opening → (now : ℕ) → Bool → Phase → List ℕ → Safety × SafetyOutcome
+abbrev pub answer_of : EndLinkOpening → (now : ℕ) → Bool → Phase → List ℕ → Safety × SafetyOutcome
 answer_of s now c p text = step (s.finder now) (side_in s c p) (Received text)
 
-abbrev IsExact : Opening → ℕ → Bool → Phase → List ℕ → Type 0
+abbrev IsExact : EndLinkOpening → ℕ → Bool → Phase → List ℕ → Type 0
 IsExact s now c p text = Exact s c p text (answer_of s now c p text).0 (answer_of s now c p text).1
 
-exact_au1 : SafetyLaws → (s : Opening) (now : ℕ) → Agree s → IsExact s now false (WaitAu1 s.ra) (greeting s true)
+exact_au1 : SafetyLaws → (s : EndLinkOpening) (now : ℕ) → Agree s → IsExact s now false (WaitAu1 s.ra) (greeting s true)
 exact_au1 laws s now agree =
     let sealed : List ℕ = au2_text true s.engine s.rbc 1 s.ra s.rb in
     let e = laws.each (s.finder now) (side_in s false (WaitAu1 s.ra)) (Received (greeting s true)) (side_in s false (WaitAu3 (connection_at s false)))
@@ -91,7 +91,7 @@ exact_au1 laws s now agree =
     }) in
     (sealed, ap (λ (a : Safety × SafetyOutcome). a.0) e, ap (λ (a : Safety × SafetyOutcome). a.1) e)
 
-exact_au2 : SafetyLaws → (s : Opening) (now : ℕ) → IsExact s now true (WaitAu2 s.rbc s.kmac s.rb) (greeting s false)
+exact_au2 : SafetyLaws → (s : EndLinkOpening) (now : ℕ) → IsExact s now true (WaitAu2 s.rbc s.kmac s.rb) (greeting s false)
 exact_au2 laws s now =
     let verified : List ℕ = au2_text true s.engine s.rbc 1 s.ra s.rb in
     let sealed : List ℕ = au3_text false s.rbc s.ra s.rb in
@@ -111,7 +111,7 @@ exact_au2 laws s now =
     }) in
     (verified, sealed, ap (λ (a : Safety × SafetyOutcome). a.0) e, ap (λ (a : Safety × SafetyOutcome). a.1) e)
 
-exact_au3 : SafetyLaws → (s : Opening) (now : ℕ) → IsExact s now false (WaitAu3 (connection_at s false)) (opening_text s true)
+exact_au3 : SafetyLaws → (s : EndLinkOpening) (now : ℕ) → IsExact s now false (WaitAu3 (connection_at s false)) (opening_text s true)
 exact_au3 laws s now =
     let verified : List ℕ = au3_text false s.rbc s.ra s.rb in
     let sealed : List ℕ = ar_text true s.engine in
@@ -127,7 +127,7 @@ exact_au3 laws s now =
     }) in
     (verified, sealed, ap (λ (a : Safety × SafetyOutcome). a.0) e, ap (λ (a : Safety × SafetyOutcome). a.1) e)
 
-exact_ar : SafetyLaws → (s : Opening) (now : ℕ) → IsExact s now true (WaitAr (connection_at s true)) (opening_text s false)
+exact_ar : SafetyLaws → (s : EndLinkOpening) (now : ℕ) → IsExact s now true (WaitAr (connection_at s true)) (opening_text s false)
 exact_ar laws s now =
     let verified : List ℕ = ar_text true s.engine in
     let e = laws.each (s.finder now) (side_in s true (WaitAr (connection_at s true))) (Received (opening_text s false))
@@ -141,15 +141,15 @@ exact_ar laws s now =
     (verified, ap (λ (a : Safety × SafetyOutcome). a.0) e, ap (λ (a : Safety × SafetyOutcome). a.1) e)
 
 -- the flag of the other side is the one that a side expects
-pub peers_flag : (s : Opening) (c : Bool) (p : Phase) → flag_at (not c) ≡ peer_flag (side_in s c p)
+pub peers_flag : (s : EndLinkOpening) (c : Bool) (p : Phase) → flag_at (not c) ≡ peer_flag (side_in s c p)
 peers_flag s true p = refl
 peers_flag s false p = refl
 
-same_not : (s : Opening) (c : Bool) → own_number s (not (not c)) ≡ own_number s c
+same_not : (s : EndLinkOpening) (c : Bool) → own_number s (not (not c)) ≡ own_number s c
 same_not s true = refl
 same_not s false = refl
 
-exact_dt : SafetyLaws → (s : Opening) (now : ℕ) (c : Bool) (user : List ℕ) → Sendable user
+exact_dt : SafetyLaws → (s : EndLinkOpening) (now : ℕ) (c : Bool) (user : List ℕ) → Sendable user
     → IsExact s now c (Connected (own_number s (not c)) (session s)) (sealed_text s (not c) user)
 exact_dt laws s now c user sendable =
     let p : Phase = Connected (own_number s (not c)) (session s) in
@@ -167,7 +167,7 @@ exact_dt laws s now c user sendable =
     }) in
     (user, text, ap (λ (a : Safety × SafetyOutcome). a.0) e, ap (λ (a : Safety × SafetyOutcome). a.1) e, refl)
 
-exact : SafetyLaws → (s : Opening) (now : ℕ) → Agree s → (c : Bool) (p : Phase) (text : List ℕ) → Awaits s c p text → IsExact s now c p text
+exact : SafetyLaws → (s : EndLinkOpening) (now : ℕ) → Agree s → (c : Bool) (p : Phase) (text : List ℕ) → Awaits s c p text → IsExact s now c p text
 exact laws s now agree c (Ready peer kmac rb) text h = absurd h
 exact laws s now agree c (WaitAu1 ra) text h =
     subst (λ (c : Bool). IsExact s now c (WaitAu1 ra) text) (sym h.0)
@@ -195,7 +195,7 @@ exact laws s now agree c (Released release known) text h = absurd h
 
 -- ---- what comes of a text in any case
 
-abbrev pub Follows : Opening → Bool → Phase → List ℕ → Safety → SafetyOutcome → Type 0
+abbrev pub Follows : EndLinkOpening → Bool → Phase → List ℕ → Safety → SafetyOutcome → Type 0
 Follows s c p text next (SentAu1 octets) = ⊥
 Follows s c p text next (SentAu2 key sealed octets) =
     (connection : Connection) × (p ≡ WaitAu1 connection.ra) × (next ≡ side_in s c (WaitAu3 connection)) × (users_of text ≡ []) × (0 < length octets) × (length octets ≤ 32)
@@ -217,7 +217,7 @@ Follows s c p text next (ReleasedLocally release octets) = (length octets ≤ 32
 Follows s c p text next (ReleasedByPeer release) = Agree s → ⊥
 Follows s c p text next NothingDone = ⊥
 
-no_local : (s : Opening) (c : Bool) (p : Phase) (text : List ℕ) (next : Safety) (release : Release) (octets : List ℕ) → Exact s c p text next (ReleasedLocally release octets) → ⊥
+no_local : (s : EndLinkOpening) (c : Bool) (p : Phase) (text : List ℕ) (next : Safety) (release : Release) (octets : List ℕ) → Exact s c p text next (ReleasedLocally release octets) → ⊥
 no_local s c (Ready peer kmac rb) text next release octets h = h
 no_local s c (WaitAu1 ra) text next release octets h = let e = h.2 in cc
 no_local s c (WaitAu2 peer kmac rb) text next release octets h = let e = h.3 in cc
@@ -226,7 +226,7 @@ no_local s c (WaitAr connection) text next release octets h = let e = h.2 in cc
 no_local s c (Connected peer key) text next release octets h = let e = h.3 in cc
 no_local s c (Released r known) text next release octets h = h
 
-no_peers : (s : Opening) (c : Bool) (p : Phase) (text : List ℕ) (next : Safety) (release : Release) → Exact s c p text next (ReleasedByPeer release) → ⊥
+no_peers : (s : EndLinkOpening) (c : Bool) (p : Phase) (text : List ℕ) (next : Safety) (release : Release) → Exact s c p text next (ReleasedByPeer release) → ⊥
 no_peers s c (Ready peer kmac rb) text next release h = h
 no_peers s c (WaitAu1 ra) text next release h = let e = h.2 in cc
 no_peers s c (WaitAu2 peer kmac rb) text next release h = let e = h.3 in cc
@@ -239,32 +239,32 @@ text_is : (text octets : List ℕ) → Received text ≡ Received octets → tex
 text_is text octets e = cc
 
 -- the user octets of a text that was received as this SaPDU
-received_users : (s : Opening) (c : Bool) (p : Phase) (text : List ℕ) (pdu : Pdu) → IsReceived (side_in s c p) (Received text) pdu
+received_users : (s : EndLinkOpening) (c : Bool) (p : Phase) (text : List ℕ) (pdu : SafetyPdu) → IsReceived (side_in s c p) (Received text) pdu
     → users_of text ≡ users_of_reading (Ok (pdu, peer_flag (side_in s c p)))
 received_users s c p text pdu h =
     ap users_of (text_is text h.octets h.event_is) ∙ ap users_of_reading h.read
 
-phase_same : (s : Opening) (c : Bool) (p q : Phase) → side_in s c p ≡ side_in s c q → p ≡ q
+phase_same : (s : EndLinkOpening) (c : Bool) (p q : Phase) → side_in s c p ≡ side_in s c q → p ≡ q
 phase_same s c p q e = ap (λ (x : Safety). x.phase) e
 
-pub some_octets : (octets : List ℕ) (pdu : Pdu) (flag : Bool) → octets ≡ spelling pdu flag → 0 < length octets
+pub some_octets : (octets : List ℕ) (pdu : SafetyPdu) (flag : Bool) → octets ≡ spelling pdu flag → 0 < length octets
 some_octets octets pdu flag e = subst (λ (t : List ℕ). 0 < length t) (sym e) (omega arith)
 
-au2_facts : (s : Opening) (c : Bool) (text : List ℕ) (next : Safety) (connection : Connection) (ra : ℕ) (key : TripleKey) (sealed octets : List ℕ) → next ≡ side_in s c (WaitAu3 connection)
+au2_facts : (s : EndLinkOpening) (c : Bool) (text : List ℕ) (next : Safety) (connection : Connection) (ra : ℕ) (key : TripleKey) (sealed octets : List ℕ) → next ≡ side_in s c (WaitAu3 connection)
     → Exact s c (WaitAu1 ra) text next (SentAu2 key sealed octets) → (connection ≡ connection_at s c) × (octets ≡ greeting s false)
 au2_facts s c text next connection ra key sealed octets e h =
     let q : WaitAu3 connection ≡ WaitAu3 (connection_at s c) = phase_same s c (WaitAu3 connection) (WaitAu3 (connection_at s c)) (sym e ∙ h.1) in
     let o : SentAu2 key sealed octets ≡ SentAu2 (session s) h.0 (greeting s false) = h.2 in
     (cc, cc)
 
-au3_facts : (s : Opening) (c : Bool) (text : List ℕ) (next : Safety) (connection : Connection) (peer rb : ℕ) (kmac key : TripleKey) (verified sealed octets : List ℕ) → next ≡ side_in s c (WaitAr connection)
+au3_facts : (s : EndLinkOpening) (c : Bool) (text : List ℕ) (next : Safety) (connection : Connection) (peer rb : ℕ) (kmac key : TripleKey) (verified sealed octets : List ℕ) → next ≡ side_in s c (WaitAr connection)
     → Exact s c (WaitAu2 peer kmac rb) text next (SentAu3 key verified sealed octets) → (connection ≡ connection_at s c) × (octets ≡ opening_text s true)
 au3_facts s c text next connection peer rb kmac key verified sealed octets e h =
     let q : WaitAr connection ≡ WaitAr (connection_at s c) = phase_same s c (WaitAr connection) (WaitAr (connection_at s c)) (sym e ∙ h.2) in
     let o : SentAu3 key verified sealed octets ≡ SentAu3 (session s) h.0 h.1 (opening_text s true) = h.3 in
     (cc, cc)
 
-connected_facts : (s : Opening) (c : Bool) (next : Safety) (connection : Connection) → next ≡ side_in s c (Connected connection.peer connection.session)
+connected_facts : (s : EndLinkOpening) (c : Bool) (next : Safety) (connection : Connection) → next ≡ side_in s c (Connected connection.peer connection.session)
     → next ≡ side_in s c (Connected (own_number s (not c)) (session s)) → (connection.peer ≡ own_number s (not c)) × (connection.session ≡ session s)
 connected_facts s c next connection e h =
     let q : Connected connection.peer connection.session ≡ Connected (own_number s (not c)) (session s) = phase_same s c _ _ (sym e ∙ h) in
@@ -279,13 +279,13 @@ dt_users key key' u u' v v' e = cc
 not_open : (p : Phase) (release : Release) (known : Option TripleKey) → IsOpen p → p ≡ Released release known → ⊥
 not_open p release known h e = subst IsOpen e h
 
-no_idle : (s : Opening) (c : Bool) (p : Phase) (text : List ℕ) (next : Safety) → IsOpen p → StaysIdle (side_in s c p) (Received text) next → ⊥
+no_idle : (s : EndLinkOpening) (c : Bool) (p : Phase) (text : List ℕ) (next : Safety) → IsOpen p → StaysIdle (side_in s c p) (Received text) next → ⊥
 no_idle s c p text next h (AtReceived octets release known e r n) = not_open p release known h r
 no_idle s c p text next h (AtDisconnect sub release known e r n) = cc
 no_idle s c p text next h (AtConnect e r n) = cc
 
-follows_by : SafetyLaws → (s : Opening) (now : ℕ) (c : Bool) (p : Phase) (text : List ℕ) (next : Safety) (o : SafetyOutcome) → IsOpen p
-    → IsStep (s.finder now) (side_in s c p) (Received text) next o → length (sent_by o) ≤ 21 → (Agree s → Exact s c p text next o) → Follows s c p text next o
+follows_by : SafetyLaws → (s : EndLinkOpening) (now : ℕ) (c : Bool) (p : Phase) (text : List ℕ) (next : Safety) (o : SafetyOutcome) → IsOpen p
+    → IsStep (s.finder now) (side_in s c p) (Received text) next o → length (octets_sent_in_outcome o) ≤ 21 → (Agree s → Exact s c p text next o) → Follows s c p text next o
 follows_by laws s now c p text next (SentAu1 octets) live h few agreed = absurd (let e = h.event_is in let u : ⊥ = cc in u)
 follows_by laws s now c p text next (SentAu2 key sealed octets) live h few agreed = (
   h.connection,
@@ -346,7 +346,7 @@ follows_by laws s now c p text next (ReleasedByPeer release) live h few agreed =
 follows_by laws s now c p text next NothingDone live h few agreed = no_idle s c p text next live h
 
 -- a side that isn't released receives a text; where the keys agree it is the text for which it waits
-pub follows : SafetyLaws → (s : Opening) (now : ℕ) (c : Bool) (p : Phase) (text : List ℕ) → IsOpen p → (Agree s → Awaits s c p text)
+pub follows : SafetyLaws → (s : EndLinkOpening) (now : ℕ) (c : Bool) (p : Phase) (text : List ℕ) → IsOpen p → (Agree s → Awaits s c p text)
     → Follows s c p text (answer_of s now c p text).0 (answer_of s now c p text).1
 follows laws s now c p text live awaits =
     follows_by laws s now c p text (answer_of s now c p text).0 (answer_of s now c p text).1 live

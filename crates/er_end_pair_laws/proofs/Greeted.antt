@@ -3,12 +3,12 @@ use Rattle.std.proofs.Common.{◌≡◌, ◌∙◌, ℕ, suc, true, false, List,
 use Rattle.cbc_mac.specs.Mac.{mac_of}
 use Rattle.sapdu.specs.Spelling.{read_of}
 use Rattle.safety_automaton.specs.Safety.{au2_text}
-use Rattle.x224_class2.specs.Tpdus.{Given, Cr, Cc, Dt, Ak, Dr, Dc, pdu_given, octets_given}
+use Rattle.x224_class2.specs.Tpdus.{GivenTpdu, Cr, Cc, Dt, Ak, Dr, Dc, pdu_given, octets_given}
 use Rattle.er_end_model.specs.Layers.{Core}
-use Rattle.er_end_pair_laws.specs.Openings.{Opening}
-use Rattle.er_end_pair_laws.specs.Links.{Link}
-use Rattle.er_end_pair_laws.specs.Laws.{after}
-use Rattle.er_end_pair_laws.specs.Greetings.{IsCall, IsAnswer, Confirms, Parts, StartsWith, Greets}
+use Rattle.er_end_pair_laws.specs.Openings.{EndLinkOpening}
+use Rattle.er_end_pair_laws.specs.Links.{EndLink}
+use Rattle.er_end_pair_laws.specs.Laws.{end_link_after}
+use Rattle.er_end_pair_laws.specs.Greetings.{IsCallBlock, IsAnswerBlock, Confirms, Parts, StartsWith, Greets}
 use Rattle.er_end_pair_laws.proofs.Lists.{Each}
 use Rattle.er_end_pair_laws.proofs.Locals.{First, Opens, Fits}
 use Rattle.er_end_pair_laws.proofs.Constants.{session}
@@ -18,8 +18,8 @@ use Rattle.er_end_pair_laws.proofs.Below.{Below}
 use Rattle.er_end_pair_laws.proofs.Ordered.{after_holds}
 
 -- what holds of the block of the first TPDU that was given holds of the first payload that was taken
-first_taken : (P : List ℕ → Type 0) (taken handed : List (List ℕ)) (gave : List Given) → taken ≡ take (length taken) handed → handed ≡ map block gave
-    → ((g : Given) (gs : List Given) → gave ≡ g ∷ gs → P (block g)) → StartsWith P taken
+first_taken : (P : List ℕ → Type 0) (taken handed : List (List ℕ)) (gave : List GivenTpdu) → taken ≡ take (length taken) handed → handed ≡ map block gave
+    → ((g : GivenTpdu) (gs : List GivenTpdu) → gave ≡ g ∷ gs → P (block g)) → StartsWith P taken
 first_taken P [] handed gave prefix spelled first = tt
 first_taken P (t ∷ ts) handed [] prefix spelled first =
     let none : t ∷ ts ≡ [] = prefix ∙ ap (λ (l : List (List ℕ)). take (suc (length ts)) l) spelled in absurd cc
@@ -27,8 +27,8 @@ first_taken P (t ∷ ts) handed (g ∷ gs) prefix spelled first =
     let whole : t ∷ ts ≡ block g ∷ take (length ts) (map block gs) = prefix ∙ ap (λ (l : List (List ℕ)). take (suc (length ts)) l) spelled in
     let same : block g ≡ t = cc in subst P same (first g gs refl)
 
-module _ (below : Below) (s : Opening) where
-  calls : (g : Given) → First true s.settings.credit s.settings.size g → Proper s true g → Fits g → IsCall s (block g)
+module _ (below : Below) (s : EndLinkOpening) where
+  calls : (g : GivenTpdu) → First true s.settings.credit s.settings.size g → Proper s true g → Fits g → IsCallBlock s (block g)
   calls (Cr credit size user) first proper fits =
       record {
         tpdu = octets_given (Cr credit size user);
@@ -48,7 +48,7 @@ module _ (below : Below) (s : Opening) where
   calls (Dr reason user) first proper fits = absurd first
   calls Dc first proper fits = absurd first
 
-  answers : (g : Given) → First false s.settings.credit s.settings.size g → Proper s false g → Fits g → IsAnswer s (block g)
+  answers : (g : GivenTpdu) → First false s.settings.credit s.settings.size g → Proper s false g → Fits g → IsAnswerBlock s (block g)
   answers (Cr credit size user) first proper fits = absurd first
   answers (Cc credit size user) first proper fits =
       Confirms (octets_given (Cc credit size user)) user credit 1 1 size (mac_of (session s) (au2_text true s.engine s.rbc 1 s.ra s.rb)) refl
@@ -59,28 +59,28 @@ module _ (below : Below) (s : Opening) where
       Parts (octets_given (Dr reason user)) user 1 1 reason refl (below.short (pdu_given (Dr reason user)) fits) (below.reading (pdu_given (Dr reason user)) fits)
   answers Dc first proper fits = absurd first
 
-  called : (gave : List Given) → Opens true s.settings.credit s.settings.size gave → Each (Proper s true) gave → Each Fits gave
-      → (g : Given) (gs : List Given) → gave ≡ g ∷ gs → IsCall s (block g)
+  called : (gave : List GivenTpdu) → Opens true s.settings.credit s.settings.size gave → Each (Proper s true) gave → Each Fits gave
+      → (g : GivenTpdu) (gs : List GivenTpdu) → gave ≡ g ∷ gs → IsCallBlock s (block g)
   called [] opens proper fits g gs e = absurd cc
   called (x ∷ xs) opens proper fits g gs e =
-      let same : x ≡ g = cc in subst (λ (z : Given). IsCall s (block z)) same (calls x opens.0 proper.0 fits.0)
+      let same : x ≡ g = cc in subst (λ (z : GivenTpdu). IsCallBlock s (block z)) same (calls x opens.0 proper.0 fits.0)
 
-  answered : (gave : List Given) → Opens false s.settings.credit s.settings.size gave → Each (Proper s false) gave → Each Fits gave
-      → (g : Given) (gs : List Given) → gave ≡ g ∷ gs → IsAnswer s (block g)
+  answered : (gave : List GivenTpdu) → Opens false s.settings.credit s.settings.size gave → Each (Proper s false) gave → Each Fits gave
+      → (g : GivenTpdu) (gs : List GivenTpdu) → gave ≡ g ∷ gs → IsAnswerBlock s (block g)
   answered [] opens proper fits g gs e = absurd cc
   answered (x ∷ xs) opens proper fits g gs e =
-      let same : x ≡ g = cc in subst (λ (z : Given). IsAnswer s (block z)) same (answers x opens.0 proper.0 fits.0)
+      let same : x ≡ g = cc in subst (λ (z : GivenTpdu). IsAnswerBlock s (block z)) same (answers x opens.0 proper.0 fits.0)
 
 pub greets : Below → Greets
 greets below s steps fits agree kept =
-    let l : Link = after s steps in
+    let l : EndLink = end_link_after s steps in
     let two = (after_holds below s steps fits kept).two in
     let e : Core = l.e.core in
     let r : Core = l.r.core in
     let told_e = two.own_e.told agree in
     let told_r = two.own_r.told agree in (
-      first_taken (IsCall s) r.line.taken e.line.handed e.upper.transport.gave two.lines.0.0.prefix two.spelled_e
+      first_taken (IsCallBlock s) r.line.taken e.line.handed e.upper.transport.gave two.lines.0.0.prefix two.spelled_e
           (called below s e.upper.transport.gave two.own_e.always.opens told_e.proper two.own_e.always.fits),
-      first_taken (IsAnswer s) e.line.taken r.line.handed r.upper.transport.gave two.lines.1.0.prefix two.spelled_r
+      first_taken (IsAnswerBlock s) e.line.taken r.line.handed r.upper.transport.gave two.lines.1.0.prefix two.spelled_r
           (answered below s r.upper.transport.gave two.own_r.always.opens told_r.proper two.own_r.always.fits),
     )

@@ -1,5 +1,6 @@
 -- Each event at one end, from rest to rest.
 use Rattle.std.proofs.Common.{◌≡◌, ℕ, ◌+◌, ◌-◌, ◌<◌, ◌≤◌, inl, inr, Bool, true, false, not, ◌&&◌, List, [], ◌∷◌, ◌++◌, length, Option, Some, None, refl, sym, ◌∙◌, ap, subst, arith, lt-ltb, true≢false, append-nil}
+use Rattle.hdlc_station_model.specs.Receiving.{is_some_octets}
 use Rattle.std.specs.Prelude.{nat_lt, nat_le, ◌==◌, if◌then◌else◌, is_some}
 use Rattle.std.proofs.lemmas.Bool.{cond_both}
 use Rattle.std.proofs.lemmas.Bool.Decides.{leb_tells}
@@ -14,22 +15,22 @@ use Rattle.sapdu.specs.Spelling.{Dt, Di, spelling, di_in}
 use Rattle.sapdu.specs.Messages.{is_message, IsMessage}
 use Rattle.safety_automaton.specs.Keys.{no_keys}
 use Rattle.safety_automaton.specs.Rules.{IsOpen}
-use Rattle.safety_automaton.specs.Safety.{Safety, Phase, Ready, WaitAu1, WaitAu2, WaitAu3, WaitAr, Connected, Released, DataRequest, DisconnectRequest, SafetyOutcome, Refused, RefusedLength, sends_dt, message_text, sent_by, step}
+use Rattle.safety_automaton.specs.Safety.{Safety, Phase, Ready, WaitAu1, WaitAu2, WaitAu3, WaitAr, Connected, Released, DataRequest, DisconnectRequest, SafetyOutcome, Refused, RefusedLength, sends_dt, message_text, octets_sent_in_outcome, step}
 use Rattle.hdlc_station_model.specs.Frames.{Frame}
 use Rattle.hdlc_station_model.specs.Stations.{Station, no_deed, settled}
 use Rattle.hdlc_station_model.specs.Calls as station
-use Rattle.hdlc_pair_laws.specs.Invariant.{Pair, Both}
+use Rattle.hdlc_pair_laws.specs.Invariant.{IsStationPair, Both}
 use Rattle.hdlc_pair_laws.specs.Keeping.{found}
 use Rattle.x224_class2.specs.Segments.{Segment, segments_of, messages_in}
-use Rattle.x224_class2.specs.Tpdus.{Given, Dr}
+use Rattle.x224_class2.specs.Tpdus.{GivenTpdu, Dr}
 use Rattle.x224_class2.specs.Transport.{Transport, is_open, after_taken, after_hand, waiting_count}
 use Rattle.x224_class2.specs.declared.stage.Stage.{Stage}
 use Rattle.x224_class2.specs.declared.stage.Stage.TheVariants as stages
 use Rattle.er_end_model.specs.Outcomes.{SendRefusal, RefusedReleased, RefusedNotConnected, RefusedFull}
 use Rattle.er_end_model.specs.Outcomes as outcomes
 use Rattle.er_end_model.specs.Layers.{Core, model}
-use Rattle.er_end_model.specs.Steps.{new_event_at, send_dr, normal_disconnect, is_some_octets, with_safety_step, hand_text, on_link_deed, conclude_event, on_frame, on_tick, on_expiry, is_spent, is_connected, di_of, on_release, on_take, on_start, on_send, refusal_at, why_of}
-use Rattle.er_end_pair_laws.specs.Openings.{Opening, Agree}
+use Rattle.er_end_model.specs.Steps.{new_event_at, send_dr, normal_disconnect, with_safety_step, hand_text, on_link_deed, conclude_event, on_frame, on_tick, on_expiry, is_spent, is_connected, di_of, on_release, on_take, on_start, on_send, refusal_at, why_of}
+use Rattle.er_end_pair_laws.specs.Openings.{EndLinkOpening, Agree}
 use Rattle.er_end_pair_laws.specs.Reasons.{IsLosingLineRelease}
 use Rattle.er_end_pair_laws.proofs.Lists.{each_push}
 use Rattle.er_end_pair_laws.proofs.Locals.{Fits}
@@ -46,11 +47,11 @@ use Rattle.er_end_pair_laws.proofs.Calls.{link_by}
 
 -- ---- a frame comes
 
-frame_lost : Below → (s : Opening) (c : Bool) (k : ℕ) (w : List Frame) (x : Core) (f : Frame) (fs : List Frame) (y : Core) → Done s c k w x (f ∷ fs) y → Done s c k w x fs y
+frame_lost : Below → (s : EndLinkOpening) (c : Bool) (k : ℕ) (w : List Frame) (x : Core) (f : Frame) (fs : List Frame) (y : Core) → Done s c k w x (f ∷ fs) y → Done s c k w x fs y
 frame_lost below s c k w x f fs y d =
     record { beside = (below.keep.lost false k (w ++ x.line.said) x.line f fs y.line d.beside.0, d.beside.1, d.beside.2, d.beside.3); own = d.own }
 
-frame_at : Below → (s : Opening) (c : Bool) (k : ℕ) (w : List Frame) (x : Core) (f : Frame) (fs : List Frame) (y : Core) (o : Option Release) → x.released ≡ o → x.line.deed ≡ no_deed
+frame_at : Below → (s : EndLinkOpening) (c : Bool) (k : ℕ) (w : List Frame) (x : Core) (f : Frame) (fs : List Frame) (y : Core) (o : Option Release) → x.released ≡ o → x.line.deed ≡ no_deed
     → Done s c k w x (f ∷ fs) y
     → Done s c k w (if is_some o then x else conclude_event model (on_link_deed model s.finder (station.receives x.moment (found y.line f) x.line).deed (with_line x (station.receives x.moment (found y.line f) x.line)))) fs y
 frame_at below s c k w x f fs y (Some why) e quiet d = frame_lost below s c k w x f fs y d
@@ -60,12 +61,12 @@ frame_at below s c k w x f fs y None e quiet d =
     (station.receives x.moment (found y.line f) x.line).deed.released refl refl refl quiet (d.own.lives e).rested.0 e
     (busy_of_done s c k w x (f ∷ fs) y e d)).state
 
-pub received_keeps : Below → (s : Opening) (c : Bool) (k : ℕ) (w : List Frame) (x : Core) (f : Frame) (fs : List Frame) (y : Core) → x.line.deed ≡ no_deed
+pub received_keeps : Below → (s : EndLinkOpening) (c : Bool) (k : ℕ) (w : List Frame) (x : Core) (f : Frame) (fs : List Frame) (y : Core) → x.line.deed ≡ no_deed
     → Done s c k w x (f ∷ fs) y → Done s c k w (on_frame model s.finder (found y.line f) x) fs y
 received_keeps below s c k w x f fs y quiet d = frame_at below s c k w x f fs y x.released refl quiet d
 
 -- where the keys agree and the station told no release, a live peer ends no link
-pub received_good : Below → (s : Opening) (c : Bool) (k : ℕ) (w : List Frame) (x : Core) (f : Frame) (fs : List Frame) (y : Core) → x.line.deed ≡ no_deed → x.released ≡ None
+pub received_good : Below → (s : EndLinkOpening) (c : Bool) (k : ℕ) (w : List Frame) (x : Core) (f : Frame) (fs : List Frame) (y : Core) → x.line.deed ≡ no_deed → x.released ≡ None
     → (station.receives x.moment (found y.line f) x.line).deed.released ≡ None → Agree s → y.released ≡ None → Done s c k w x (f ∷ fs) y
     → (on_link_deed model s.finder (station.receives x.moment (found y.line f) x.line).deed (with_line x (station.receives x.moment (found y.line f) x.line))).released ≡ None
 received_good below s c k w x f fs y quiet e none agree live d =
@@ -87,7 +88,7 @@ di_fits c reason sub = fits_dr normal_disconnect (spelling (Di reason sub) (flag
 
 -- ---- time goes on
 
-module _ (below : Below) (s : Opening) (c : Bool) (k : ℕ) (w : List Frame) (x : Core) (l : List Frame) (y : Core) where
+module _ (below : Below) (s : EndLinkOpening) (c : Bool) (k : ℕ) (w : List Frame) (x : Core) (l : List Frame) (y : Core) where
   abbrev ticked_line : Station
   ticked_line = station.ticks x.moment x.line
 
@@ -144,7 +145,7 @@ module _ (below : Below) (s : Opening) (c : Bool) (k : ℕ) (w : List Frame) (x 
 
 -- ---- the user releases
 
-leaves_with : (s : Opening) (c : Bool) (p : Phase) (sub : ℕ) → IsOpen p → sent_by (step no_keys (side_in s c p) (DisconnectRequest sub)).1 ≡ spelling (Di 0 sub) (flag_at c)
+leaves_with : (s : EndLinkOpening) (c : Bool) (p : Phase) (sub : ℕ) → IsOpen p → octets_sent_in_outcome (step no_keys (side_in s c p) (DisconnectRequest sub)).1 ≡ spelling (Di 0 sub) (flag_at c)
 leaves_with s c (Ready peer kmac rb) sub h = refl
 leaves_with s c (WaitAu1 ra) sub h = refl
 leaves_with s c (WaitAu2 peer kmac rb) sub h = refl
@@ -153,9 +154,9 @@ leaves_with s c (WaitAr connection) sub h = refl
 leaves_with s c (Connected peer key) sub h = refl
 leaves_with s c (Released release known) sub h = absurd h
 
-left_state : Below → (s : Opening) (c : Bool) (k : ℕ) (w : List Frame) (x : Core) (l : List Frame) (y : Core) (sub : ℕ) → x.upper.transport.due ≡ None → Busy s c k w x l y
-    → (a : Safety × SafetyOutcome) → sent_by a.1 ≡ spelling (Di 0 sub) (flag_at c)
-    → State s c k w (send_dr model (release_of (User sub)) normal_disconnect (sent_by a.1) (with_safety_step model (DisconnectRequest sub) a x)) l y
+left_state : Below → (s : EndLinkOpening) (c : Bool) (k : ℕ) (w : List Frame) (x : Core) (l : List Frame) (y : Core) (sub : ℕ) → x.upper.transport.due ≡ None → Busy s c k w x l y
+    → (a : Safety × SafetyOutcome) → octets_sent_in_outcome a.1 ≡ spelling (Di 0 sub) (flag_at c)
+    → State s c k w (send_dr model (release_of (User sub)) normal_disconnect (octets_sent_in_outcome a.1) (with_safety_step model (DisconnectRequest sub) a x)) l y
 left_state below s c k w x l y sub due b a e =
     let z : Core = with_safety_step model (DisconnectRequest sub) a x in
     let ok = leave_ok c x.upper.transport.stage x.upper.transport.due (heard x y) x.upper.transport.gave x.line.phase due b.alive.stages in
@@ -168,19 +169,19 @@ left_state below s c k w x l y sub due b a e =
           (record { beside = b.beside; always = b.always; told = b.told }),
     ))
 
-gone_done : (s : Opening) (c : Bool) (k : ℕ) (w : List Frame) (x : Core) (l : List Frame) (y : Core) (why : Release) → x.released ≡ Some why → Gone s c k w x l y → Done s c k w x l y
+gone_done : (s : EndLinkOpening) (c : Bool) (k : ℕ) (w : List Frame) (x : Core) (l : List Frame) (y : Core) (why : Release) → x.released ≡ Some why → Gone s c k w x l y → Done s c k w x l y
 gone_done s c k w x l y why e b =
     record { beside = b.beside; own = record { always = b.always; told = b.told; lives = λ none. absurd (let u : Some why ≡ None = sym e ∙ none in let v : ⊥ = cc in v) } }
 
-pub left_keeps : Below → (s : Opening) (c : Bool) (k : ℕ) (w : List Frame) (x : Core) (l : List Frame) (y : Core) (sub : ℕ) → Done s c k w x l y → Done s c k w (on_release model sub x) l y
+pub left_keeps : Below → (s : EndLinkOpening) (c : Bool) (k : ℕ) (w : List Frame) (x : Core) (l : List Frame) (y : Core) (sub : ℕ) → Done s c k w x l y → Done s c k w (on_release model sub x) l y
 left_keeps below s c k w x l y sub d =
     let a : Safety × SafetyOutcome = step no_keys x.safe.safety (DisconnectRequest sub) in
-    at_release s c k w x l y x.released refl (send_dr model (release_of (User sub)) normal_disconnect (sent_by a.1) (with_safety_step model (DisconnectRequest sub) a x)) d
+    at_release s c k w x l y x.released refl (send_dr model (release_of (User sub)) normal_disconnect (octets_sent_in_outcome a.1) (with_safety_step model (DisconnectRequest sub) a x)) d
     (λ live.
     let v = d.own.lives live in
     let p : Phase = x.safe.safety.phase in
-    let e : sent_by a.1 ≡ spelling (Di 0 sub) (flag_at c) =
-    ap (λ (sf : Safety). sent_by (step no_keys sf (DisconnectRequest sub)).1) v.trusting.side_is ∙ leaves_with s c p sub (live_phase_open s c x.upper.transport.stage p v.trusting.joint) in
+    let e : octets_sent_in_outcome a.1 ≡ spelling (Di 0 sub) (flag_at c) =
+    ap (λ (sf : Safety). octets_sent_in_outcome (step no_keys sf (DisconnectRequest sub)).1) v.trusting.side_is ∙ leaves_with s c p sub (live_phase_open s c x.upper.transport.stage p v.trusting.joint) in
     elim (left_state below s c k w x l y sub v.rested.0 (busy_of_done s c k w x l y live d) a e) [
       | inl alive' ↦ absurd (let q = alive'.0 in let u : ⊥ = cc in u)
       | inr gone ↦ gone_done s c k w _ l y gone.0 gone.1 gone.2
@@ -188,7 +189,7 @@ left_keeps below s c k w x l y sub d =
 
 -- ---- the user takes
 
-took_busy : (s : Opening) (c : Bool) (k : ℕ) (w : List Frame) (x : Core) (l : List Frame) (y : Core) → Busy s c k w x l y
+took_busy : (s : EndLinkOpening) (c : Bool) (k : ℕ) (w : List Frame) (x : Core) (l : List Frame) (y : Core) → Busy s c k w x l y
     → Busy s c k w (record x { upper = record (x.upper) { transport = after_taken x.upper.transport; used = x.upper.used + 1 } }) l y
 took_busy s c k w x l y b = record {
   beside = b.beside;
@@ -204,7 +205,7 @@ took_busy s c k w x l y b = record {
   };
 }
 
-took_by : Below → (s : Opening) (c : Bool) (k : ℕ) (w : List Frame) (x : Core) (l : List Frame) (y : Core) (o : Option Release) → x.released ≡ o → Done s c k w x l y
+took_by : Below → (s : EndLinkOpening) (c : Bool) (k : ℕ) (w : List Frame) (x : Core) (l : List Frame) (y : Core) (o : Option Release) → x.released ≡ o → Done s c k w x l y
     → Done s c k w (conclude_event model (record x { upper = record (x.upper) { transport = after_taken x.upper.transport; used = x.upper.used + 1 } })) l y
 took_by below s c k w x l y None e d =
     concludes_keeps below s c k w (record x { upper = record (x.upper) { transport = after_taken x.upper.transport; used = x.upper.used + 1 } }) l y e (took_busy s c k w x l y (busy_of_done s c k w x l y e d))
@@ -212,7 +213,7 @@ took_by below s c k w x l y (Some why) e d =
     gone_concludes s c k w (record x { upper = record (x.upper) { transport = after_taken x.upper.transport; used = x.upper.used + 1 } }) l y why e
     (record { beside = d.beside; always = d.own.always; told = d.own.told })
 
-pub used_keeps : Below → (s : Opening) (c : Bool) (k : ℕ) (w : List Frame) (x : Core) (l : List Frame) (y : Core) → Done s c k w x l y → Done s c k w (on_take model x) l y
+pub used_keeps : Below → (s : EndLinkOpening) (c : Bool) (k : ℕ) (w : List Frame) (x : Core) (l : List Frame) (y : Core) → Done s c k w x l y → Done s c k w (on_take model x) l y
 used_keeps below s c k w x l y d =
     cond_both (length x.upper.accepted - x.upper.used == 0) x
     (conclude_event model (record x { upper = record (x.upper) { transport = after_taken x.upper.transport; used = x.upper.used + 1 } })) (λ z. Done s c k w z l y)
@@ -220,7 +221,7 @@ used_keeps below s c k w x l y d =
 
 -- ---- the start
 
-pub started_keeps : Below → (s : Opening) (c : Bool) (k : ℕ) (w : List Frame) (x : Core) (l : List Frame) (y : Core) → Done s c k w x l y → Done s c k w (on_start model x) l y
+pub started_keeps : Below → (s : EndLinkOpening) (c : Bool) (k : ℕ) (w : List Frame) (x : Core) (l : List Frame) (y : Core) → Done s c k w x l y → Done s c k w (on_start model x) l y
 started_keeps below s c k w x l y d =
     let line : Station = station.starts x.moment x.line in
     at_release s c k w x l y x.released refl (conclude_event model (with_line x line)) d
@@ -254,7 +255,7 @@ connected_is (WaitAr connection) e = absurd cc
 connected_is (Connected peer key) e = (peer, key, refl)
 connected_is (Released release known) e = absurd cc
 
-connected_open : (s : Opening) (c : Bool) (st : Stage) (peer : ℕ) (key : TripleKey) → Joint s c st (Connected peer key) → is_open st ≡ true
+connected_open : (s : EndLinkOpening) (c : Bool) (st : Stage) (peer : ℕ) (key : TripleKey) → Joint s c st (Connected peer key) → is_open st ≡ true
 connected_open s c stages.New peer key j = absurd j
 connected_open s c stages.Calling peer key j = absurd j
 connected_open s c stages.Called peer key j = absurd j
@@ -264,7 +265,7 @@ connected_open s c stages.Over peer key j = absurd j
 below_16 : (n : ℕ) → nat_le 16 n ≡ false → n < 16
 below_16 n e = elim (leb_tells 16 n) [ inl yes' ↦ absurd (true≢false (sym yes'.0 ∙ e)) | inr no' ↦ no'.1 ]
 
-sent_at : Below → (s : Opening) (c : Bool) (k : ℕ) (w : List Frame) (x : Core) (l : List Frame) (y : Core) (user : List ℕ) (peer : ℕ) (key : TripleKey) → AreOctets user → is_message user ≡ true
+sent_at : Below → (s : EndLinkOpening) (c : Bool) (k : ℕ) (w : List Frame) (x : Core) (l : List Frame) (y : Core) (user : List ℕ) (peer : ℕ) (key : TripleKey) → AreOctets user → is_message user ≡ true
     → waiting_count x.upper.transport < 16 → x.released ≡ None → x.safe.safety.phase ≡ Connected peer key → Busy s c k w x l y → Done s c k w (on_send model user x) l y
 sent_at below s c k w x l y user peer key are message few live p b =
     let t : Transport = x.upper.transport in
@@ -299,7 +300,7 @@ sent_at below s c k w x l y user peer key are message few live p b =
     ∙ ap (λ (m : ℕ). said_all s c x.upper.sent ++ spelling (Dt user (mac_of key (message_text (flag_at c) m user))) (flag_at c) ∷ []) q.2
     ∙ ap (λ (m : TripleKey). said_all s c x.upper.sent ++ spelling (Dt user (mac_of m (message_text (flag_at c) (own_number s (not c)) user))) (flag_at c) ∷ []) q.3
     ∙ ap (λ (ms : List (List ℕ)). opening_text s c ∷ ms) (sym (map-append (sealed_text s c) x.upper.sent (user ∷ []))) in
-    subst (λ (r : Safety × SafetyOutcome). Done s c k w (conclude_event model (hand_text model (sent_by r.1) (let y'' = with_safety_step model (DataRequest user) r x in record y'' { upper = record (y''.upper) { sent = y''.upper.sent ++ user ∷ [] } }))) l y) (sym e)
+    subst (λ (r : Safety × SafetyOutcome). Done s c k w (conclude_event model (hand_text model (octets_sent_in_outcome r.1) (let y'' = with_safety_step model (DataRequest user) r x in record y'' { upper = record (y''.upper) { sent = y''.upper.sent ++ user ∷ [] } }))) l y) (sym e)
     (subst (λ (d : Bool). Done s c k w (conclude_event model (if d then record z' { upper = record (z'.upper) { transport = after_hand t octets } } else z')) l y) (sym test)
     (subst (λ (ss : List Segment). Done s c k w (conclude_event model (z ss)) l y) (sym sized)
     (concludes_keeps below s c k w (z segs) l y live (record {
@@ -316,7 +317,7 @@ sent_at below s c k w x l y user peer key are message few live p b =
       };
     }))))
 
-pub sent_keeps : Below → (s : Opening) (c : Bool) (k : ℕ) (w : List Frame) (x : Core) (l : List Frame) (y : Core) (user : List ℕ) → AreOctets user
+pub sent_keeps : Below → (s : EndLinkOpening) (c : Bool) (k : ℕ) (w : List Frame) (x : Core) (l : List Frame) (y : Core) (user : List ℕ) → AreOctets user
     → refusal_at x.released (is_connected x.safe.safety.phase) user (waiting_count x.upper.transport) ≡ None → Done s c k w x l y → Done s c k w (on_send model user x) l y
 sent_keeps below s c k w x l y user are e d =
     let r = refusal_none x.released (is_connected x.safe.safety.phase) user (waiting_count x.upper.transport) e in
@@ -325,36 +326,36 @@ sent_keeps below s c k w x l y user are e d =
 
 -- ---- two ends between events
 
-pub record Two (s : Opening) (k : ℕ) (fe : List Frame) (e : Core) (fr : List Frame) (r : Core) : Type 0 where
-  pub lines : Pair false k fe e.line fr r.line
+pub record Two (s : EndLinkOpening) (k : ℕ) (fe : List Frame) (e : Core) (fr : List Frame) (r : Core) : Type 0 where
+  pub lines : IsStationPair false k fe e.line fr r.line
   pub spelled_e : Spelled e
   pub spelled_r : Spelled r
   pub own_e : Own s true e (heard e r)
   pub own_r : Own s false r (heard r e)
 
 -- an event begins
-own_begins : (s : Opening) (c : Bool) (x : Core) (h : List Given) (now : ℕ) → Own s c x h → Own s c (new_event_at model now x) h
+own_begins : (s : EndLinkOpening) (c : Bool) (x : Core) (h : List GivenTpdu) (now : ℕ) → Own s c x h → Own s c (new_event_at model now x) h
 own_begins s c x h now o = record {
   always = o.always;
   told = o.told;
   lives = λ e. let v = o.lives e in record { alive = v.alive; trusting = v.trusting; rested = v.rested };
 }
 
-quiet_both : (k : ℕ) (w : List Frame) (x : Station) (l : List Frame) (y : Station) → Pair false k w x l y → Both false k w (settled x) l y
-quiet_both k w x l y h = subst (λ (t : List Frame). Pair false k t (settled x) l y) (sym (append-nil w)) h
+quiet_both : (k : ℕ) (w : List Frame) (x : Station) (l : List Frame) (y : Station) → IsStationPair false k w x l y → Both false k w (settled x) l y
+quiet_both k w x l y h = subst (λ (t : List Frame). IsStationPair false k t (settled x) l y) (sym (append-nil w)) h
 
-pub e_begins : (s : Opening) (k : ℕ) (fe : List Frame) (e : Core) (fr : List Frame) (r : Core) (now : ℕ) → Two s k fe e fr r → Done s true k fe (new_event_at model now e) fr r
+pub e_begins : (s : EndLinkOpening) (k : ℕ) (fe : List Frame) (e : Core) (fr : List Frame) (r : Core) (now : ℕ) → Two s k fe e fr r → Done s true k fe (new_event_at model now e) fr r
 e_begins s k fe e fr r now t =
     record { beside = (quiet_both k fe e.line fr r.line t.lines, t.spelled_e, t.spelled_r, t.own_r); own = own_begins s true e (heard e r) now t.own_e }
 
-pub r_begins : Below → (s : Opening) (k : ℕ) (fe : List Frame) (e : Core) (fr : List Frame) (r : Core) (now : ℕ) → Two s k fe e fr r → Done s false k fr (new_event_at model now r) fe e
+pub r_begins : Below → (s : EndLinkOpening) (k : ℕ) (fe : List Frame) (e : Core) (fr : List Frame) (r : Core) (now : ℕ) → Two s k fe e fr r → Done s false k fr (new_event_at model now r) fe e
 r_begins below s k fe e fr r now t =
     record { beside = (quiet_both k fr r.line fe e.line (below.keep.swapped false k fe e.line fr r.line t.lines), t.spelled_r, t.spelled_e, t.own_e); own = own_begins s false r (heard r e) now t.own_r }
 
 -- it ends
-pub e_ends : (s : Opening) (k : ℕ) (fe : List Frame) (e : Core) (fr : List Frame) (r : Core) → Done s true k fe e fr r → Two s k (fe ++ e.line.said) e fr r
+pub e_ends : (s : EndLinkOpening) (k : ℕ) (fe : List Frame) (e : Core) (fr : List Frame) (r : Core) → Done s true k fe e fr r → Two s k (fe ++ e.line.said) e fr r
 e_ends s k fe e fr r d = record { lines = d.beside.0; spelled_e = d.beside.1; spelled_r = d.beside.2; own_e = d.own; own_r = d.beside.3 }
 
-pub r_ends : Below → (s : Opening) (k : ℕ) (fe : List Frame) (e : Core) (fr : List Frame) (r : Core) → Done s false k fr r fe e → Two s k fe e (fr ++ r.line.said) r
+pub r_ends : Below → (s : EndLinkOpening) (k : ℕ) (fe : List Frame) (e : Core) (fr : List Frame) (r : Core) → Done s false k fr r fe e → Two s k fe e (fr ++ r.line.said) r
 r_ends below s k fe e fr r d =
     record { lines = below.keep.swapped false k (fr ++ r.line.said) r.line fe e.line d.beside.0; spelled_e = d.beside.2; spelled_r = d.beside.1; own_e = d.beside.3; own_r = d.own }

@@ -6,9 +6,9 @@ use Rattle.hdlc_station_model.specs.Frames.{Frame}
 use Rattle.hdlc_station_model.specs.Stations.{is_up}
 use Rattle.safety_automaton.specs.Safety.{Phase, Ready, WaitAu1, WaitAu2, WaitAu3, WaitAr, Connected, Released}
 use Rattle.x224_class2.specs.Segments.{Segment, segments_of, messages_in, text_so_far}
-use Rattle.x224_class2.specs.Tpdus.{Given, Dr, Dc}
+use Rattle.x224_class2.specs.Tpdus.{GivenTpdu, Dr, Dc}
 use Rattle.er_end_model.specs.Layers.{Core}
-use Rattle.er_end_pair_laws.specs.Openings.{Opening, Agree}
+use Rattle.er_end_pair_laws.specs.Openings.{EndLinkOpening, Agree}
 use Rattle.er_end_pair_laws.proofs.Lists.{Head, head_trans, head_take, head_length, head_flat, Each, each_next, flat_one}
 use Rattle.er_end_pair_laws.proofs.Segments.{messages_head, messages_last}
 use Rattle.er_end_pair_laws.proofs.Locals.{dr_of, dc_of, drs, dcs, First, Later, Opens, Cuts}
@@ -18,7 +18,7 @@ use Rattle.er_end_pair_laws.proofs.Own.{AlwaysOf, ToldOf, Said, AliveOf, PhaseIs
 use Rattle.er_end_pair_laws.proofs.Below.{Below}
 
 -- x is live and at rest, and its station took the block of g, which is behind h
-pub record Hears (s : Opening) (c : Bool) (k : ℕ) (w : List Frame) (x : Core) (l : List Frame) (y : Core) (h : List Given) (g : Given) : Type 0 where
+pub record Hears (s : EndLinkOpening) (c : Bool) (k : ℕ) (w : List Frame) (x : Core) (l : List Frame) (y : Core) (h : List GivenTpdu) (g : GivenTpdu) : Type 0 where
   pub beside : Beside s c k w x l y
   pub heard_is : heard x y ≡ h ++ g ∷ []
   pub always : AlwaysOf s c x h
@@ -29,27 +29,27 @@ pub record Hears (s : Opening) (c : Bool) (k : ℕ) (w : List Frame) (x : Core) 
   pub live : x.released ≡ None
   pub up : is_up x.line.phase ≡ true
 
-pub next_of : (s : Opening) (c : Bool) (k : ℕ) (w : List Frame) (x : Core) (l : List Frame) (y : Core) (h : List Given) (g : Given) → Hears s c k w x l y h g
+pub next_of : (s : EndLinkOpening) (c : Bool) (k : ℕ) (w : List Frame) (x : Core) (l : List Frame) (y : Core) (h : List GivenTpdu) (g : GivenTpdu) → Hears s c k w x l y h g
     → Head (h ++ g ∷ []) y.upper.transport.gave
 next_of s c k w x l y h g b =
-    subst (λ (t : List Given). Head t y.upper.transport.gave) b.heard_is (head_take (length x.line.taken) y.upper.transport.gave)
+    subst (λ (t : List GivenTpdu). Head t y.upper.transport.gave) b.heard_is (head_take (length x.line.taken) y.upper.transport.gave)
 
 -- ---- which it can be
 
-pub first_is : (c : Bool) (C S : ℕ) (h gave : List Given) (g : Given) → h ≡ [] → Head (h ++ g ∷ []) gave → Opens c C S gave → First c C S g
-first_is c C S h gave g e next opens = at_first c C S gave g (subst (λ (t : List Given). Head (t ++ g ∷ []) gave) e next) opens
+pub first_is : (c : Bool) (C S : ℕ) (h gave : List GivenTpdu) (g : GivenTpdu) → h ≡ [] → Head (h ++ g ∷ []) gave → Opens c C S gave → First c C S g
+first_is c C S h gave g e next opens = at_first c C S gave g (subst (λ (t : List GivenTpdu). Head (t ++ g ∷ []) gave) e next) opens
   where
-    at_first : (c : Bool) (C S : ℕ) (gave : List Given) (g : Given) → Head (g ∷ []) gave → Opens c C S gave → First c C S g
+    at_first : (c : Bool) (C S : ℕ) (gave : List GivenTpdu) (g : GivenTpdu) → Head (g ∷ []) gave → Opens c C S gave → First c C S g
     at_first c C S [] g next opens = absurd next
     at_first c C S (x ∷ xs) g next opens = subst (First c C S) (sym next.0) opens.0
 
-pub later_is : (c : Bool) (C S : ℕ) (h gave : List Given) (g : Given) → 1 ≤ length h → Head (h ++ g ∷ []) gave → Opens c C S gave → Later C g
+pub later_is : (c : Bool) (C S : ℕ) (h gave : List GivenTpdu) (g : GivenTpdu) → 1 ≤ length h → Head (h ++ g ∷ []) gave → Opens c C S gave → Later C g
 later_is c C S [] gave g some next opens = absurd (let u : ⊥ = omega arith in u)
 later_is c C S (z ∷ h) [] g some next opens = absurd next
 later_is c C S (z ∷ h) (x ∷ xs) g some next opens = each_next (Later C) h g xs next.1 opens.1
 
 -- a live peer gave no DR
-pub no_dr_next : (h gave : List Given) (reason : ℕ) (user : List ℕ) → length (drs gave) ≡ 0 → Head (h ++ Dr reason user ∷ []) gave → ⊥
+pub no_dr_next : (h gave : List GivenTpdu) (reason : ℕ) (user : List ℕ) → length (drs gave) ≡ 0 → Head (h ++ Dr reason user ∷ []) gave → ⊥
 no_dr_next h gave reason user none next =
     let f = head_flat dr_of (h ++ Dr reason user ∷ []) gave next in
     let le = head_length (drs (h ++ Dr reason user ∷ [])) (drs gave) f in
@@ -61,7 +61,7 @@ no_dr_next h gave reason user none next =
     some_left (x ∷ a) b none le = omega arith
 
 -- no DC stands behind what a live end heard
-pub no_dc_next : (h gave mine hers : List Given) → length (dcs gave) ≤ length (drs hers) → Head hers mine → length (drs mine) ≡ 0 → Head (h ++ Dc ∷ []) gave → ⊥
+pub no_dc_next : (h gave mine hers : List GivenTpdu) → length (dcs gave) ≤ length (drs hers) → Head hers mine → length (drs mine) ≡ 0 → Head (h ++ Dc ∷ []) gave → ⊥
 no_dc_next h gave mine hers few behind none next =
     let f = head_flat dc_of (h ++ Dc ∷ []) gave next in
     let le = head_length (dcs (h ++ Dc ∷ [])) (dcs gave) f in
@@ -105,7 +105,7 @@ IsMessagePhase c (Connected peer key) = Unit {0}
 IsMessagePhase c (Released release known) = ⊥
 
 -- where the keys agree, it is the text for which the safety side waits
-pub text_awaited : (s : Opening) (c : Bool) (p : Phase) (out sent came accepted : List (List ℕ)) (t : List ℕ) (messages theirs : List (List ℕ)) → Head (came ++ t ∷ []) messages
+pub text_awaited : (s : EndLinkOpening) (c : Bool) (p : Phase) (out sent came accepted : List (List ℕ)) (t : List ℕ) (messages theirs : List (List ℕ)) → Head (came ++ t ∷ []) messages
     → Said s (not c) messages theirs → Each Sendable theirs → PhaseIs s c p out sent came accepted → IsMessagePhase c p → Awaits s c p t
 text_awaited s c p out sent came accepted t messages theirs next (inl none) sendable h m =
     absurd (nothing_behind came t (subst (Head (came ++ t ∷ [])) none.0 next))

@@ -9,13 +9,13 @@ use Rattle.hdlc_station_model.specs.Frames.{Frame}
 use Rattle.hdlc_station_model.specs.Stations.{Station, is_up, is_down}
 use Rattle.hdlc_station_model.specs.Sending.{can_send, waiting}
 use Rattle.hdlc_station_model.specs.Calls as station
-use Rattle.x224_class2.specs.Tpdus.{Given, Dr, Dc}
+use Rattle.x224_class2.specs.Tpdus.{GivenTpdu, Dr, Dc}
 use Rattle.x224_class2.specs.Transport.{Transport, with_given}
 use Rattle.x224_class2.specs.declared.stage.Stage.{Stage}
 use Rattle.x224_class2.specs.declared.stage.Stage.TheVariants as stages
 use Rattle.er_end_model.specs.Layers.{Core, Upper, model}
 use Rattle.er_end_model.specs.Steps.{with_release, hand_tpdu, hand_tpdu_if_may, close_link, send_owed_answer, send_dr, answer_dr, end_after_di}
-use Rattle.er_end_pair_laws.specs.Openings.{Opening, Agree}
+use Rattle.er_end_pair_laws.specs.Openings.{EndLinkOpening, Agree}
 use Rattle.er_end_pair_laws.specs.Reasons.{IsLosingLineRelease}
 use Rattle.er_end_pair_laws.proofs.Lists.{each_push, flat_one, length_push}
 use Rattle.er_end_pair_laws.proofs.Locals.{dc_of, drs, dcs, Opens, Fits}
@@ -27,10 +27,10 @@ use Rattle.er_end_pair_laws.proofs.Concludes.{finishes_beside, finishes_heard}
 
 -- ---- a DR may be given: something was given before, or a callee gives it first, or the station isn't up
 
-abbrev pub LeaveOk : Bool → List Given → Link_phase → Type 0
+abbrev pub LeaveOk : Bool → List GivenTpdu → Link_phase → Type 0
 LeaveOk c gave phase = (1 ≤ length gave) ⊎ ((c ≡ false) × (gave ≡ [])) ⊎ (is_up phase ≡ false)
 
-pub leave_ok : (c : Bool) (stage : Stage) (due : Option (List ℕ)) (h gave : List Given) (phase : Link_phase) → due ≡ None → Stages c stage due h gave phase → LeaveOk c gave phase
+pub leave_ok : (c : Bool) (stage : Stage) (due : Option (List ℕ)) (h gave : List GivenTpdu) (phase : Link_phase) → due ≡ None → Stages c stage due h gave phase → LeaveOk c gave phase
 leave_ok true stages.New due h gave phase e a = inr (inr a.3)
 leave_ok false stages.New due h gave phase e a = inr (inl (refl, a.2))
 leave_ok true stages.Calling due h gave phase e a = inl (a.1 e)
@@ -53,32 +53,32 @@ up_lives link.Setting h = refl
 up_lives link.Up h = refl
 up_lives link.Down h = absurd cc
 
-opens_dr : (c : Bool) (C S : ℕ) (gave : List Given) (phase : Link_phase) (reason : ℕ) (user : List ℕ) → is_up phase ≡ true → LeaveOk c gave phase → Opens c C S gave → Opens c C S (gave ++ Dr reason user ∷ [])
+opens_dr : (c : Bool) (C S : ℕ) (gave : List GivenTpdu) (phase : Link_phase) (reason : ℕ) (user : List ℕ) → is_up phase ≡ true → LeaveOk c gave phase → Opens c C S gave → Opens c C S (gave ++ Dr reason user ∷ [])
 opens_dr c C S gave phase reason user up (inl some) h = opens_later c C S gave (Dr reason user) some tt h
 opens_dr c C S gave phase reason user up (inr (inl first)) h =
-    subst (λ (b : Bool). Opens b C S (gave ++ Dr reason user ∷ [])) (sym first.0) (subst (λ (t : List Given). Opens false C S (t ++ Dr reason user ∷ [])) (sym first.1) (tt, tt))
+    subst (λ (b : Bool). Opens b C S (gave ++ Dr reason user ∷ [])) (sym first.0) (subst (λ (t : List GivenTpdu). Opens false C S (t ++ Dr reason user ∷ [])) (sym first.1) (tt, tt))
 opens_dr c C S gave phase reason user up (inr (inr asleep)) h = absurd (true≢false (sym up ∙ asleep))
 
 -- ---- a TPDU of the end's own
 
 -- one that is neither DT, AK nor DC
-given_gone : Below → (s : Opening) (c : Bool) (k : ℕ) (w : List Frame) (x : Core) (l : List Frame) (y : Core) (reason : ℕ) (user : List ℕ) → Fits (Dr reason user)
+given_gone : Below → (s : EndLinkOpening) (c : Bool) (k : ℕ) (w : List Frame) (x : Core) (l : List Frame) (y : Core) (reason : ℕ) (user : List ℕ) → Fits (Dr reason user)
     → LeaveOk c x.upper.transport.gave x.line.phase → (Agree s → Proper s c (Dr reason user)) → station.may_send x.line ≡ true → Gone s c k w x l y
     → Gone s c k w (hand_tpdu model (Dr reason user) x) l y
 given_gone below s c k w x l y reason user fits ok proper may b =
     let t : Transport = x.upper.transport in
-    let g : Given = Dr reason user in
+    let g : GivenTpdu = Dr reason user in
     let u : Upper = record (x.upper) { transport = with_given t (Some g) } in
     let up = may_up x.line may in
     record {
       beside = gives_beside below s c k w x l y g u fits (up_lives x.line.phase up) refl b.beside;
-      always = subst (λ (h : List Given). AlwaysOf s c (hand_tpdu model g x) h) (sym (gives_heard below x y g u))
+      always = subst (λ (h : List GivenTpdu). AlwaysOf s c (hand_tpdu model g x) h) (sym (gives_heard below x y g u))
           (always_push s c t.segments t.given t.acked t.edge t.newest t.contents t.gave x.upper.sent x.upper.accepted (heard x y) g refl refl refl
           (opens_dr c s.settings.credit s.settings.size t.gave x.line.phase reason user up ok b.always.opens) fits b.always);
       told = λ a. let v = b.told a in record { proper = each_push (Proper s c) t.gave g v.proper (proper a); said = v.said; good = v.good };
     }
 
-pub drops : Below → (s : Opening) (c : Bool) (k : ℕ) (w : List Frame) (x : Core) (l : List Frame) (y : Core) (reason : ℕ) (user : List ℕ) → Fits (Dr reason user)
+pub drops : Below → (s : EndLinkOpening) (c : Bool) (k : ℕ) (w : List Frame) (x : Core) (l : List Frame) (y : Core) (reason : ℕ) (user : List ℕ) → Fits (Dr reason user)
     → LeaveOk c x.upper.transport.gave x.line.phase → (Agree s → Proper s c (Dr reason user)) → Gone s c k w x l y
     → Gone s c k w (hand_tpdu_if_may model (Dr reason user) x) l y
 drops below s c k w x l y reason user fits ok proper b =
@@ -86,7 +86,7 @@ drops below s c k w x l y reason user fits ok proper b =
     (λ may. given_gone below s c k w x l y reason user fits ok proper may b) (λ may. b)
 
 -- a DC
-dc_gone : Below → (s : Opening) (c : Bool) (k : ℕ) (w : List Frame) (x : Core) (l : List Frame) (y : Core) → 1 ≤ length x.upper.transport.gave
+dc_gone : Below → (s : EndLinkOpening) (c : Bool) (k : ℕ) (w : List Frame) (x : Core) (l : List Frame) (y : Core) → 1 ≤ length x.upper.transport.gave
     → length (dcs x.upper.transport.gave) + 1 ≤ length (drs (heard x y)) → station.may_send x.line ≡ true → Gone s c k w x l y
     → Gone s c k w (hand_tpdu model Dc x) l y
 dc_gone below s c k w x l y some few may b =
@@ -97,7 +97,7 @@ dc_gone below s c k w x l y some few may b =
     let len = length_push (dcs t.gave) 0 in
     record {
       beside = gives_beside below s c k w x l y Dc u fits_dc (up_lives x.line.phase (may_up x.line may)) refl b.beside;
-      always = subst (λ (h : List Given). AlwaysOf s c (hand_tpdu model Dc x) h) (sym (gives_heard below x y Dc u)) (record {
+      always = subst (λ (h : List GivenTpdu). AlwaysOf s c (hand_tpdu model Dc x) h) (sym (gives_heard below x y Dc u)) (record {
         gives = gives_other C t.segments t.given t.acked t.edge t.newest t.contents t.gave Dc refl refl v.gives;
         gets = v.gets;
         cuts = v.cuts;
@@ -111,14 +111,14 @@ dc_gone below s c k w x l y some few may b =
       told = λ a. let v = b.told a in record { proper = each_push (Proper s c) t.gave Dc v.proper tt; said = v.said; good = v.good };
     }
 
-drops_dc : Below → (s : Opening) (c : Bool) (k : ℕ) (w : List Frame) (x : Core) (l : List Frame) (y : Core) → 1 ≤ length x.upper.transport.gave
+drops_dc : Below → (s : EndLinkOpening) (c : Bool) (k : ℕ) (w : List Frame) (x : Core) (l : List Frame) (y : Core) → 1 ≤ length x.upper.transport.gave
     → length (dcs x.upper.transport.gave) + 1 ≤ length (drs (heard x y)) → Gone s c k w x l y → Gone s c k w (hand_tpdu_if_may model Dc x) l y
 drops_dc below s c k w x l y some few b =
     cond_both (station.may_send x.line) (hand_tpdu model Dc x) x (λ z. Gone s c k w z l y) (λ may. dc_gone below s c k w x l y some few may b) (λ may. b)
 
 -- ---- the link is ended, the end is released
 
-shut_gone : Below → (s : Opening) (c : Bool) (k : ℕ) (w : List Frame) (x : Core) (l : List Frame) (y : Core) → Gone s c k w x l y → Gone s c k w (close_link model x) l y
+shut_gone : Below → (s : EndLinkOpening) (c : Bool) (k : ℕ) (w : List Frame) (x : Core) (l : List Frame) (y : Core) → Gone s c k w x l y → Gone s c k w (close_link model x) l y
 shut_gone below s c k w x l y b =
     let o = (below.others 0 x.line).2 in
     record {
@@ -127,21 +127,21 @@ shut_gone below s c k w x l y b =
       told = b.told;
     }
 
-finished_gone : Below → (s : Opening) (c : Bool) (k : ℕ) (w : List Frame) (x : Core) (l : List Frame) (y : Core) → Gone s c k w x l y → Gone s c k w (send_owed_answer model x) l y
+finished_gone : Below → (s : EndLinkOpening) (c : Bool) (k : ℕ) (w : List Frame) (x : Core) (l : List Frame) (y : Core) → Gone s c k w x l y → Gone s c k w (send_owed_answer model x) l y
 finished_gone below s c k w x l y b =
     record {
       beside = finishes_beside below s c k w x l y b.beside;
-      always = subst (λ (h : List Given). AlwaysOf s c (send_owed_answer model x) h) (sym (finishes_heard below x y)) b.always;
+      always = subst (λ (h : List GivenTpdu). AlwaysOf s c (send_owed_answer model x) h) (sym (finishes_heard below x y)) b.always;
       told = b.told;
     }
 
-pub ended_gone : (s : Opening) (c : Bool) (k : ℕ) (w : List Frame) (x : Core) (l : List Frame) (y : Core) (why : Release) → (Agree s → IsLosingLineRelease (Some why))
+pub ended_gone : (s : EndLinkOpening) (c : Bool) (k : ℕ) (w : List Frame) (x : Core) (l : List Frame) (y : Core) (why : Release) → (Agree s → IsLosingLineRelease (Some why))
     → Gone s c k w x l y → Gone s c k w (with_release why x) l y
 ended_gone s c k w x l y why good b =
     record { beside = b.beside; always = b.always; told = λ a. let v = b.told a in record { proper = v.proper; said = v.said; good = good a } }
 
 -- this end leaves
-pub departs_gone : Below → (s : Opening) (c : Bool) (k : ℕ) (w : List Frame) (x : Core) (l : List Frame) (y : Core) (why : Release) (reason : ℕ) (user : List ℕ) → Fits (Dr reason user)
+pub departs_gone : Below → (s : EndLinkOpening) (c : Bool) (k : ℕ) (w : List Frame) (x : Core) (l : List Frame) (y : Core) (why : Release) (reason : ℕ) (user : List ℕ) → Fits (Dr reason user)
     → LeaveOk c x.upper.transport.gave x.line.phase → (Agree s → Proper s c (Dr reason user)) → (Agree s → IsLosingLineRelease (Some why)) → Gone s c k w x l y
     → Gone s c k w (send_dr model why reason user x) l y
 departs_gone below s c k w x l y why reason user fits ok proper good b =
@@ -149,12 +149,12 @@ departs_gone below s c k w x l y why reason user fits ok proper good b =
     ended_gone s c k w (close_link model d) l y why good (shut_gone below s c k w d l y (drops below s c k w x l y reason user fits ok proper b))
 
 -- the peer left by a DI in a message, which no peer does whose keys agree
-pub deserted_gone : Below → (s : Opening) (c : Bool) (k : ℕ) (w : List Frame) (x : Core) (l : List Frame) (y : Core) (why : Release) → (Agree s → IsLosingLineRelease (Some why))
+pub deserted_gone : Below → (s : EndLinkOpening) (c : Bool) (k : ℕ) (w : List Frame) (x : Core) (l : List Frame) (y : Core) (why : Release) → (Agree s → IsLosingLineRelease (Some why))
     → Gone s c k w x l y → Gone s c k w (end_after_di model why x) l y
 deserted_gone below s c k w x l y why good b = ended_gone s c k w (close_link model x) l y why good (shut_gone below s c k w x l y b)
 
 -- the peer left by a DR
-pub cut_gone : Below → (s : Opening) (c : Bool) (k : ℕ) (w : List Frame) (x : Core) (l : List Frame) (y : Core) (why : Release) → 1 ≤ length x.upper.transport.gave
+pub cut_gone : Below → (s : EndLinkOpening) (c : Bool) (k : ℕ) (w : List Frame) (x : Core) (l : List Frame) (y : Core) (why : Release) → 1 ≤ length x.upper.transport.gave
     → length (dcs x.upper.transport.gave) + 1 ≤ length (drs (heard x y)) → (Agree s → IsLosingLineRelease (Some why)) → Gone s c k w x l y
     → Gone s c k w (answer_dr model why x) l y
 cut_gone below s c k w x l y why some few good b =

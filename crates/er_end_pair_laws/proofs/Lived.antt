@@ -1,6 +1,7 @@
 -- An event at an end that lives on behind it, as calls of its station: one call, then payloads that are handed down, then the answer that is
 -- owed. What outlasts these outlasts the event.
 use Rattle.std.proofs.Common.{◌≡◌, ℕ, zero, suc, ◌-◌, Bool, true, false, ◌&&◌, List, length, Option, Some, None, refl, sym, ◌∙◌, subst}
+use Rattle.hdlc_station_model.specs.Receiving.{is_some_octets}
 use Rattle.std.specs.Prelude.{◌==◌, if◌then◌else◌, is_some, nat_lt}
 use Rattle.std.proofs.lemmas.Bool.{cond_both}
 use Rattle.er_base.specs.declared.release.Release.{Release}
@@ -11,11 +12,11 @@ use Rattle.hdlc_station_model.specs.Stations.{Station}
 use Rattle.hdlc_station_model.specs.Calls as station
 use Rattle.t70_header.specs.Blocks.{last_block}
 use Rattle.safety_automaton.specs.Keys.{no_keys}
-use Rattle.safety_automaton.specs.Safety.{DataRequest, step, sent_by}
+use Rattle.safety_automaton.specs.Safety.{DataRequest, step, octets_sent_in_outcome}
 use Rattle.x224_class2.specs.Transport.{is_open, waiting_count}
 use Rattle.er_end_model.specs.Layers.{Core, model}
-use Rattle.er_end_model.specs.Steps.{Finds, is_some_octets, with_safety_step, on_link_deed, conclude_event, on_frame, on_tick, on_expiry, send_dr, di_of, is_spent, on_take, on_send, on_release, on_start, hand_next_tpdu, has_next_tpdu, hand_waiting_tpdus, most_offers, send_owed_answer}
-use Rattle.er_end_pair_laws.specs.Openings.{Opening}
+use Rattle.er_end_model.specs.Steps.{Finds, with_safety_step, on_link_deed, conclude_event, on_frame, on_tick, on_expiry, send_dr, di_of, is_spent, on_take, on_send, on_release, on_start, hand_next_tpdu, has_next_tpdu, hand_waiting_tpdus, most_offers, send_owed_answer}
+use Rattle.er_end_pair_laws.specs.Openings.{EndLinkOpening}
 use Rattle.er_end_pair_laws.proofs.Events.{with_line}
 use Rattle.er_end_pair_laws.proofs.Stations.{link_stays, offered_released}
 
@@ -45,8 +46,8 @@ sent_released user x =
     let a = step no_keys x.safe.safety (DataRequest user) in
     let z : Core = with_safety_step model (DataRequest user) a x in
     let z' : Core = record z { upper = model.sends z.upper user } in
-    let told : Core = record z' { upper = model.hands_message z'.upper (sent_by a.1) } in
-    cond_both (is_some_octets (sent_by a.1) && (is_open z'.upper.transport.stage && nat_lt (waiting_count z'.upper.transport) 16)) told z'
+    let told : Core = record z' { upper = model.hands_message z'.upper (octets_sent_in_outcome a.1) } in
+    cond_both (is_some_octets (octets_sent_in_outcome a.1) && (is_open z'.upper.transport.stage && nat_lt (waiting_count z'.upper.transport) 16)) told z'
     (λ t. (conclude_event model t).released ≡ x.released) (λ e. concluded_released told) (λ e. concluded_released z')
 
 pub ticked_before : (x : Core) → (on_tick model x).released ≡ None → x.released ≡ None
@@ -106,7 +107,7 @@ module _ (M D : Station → Type 0) (hands : (now : ℕ) (p : List ℕ) (x : Sta
       subst (λ (o : Option Release). D (if is_some o then x else conclude_event model z).line) (sym none)
       (concluded_lived z behind (mid (sym (concluded_released z) ∙ behind)))
 
-  pub received_lived : (s : Opening) (verdict : Verdict) (x : Core) → (on_frame model s.finder verdict x).released ≡ None → M (station.receives x.moment verdict x.line)
+  pub received_lived : (s : EndLinkOpening) (verdict : Verdict) (x : Core) → (on_frame model s.finder verdict x).released ≡ None → M (station.receives x.moment verdict x.line)
       → D (on_frame model s.finder verdict x).line
   received_lived s verdict x live h =
       let line : Station = station.receives x.moment verdict x.line in
@@ -126,8 +127,8 @@ module _ (M D : Station → Type 0) (hands : (now : ℕ) (p : List ℕ) (x : Sta
       let a = step no_keys x.safe.safety (DataRequest user) in
       let z : Core = with_safety_step model (DataRequest user) a x in
       let z' : Core = record z { upper = model.sends z.upper user } in
-      let told : Core = record z' { upper = model.hands_message z'.upper (sent_by a.1) } in
-      cond_both (is_some_octets (sent_by a.1) && (is_open z'.upper.transport.stage && nat_lt (waiting_count z'.upper.transport) 16)) told z'
+      let told : Core = record z' { upper = model.hands_message z'.upper (octets_sent_in_outcome a.1) } in
+      cond_both (is_some_octets (octets_sent_in_outcome a.1) && (is_open z'.upper.transport.stage && nat_lt (waiting_count z'.upper.transport) 16)) told z'
       (λ t. (conclude_event model t).released ≡ None → D (conclude_event model t).line) (λ e live. concluded_lived told live h) (λ e live. concluded_lived z' live h) live
 
   -- where none waits for the user nothing changes

@@ -3,13 +3,13 @@ use Rattle.std.proofs.Common.{◌≡◌, ℕ, ◌+◌, ◌≤◌, Bool, true, fa
 use Rattle.std.specs.List.{flat_map}
 use Rattle.x224_tpdu.specs.Writing.{IsWritable}
 use Rattle.x224_class2.specs.Segments.{Segment, segments_of, messages_in, text_so_far}
-use Rattle.x224_class2.specs.Tpdus.{Given, Cr, Cc, Dt, Ak, Dr, Dc, pdu_given}
+use Rattle.x224_class2.specs.Tpdus.{GivenTpdu, Cr, Cc, Dt, Ak, Dr, Dc, pdu_given}
 use Rattle.er_end_pair_laws.proofs.Lists.{Each, number, Climbs, Ends}
 use Rattle.er_end_pair_laws.proofs.Segments.{IsShort}
 
 -- ---- parts of TPDUs
 
-abbrev pub dt_of : Given → List (ℕ × Segment)
+abbrev pub dt_of : GivenTpdu → List (ℕ × Segment)
 dt_of (Cr credit size user) = []
 dt_of (Cc credit size user) = []
 dt_of (Dt last n user) = (n, (last, user)) ∷ []
@@ -17,7 +17,7 @@ dt_of (Ak credit n) = []
 dt_of (Dr reason user) = []
 dt_of Dc = []
 
-abbrev pub ak_of : Given → List ℕ
+abbrev pub ak_of : GivenTpdu → List ℕ
 ak_of (Cr credit size user) = []
 ak_of (Cc credit size user) = []
 ak_of (Dt last n user) = []
@@ -25,7 +25,7 @@ ak_of (Ak credit n) = n ∷ []
 ak_of (Dr reason user) = []
 ak_of Dc = []
 
-abbrev pub dr_of : Given → List ℕ
+abbrev pub dr_of : GivenTpdu → List ℕ
 dr_of (Cr credit size user) = []
 dr_of (Cc credit size user) = []
 dr_of (Dt last n user) = []
@@ -33,7 +33,7 @@ dr_of (Ak credit n) = []
 dr_of (Dr reason user) = 0 ∷ []
 dr_of Dc = []
 
-abbrev pub dc_of : Given → List ℕ
+abbrev pub dc_of : GivenTpdu → List ℕ
 dc_of (Cr credit size user) = []
 dc_of (Cc credit size user) = []
 dc_of (Dt last n user) = []
@@ -41,21 +41,21 @@ dc_of (Ak credit n) = []
 dc_of (Dr reason user) = []
 dc_of Dc = 0 ∷ []
 
-abbrev pub dts : List Given → List (ℕ × Segment)
+abbrev pub dts : List GivenTpdu → List (ℕ × Segment)
 dts l = flat_map dt_of l
 
-abbrev pub aks : List Given → List ℕ
+abbrev pub aks : List GivenTpdu → List ℕ
 aks l = flat_map ak_of l
 
-abbrev pub drs : List Given → List ℕ
+abbrev pub drs : List GivenTpdu → List ℕ
 drs l = flat_map dr_of l
 
-abbrev pub dcs : List Given → List ℕ
+abbrev pub dcs : List GivenTpdu → List ℕ
 dcs l = flat_map dc_of l
 
 -- ---- what was given, what was heard, how it was cut
 
-pub record Gives (C : ℕ) (segs : List Segment) (given acked edge newest : ℕ) (got : List Segment) (gave : List Given) : Type 0 where
+pub record Gives (C : ℕ) (segs : List Segment) (given acked edge newest : ℕ) (got : List Segment) (gave : List GivenTpdu) : Type 0 where
   pub all : dts gave ≡ number 0 (take given segs)
   pub most : given ≤ length segs
   pub below : given ≤ edge
@@ -64,7 +64,7 @@ pub record Gives (C : ℕ) (segs : List Segment) (given acked edge newest : ℕ)
   pub tells : Climbs 0 (aks gave) newest
   pub lag : newest ≤ length got
 
-pub record Gets (acked : ℕ) (got : List Segment) (h : List Given) : Type 0 where
+pub record Gets (acked : ℕ) (got : List Segment) (h : List GivenTpdu) : Type 0 where
   pub all : dts h ≡ number 0 got
   pub last : Ends 0 (aks h) acked
 
@@ -76,7 +76,7 @@ pub record Cuts (S : ℕ) (segs : List Segment) : Type 0 where
 
 -- ---- the first TPDU, and those behind it
 
-abbrev pub First : Bool → ℕ → ℕ → Given → Type 0
+abbrev pub First : Bool → ℕ → ℕ → GivenTpdu → Type 0
 First true C S (Cr credit size user) = (credit ≡ C) × (size ≡ S)
 First true C S (Cc credit size user) = ⊥
 First true C S (Dt last n user) = ⊥
@@ -90,7 +90,7 @@ First false C S (Ak credit n) = ⊥
 First false C S (Dr reason user) = Unit {0}
 First false C S Dc = ⊥
 
-abbrev pub Later : ℕ → Given → Type 0
+abbrev pub Later : ℕ → GivenTpdu → Type 0
 Later C (Cr credit size user) = ⊥
 Later C (Cc credit size user) = ⊥
 Later C (Dt last n user) = Unit {0}
@@ -98,9 +98,9 @@ Later C (Ak credit n) = credit ≡ C
 Later C (Dr reason user) = Unit {0}
 Later C Dc = Unit {0}
 
-abbrev pub Opens : Bool → ℕ → ℕ → List Given → Type 0
+abbrev pub Opens : Bool → ℕ → ℕ → List GivenTpdu → Type 0
 Opens c C S [] = Unit {0}
 Opens c C S (g ∷ gs) = First c C S g × Each (Later C) gs
 
-abbrev pub Fits : Given → Type 0
+abbrev pub Fits : GivenTpdu → Type 0
 Fits g = IsWritable (pdu_given g)

@@ -15,7 +15,7 @@ use Rattle.hdlc_pair_laws.specs.Mending.{Progress, MayHear, MaySpeak, Between, W
 use Rattle.hdlc_pair_laws.specs.Repairs.{MendKeeps}
 use Rattle.er_end_model.specs.Layers.{Core, model}
 use Rattle.er_end_model.specs.Steps.{on_link_deed, conclude_event, on_frame, on_tick, on_expiry, send_dr, di_of, is_spent, on_take, on_send, on_start}
-use Rattle.er_end_pair_laws.specs.Openings.{Opening, Agree}
+use Rattle.er_end_pair_laws.specs.Openings.{EndLinkOpening, Agree}
 use Rattle.er_end_pair_laws.proofs.Own.{Done}
 use Rattle.er_end_pair_laws.proofs.Below.{Below}
 use Rattle.er_end_pair_laws.proofs.Events.{with_line}
@@ -28,15 +28,15 @@ pub record Repair : Type 0 where
   pub keep : MendKeeps
 
 -- behind an event of x that it lives on behind
-pub record Behind (p : Progress) (s : Opening) (c : Bool) (w : List Frame) (x : Core) (l : List Frame) (y : Station) : Type 0 where
+pub record Behind (p : Progress) (s : EndLinkOpening) (c : Bool) (w : List Frame) (x : Core) (l : List Frame) (y : Station) : Type 0 where
   pub live : x.released ≡ None
   pub between : Between p false c s.settings.window (w ++ x.line.said) x.line l y
 
 -- in it
-abbrev pub In : Progress → Opening → Bool → List Frame → Station → List Frame → Station → Type 0
+abbrev pub In : Progress → EndLinkOpening → Bool → List Frame → Station → List Frame → Station → Type 0
 In p s c w x l y = Within p false c s.settings.window w x l y
 
-abbrev Ended : Progress → Opening → Bool → List Frame → Station → List Frame → Station → Type 0
+abbrev Ended : Progress → EndLinkOpening → Bool → List Frame → Station → List Frame → Station → Type 0
 Ended p s c w x l y = Between p false c s.settings.window (w ++ x.said) x l y
 
 not_selective : false ≡ true → (k window : ℕ) → k ≡ window
@@ -47,7 +47,7 @@ finished_same : (x : Station) → (is_down x.phase ≡ false → x.owed ≡ fals
 finished_same x owes =
     cond_both (is_down x.phase) x (settles x) (λ t. t ≡ x) (λ down. refl) (λ live. rw (owes live) refl)
 
-module _ (laws : Repair) (p : Progress) (s : Opening) (c : Bool) (speaks : MaySpeak p c) (w : List Frame) (l : List Frame) (y : Station) where
+module _ (laws : Repair) (p : Progress) (s : EndLinkOpening) (c : Bool) (speaks : MaySpeak p c) (w : List Frame) (l : List Frame) (y : Station) where
   abbrev speak : (now : ℕ) (payload : List ℕ) (x : Station) → In p s c w x l y → In p s c w (station.hands now payload x) l y
   speak now payload x h = laws.keep.handed p false c s.settings.window w now payload x l y speaks h
 
@@ -89,7 +89,7 @@ ticked_lives x live none spent =
     (subst (λ (b : Bool). (conclude_event model (if b then leaves else z)).released ≡ None) (sym spent) (concluded_released z ∙ live)))
 
 -- a frame comes
-pub received_mends : Repair → (p : Progress) (s : Opening) (c : Bool) (k : ℕ) (w : List Frame) (x : Core) (f : Frame) (fs : List Frame) (y : Core) → MayHear p → MaySpeak p c → Agree s
+pub received_mends : Repair → (p : Progress) (s : EndLinkOpening) (c : Bool) (k : ℕ) (w : List Frame) (x : Core) (f : Frame) (fs : List Frame) (y : Core) → MayHear p → MaySpeak p c → Agree s
     → x.line.deed ≡ no_deed → x.released ≡ None → y.released ≡ None → Done s c k w x (f ∷ fs) y → In p s c w x.line (f ∷ fs) y.line
     → Behind p s c w (on_frame model s.finder (found y.line f) x) fs y.line
 received_mends laws p s c k w x f fs y hears speaks agree quiet live peer d h =

@@ -1,21 +1,22 @@
 -- A DT comes to a live end: a part of a message, or the last one.
 use Rattle.std.proofs.Common.{◌≡◌, ℕ, ◌+◌, ◌≤◌, inr, Bool, true, false, not, ◌&&◌, List, [], ◌∷◌, ◌++◌, length, Some, refl, sym, ◌∙◌, ap, subst, arith, lt-ltb, true≢false, append-nil}
+use Rattle.hdlc_station_model.specs.Receiving.{is_some_octets}
 use Rattle.std.specs.Prelude.{nat_lt}
 use Rattle.std.proofs.lemmas.Bool.{cond_both}
 use Rattle.std.proofs.lemmas.List.{map-append}
 use Rattle.er_base.specs.declared.release.Release.{Release}
 use Rattle.des_block.specs.declared.triple_key.TripleKey.{TripleKey}
 use Rattle.safety_automaton.specs.Reports.{report_of}
-use Rattle.safety_automaton.specs.Safety.{Safety, Connection, Phase, Ready, WaitAu1, WaitAu2, WaitAu3, WaitAr, Connected, Released, SafetyOutcome, SentAu1, SentAu2, SentAu3, SentAr, ReceivedAr, AcceptedDt, SentDt, Refused, ReleasedLocally, ReleasedByPeer, NothingDone, sent_by}
+use Rattle.safety_automaton.specs.Safety.{Safety, Connection, Phase, Ready, WaitAu1, WaitAu2, WaitAu3, WaitAr, Connected, Released, SafetyOutcome, SentAu1, SentAu2, SentAu3, SentAr, ReceivedAr, AcceptedDt, SentDt, Refused, ReleasedLocally, ReleasedByPeer, NothingDone, octets_sent_in_outcome}
 use Rattle.hdlc_station_model.specs.Frames.{Frame}
 use Rattle.x224_class2.specs.Segments.{Segment, segments_of, messages_in, text_so_far}
-use Rattle.x224_class2.specs.Tpdus.{Given, Dt}
+use Rattle.x224_class2.specs.Tpdus.{GivenTpdu, Dt}
 use Rattle.x224_class2.specs.Transport.{Transport, after_hand, after_taken, waiting_count, is_open}
 use Rattle.x224_class2.specs.declared.stage.Stage.{Stage}
 use Rattle.x224_class2.specs.declared.stage.Stage.TheVariants as stages
 use Rattle.er_end_model.specs.Layers.{Core, model}
-use Rattle.er_end_model.specs.Steps.{InDt, on_safety_report, on_safety_release, is_some_octets}
-use Rattle.er_end_pair_laws.specs.Openings.{Opening, Agree}
+use Rattle.er_end_model.specs.Steps.{InDt, on_safety_report, on_safety_release}
+use Rattle.er_end_pair_laws.specs.Openings.{EndLinkOpening, Agree}
 use Rattle.er_end_pair_laws.proofs.Lists.{Head, head_more, head_equal, flat_none, length_push}
 use Rattle.er_end_pair_laws.proofs.Segments.{messages_last, messages_same}
 use Rattle.er_end_pair_laws.proofs.Locals.{dr_of}
@@ -29,8 +30,8 @@ use Rattle.er_end_pair_laws.proofs.Hears.{Hears, none_waiting}
 use Rattle.er_end_pair_laws.proofs.Comes.{At, Side, with_transport, spoke, stages_at, edge_at, phase_at, gone_of}
 use Rattle.er_end_pair_laws.proofs.Confirms.{first_said, always_got}
 
-module _ (below : Below) (s : Opening) (c : Bool) (k : ℕ) (w : List Frame) (x : Core) (l : List Frame) (y : Core) (h : List Given) (last : Bool) (n : ℕ) (user : List ℕ) where
-  abbrev pub the_dt : Given
+module _ (below : Below) (s : EndLinkOpening) (c : Bool) (k : ℕ) (w : List Frame) (x : Core) (l : List Frame) (y : Core) (h : List GivenTpdu) (last : Bool) (n : ℕ) (user : List ℕ) where
+  abbrev pub the_dt : GivenTpdu
   the_dt = Dt last n user
 
   abbrev pub got_side : Transport
@@ -63,7 +64,7 @@ module _ (below : Below) (s : Opening) (c : Bool) (k : ℕ) (w : List Frame) (x 
 
 -- ---- a part of a message
 
-pub part_comes : (below : Below) (s : Opening) (c : Bool) (k : ℕ) (w : List Frame) (x : Core) (l : List Frame) (y : Core) (h : List Given) (n : ℕ) (user : List ℕ)
+pub part_comes : (below : Below) (s : EndLinkOpening) (c : Bool) (k : ℕ) (w : List Frame) (x : Core) (l : List Frame) (y : Core) (h : List GivenTpdu) (n : ℕ) (user : List ℕ)
     → At x stages.Open → n ≡ length (Side x).contents → Hears s c k w x l y h (Dt false n user)
     → Arrived s c k w (with_transport x (got_side below s c k w x l y h false n user)) l y
 part_comes below s c k w x l y h n user e same b =
@@ -73,10 +74,10 @@ part_comes below s c k w x l y h n user e same b =
     let m : messages_in g.contents ≡ messages_in t.contents = messages_same below.parts t.contents user in
     live_arrived s c k w z l y b.live (record {
       beside = b.beside;
-      always = subst (λ (r : List Given). AlwaysOf s c z r) (sym b.heard_is)
+      always = subst (λ (r : List GivenTpdu). AlwaysOf s c z r) (sym b.heard_is)
           (got_always below s c k w x l y h false n user b same (subst (λ (ms : List (List ℕ)). Head x.upper.accepted (users ms)) (sym m) b.always.within));
       told = b.told;
-      alive = subst (λ (r : List Given). AliveOf s c z r) (sym b.heard_is) (got_alive below s c k w x l y h false n user e b);
+      alive = subst (λ (r : List GivenTpdu). AliveOf s c z r) (sym b.heard_is) (got_alive below s c k w x l y h false n user e b);
       trusting = record {
         joint = b.trusting.joint;
         side_is = b.trusting.side_is;
@@ -88,8 +89,8 @@ part_comes below s c k w x l y h n user e same b =
 
 -- ---- the last part
 
-module _ (below : Below) (s : Opening) (c : Bool) (k : ℕ) (w : List Frame) (x : Core) (l : List Frame) (y : Core) (h : List Given) (n : ℕ) (user : List ℕ) where
-  abbrev the_last : Given
+module _ (below : Below) (s : EndLinkOpening) (c : Bool) (k : ℕ) (w : List Frame) (x : Core) (l : List Frame) (y : Core) (h : List GivenTpdu) (n : ℕ) (user : List ℕ) where
+  abbrev the_last : GivenTpdu
   the_last = Dt true n user
 
   abbrev whole_side : Transport
@@ -153,9 +154,9 @@ module _ (below : Below) (s : Opening) (c : Bool) (k : ℕ) (w : List Frame) (x 
       live_arrived s c k w (record (spoke (with_transport x (after_hand (after_taken whole_side) octets)) whole next o) { connected = Some connection.peer }) l y b.live
       (subst (λ (ss : List Segment). Busy s c k w (record (spoke (with_transport x (record (after_taken whole_side) { segments = ss })) whole next o) { connected = Some connection.peer }) l y) (sym sized) (record {
         beside = b.beside;
-        always = subst (λ (r : List Given). AlwaysOf s c (with_transport x (record whole_side { segments = segs })) r) (sym b.heard_is) always;
+        always = subst (λ (r : List GivenTpdu). AlwaysOf s c (with_transport x (record whole_side { segments = segs })) r) (sym b.heard_is) always;
         told = λ a. let d = b.told a in record { proper = d.proper; said = inr (out a); good = d.good };
-        alive = subst (λ (r : List Given). AliveOf s c (with_transport x whole_side) r) (sym b.heard_is) (got_alive below s c k w x l y h true n user e b);
+        alive = subst (λ (r : List GivenTpdu). AliveOf s c (with_transport x whole_side) r) (sym b.heard_is) (got_alive below s c k w x l y h true n user e b);
         trusting = set_up_trusting next (Connected connection.peer connection.session) e f.1 tt f.2 b segs (λ a. (out a, came a, (f.6 a).0, (f.6 a).1));
       }))
 
@@ -167,15 +168,15 @@ module _ (below : Below) (s : Opening) (c : Bool) (k : ℕ) (w : List Frame) (x 
       let o : SafetyOutcome = SentAr connection verified sealed octets in
       live_arrived s c k w (record (spoke (with_transport x (after_taken whole_side)) whole next o) { connected = Some connection.peer }) l y b.live (record {
         beside = b.beside;
-        always = subst (λ (r : List Given). AlwaysOf s c (with_transport x whole_side) r) (sym b.heard_is) (whole_always same b);
+        always = subst (λ (r : List GivenTpdu). AlwaysOf s c (with_transport x whole_side) r) (sym b.heard_is) (whole_always same b);
         told = b.told;
-        alive = subst (λ (r : List Given). AliveOf s c (with_transport x whole_side) r) (sym b.heard_is) (got_alive below s c k w x l y h true n user e b);
+        alive = subst (λ (r : List GivenTpdu). AliveOf s c (with_transport x whole_side) r) (sym b.heard_is) (got_alive below s c k w x l y h true n user e b);
         trusting = set_up_trusting next (Connected connection.peer connection.session) e f.1 tt f.2 b t.segments (λ a. absurd (none a));
       })
 
   au3_by : (connection : Connection) (next : Safety) (o : SafetyOutcome) → Follows s c (WaitAu3 connection) whole next o
       → (Agree s → Awaits s c (WaitAu3 connection) whole) → c ≡ false → At x stages.Open → n ≡ length (Side x).contents → x.safe.safety.phase ≡ WaitAu3 connection → Hears s c k w x l y h the_last
-      → Arrived s c k w (on_safety_report model InDt (report_of o) (sent_by o) (spoke (with_transport x whole_side) whole next o)) l y
+      → Arrived s c k w (on_safety_report model InDt (report_of o) (octets_sent_in_outcome o) (spoke (with_transport x whole_side) whole next o)) l y
   au3_by connection next (SentAu1 octets) f awaits role e same p b = absurd f
   au3_by connection next (SentAu2 key sealed octets) f awaits role e same p b = absurd (let q = f.1 in let u : ⊥ = cc in u)
   au3_by connection next (SentAu3 key verified sealed octets) f awaits role e same p b = absurd (let q = f.2 in let u : ⊥ = cc in u)
@@ -207,7 +208,7 @@ module _ (below : Below) (s : Opening) (c : Bool) (k : ℕ) (w : List Frame) (x 
   -- AR came
   ar_by : (connection : Connection) (next : Safety) (o : SafetyOutcome) → Follows s c (WaitAr connection) whole next o
       → (Agree s → Awaits s c (WaitAr connection) whole) → c ≡ true → At x stages.Open → n ≡ length (Side x).contents → x.safe.safety.phase ≡ WaitAr connection → Hears s c k w x l y h the_last
-      → Arrived s c k w (on_safety_report model InDt (report_of o) (sent_by o) (spoke (with_transport x whole_side) whole next o)) l y
+      → Arrived s c k w (on_safety_report model InDt (report_of o) (octets_sent_in_outcome o) (spoke (with_transport x whole_side) whole next o)) l y
   ar_by connection next (SentAu1 octets) f awaits role e same p b = absurd f
   ar_by connection next (SentAu2 key sealed octets) f awaits role e same p b = absurd (let q = f.1 in let u : ⊥ = cc in u)
   ar_by connection next (SentAu3 key verified sealed octets) f awaits role e same p b = absurd (let q = f.2 in let u : ⊥ = cc in u)
@@ -222,9 +223,9 @@ module _ (below : Below) (s : Opening) (c : Bool) (k : ℕ) (w : List Frame) (x 
       let q = phase_at s c x (WaitAr connection) p b.trusting a in q.0 ∙ ap (said_all s c) (sym q.1) in
       live_arrived s c k w (record (spoke (with_transport x (after_taken whole_side)) whole next o) { connected = Some other.peer }) l y b.live (record {
         beside = b.beside;
-        always = subst (λ (r : List Given). AlwaysOf s c (with_transport x whole_side) r) (sym b.heard_is) (whole_always same b);
+        always = subst (λ (r : List GivenTpdu). AlwaysOf s c (with_transport x whole_side) r) (sym b.heard_is) (whole_always same b);
         told = b.told;
-        alive = subst (λ (r : List Given). AliveOf s c (with_transport x whole_side) r) (sym b.heard_is) (got_alive below s c k w x l y h true n user e b);
+        alive = subst (λ (r : List GivenTpdu). AliveOf s c (with_transport x whole_side) r) (sym b.heard_is) (got_alive below s c k w x l y h true n user e b);
         trusting = set_up_trusting next (Connected other.peer other.session) e f.1 tt f.2 b t.segments (λ a. (out a, came a, (f.3 a).0, (f.3 a).1));
       })
   ar_by connection next (AcceptedDt key u verified) f awaits role e same p b = absurd (let q = f.1 in let u : ⊥ = cc in u)
@@ -237,7 +238,7 @@ module _ (below : Below) (s : Opening) (c : Bool) (k : ℕ) (w : List Frame) (x 
   -- a message of the peer's user came
   user_by : (peer : ℕ) (key : TripleKey) (next : Safety) (o : SafetyOutcome) → Follows s c (Connected peer key) whole next o
       → At x stages.Open → n ≡ length (Side x).contents → x.safe.safety.phase ≡ Connected peer key → Hears s c k w x l y h the_last
-      → Arrived s c k w (on_safety_report model InDt (report_of o) (sent_by o) (spoke (with_transport x whole_side) whole next o)) l y
+      → Arrived s c k w (on_safety_report model InDt (report_of o) (octets_sent_in_outcome o) (spoke (with_transport x whole_side) whole next o)) l y
   user_by peer key next (SentAu1 octets) f e same p b = absurd f
   user_by peer key next (SentAu2 k' sealed octets) f e same p b = absurd (let q = f.1 in let u : ⊥ = cc in u)
   user_by peer key next (SentAu3 k' verified sealed octets) f e same p b = absurd (let q = f.2 in let u : ⊥ = cc in u)
@@ -253,7 +254,7 @@ module _ (below : Below) (s : Opening) (c : Bool) (k : ℕ) (w : List Frame) (x 
       } in
       live_arrived s c k w z l y b.live (record {
         beside = b.beside;
-        always = subst (λ (r : List Given). AlwaysOf s c z r) (sym b.heard_is)
+        always = subst (λ (r : List GivenTpdu). AlwaysOf s c z r) (sym b.heard_is)
             (let v = whole_always same b in
             record {
               gives = v.gives;
@@ -267,7 +268,7 @@ module _ (below : Below) (s : Opening) (c : Bool) (k : ℕ) (w : List Frame) (x 
               sendable = v.sendable;
             });
         told = b.told;
-        alive = subst (λ (r : List Given). AliveOf s c (with_transport x whole_side) r) (sym b.heard_is) (got_alive below s c k w x l y h true n user e b);
+        alive = subst (λ (r : List GivenTpdu). AliveOf s c (with_transport x whole_side) r) (sym b.heard_is) (got_alive below s c k w x l y h true n user e b);
         trusting = subst (λ (z : Stage). Trusting s c z next t.segments whole_side.contents x.upper.sent (x.upper.accepted ++ u ∷ []) t.taken x.upper.used) (sym e)
             (subst (λ (n : Safety). Trusting s c stages.Open n t.segments whole_side.contents x.upper.sent (x.upper.accepted ++ u ∷ []) t.taken x.upper.used) (sym f.2) (record {
               joint = tt;
@@ -293,7 +294,7 @@ module _ (below : Below) (s : Opening) (c : Bool) (k : ℕ) (w : List Frame) (x 
   -- by the phase
   pub message_by : (p : Phase) (next : Safety) (o : SafetyOutcome) → Follows s c p whole next o → (Agree s → Awaits s c p whole) → Joint s c stages.Open p
       → At x stages.Open → n ≡ length (Side x).contents → x.safe.safety.phase ≡ p → Hears s c k w x l y h the_last
-      → Arrived s c k w (on_safety_report model InDt (report_of o) (sent_by o) (spoke (with_transport x whole_side) whole next o)) l y
+      → Arrived s c k w (on_safety_report model InDt (report_of o) (octets_sent_in_outcome o) (spoke (with_transport x whole_side) whole next o)) l y
   message_by (Ready peer kmac rb) next o f awaits j e same p b = absurd j
   message_by (WaitAu1 ra) next o f awaits j e same p b = absurd j
   message_by (WaitAu2 peer kmac rb) next o f awaits j e same p b = absurd j

@@ -10,13 +10,13 @@ use Rattle.hdlc_station_model.specs.Calls.{hands}
 use Rattle.t70_header.specs.Blocks.{last_block}
 use Rattle.x224_tpdu.specs.Writing.{IsSize}
 use Rattle.x224_class2.specs.Segments.{Segment}
-use Rattle.x224_class2.specs.Tpdus.{Given, Cr, Cc, Dt, Ak, pdu_given}
-use Rattle.x224_class2.specs.Transport.{Transport, is_over, Turn, Rest, Opening as Opens_next, Acknowledgement, Data, turn_among, turn_of, ack_of, tpdu_at, state_behind, with_given, next_tpdu}
+use Rattle.x224_class2.specs.Tpdus.{GivenTpdu, Cr, Cc, Dt, Ak, pdu_given}
+use Rattle.x224_class2.specs.Transport.{Transport, is_over, TpduTurn, Rest, Opening as Opens_next, Acknowledgement, Data, turn_among, turn_of, ack_of, tpdu_at, state_behind, with_given, next_tpdu}
 use Rattle.x224_class2.specs.declared.stage.Stage.{Stage}
 use Rattle.x224_class2.specs.declared.stage.Stage.TheVariants as stages
 use Rattle.er_end_model.specs.Layers.{Core, Upper, model, octets_due}
 use Rattle.er_end_model.specs.Steps.{hand_next_tpdu}
-use Rattle.er_end_pair_laws.specs.Openings.{Opening}
+use Rattle.er_end_pair_laws.specs.Openings.{EndLinkOpening}
 use Rattle.er_end_pair_laws.proofs.Lists.{each_push, number, Ends, ends_push, flat_none, flat_one, length_push}
 use Rattle.er_end_pair_laws.proofs.Locals.{dt_of, ak_of, dr_of, dc_of, dts, aks, drs, Opens, Fits}
 use Rattle.er_end_pair_laws.proofs.Turns.{gives_other, gives_ak, gives_dt, opens_later, segment_at, fits_dt, fits_ak, fits_cr, fits_cc}
@@ -26,7 +26,7 @@ use Rattle.er_end_pair_laws.proofs.Below.{Below}
 
 -- ---- what the other end took is what this one gave
 
-pub taken_few : (s : Opening) (c : Bool) (k : ℕ) (w : List Frame) (x : Core) (l : List Frame) (y : Core) → Beside s c k w x l y
+pub taken_few : (s : EndLinkOpening) (c : Bool) (k : ℕ) (w : List Frame) (x : Core) (l : List Frame) (y : Core) → Beside s c k w x l y
     → length y.line.taken ≤ length x.upper.transport.gave
 taken_few s c k w x l y b =
     let p = b.0.0.0.prefix in
@@ -35,7 +35,7 @@ taken_few s c k w x l y b =
     omega arith
 
 -- the block of a TPDU is handed down
-pub gives_beside : Below → (s : Opening) (c : Bool) (k : ℕ) (w : List Frame) (x : Core) (l : List Frame) (y : Core) (g : Given) (u : Upper) → Fits g → is_down x.line.phase ≡ false
+pub gives_beside : Below → (s : EndLinkOpening) (c : Bool) (k : ℕ) (w : List Frame) (x : Core) (l : List Frame) (y : Core) (g : GivenTpdu) (u : Upper) → Fits g → is_down x.line.phase ≡ false
     → u.transport.gave ≡ x.upper.transport.gave ++ g ∷ [] → Beside s c k w x l y
     → Beside s c k w (record x { line = hands x.moment (block g) x.line; upper = u }) l y
 gives_beside below s c k w x l y g u fits live e b =
@@ -47,17 +47,17 @@ gives_beside below s c k w x l y g u fits live e b =
       below.keep.handed false k w x.moment x.line l y.line (block g) short b.0,
       handed ∙ ap (λ (t : List (List ℕ)). t ++ block g ∷ []) b.1 ∙ sym (ap (map block) e ∙ map-append block x.upper.transport.gave (g ∷ [])),
       b.2,
-      subst (λ (t : List Given). Own s (not c) y (take (length y.line.taken) t)) (sym e)
-          (subst (λ (t : List Given). Own s (not c) y t) (sym (take-append-le (length y.line.taken) x.upper.transport.gave (g ∷ []) few)) b.3),
+      subst (λ (t : List GivenTpdu). Own s (not c) y (take (length y.line.taken) t)) (sym e)
+          (subst (λ (t : List GivenTpdu). Own s (not c) y t) (sym (take-append-le (length y.line.taken) x.upper.transport.gave (g ∷ []) few)) b.3),
     )
 
-pub gives_heard : Below → (x y : Core) (g : Given) (u : Upper) → heard (record x { line = hands x.moment (block g) x.line; upper = u }) y ≡ heard x y
+pub gives_heard : Below → (x y : Core) (g : GivenTpdu) (u : Upper) → heard (record x { line = hands x.moment (block g) x.line; upper = u }) y ≡ heard x y
 gives_heard below x y g u = ap (λ (t : List (List ℕ)). take (length t) y.upper.transport.gave) (below.hands x.moment (block g) x.line).1
 
 -- ---- one TPDU more in what holds always
 
-pub always_push : (s : Opening) (c : Bool) (segs : List Segment) (given acked edge newest : ℕ) (contents : List Segment) (gave : List Given)
-    (sent accepted : List (List ℕ)) (h : List Given) (g : Given) → dt_of g ≡ [] → ak_of g ≡ [] → dc_of g ≡ [] → Opens c s.settings.credit s.settings.size (gave ++ g ∷ []) → Fits g
+pub always_push : (s : EndLinkOpening) (c : Bool) (segs : List Segment) (given acked edge newest : ℕ) (contents : List Segment) (gave : List GivenTpdu)
+    (sent accepted : List (List ℕ)) (h : List GivenTpdu) (g : GivenTpdu) → dt_of g ≡ [] → ak_of g ≡ [] → dc_of g ≡ [] → Opens c s.settings.credit s.settings.size (gave ++ g ∷ []) → Fits g
     → Always s c segs given acked edge newest contents gave sent accepted h → Always s c segs given acked edge newest contents (gave ++ g ∷ []) sent accepted h
 always_push s c segs given acked edge newest contents gave sent accepted h g d a o opens fits v = record {
   gives = gives_other s.settings.credit segs given acked edge newest contents gave g d a v.gives;
@@ -74,13 +74,13 @@ always_push s c segs given acked edge newest contents gave sent accepted h g d a
 -- ---- the next TPDU
 
 -- the end behind a turn of its transport
-abbrev pub gives_at : Turn → Core → Core
+abbrev pub gives_at : TpduTurn → Core → Core
 gives_at u x = record x {
   line = hands x.moment (last_block (octets_due (tpdu_at x.upper.transport u))) x.line;
   upper = record (x.upper) { transport = with_given (state_behind x.upper.transport u) (tpdu_at x.upper.transport u) };
 }
 
-abbrev TurnIs : Option (List ℕ) → (owed granted : Bool) → Turn → Type 0
+abbrev TurnIs : Option (List ℕ) → (owed granted : Bool) → TpduTurn → Type 0
 TurnIs due owed granted Rest = Unit {0}
 TurnIs due owed granted (Opens_next user) = due ≡ Some user
 TurnIs due owed granted Acknowledgement = (due ≡ None) × (owed ≡ true)
@@ -92,7 +92,7 @@ turn_tells None true granted = (refl, refl)
 turn_tells None false true = (refl, refl)
 turn_tells None false false = tt
 
-pub live_stage : (c : Bool) (stage : Stage) (due : Option (List ℕ)) (h gave : List Given) (phase : Link_phase) → Stages c stage due h gave phase → is_over stage ≡ false
+pub live_stage : (c : Bool) (stage : Stage) (due : Option (List ℕ)) (h gave : List GivenTpdu) (phase : Link_phase) → Stages c stage due h gave phase → is_over stage ≡ false
 live_stage true stages.New due h gave phase a = refl
 live_stage false stages.New due h gave phase a = refl
 live_stage true stages.Calling due h gave phase a = refl
@@ -102,19 +102,19 @@ live_stage c stages.Open due h gave phase a = refl
 live_stage c stages.Over due h gave phase a = absurd a
 
 -- the turn of a live end
-abbrev pub turn_live : Transport → Turn
+abbrev pub turn_live : Transport → TpduTurn
 turn_live t = turn_among t.due (nat_lt t.newest (ack_of t)) (nat_lt t.given (length t.segments) && nat_lt t.given t.edge)
 
 pub turn_is : (t : Transport) → is_over t.stage ≡ false → turn_of t ≡ turn_live t
 turn_is t live = ap (λ (b : Bool). if b then Rest else turn_live t) live
 
 -- nothing was got before anything was heard
-pub none_got : (h : List Given) (contents : List Segment) → dts h ≡ number 0 contents → h ≡ [] → contents ≡ []
+pub none_got : (h : List GivenTpdu) (contents : List Segment) → dts h ≡ number 0 contents → h ≡ [] → contents ≡ []
 none_got h [] e none = refl
 none_got h (x ∷ xs) e none = absurd (let u : [] ≡ number 0 (x ∷ xs) = sym (ap dts none) ∙ e in let v : ⊥ = cc in v)
 
 -- an end whose transport owes an AK, or may give a DT, gave something before
-some_given : (c : Bool) (stage : Stage) (due : Option (List ℕ)) (h gave : List Given) (phase : Link_phase) → due ≡ None → (stage ≡ stages.New → ⊥) → Stages c stage due h gave phase → 1 ≤ length gave
+some_given : (c : Bool) (stage : Stage) (due : Option (List ℕ)) (h gave : List GivenTpdu) (phase : Link_phase) → due ≡ None → (stage ≡ stages.New → ⊥) → Stages c stage due h gave phase → 1 ≤ length gave
 some_given true stages.New due h gave phase e not_new a = absurd (not_new refl)
 some_given false stages.New due h gave phase e not_new a = absurd (not_new refl)
 some_given true stages.Calling due h gave phase e not_new a = a.1 e
@@ -124,7 +124,7 @@ some_given c stages.Open due h gave phase e not_new a = a.1 e
 some_given c stages.Over due h gave phase e not_new a = absurd a
 
 -- a stage with more given
-stages_more : (c : Bool) (stage : Stage) (h gave : List Given) (g : Given) (due : Option (List ℕ)) (phase : Link_phase) → (stage ≡ stages.New → ⊥) → Stages c stage due h gave phase
+stages_more : (c : Bool) (stage : Stage) (h gave : List GivenTpdu) (g : GivenTpdu) (due : Option (List ℕ)) (phase : Link_phase) → (stage ≡ stages.New → ⊥) → Stages c stage due h gave phase
     → Stages c stage None h (gave ++ g ∷ []) phase
 stages_more true stages.New h gave g due phase not_new a = absurd (not_new refl)
 stages_more false stages.New h gave g due phase not_new a = absurd (not_new refl)
@@ -137,7 +137,7 @@ stages_more c stages.Over h gave g due phase not_new a = absurd a
 -- ---- what is given at a turn
 
 -- a size of TPDUs, as the settings have it
-pub size_known : Below → (s : Opening) → IsSize s.settings.size × (s.settings.size ≤ 1024) × (6 ≤ s.settings.size)
+pub size_known : Below → (s : EndLinkOpening) → IsSize s.settings.size × (s.settings.size ≤ 1024) × (6 ≤ s.settings.size)
 size_known below s =
     let b = below.bounded s.settings s.allowed in
     elim b.size [
@@ -147,23 +147,23 @@ size_known below s =
       | inr (inr (inr e)) ↦ (inr (inr (inr (inl e))), omega arith, omega arith)
     ]
 
-pub credit_known : Below → (s : Opening) → (1 ≤ s.settings.credit) × (s.settings.credit ≤ 15)
+pub credit_known : Below → (s : EndLinkOpening) → (1 ≤ s.settings.credit) × (s.settings.credit ≤ 15)
 credit_known below s = (below.bounded s.settings s.allowed).credit
 
 -- the station gets the block of a TPDU that is given at a turn
-given_beside : Below → (s : Opening) (c : Bool) (k : ℕ) (w : List Frame) (x : Core) (l : List Frame) (y : Core) (g : Given) (t : Transport) → Fits g
+given_beside : Below → (s : EndLinkOpening) (c : Bool) (k : ℕ) (w : List Frame) (x : Core) (l : List Frame) (y : Core) (g : GivenTpdu) (t : Transport) → Fits g
     → t.gave ≡ x.upper.transport.gave → Busy s c k w x l y
     → Beside s c k w (record x { line = hands x.moment (block g) x.line; upper = record (x.upper) { transport = with_given t (Some g) } }) l y
 given_beside below s c k w x l y g t fits e b =
-    gives_beside below s c k w x l y g (record (x.upper) { transport = with_given t (Some g) }) fits b.alive.awake (ap (λ (r : List Given). r ++ g ∷ []) e) b.beside
+    gives_beside below s c k w x l y g (record (x.upper) { transport = with_given t (Some g) }) fits b.alive.awake (ap (λ (r : List GivenTpdu). r ++ g ∷ []) e) b.beside
 
 -- with the AK of a higher number
-ack_keeps : Below → (s : Opening) (c : Bool) (k : ℕ) (w : List Frame) (x : Core) (l : List Frame) (y : Core) → x.upper.transport.due ≡ None
+ack_keeps : Below → (s : EndLinkOpening) (c : Bool) (k : ℕ) (w : List Frame) (x : Core) (l : List Frame) (y : Core) → x.upper.transport.due ≡ None
     → nat_lt x.upper.transport.newest (ack_of x.upper.transport) ≡ true → Busy s c k w x l y → Busy s c k w (gives_at Acknowledgement x) l y
 ack_keeps below s c k w x l y none owed b =
     let t : Transport = x.upper.transport in
     let n : ℕ = ack_of t in
-    let g : Given = Ak t.credit n in
+    let g : GivenTpdu = Ak t.credit n in
     let more : t.newest < n = ltb-true t.newest n owed in
     let lag : n ≤ length t.contents = below.most t.taken t.contents in
     let C : ℕ = s.settings.credit in
@@ -178,7 +178,7 @@ ack_keeps below s c k w x l y none owed b =
     let len = length_push t.gave g in
     record {
       beside = given_beside below s c k w x l y g (record t { newest = n }) fits refl b;
-      always = subst (λ (h : List Given). AlwaysOf s c x' h) (sym eh) (record {
+      always = subst (λ (h : List GivenTpdu). AlwaysOf s c x' h) (sym eh) (record {
         gives = gives_ak C t.segments t.given t.acked t.edge t.newest t.contents t.gave t.credit n (omega arith) lag b.always.gives;
         gets = b.always.gets;
         cuts = b.always.cuts;
@@ -190,7 +190,7 @@ ack_keeps below s c k w x l y none owed b =
         sendable = b.always.sendable;
       });
       told = λ a. let v = b.told a in record { proper = each_push (Proper s c) t.gave g v.proper tt; said = v.said; good = v.good };
-      alive = subst (λ (h : List Given). AliveOf s c x' h) (sym eh) (subst (λ (p : Link_phase). Alive s c t.stage t.is_caller t.credit t.size t.due (t.gave ++ g ∷ []) (heard x y) t.given t.acked t.edge n x.joined p) (sym (below.phases.hands x.moment (block g) x.line))
+      alive = subst (λ (h : List GivenTpdu). AliveOf s c x' h) (sym eh) (subst (λ (p : Link_phase). Alive s c t.stage t.is_caller t.credit t.size t.due (t.gave ++ g ∷ []) (heard x y) t.given t.acked t.edge n x.joined p) (sym (below.phases.hands x.moment (block g) x.line))
           (record {
             stages = subst (λ (d : Option (List ℕ)). Stages c t.stage d (heard x y) (t.gave ++ g ∷ []) x.line.phase) (sym none) (stages_more c t.stage (heard x y) t.gave g t.due x.line.phase not_new b.alive.stages);
             role_is = b.alive.role_is;
@@ -208,18 +208,18 @@ ack_keeps below s c k w x l y none owed b =
       trusting = b.trusting;
     }
   where
-    new_heard : (c : Bool) (due : Option (List ℕ)) (h gave : List Given) (phase : Link_phase) → Stages c stages.New due h gave phase → h ≡ []
+    new_heard : (c : Bool) (due : Option (List ℕ)) (h gave : List GivenTpdu) (phase : Link_phase) → Stages c stages.New due h gave phase → h ≡ []
     new_heard true due h gave phase a = a.1
     new_heard false due h gave phase a = a.1
 
 -- with the next segment
-data_keeps : Below → (s : Opening) (c : Bool) (k : ℕ) (w : List Frame) (x : Core) (l : List Frame) (y : Core) → x.upper.transport.due ≡ None
+data_keeps : Below → (s : EndLinkOpening) (c : Bool) (k : ℕ) (w : List Frame) (x : Core) (l : List Frame) (y : Core) → x.upper.transport.due ≡ None
     → (nat_lt x.upper.transport.given (length x.upper.transport.segments) && nat_lt x.upper.transport.given x.upper.transport.edge) ≡ true
     → Busy s c k w x l y → Busy s c k w (gives_at Data x) l y
 data_keeps below s c k w x l y none granted b =
     let t : Transport = x.upper.transport in
     let next : Segment = slice_index_or t.segments t.given (true, []) in
-    let g : Given = Dt next.0 t.given next.1 in
+    let g : GivenTpdu = Dt next.0 t.given next.1 in
     let parts = and_parts (nat_lt t.given (length t.segments)) (nat_lt t.given t.edge) granted in
     let some : t.given < length t.segments = ltb-true t.given (length t.segments) parts.0 in
     let low : t.given < t.edge = ltb-true t.given t.edge parts.1 in
@@ -234,7 +234,7 @@ data_keeps below s c k w x l y none granted b =
     let len = length_push t.gave g in
     record {
       beside = given_beside below s c k w x l y g (record t { given = t.given + 1 }) fits refl b;
-      always = subst (λ (h : List Given). AlwaysOf s c x' h) (sym eh) (record {
+      always = subst (λ (h : List GivenTpdu). AlwaysOf s c x' h) (sym eh) (record {
         gives = gives_dt C t.segments t.given t.acked t.edge t.newest t.contents t.gave next.0 next.1 some low refl b.always.gives;
         gets = b.always.gets;
         cuts = b.always.cuts;
@@ -246,7 +246,7 @@ data_keeps below s c k w x l y none granted b =
         sendable = b.always.sendable;
       });
       told = λ a. let v = b.told a in record { proper = each_push (Proper s c) t.gave g v.proper tt; said = v.said; good = v.good };
-      alive = subst (λ (h : List Given). AliveOf s c x' h) (sym eh) (subst (λ (p : Link_phase). Alive s c t.stage t.is_caller t.credit t.size t.due (t.gave ++ g ∷ []) (heard x y) (t.given + 1) t.acked t.edge t.newest x.joined p) (sym (below.phases.hands x.moment (block g) x.line))
+      alive = subst (λ (h : List GivenTpdu). AliveOf s c x' h) (sym eh) (subst (λ (p : Link_phase). Alive s c t.stage t.is_caller t.credit t.size t.due (t.gave ++ g ∷ []) (heard x y) (t.given + 1) t.acked t.edge t.newest x.joined p) (sym (below.phases.hands x.moment (block g) x.line))
           (record {
             stages = subst (λ (d : Option (List ℕ)). Stages c t.stage d (heard x y) (t.gave ++ g ∷ []) x.line.phase) (sym none) (stages_more c t.stage (heard x y) t.gave g t.due x.line.phase not_new b.alive.stages);
             role_is = b.alive.role_is;
@@ -268,7 +268,7 @@ data_keeps below s c k w x l y none granted b =
     new_edge acked edge credit a = a.0
 
 -- the CR or CC
-abbrev first_of : Bool → (credit size : ℕ) → List ℕ → Given
+abbrev first_of : Bool → (credit size : ℕ) → List ℕ → GivenTpdu
 first_of true credit size user = Cr credit size user
 first_of false credit size user = Cc credit size user
 
@@ -281,15 +281,15 @@ first_fits : (c : Bool) (C S : ℕ) (user : List ℕ) → C ≤ 15 → IsSize S 
 first_fits true C S user most size short = fits_cr C S user most size short
 first_fits false C S user most size short = fits_cc C S user most size short
 
-first_opens : (c : Bool) (C S : ℕ) (user : List ℕ) (gave : List Given) → gave ≡ [] → Opens c C S (gave ++ first_of c C S user ∷ [])
-first_opens true C S user gave e = subst (λ (t : List Given). Opens true C S (t ++ Cr C S user ∷ [])) (sym e) ((refl, refl), tt)
-first_opens false C S user gave e = subst (λ (t : List Given). Opens false C S (t ++ Cc C S user ∷ [])) (sym e) ((refl, refl), tt)
+first_opens : (c : Bool) (C S : ℕ) (user : List ℕ) (gave : List GivenTpdu) → gave ≡ [] → Opens c C S (gave ++ first_of c C S user ∷ [])
+first_opens true C S user gave e = subst (λ (t : List GivenTpdu). Opens true C S (t ++ Cr C S user ∷ [])) (sym e) ((refl, refl), tt)
+first_opens false C S user gave e = subst (λ (t : List GivenTpdu). Opens false C S (t ++ Cc C S user ∷ [])) (sym e) ((refl, refl), tt)
 
-first_proper : (s : Opening) (c : Bool) (C S : ℕ) (user : List ℕ) → user ≡ greeting s c → Proper s c (first_of c C S user)
+first_proper : (s : EndLinkOpening) (c : Bool) (C S : ℕ) (user : List ℕ) → user ≡ greeting s c → Proper s c (first_of c C S user)
 first_proper s true C S user e = e
 first_proper s false C S user e = e
 
-stages_first : (c : Bool) (stage : Stage) (h gave : List Given) (g : Given) (user : List ℕ) (phase : Link_phase) → Stages c stage (Some user) h gave phase
+stages_first : (c : Bool) (stage : Stage) (h gave : List GivenTpdu) (g : GivenTpdu) (user : List ℕ) (phase : Link_phase) → Stages c stage (Some user) h gave phase
     → Stages c stage None h (gave ++ g ∷ []) phase
 stages_first true stages.New h gave g user phase a = absurd (let e = a.0 in let u : ⊥ = cc in u)
 stages_first false stages.New h gave g user phase a = absurd (let e = a.0 in let u : ⊥ = cc in u)
@@ -299,13 +299,13 @@ stages_first c stages.Called h gave g user phase a = absurd a
 stages_first c stages.Open h gave g user phase a = (a.0, λ e. omega (arith, length_push gave g))
 stages_first c stages.Over h gave g user phase a = absurd a
 
-opening_keeps : Below → (s : Opening) (c : Bool) (k : ℕ) (w : List Frame) (x : Core) (l : List Frame) (y : Core) (user : List ℕ) → x.upper.transport.due ≡ Some user
+opening_keeps : Below → (s : EndLinkOpening) (c : Bool) (k : ℕ) (w : List Frame) (x : Core) (l : List Frame) (y : Core) (user : List ℕ) → x.upper.transport.due ≡ Some user
     → Busy s c k w x l y → Busy s c k w (gives_at (Opens_next user) x) l y
 opening_keeps below s c k w x l y user e b =
     let t : Transport = x.upper.transport in
     let C : ℕ = s.settings.credit in
     let S : ℕ = s.settings.size in
-    let g : Given = first_of c C S user in
+    let g : GivenTpdu = first_of c C S user in
     let is_first : (if t.is_caller then Cr t.credit t.size user else Cc t.credit t.size user) ≡ g =
     ap (λ (r : Bool). if r then Cr t.credit t.size user else Cc t.credit t.size user) b.alive.role_is
     ∙ ap (λ (n : ℕ). if c then Cr n t.size user else Cc n t.size user) b.alive.credit_is
@@ -319,14 +319,14 @@ opening_keeps below s c k w x l y user e b =
     let eh = gives_heard below x y g u in
     let len = length_push t.gave g in
     let zero_length : length t.gave ≡ 0 = ap length due.0 in
-    subst (λ (z : Given). Busy s c k w (record x { line = hands x.moment (block z) x.line; upper = record (x.upper) { transport = with_given none (Some z) } }) l y) (sym is_first)
+    subst (λ (z : GivenTpdu). Busy s c k w (record x { line = hands x.moment (block z) x.line; upper = record (x.upper) { transport = with_given none (Some z) } }) l y) (sym is_first)
     (record {
       beside = given_beside below s c k w x l y g none fits refl b;
-      always = subst (λ (h : List Given). AlwaysOf s c x' h) (sym eh)
+      always = subst (λ (h : List GivenTpdu). AlwaysOf s c x' h) (sym eh)
           (always_push s c t.segments t.given t.acked t.edge t.newest t.contents t.gave x.upper.sent x.upper.accepted (heard x y) g p.0 p.1 p.3
           (first_opens c C S user t.gave due.0) fits b.always);
       told = λ a. let v = b.told a in record { proper = each_push (Proper s c) t.gave g v.proper (first_proper s c C S user (due.2 a)); said = v.said; good = v.good };
-      alive = subst (λ (h : List Given). AliveOf s c x' h) (sym eh) (subst (λ (p : Link_phase). Alive s c t.stage t.is_caller t.credit t.size None (t.gave ++ g ∷ []) (heard x y) t.given t.acked t.edge t.newest x.joined p) (sym (below.phases.hands x.moment (block g) x.line))
+      alive = subst (λ (h : List GivenTpdu). AliveOf s c x' h) (sym eh) (subst (λ (p : Link_phase). Alive s c t.stage t.is_caller t.credit t.size None (t.gave ++ g ∷ []) (heard x y) t.given t.acked t.edge t.newest x.joined p) (sym (below.phases.hands x.moment (block g) x.line))
           (record {
             stages = stages_first c t.stage (heard x y) t.gave g user x.line.phase (subst (λ (d : Option (List ℕ)). Stages c t.stage d (heard x y) t.gave x.line.phase) e b.alive.stages);
             role_is = b.alive.role_is;
@@ -349,7 +349,7 @@ opening_keeps below s c k w x l y user e b =
     chosen false C S user = refl
 
 -- at any turn
-turn_keeps : Below → (s : Opening) (c : Bool) (k : ℕ) (w : List Frame) (x : Core) (l : List Frame) (y : Core) (u : Turn)
+turn_keeps : Below → (s : EndLinkOpening) (c : Bool) (k : ℕ) (w : List Frame) (x : Core) (l : List Frame) (y : Core) (u : TpduTurn)
     → TurnIs x.upper.transport.due (nat_lt x.upper.transport.newest (ack_of x.upper.transport)) (nat_lt x.upper.transport.given (length x.upper.transport.segments) && nat_lt x.upper.transport.given x.upper.transport.edge) u
     → is_some (tpdu_at x.upper.transport u) ≡ true → Busy s c k w x l y → Busy s c k w (gives_at u x) l y
 turn_keeps below s c k w x l y Rest h some b = absurd cc
@@ -357,11 +357,11 @@ turn_keeps below s c k w x l y (Opens_next user) h some b = opening_keeps below 
 turn_keeps below s c k w x l y Acknowledgement h some b = ack_keeps below s c k w x l y h.0 h.1 b
 turn_keeps below s c k w x l y Data h some b = data_keeps below s c k w x l y h.0 h.1 b
 
-pub next_keeps : Below → (s : Opening) (c : Bool) (k : ℕ) (w : List Frame) (x : Core) (l : List Frame) (y : Core) → is_some (next_tpdu x.upper.transport) ≡ true
+pub next_keeps : Below → (s : EndLinkOpening) (c : Bool) (k : ℕ) (w : List Frame) (x : Core) (l : List Frame) (y : Core) → is_some (next_tpdu x.upper.transport) ≡ true
     → Busy s c k w x l y → Busy s c k w (hand_next_tpdu model x) l y
 next_keeps below s c k w x l y some b =
     let t : Transport = x.upper.transport in
     let e = turn_is t (live_stage c t.stage t.due (heard x y) t.gave x.line.phase b.alive.stages) in
-    subst (λ (u : Turn). Busy s c k w (gives_at u x) l y) (sym e)
+    subst (λ (u : TpduTurn). Busy s c k w (gives_at u x) l y) (sym e)
     (turn_keeps below s c k w x l y (turn_live t) (turn_tells t.due (nat_lt t.newest (ack_of t)) (nat_lt t.given (length t.segments) && nat_lt t.given t.edge))
-    (sym (ap (λ (u : Turn). is_some (tpdu_at t u)) e) ∙ some) b)
+    (sym (ap (λ (u : TpduTurn). is_some (tpdu_at t u)) e) ∙ some) b)

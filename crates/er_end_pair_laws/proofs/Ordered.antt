@@ -4,16 +4,16 @@ use Rattle.std.specs.Prelude.{◌==◌}
 use Rattle.er_settings.specs.Ranges.{IsModulo}
 use Rattle.hdlc_station_model.specs.Frames.{modulo}
 use Rattle.x224_class2.specs.Segments.{messages_in}
-use Rattle.x224_class2.specs.Tpdus.{Given}
+use Rattle.x224_class2.specs.Tpdus.{GivenTpdu}
 use Rattle.safety_automaton.specs.Safety.{initiator, responder}
 use Rattle.er_end_model.specs.Layers.{Core, model}
 use Rattle.er_end_model.specs.Steps.{new_event_at, step_start}
 use Rattle.er_end_model.specs.Ends.{End, core_made, Call, Answer}
 use Rattle.er_end_model.specs.Ends as end
-use Rattle.er_end_pair_laws.specs.Openings.{Opening}
-use Rattle.er_end_pair_laws.specs.Links.{Link, opened}
-use Rattle.er_end_pair_laws.specs.Steps.{LinkStep, AllFit}
-use Rattle.er_end_pair_laws.specs.Laws.{after, Prefix, LosingLineReasons}
+use Rattle.er_end_pair_laws.specs.Openings.{EndLinkOpening}
+use Rattle.er_end_pair_laws.specs.Links.{EndLink, opened_end_link}
+use Rattle.er_end_pair_laws.specs.Steps.{EndLinkStep, AllFit}
+use Rattle.er_end_pair_laws.specs.Laws.{end_link_after, Prefix, LosingLineReasons}
 use Rattle.er_end_pair_laws.proofs.Lists.{Head, head_trans, head_take, head_flat, head_prefix}
 use Rattle.er_end_pair_laws.proofs.Segments.{messages_head}
 use Rattle.er_end_pair_laws.proofs.Ports.{got_head}
@@ -25,7 +25,7 @@ use Rattle.er_end_pair_laws.proofs.Worlds.{Holds, e_event, run_keeps}
 
 -- ---- two ends that were just made
 
-pub own_made_e : (s : Opening) → Own s true (core_made true s.settings (initiator s.engine s.rbc s.kmac s.rb) s.moment) []
+pub own_made_e : (s : EndLinkOpening) → Own s true (core_made true s.settings (initiator s.engine s.rbc s.kmac s.rb) s.moment) []
 own_made_e s = record {
   always = record {
     gives = record { all = refl; most = omega arith; below = omega arith; near = omega arith; behind = omega arith; tells = omega arith; lag = omega arith };
@@ -59,7 +59,7 @@ own_made_e s = record {
   };
 }
 
-pub own_made_r : (s : Opening) → Own s false (core_made false s.settings (responder s.rbc s.ra) s.moment) []
+pub own_made_r : (s : EndLinkOpening) → Own s false (core_made false s.settings (responder s.rbc s.ra) s.moment) []
 own_made_r s = record {
   always = record {
     gives = record { all = refl; most = omega arith; below = omega arith; near = omega arith; behind = omega arith; tells = omega arith; lag = omega arith };
@@ -97,7 +97,7 @@ pub window_below : (m w : ℕ) → IsModulo m → w < m → w < modulo (m == 128
 window_below m w (inl e) h = subst (λ (n : ℕ). w < modulo (n == 128)) (sym e) (omega arith)
 window_below m w (inr e) h = subst (λ (n : ℕ). w < modulo (n == 128)) (sym e) (omega arith)
 
-abbrev pub made_ends : Opening → Link
+abbrev pub made_ends : EndLinkOpening → EndLink
 made_ends s = record {
   e = end.opened (Call s.settings s.engine s.rbc s.kmac s.rb s.moment);
   r = end.opened (Answer s.settings s.rbc s.ra s.moment);
@@ -109,7 +109,7 @@ made_ends s = record {
   loss_free = true;
 }
 
-unfoldable pub made_holds : Below → (s : Opening) → Holds s (made_ends s)
+unfoldable pub made_holds : Below → (s : EndLinkOpening) → Holds s (made_ends s)
 made_holds below s =
     let b = below.bounded s.settings s.allowed in
     let x : Bool = s.settings.modulo == 128 in
@@ -130,20 +130,20 @@ made_holds below s =
       flag_r = inl refl;
     }
 
-unfoldable pub opened_holds : Below → (s : Opening) → Holds s (opened s)
+unfoldable pub opened_holds : Below → (s : EndLinkOpening) → Holds s (opened_end_link s)
 opened_holds below s =
-    let l : Link = made_ends s in
+    let l : EndLink = made_ends s in
     let h = made_holds below s in
     e_event below s l h (step_start model l.moment l.e.core)
     (started_keeps below s true h.k h.fe (new_event_at model l.moment l.e.core) h.fr l.r.core (e_begins s h.k h.fe l.e.core h.fr l.r.core l.moment h.two))
 
-pub after_holds : Below → (s : Opening) (steps : List LinkStep) → AllFit steps → (after s steps).order_kept ≡ true → Holds s (after s steps)
-after_holds below s steps fits = run_keeps below s steps (opened s) fits (λ e. opened_holds below s)
+pub after_holds : Below → (s : EndLinkOpening) (steps : List EndLinkStep) → AllFit steps → (end_link_after s steps).order_kept ≡ true → Holds s (end_link_after s steps)
+after_holds below s steps fits = run_keeps below s steps (opened_end_link s) fits (λ e. opened_holds below s)
 
 -- ---- the laws
 
 -- what x accepted is a beginning of what y sent
-accepted_head : (s : Opening) (c d : Bool) (x y : Core) (h : List Given) → Own s c x (heard x y) → Own s d y h → Head x.upper.accepted y.upper.sent
+accepted_head : (s : EndLinkOpening) (c d : Bool) (x y : Core) (h : List GivenTpdu) → Own s c x (heard x y) → Own s d y h → Head x.upper.accepted y.upper.sent
 accepted_head s c d x y h a b =
     let t = x.upper.transport in
     let u = y.upper.transport in
@@ -156,7 +156,7 @@ accepted_head s c d x y h a b =
 pub prefix : Below → Prefix
 prefix below s steps fits kept =
     let h = after_holds below s steps fits kept in
-    let l : Link = after s steps in (
+    let l : EndLink = end_link_after s steps in (
       head_prefix l.r.core.upper.accepted l.e.core.upper.sent (accepted_head s false true l.r.core l.e.core (heard l.e.core l.r.core) h.two.own_r h.two.own_e),
       head_prefix l.e.core.upper.accepted l.r.core.upper.sent (accepted_head s true false l.e.core l.r.core (heard l.r.core l.e.core) h.two.own_e h.two.own_r),
     )

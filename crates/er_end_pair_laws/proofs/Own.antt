@@ -11,12 +11,12 @@ use Rattle.hdlc_station_model.specs.Frames.{Frame}
 use Rattle.hdlc_station_model.specs.Stations.{is_up, is_down}
 use Rattle.hdlc_pair_laws.specs.Invariant.{Both}
 use Rattle.x224_class2.specs.Segments.{Segment, messages_in}
-use Rattle.x224_class2.specs.Tpdus.{Given, Cr, Cc, Dt, Ak, Dr, Dc, octets_given}
+use Rattle.x224_class2.specs.Tpdus.{GivenTpdu, Cr, Cc, Dt, Ak, Dr, Dc, octets_given}
 use Rattle.x224_class2.specs.declared.stage.Stage.{Stage}
 use Rattle.x224_class2.specs.declared.stage.Stage.TheVariants as stages
 use Rattle.er_end_model.specs.Layers.{Core, model}
 use Rattle.er_end_model.specs.Steps.{why_of, has_next_tpdu}
-use Rattle.er_end_pair_laws.specs.Openings.{Opening, Agree}
+use Rattle.er_end_pair_laws.specs.Openings.{EndLinkOpening, Agree}
 use Rattle.er_end_pair_laws.specs.Reasons.{IsLosingLineRelease}
 use Rattle.er_end_pair_laws.proofs.Lists.{Head, Each, Ends}
 use Rattle.er_end_pair_laws.proofs.Locals.{drs, dcs, aks, Gives, Gets, Cuts, Opens, Fits}
@@ -28,8 +28,8 @@ users messages = flat_map users_of messages
 
 -- ---- always, also of a released end
 
-pub record Always (s : Opening) (c : Bool) (segs : List Segment) (given acked edge newest : ℕ) (contents : List Segment) (gave : List Given)
-    (sent accepted : List (List ℕ)) (h : List Given) : Type 0 where
+pub record Always (s : EndLinkOpening) (c : Bool) (segs : List Segment) (given acked edge newest : ℕ) (contents : List Segment) (gave : List GivenTpdu)
+    (sent accepted : List (List ℕ)) (h : List GivenTpdu) : Type 0 where
   pub gives : Gives s.settings.credit segs given acked edge newest contents gave
   pub gets : Gets acked contents h
   pub cuts : Cuts s.settings.size segs
@@ -40,7 +40,7 @@ pub record Always (s : Opening) (c : Bool) (segs : List Segment) (given acked ed
   pub fits : Each Fits gave
   pub sendable : Each Sendable sent
 
-abbrev pub AlwaysOf : Opening → Bool → Core → List Given → Type 0
+abbrev pub AlwaysOf : EndLinkOpening → Bool → Core → List GivenTpdu → Type 0
 AlwaysOf s c x h =
     Always s c x.upper.transport.segments x.upper.transport.given x.upper.transport.acked x.upper.transport.edge x.upper.transport.newest
     x.upper.transport.contents x.upper.transport.gave x.upper.sent x.upper.accepted h
@@ -48,7 +48,7 @@ AlwaysOf s c x h =
 -- ---- where the keys agree, also of a released end
 
 -- what a TPDU says; of a DR, the release that its receiver makes of it
-abbrev pub Proper : Opening → Bool → Given → Type 0
+abbrev pub Proper : EndLinkOpening → Bool → GivenTpdu → Type 0
 Proper s c (Cr credit size user) = user ≡ greeting s c
 Proper s c (Cc credit size user) = user ≡ greeting s c
 Proper s c (Dt last n user) = Unit {0}
@@ -56,20 +56,20 @@ Proper s c (Ak credit n) = Unit {0}
 Proper s c (Dr reason user) = IsLosingLineRelease (Some (why_of (di_in user (flag_at c))))
 Proper s c Dc = Unit {0}
 
-abbrev pub Said : Opening → Bool → List (List ℕ) → List (List ℕ) → Type 0
+abbrev pub Said : EndLinkOpening → Bool → List (List ℕ) → List (List ℕ) → Type 0
 Said s c messages sent = ((messages ≡ []) × (sent ≡ [])) ⊎ (messages ≡ said_all s c sent)
 
-pub record Told (s : Opening) (c : Bool) (segs : List Segment) (gave : List Given) (sent : List (List ℕ)) (released : Option Release) : Type 0 where
+pub record Told (s : EndLinkOpening) (c : Bool) (segs : List Segment) (gave : List GivenTpdu) (sent : List (List ℕ)) (released : Option Release) : Type 0 where
   pub proper : Each (Proper s c) gave
   pub said : Said s c (messages_in segs) sent
   pub good : IsLosingLineRelease released
 
-abbrev pub ToldOf : Opening → Bool → Core → Type 0
+abbrev pub ToldOf : EndLinkOpening → Bool → Core → Type 0
 ToldOf s c x = Told s c x.upper.transport.segments x.upper.transport.gave x.upper.sent x.released
 
 -- ---- of a live end: its transport and its station
 
-abbrev pub Stages : Bool → Stage → Option (List ℕ) → List Given → List Given → Link_phase → Type 0
+abbrev pub Stages : Bool → Stage → Option (List ℕ) → List GivenTpdu → List GivenTpdu → Link_phase → Type 0
 Stages true stages.New due h gave phase = (due ≡ None) × (h ≡ []) × (gave ≡ []) × (is_up phase ≡ false)
 Stages false stages.New due h gave phase = (due ≡ None) × (h ≡ []) × (gave ≡ [])
 Stages true stages.Calling due h gave phase = (h ≡ []) × (due ≡ None → 1 ≤ length gave) × (is_up phase ≡ true)
@@ -79,7 +79,7 @@ Stages c stages.Open due h gave phase = (1 ≤ length h) × (due ≡ None → 1 
 Stages c stages.Over due h gave phase = ⊥
 
 -- what is due is the first TPDU
-abbrev pub DueIs : Opening → Bool → Option (List ℕ) → List Given → Type 0
+abbrev pub DueIs : EndLinkOpening → Bool → Option (List ℕ) → List GivenTpdu → Type 0
 DueIs s c None gave = Unit {0}
 DueIs s c (Some user) gave = (gave ≡ []) × (length user ≤ 32) × (Agree s → user ≡ greeting s c)
 
@@ -90,7 +90,7 @@ EdgeIs stages.Called acked edge credit = ⊥
 EdgeIs stages.Open acked edge credit = edge ≡ acked + credit
 EdgeIs stages.Over acked edge credit = ⊥
 
-pub record Alive (s : Opening) (c : Bool) (stage : Stage) (is_caller : Bool) (credit size : ℕ) (due : Option (List ℕ)) (gave h : List Given)
+pub record Alive (s : EndLinkOpening) (c : Bool) (stage : Stage) (is_caller : Bool) (credit size : ℕ) (due : Option (List ℕ)) (gave h : List GivenTpdu)
     (given acked edge newest : ℕ) (joined : List ℕ) (phase : Link_phase) : Type 0 where
   pub stages : Stages c stage due h gave phase
   pub role_is : is_caller ≡ c
@@ -105,14 +105,14 @@ pub record Alive (s : Opening) (c : Bool) (stage : Stage) (is_caller : Bool) (cr
   pub due_is : DueIs s c due gave
   pub awake : is_down phase ≡ false
 
-abbrev pub AliveOf : Opening → Bool → Core → List Given → Type 0
+abbrev pub AliveOf : EndLinkOpening → Bool → Core → List GivenTpdu → Type 0
 AliveOf s c x h =
     Alive s c x.upper.transport.stage x.upper.transport.is_caller x.upper.transport.credit x.upper.transport.size x.upper.transport.due
     x.upper.transport.gave h x.upper.transport.given x.upper.transport.acked x.upper.transport.edge x.upper.transport.newest x.joined x.line.phase
 
 -- ---- of a live end: its safety side and its user
 
-abbrev pub Joint : Opening → Bool → Stage → Phase → Type 0
+abbrev pub Joint : EndLinkOpening → Bool → Stage → Phase → Type 0
 Joint s c stages.New (Ready peer kmac rb) = (c ≡ true) × (peer ≡ s.rbc) × (kmac ≡ s.kmac) × (rb ≡ s.rb)
 Joint s c stages.New (WaitAu1 ra) = (c ≡ false) × (ra ≡ s.ra)
 Joint s c stages.New (WaitAu2 peer kmac rb) = ⊥
@@ -138,7 +138,7 @@ Joint s c stages.Open (Released release known) = ⊥
 Joint s c stages.Over phase = ⊥
 
 -- where the keys agree: what is known, what was said and what came
-abbrev pub PhaseIs : Opening → Bool → Phase → (out : List (List ℕ)) → (sent : List (List ℕ)) → (came : List (List ℕ)) → (accepted : List (List ℕ)) → Type 0
+abbrev pub PhaseIs : EndLinkOpening → Bool → Phase → (out : List (List ℕ)) → (sent : List (List ℕ)) → (came : List (List ℕ)) → (accepted : List (List ℕ)) → Type 0
 PhaseIs s c (Ready peer kmac rb) out sent came accepted = (out ≡ []) × (sent ≡ []) × (came ≡ []) × (accepted ≡ [])
 PhaseIs s c (WaitAu1 ra) out sent came accepted = (out ≡ []) × (sent ≡ []) × (came ≡ []) × (accepted ≡ [])
 PhaseIs s c (WaitAu2 peer kmac rb) out sent came accepted = (out ≡ []) × (sent ≡ []) × (came ≡ []) × (accepted ≡ [])
@@ -150,14 +150,14 @@ PhaseIs s c (Connected peer key) out sent came accepted =
     (out ≡ said_all s c sent) × (came ≡ said_all s (not c) accepted) × (peer ≡ own_number s (not c)) × (key ≡ session s)
 PhaseIs s c (Released release known) out sent came accepted = ⊥
 
-pub record Trusting (s : Opening) (c : Bool) (stage : Stage) (safety : Safety) (segs contents : List Segment) (sent accepted : List (List ℕ)) (taken used : ℕ) : Type 0 where
+pub record Trusting (s : EndLinkOpening) (c : Bool) (stage : Stage) (safety : Safety) (segs contents : List Segment) (sent accepted : List (List ℕ)) (taken used : ℕ) : Type 0 where
   pub joint : Joint s c stage safety.phase
   pub side_is : safety ≡ side_in s c safety.phase
   pub users_is : users (messages_in contents) ≡ accepted
   pub took_is : taken + length accepted ≡ length (messages_in contents) + used
   pub phase_is : Agree s → PhaseIs s c safety.phase (messages_in segs) sent (messages_in contents) accepted
 
-abbrev pub TrustingOf : Opening → Bool → Core → Type 0
+abbrev pub TrustingOf : EndLinkOpening → Bool → Core → Type 0
 TrustingOf s c x =
     Trusting s c x.upper.transport.stage x.safe.safety x.upper.transport.segments x.upper.transport.contents x.upper.sent x.upper.accepted
     x.upper.transport.taken x.upper.used
@@ -168,12 +168,12 @@ TrustingOf s c x =
 abbrev pub Rested : Core → Type 0
 Rested x = (x.upper.transport.due ≡ None) × (has_next_tpdu model x ≡ false)
 
-pub record Lives (s : Opening) (c : Bool) (x : Core) (h : List Given) : Type 0 where
+pub record Lives (s : EndLinkOpening) (c : Bool) (x : Core) (h : List GivenTpdu) : Type 0 where
   pub alive : AliveOf s c x h
   pub trusting : TrustingOf s c x
   pub rested : Rested x
 
-pub record Own (s : Opening) (c : Bool) (x : Core) (h : List Given) : Type 0 where
+pub record Own (s : EndLinkOpening) (c : Bool) (x : Core) (h : List GivenTpdu) : Type 0 where
   pub always : AlwaysOf s c x h
   pub told : Agree s → ToldOf s c x
   pub lives : x.released ≡ None → Lives s c x h
@@ -181,21 +181,21 @@ pub record Own (s : Opening) (c : Bool) (x : Core) (h : List Given) : Type 0 whe
 -- ---- two ends, within an event of x
 
 -- the TPDUs that x heard
-abbrev pub heard : Core → Core → List Given
+abbrev pub heard : Core → Core → List GivenTpdu
 heard x y = take (length x.line.taken) y.upper.transport.gave
 
-abbrev pub block : Given → List ℕ
+abbrev pub block : GivenTpdu → List ℕ
 block g = last_block (octets_given g)
 
 -- the station was handed the TPDUs that were given, one block each
 abbrev pub Spelled : Core → Type 0
 Spelled x = x.line.handed ≡ map block x.upper.transport.gave
 
-abbrev pub Beside : Opening → Bool → ℕ → List Frame → Core → List Frame → Core → Type 0
+abbrev pub Beside : EndLinkOpening → Bool → ℕ → List Frame → Core → List Frame → Core → Type 0
 Beside s c k w x l y = Both false k w x.line l y.line × Spelled x × Spelled y × Own s (not c) y (heard y x)
 
 -- x is live and at work
-pub record Busy (s : Opening) (c : Bool) (k : ℕ) (w : List Frame) (x : Core) (l : List Frame) (y : Core) : Type 0 where
+pub record Busy (s : EndLinkOpening) (c : Bool) (k : ℕ) (w : List Frame) (x : Core) (l : List Frame) (y : Core) : Type 0 where
   pub beside : Beside s c k w x l y
   pub always : AlwaysOf s c x (heard x y)
   pub told : Agree s → ToldOf s c x
@@ -203,12 +203,12 @@ pub record Busy (s : Opening) (c : Bool) (k : ℕ) (w : List Frame) (x : Core) (
   pub trusting : TrustingOf s c x
 
 -- x was released
-pub record Gone (s : Opening) (c : Bool) (k : ℕ) (w : List Frame) (x : Core) (l : List Frame) (y : Core) : Type 0 where
+pub record Gone (s : EndLinkOpening) (c : Bool) (k : ℕ) (w : List Frame) (x : Core) (l : List Frame) (y : Core) : Type 0 where
   pub beside : Beside s c k w x l y
   pub always : AlwaysOf s c x (heard x y)
   pub told : Agree s → ToldOf s c x
 
 -- behind an event of x
-pub record Done (s : Opening) (c : Bool) (k : ℕ) (w : List Frame) (x : Core) (l : List Frame) (y : Core) : Type 0 where
+pub record Done (s : EndLinkOpening) (c : Bool) (k : ℕ) (w : List Frame) (x : Core) (l : List Frame) (y : Core) : Type 0 where
   pub beside : Beside s c k w x l y
   pub own : Own s c x (heard x y)

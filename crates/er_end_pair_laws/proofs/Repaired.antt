@@ -8,10 +8,10 @@ use Rattle.hdlc_pair_laws.specs.Repairs.{MendEnds}
 use Rattle.er_end_model.specs.Layers.{Core, model}
 use Rattle.er_end_model.specs.Steps.{new_event_at, step_tick}
 use Rattle.er_end_model.specs.Ends as event
-use Rattle.er_end_pair_laws.specs.Openings.{Opening, Agree}
-use Rattle.er_end_pair_laws.specs.Links.{Link, give, opened}
-use Rattle.er_end_pair_laws.specs.Steps.{LinkStep, Tick, expires_at, tick, run}
-use Rattle.er_end_pair_laws.specs.Laws.{after, IsEmpty}
+use Rattle.er_end_pair_laws.specs.Openings.{EndLinkOpening, Agree}
+use Rattle.er_end_pair_laws.specs.Links.{EndLink, give, opened_end_link}
+use Rattle.er_end_pair_laws.specs.Steps.{EndLinkStep, Tick, is_end_expired_at, tick, end_link_run}
+use Rattle.er_end_pair_laws.specs.Laws.{end_link_after, IsEmpty}
 use Rattle.er_end_pair_laws.specs.Recovery.{ArePassesAndTakes, NoFrameWaits, GoesOnAt, GoOn, IsRecovered, Recovery}
 use Rattle.er_end_pair_laws.proofs.Happens.{ticked_keeps, e_begins, r_begins}
 use Rattle.er_end_pair_laws.proofs.Worlds.{none_on_line}
@@ -20,10 +20,10 @@ use Rattle.er_end_pair_laws.proofs.Mended.{Repair, In, ticked_mends, ticked_live
 use Rattle.er_end_pair_laws.proofs.Mending.{Mends, e_mends, r_mends, r_between, other_mends}
 use Rattle.er_end_pair_laws.proofs.Lasting.{after_lasts, calm_mends, both_go, run_append}
 
-module _ (laws : Repair) (s : Opening) where
+module _ (laws : Repair) (s : EndLinkOpening) where
   -- ---- the tick
 
-  e_ticks : (l : Link) → Mends Lossy s l → NoFrameWaits l → GoesOnAt l.moment l.e → Mends HalfTicked s (give E event.Tick l)
+  e_ticks : (l : EndLink) → Mends Lossy s l → NoFrameWaits l → GoesOnAt l.moment l.e → Mends HalfTicked s (give E event.Tick l)
   e_ticks l g empty may =
       let h = g.holds in
       let x : Core = new_event_at model l.moment l.e.core in
@@ -38,7 +38,7 @@ module _ (laws : Repair) (s : Opening) where
       e_mends laws s Lossy HalfTicked l g (step_tick model l.moment l.e.core) (ticked_keeps laws.below s true h.k h.fe x h.fr l.r.core refl (e_begins s h.k h.fe l.e.core h.fr l.r.core l.moment h.two))
       (ticked_mends laws HalfTicked s true tt h.fe h.fr l.r.core.line x live w)
 
-  r_ticks : (l : Link) → Mends HalfTicked s l → GoesOnAt l.moment l.r → Mends Ticked s (give R event.Tick l)
+  r_ticks : (l : EndLink) → Mends HalfTicked s l → GoesOnAt l.moment l.r → Mends Ticked s (give R event.Tick l)
   r_ticks l g may =
       let h = g.holds in
       let x : Core = new_event_at model l.moment l.r.core in
@@ -50,16 +50,16 @@ module _ (laws : Repair) (s : Opening) where
       r_mends laws s HalfTicked Ticked l g (step_tick model l.moment l.r.core) (ticked_keeps laws.below s false h.k h.fr x h.fe l.e.core refl (r_begins laws.below s h.k h.fe l.e.core h.fr l.r.core l.moment h.two))
       (ticked_mends laws Ticked s false tt h.fr h.fe l.e.core.line x live w)
 
-  both_tick : (l : Link) (now : ℕ) → Mends Lossy s l → NoFrameWaits l → GoOn now l → Mends Ticked s (tick now l)
+  both_tick : (l : EndLink) (now : ℕ) → Mends Lossy s l → NoFrameWaits l → GoOn now l → Mends Ticked s (tick now l)
   both_tick l now g empty may =
       let to : ℕ = max l.moment now in
-      let flag : Bool = l.loss_free && not (expires_at to l.e || expires_at to l.r) in
-      let first : Link = record l { moment = to; loss_free = flag } in
+      let flag : Bool = l.loss_free && not (is_end_expired_at to l.e || is_end_expired_at to l.r) in
+      let first : EndLink = record l { moment = to; loss_free = flag } in
       r_ticks (give E event.Tick first) (e_ticks first (other_mends laws s Lossy l to l.passes l.order_kept flag g) empty may.0) may.1
 
   -- ---- no frame waits any more, and all was taken
 
-  recovered_at : MendEnds → Agree s → (l : Link) → Mends Ticked s l → IsEmpty l → IsRecovered l
+  recovered_at : MendEnds → Agree s → (l : EndLink) → Mends Ticked s l → IsEmpty l → IsRecovered l
   recovered_at ends agree l g empty =
       let h = g.holds in
       let ne : h.fe ≡ [] = none_on_line l.e.core.line h.fe (sym empty.0 ∙ h.lined_e) in
@@ -71,17 +71,17 @@ module _ (laws : Repair) (s : Opening) where
         all = has_all laws.below s agree l g.live_e g.live_r (quiet_at s l h g.live_e g.live_r empty m.x_up m.at_y m.at_x);
       }
 
-  behind : MendEnds → Agree s → (l : Link) → Mends Lossy s l → NoFrameWaits l → (now : ℕ) → GoOn now l → (second : List LinkStep) → ArePassesAndTakes second
-      → IsEmpty (run s.finder l (Tick now ∷ second)) → IsRecovered (run s.finder l (Tick now ∷ second))
+  behind : MendEnds → Agree s → (l : EndLink) → Mends Lossy s l → NoFrameWaits l → (now : ℕ) → GoOn now l → (second : List EndLinkStep) → ArePassesAndTakes second
+      → IsEmpty (end_link_run s.finder l (Tick now ∷ second)) → IsRecovered (end_link_run s.finder l (Tick now ∷ second))
   behind ends agree l g empty now may second are end =
       let t : Mends Ticked s (tick now l) = both_tick l now g empty may in
-      recovered_at ends agree (run s.finder l (Tick now ∷ second))
+      recovered_at ends agree (end_link_run s.finder l (Tick now ∷ second))
       (calm_mends laws s agree Ticked (record { hears = tt; speaks = λ c. tt }) second (tick now l) are t) end
 
 pub recovery : Repair → MendEnds → Recovery
 recovery laws ends s steps fits agree kept live first passes empty now may second more end =
-    let l : Link = after s (steps ++ first) in
-    let split : l ≡ run s.finder (after s steps) first = run_append s steps first (opened s) in
-    let g : Mends Lossy s (run s.finder (after s steps) first) = calm_mends laws s agree Lossy both_go first (after s steps) passes (after_lasts laws s agree steps fits kept live) in
-    let join : after s (steps ++ first ++ Tick now ∷ second) ≡ run s.finder l (Tick now ∷ second) = run_append s (steps ++ first) (Tick now ∷ second) (opened s) in
+    let l : EndLink = end_link_after s (steps ++ first) in
+    let split : l ≡ end_link_run s.finder (end_link_after s steps) first = run_append s steps first (opened_end_link s) in
+    let g : Mends Lossy s (end_link_run s.finder (end_link_after s steps) first) = calm_mends laws s agree Lossy both_go first (end_link_after s steps) passes (after_lasts laws s agree steps fits kept live) in
+    let join : end_link_after s (steps ++ first ++ Tick now ∷ second) ≡ end_link_run s.finder l (Tick now ∷ second) = run_append s (steps ++ first) (Tick now ∷ second) (opened_end_link s) in
     subst IsRecovered (sym join) (behind laws s ends agree l (subst (Mends Lossy s) (sym split) g) empty now may second more (subst IsEmpty join end))

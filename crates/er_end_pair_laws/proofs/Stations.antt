@@ -1,6 +1,7 @@
 -- What an event does to the station of an end that lives on: payloads are handed down, and the owed answer is sent, and nothing else. And
 -- what the end's user sent stays.
 use Rattle.std.proofs.Common.{◌≡◌, ℕ, zero, suc, Bool, true, false, ◌&&◌, ◌||◌, List, Option, Some, None, Ok, Err, refl, sym, ◌∙◌, subst, true≢false}
+use Rattle.hdlc_station_model.specs.Receiving.{is_some_octets}
 use Rattle.std.specs.Prelude.{if◌then◌else◌, is_some, nat_lt}
 use Rattle.std.proofs.lemmas.Bool.{cond_both}
 use Rattle.er_base.specs.declared.release.Release.{Release}
@@ -15,12 +16,12 @@ use Rattle.t70_header.specs.Joining as joining
 use Rattle.sapdu.specs.Spelling.{SpellsItsLength}
 use Rattle.safety_automaton.specs.Keys.{no_keys}
 use Rattle.safety_automaton.specs.Reports.{Report, ToldAnswered, ToldConnected, ToldAccepted, ToldReleased, ToldIgnored}
-use Rattle.safety_automaton.specs.Safety.{ConnectRequest, step, sent_by}
-use Rattle.x224_class2.specs.Tpdus.{Given, Dr, Dc}
-use Rattle.x224_class2.specs.Transport.{Deed, Nothing, Called, Confirmed, Message, Disconnected, is_new, is_open, waiting_count}
+use Rattle.safety_automaton.specs.Safety.{ConnectRequest, step, octets_sent_in_outcome}
+use Rattle.x224_class2.specs.Tpdus.{GivenTpdu, Dr, Dc}
+use Rattle.x224_class2.specs.Transport.{ReceptionDeed, Nothing, Called, Confirmed, Message, Disconnected, is_new, is_open, waiting_count}
 use Rattle.x224_class2.specs.Transport as transport
 use Rattle.er_end_model.specs.Layers.{Core, model}
-use Rattle.er_end_model.specs.Steps.{Finds, Carrier, InCr, InCc, InDt, hand_tpdu, hand_tpdu_if_may, end_after_di, send_dr, answer_dr, on_safety_release, is_some_octets, hand_text, accept_text, skip_message, hand_answer, keep_message, on_safety_report, on_text, on_transport_deed, on_tpdu, on_joined_block, on_block, connect_with_text, on_link_up, is_ready, with_safety_step, on_link_told, hand_next_tpdu, has_next_tpdu, hand_waiting_tpdus, most_offers, send_owed_answer, conclude_event}
+use Rattle.er_end_model.specs.Steps.{Finds, Carrier, InCr, InCc, InDt, hand_tpdu, hand_tpdu_if_may, end_after_di, send_dr, answer_dr, on_safety_release, hand_text, accept_text, skip_message, hand_answer, keep_message, on_safety_report, on_text, on_transport_deed, on_tpdu, on_joined_block, on_block, connect_with_text, on_link_up, is_ready, with_safety_step, on_link_told, hand_next_tpdu, has_next_tpdu, hand_waiting_tpdus, most_offers, send_owed_answer, conclude_event}
 use Rattle.er_end_pair_laws.proofs.Below.{Below}
 
 -- the laws that a loss-free line rests on besides
@@ -41,7 +42,7 @@ pub record Stays (x z : Core) : Type 0 where
 nothing : (x : Core) → Stays x x
 nothing x = record { line = λ e. refl; sent = refl }
 
-given_sent : (g : Given) (x : Core) → (hand_tpdu_if_may model g x).upper.sent ≡ x.upper.sent
+given_sent : (g : GivenTpdu) (x : Core) → (hand_tpdu_if_may model g x).upper.sent ≡ x.upper.sent
 given_sent g x = cond_both (station.may_send x.line) (hand_tpdu model g x) x (λ z. z.upper.sent ≡ x.upper.sent) (λ e. refl) (λ e. refl)
 
 departs_stays : (why : Release) (reason : ℕ) (user : List ℕ) (x : Core) → Stays x (send_dr model why reason user x)
@@ -86,7 +87,7 @@ acts_stays carrier ToldIgnored octets x = nothing x
 text_stays : (finds : Finds) (carrier : Carrier) (text : List ℕ) (x : Core) → Stays x (on_text model finds carrier text x)
 text_stays finds carrier text x = let h = acts_stays carrier _ _ _ in record { line = h.line; sent = h.sent }
 
-does_stays : (finds : Finds) (deed : Deed) (x : Core) → Stays x (on_transport_deed model finds deed x)
+does_stays : (finds : Finds) (deed : ReceptionDeed) (x : Core) → Stays x (on_transport_deed model finds deed x)
 does_stays finds Nothing x = nothing x
 does_stays finds (Called user) x = text_stays finds InCr user x
 does_stays finds (Confirmed user) x = text_stays finds InCc user x
@@ -99,14 +100,14 @@ tpdu_stays finds tpdu x =
     let y : Core = record x { upper = model.hears x.upper tpdu } in
     then_stays x y (on_tpdu model finds tpdu x) refl refl (does_stays finds (model.deed x.upper tpdu) y)
 
-block_at_stays : (finds : Finds) (answer : joining.Answer) (x : Core) → Stays x (on_joined_block model finds answer x)
+block_at_stays : (finds : Finds) (answer : joining.BlockJoiningResult) (x : Core) → Stays x (on_joined_block model finds answer x)
 block_at_stays finds (Ok None) x = nothing x
 block_at_stays finds (Ok (Some tpdu)) x = tpdu_stays finds tpdu x
 block_at_stays finds (Err fault) x = departs_stays _ _ _ x
 
 block_stays : (finds : Finds) (block : List ℕ) (x : Core) → Stays x (on_block model finds block x)
 block_stays finds block x =
-    let a : List ℕ × joining.Answer = joining.step x.joined block in
+    let a : List ℕ × joining.BlockJoiningResult = joining.block_step x.joined block in
     let y : Core = record x { joined = a.0 } in
     then_stays x y (on_block model finds block x) refl refl (block_at_stays finds a.1 y)
 
@@ -114,8 +115,8 @@ up_stays : (x : Core) → Stays x (on_link_up model x)
 up_stays x =
     let a = step no_keys x.safe.safety ConnectRequest in
     let y : Core = with_safety_step model ConnectRequest a x in
-    cond_both (x.upper.transport.is_caller && is_new x.upper.transport.stage && is_ready x.safe.safety.phase) (connect_with_text model (sent_by a.1) y) x (Stays x)
-    (λ e. cond_both (is_some_octets (sent_by a.1)) (record y { upper = model.connects y.upper (sent_by a.1) }) y (Stays x)
+    cond_both (x.upper.transport.is_caller && is_new x.upper.transport.stage && is_ready x.safe.safety.phase) (connect_with_text model (octets_sent_in_outcome a.1) y) x (Stays x)
+    (λ e. cond_both (is_some_octets (octets_sent_in_outcome a.1)) (record y { upper = model.connects y.upper (octets_sent_in_outcome a.1) }) y (Stays x)
     (λ e. record { line = λ live. refl; sent = refl }) (λ e. record { line = λ live. refl; sent = refl }))
     (λ e. nothing x)
 

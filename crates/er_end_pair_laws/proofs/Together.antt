@@ -6,15 +6,15 @@ use Rattle.safety_automaton.specs.Safety.{Safety, Phase, Ready, WaitAu1, WaitAu2
 use Rattle.hdlc_station_model.specs.declared.phase.Phase.{Phase as Link_phase}
 use Rattle.hdlc_station_model.specs.Events.{news}
 use Rattle.x224_class2.specs.Segments.{messages_in}
-use Rattle.x224_class2.specs.Tpdus.{Given}
+use Rattle.x224_class2.specs.Tpdus.{GivenTpdu}
 use Rattle.x224_class2.specs.declared.stage.Stage.{Stage}
 use Rattle.x224_class2.specs.declared.stage.Stage.TheVariants as stages
 use Rattle.er_end_model.specs.Layers.{Core}
 use Rattle.er_end_model.specs.Steps.{is_connected}
-use Rattle.er_end_pair_laws.specs.Openings.{Opening}
-use Rattle.er_end_pair_laws.specs.Links.{Link}
-use Rattle.er_end_pair_laws.specs.Phases.{IsEngines, IsCentres}
-use Rattle.er_end_pair_laws.specs.Laws.{after, OneFrame, InStep}
+use Rattle.er_end_pair_laws.specs.Openings.{EndLinkOpening}
+use Rattle.er_end_pair_laws.specs.Links.{EndLink}
+use Rattle.er_end_pair_laws.specs.Phases.{IsEnginesPhase, IsCentres}
+use Rattle.er_end_pair_laws.specs.Laws.{end_link_after, OneFrame, InStep}
 use Rattle.er_end_pair_laws.proofs.Lists.{Head, head_trans, head_take, head_length}
 use Rattle.er_end_pair_laws.proofs.Segments.{messages_head}
 use Rattle.er_end_pair_laws.proofs.Ports.{got_head}
@@ -31,7 +31,7 @@ use Rattle.er_end_pair_laws.proofs.Drained.{after_flows}
 pub one_frame : Below → OneFrame
 one_frame below s steps fits kept =
     let h = after_holds below s steps fits kept in
-    let l : Link = after s steps in (
+    let l : EndLink = end_link_after s steps in (
       λ octets rest line.
           let f = first_of_line l.e.core.line octets rest h.fe (sym line ∙ h.lined_e) in
           ap (λ (os : List ℕ). length (news l.r.stream os)) f.octets_are ∙ ap length (r_news below s l h octets rest f),
@@ -42,10 +42,10 @@ one_frame below s steps fits kept =
 
 -- ---- the phases of each side
 
-abbrev Engines : Opening → Phase → Type 0
-Engines s p = IsEngines s.engine s.rbc s.kmac s.ra s.rb p
+abbrev Engines : EndLinkOpening → Phase → Type 0
+Engines s p = IsEnginesPhase s.engine s.rbc s.kmac s.ra s.rb p
 
-abbrev Centres : Opening → Phase → Type 0
+abbrev Centres : EndLinkOpening → Phase → Type 0
 Centres s p = IsCentres s.engine s.rbc s.kmac s.ra s.rb p
 
 not_caller : true ≡ false → ⊥
@@ -54,7 +54,7 @@ not_caller e = cc
 not_called : false ≡ true → ⊥
 not_called e = cc
 
-pub engines : (s : Opening) (stage : Stage) (p : Phase) (out sent came accepted : List (List ℕ)) → Joint s true stage p → PhaseIs s true p out sent came accepted → Engines s p
+pub engines : (s : EndLinkOpening) (stage : Stage) (p : Phase) (out sent came accepted : List (List ℕ)) → Joint s true stage p → PhaseIs s true p out sent came accepted → Engines s p
 engines s stage (Ready peer kmac rb) out sent came accepted j h = tt
 engines s stages.New (WaitAu1 ra) out sent came accepted j h = not_caller j.0
 engines s stages.Calling (WaitAu1 ra) out sent came accepted j h = j
@@ -71,7 +71,7 @@ engines s stage (WaitAr connection) out sent came accepted j h = h.4
 engines s stage (Connected peer key) out sent came accepted j h = (h.2, h.3)
 engines s stage (Released release known) out sent came accepted j h = h
 
-pub centres : (s : Opening) (stage : Stage) (p : Phase) (out sent came accepted : List (List ℕ)) → Joint s false stage p → PhaseIs s false p out sent came accepted → Centres s p
+pub centres : (s : EndLinkOpening) (stage : Stage) (p : Phase) (out sent came accepted : List (List ℕ)) → Joint s false stage p → PhaseIs s false p out sent came accepted → Centres s p
 centres s stages.New (Ready peer kmac rb) out sent came accepted j h = not_called j.0
 centres s stages.Calling (Ready peer kmac rb) out sent came accepted j h = j
 centres s stages.Called (Ready peer kmac rb) out sent came accepted j h = j
@@ -95,7 +95,7 @@ centres s stage (Released release known) out sent came accepted j h = h
 -- ---- where session keys are known
 
 -- the transport is open at an engine that knows them
-pub known_open : (s : Opening) (stage : Stage) (p : Phase) → Joint s true stage p → Engines s p → is_some (session_in p) ≡ true → stage ≡ stages.Open
+pub known_open : (s : EndLinkOpening) (stage : Stage) (p : Phase) → Joint s true stage p → Engines s p → is_some (session_in p) ≡ true → stage ≡ stages.Open
 known_open s stage (Ready peer kmac rb) j h e = absurd (not_called e)
 known_open s stage (WaitAu1 ra) j h e = absurd h
 known_open s stage (WaitAu2 peer kmac rb) j h e = absurd (not_called e)
@@ -113,7 +113,7 @@ known_open s stages.Over (Connected peer key) j h e = absurd j
 known_open s stage (Released release known) j h e = absurd h
 
 -- a radio block centre that gave a TPDU knows them
-pub gave_known : (s : Opening) (stage : Stage) (p : Phase) (due : Option (List ℕ)) (h gave : List Given) (phase : Link_phase) → Stages false stage due h gave phase → 1 ≤ length gave
+pub gave_known : (s : EndLinkOpening) (stage : Stage) (p : Phase) (due : Option (List ℕ)) (h gave : List GivenTpdu) (phase : Link_phase) → Stages false stage due h gave phase → 1 ≤ length gave
     → Joint s false stage p → Centres s p → is_some (session_in p) ≡ true
 gave_known s stages.New p due h gave phase a some j c =
     let none : length gave ≡ 0 = ap length a.2 in
@@ -138,7 +138,7 @@ none_of (x ∷ xs) [] h e = absurd h
 none_of (x ∷ xs) (y ∷ ys) h e = absurd cc
 
 -- to a side that is connected a message came
-pub came_some : (s : Opening) (c : Bool) (p : Phase) (out sent came accepted : List (List ℕ)) → PhaseIs s c p out sent came accepted → is_connected p ≡ true → came ≡ [] → ⊥
+pub came_some : (s : EndLinkOpening) (c : Bool) (p : Phase) (out sent came accepted : List (List ℕ)) → PhaseIs s c p out sent came accepted → is_connected p ≡ true → came ≡ [] → ⊥
 came_some s c (Ready peer kmac rb) out sent came accepted h e none = not_called e
 came_some s c (WaitAu1 ra) out sent came accepted h e none = not_called e
 came_some s c (WaitAu2 peer kmac rb) out sent came accepted h e none = not_called e
@@ -146,12 +146,12 @@ came_some s c (WaitAu3 connection) out sent came accepted h e none = not_called 
 came_some s c (WaitAr connection) out sent came accepted h e none = not_called e
 came_some s c (Connected peer key) out sent came accepted h e none = said_some s c accepted came h.1 none
   where
-    said_some : (s : Opening) (c : Bool) (accepted came : List (List ℕ)) → came ≡ said_all s (not c) accepted → came ≡ [] → ⊥
+    said_some : (s : EndLinkOpening) (c : Bool) (accepted came : List (List ℕ)) → came ≡ said_all s (not c) accepted → came ≡ [] → ⊥
     said_some s c accepted came is none = cc
 came_some s c (Released release known) out sent came accepted h e none = h
 
 -- an engine that said something knows session keys
-pub e_said : (s : Opening) (p : Phase) (out sent came accepted : List (List ℕ)) → PhaseIs s true p out sent came accepted → Engines s p → (out ≡ [] → ⊥) → is_some (session_in p) ≡ true
+pub e_said : (s : EndLinkOpening) (p : Phase) (out sent came accepted : List (List ℕ)) → PhaseIs s true p out sent came accepted → Engines s p → (out ≡ [] → ⊥) → is_some (session_in p) ≡ true
 e_said s (Ready peer kmac rb) out sent came accepted h c some = absurd (some h.0)
 e_said s (WaitAu1 ra) out sent came accepted h c some = absurd (some h.0)
 e_said s (WaitAu2 peer kmac rb) out sent came accepted h c some = absurd (some h.0)
@@ -161,7 +161,7 @@ e_said s (Connected peer key) out sent came accepted h c some = refl
 e_said s (Released release known) out sent came accepted h c some = absurd h
 
 -- a radio block centre that said something is connected
-pub r_said : (s : Opening) (p : Phase) (out sent came accepted : List (List ℕ)) → PhaseIs s false p out sent came accepted → Centres s p → (out ≡ [] → ⊥) → is_connected p ≡ true
+pub r_said : (s : EndLinkOpening) (p : Phase) (out sent came accepted : List (List ℕ)) → PhaseIs s false p out sent came accepted → Centres s p → (out ≡ [] → ⊥) → is_connected p ≡ true
 r_said s (Ready peer kmac rb) out sent came accepted h c some = absurd (some h.0)
 r_said s (WaitAu1 ra) out sent came accepted h c some = absurd (some h.0)
 r_said s (WaitAu2 peer kmac rb) out sent came accepted h c some = absurd (some h.0)
@@ -173,7 +173,7 @@ r_said s (Released release known) out sent came accepted h c some = absurd h
 -- ---- between two ends
 
 -- the messages that came to x are a beginning of those that y said
-pub messages_from : (s : Opening) (c d : Bool) (x y : Core) (h : List Given) → Own s c x (heard x y) → Own s d y h
+pub messages_from : (s : EndLinkOpening) (c d : Bool) (x y : Core) (h : List GivenTpdu) → Own s c x (heard x y) → Own s d y h
     → Head (messages_in x.upper.transport.contents) (messages_in y.upper.transport.segments)
 messages_from s c d x y h a b =
     let t = x.upper.transport in
@@ -186,7 +186,7 @@ heard_some : (x y : Core) → 1 ≤ length (heard x y) → 1 ≤ length y.upper.
 heard_some x y some =
     omega (arith, some, head_length (heard x y) y.upper.transport.gave (head_take (length x.line.taken) y.upper.transport.gave))
 
-pub open_heard : (stage : Stage) (due : Option (List ℕ)) (h gave : List Given) (phase : Link_phase) → stage ≡ stages.Open → Stages true stage due h gave phase → 1 ≤ length h
+pub open_heard : (stage : Stage) (due : Option (List ℕ)) (h gave : List GivenTpdu) (phase : Link_phase) → stage ≡ stages.Open → Stages true stage due h gave phase → 1 ≤ length h
 open_heard stages.New due h gave phase e a = absurd cc
 open_heard stages.Calling due h gave phase e a = absurd cc
 open_heard stages.Called due h gave phase e a = absurd a
@@ -195,7 +195,7 @@ open_heard stages.Over due h gave phase e a = absurd a
 
 pub in_step : Free → InStep
 in_step free s steps fits agree clean =
-    let l : Link = after s steps in
+    let l : EndLink = end_link_after s steps in
     let g = after_flows free s steps fits agree clean in
     let two = g.holds.two in
     let e : Core = l.e.core in

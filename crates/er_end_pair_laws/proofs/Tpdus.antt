@@ -7,16 +7,16 @@ use Rattle.des_block.specs.declared.triple_key.TripleKey.{TripleKey}
 use Rattle.sapdu.specs.Spelling.{di_in}
 use Rattle.safety_automaton.specs.Reports.{report_of}
 use Rattle.safety_automaton.specs.Rules.{IsOpen}
-use Rattle.safety_automaton.specs.Safety.{Safety, Phase, Ready, WaitAu1, WaitAu2, WaitAu3, WaitAr, Connected, Released, Received, peer_flag, sent_by, step}
+use Rattle.safety_automaton.specs.Safety.{Safety, Phase, Ready, WaitAu1, WaitAu2, WaitAu3, WaitAr, Connected, Released, Received, peer_flag, octets_sent_in_outcome, step}
 use Rattle.hdlc_station_model.specs.Frames.{Frame}
 use Rattle.x224_class2.specs.Segments.{messages_in, text_so_far}
-use Rattle.x224_class2.specs.Tpdus.{Given, Cr, Cc, Dt, Ak, Dr, Dc, pdu_given, octets_given}
-use Rattle.x224_class2.specs.Transport.{Transport, Deed, Nothing, Message, is_new, is_calling, is_open, on_request, on_confirm, on_disconnect, on_data, on_acknowledgement, on_reading}
+use Rattle.x224_class2.specs.Tpdus.{GivenTpdu, Cr, Cc, Dt, Ak, Dr, Dc, pdu_given, octets_given}
+use Rattle.x224_class2.specs.Transport.{Transport, ReceptionDeed, Nothing, Message, is_new, is_calling, is_open, on_request, on_confirm, on_disconnect, on_data, on_acknowledgement, on_reading}
 use Rattle.x224_class2.specs.declared.stage.Stage.{Stage}
 use Rattle.x224_class2.specs.declared.stage.Stage.TheVariants as stages
 use Rattle.er_end_model.specs.Layers.{Core, model}
 use Rattle.er_end_model.specs.Steps.{Carrier, InCr, InCc, InDt, on_safety_report, on_text, on_transport_deed, on_tpdu, why_of}
-use Rattle.er_end_pair_laws.specs.Openings.{Opening, Agree}
+use Rattle.er_end_pair_laws.specs.Openings.{EndLinkOpening, Agree}
 use Rattle.er_end_pair_laws.specs.Reasons.{IsLosingLineRelease}
 use Rattle.er_end_pair_laws.proofs.Lists.{Head, head_trans, head_take, head_length, each_next, Ends, ends_push, flat_none, flat_one, length_push}
 use Rattle.er_end_pair_laws.proofs.Segments.{IsShort, text_small}
@@ -35,21 +35,21 @@ use Rattle.er_end_pair_laws.proofs.Confirms.{confirmed_by}
 use Rattle.er_end_pair_laws.proofs.Messages.{part_comes, message_by}
 
 -- the end behind what its transport made of a TPDU
-abbrev heard_at : Opening → Core → Transport × Deed → Core
+abbrev heard_at : EndLinkOpening → Core → Transport × ReceptionDeed → Core
 heard_at s x r = on_transport_deed model s.finder r.1 (with_transport x r.0)
 
 -- a text comes to a side in this phase
-abbrev TextComes : Opening → Bool → ℕ → List Frame → List Frame → Core → Carrier → List ℕ → Core → Safety → Type 0
+abbrev TextComes : EndLinkOpening → Bool → ℕ → List Frame → List Frame → Core → Carrier → List ℕ → Core → Safety → Type 0
 TextComes s c k w l y carrier text x side =
     let a = step (s.finder x.moment) side (Received text) in
-    Arrived s c k w (on_safety_report model carrier (report_of a.1) (sent_by a.1) (spoke x text a.0 a.1)) l y
+    Arrived s c k w (on_safety_report model carrier (report_of a.1) (octets_sent_in_outcome a.1) (spoke x text a.0 a.1)) l y
 
-text_arrives : (s : Opening) (c : Bool) (k : ℕ) (w : List Frame) (x : Core) (l : List Frame) (y : Core) (carrier : Carrier) (text : List ℕ) (p : Phase) → x.safe.safety ≡ side_in s c p
+text_arrives : (s : EndLinkOpening) (c : Bool) (k : ℕ) (w : List Frame) (x : Core) (l : List Frame) (y : Core) (carrier : Carrier) (text : List ℕ) (p : Phase) → x.safe.safety ≡ side_in s c p
     → TextComes s c k w l y carrier text x (side_in s c p) → Arrived s c k w (on_text model s.finder carrier text x) l y
 text_arrives s c k w x l y carrier text p e h = subst (TextComes s c k w l y carrier text x) (sym e) h
 
-module _ (below : Below) (s : Opening) (c : Bool) (k : ℕ) (w : List Frame) (x : Core) (l : List Frame) (y : Core) (h : List Given) where
-  their_own : (g : Given) → Hears s c k w x l y h g → Own s (not c) y (heard y x)
+module _ (below : Below) (s : EndLinkOpening) (c : Bool) (k : ℕ) (w : List Frame) (x : Core) (l : List Frame) (y : Core) (h : List GivenTpdu) where
+  their_own : (g : GivenTpdu) → Hears s c k w x l y h g → Own s (not c) y (heard y x)
   their_own g b = b.beside.3
 
   mine_heard : Head (heard y x) (Side x).gave
@@ -61,7 +61,7 @@ module _ (below : Below) (s : Opening) (c : Bool) (k : ℕ) (w : List Frame) (x 
       → Arrived s c k w (heard_at s x (on_disconnect (Side x) 1 1 user)) l y
   dr_comes st reason user e begun some b =
       let t : Transport = Side x in
-      let g : Given = Dr reason user in
+      let g : GivenTpdu = Dr reason user in
       let own = their_own g b in
       let next = next_of s c k w x l y h g b in
       let over : Transport = record t { stage = stages.Over } in
@@ -72,14 +72,14 @@ module _ (below : Below) (s : Opening) (c : Bool) (k : ℕ) (w : List Frame) (x 
       let good : Agree s → IsLosingLineRelease (Some why) = λ a.
       subst (λ (f : Bool). IsLosingLineRelease (Some (why_of (di_in user f)))) (sym flag) (each_next (Proper s (not c)) h g y.upper.transport.gave next (own.told a).proper) in
       let one : length (drs (h ++ g ∷ [])) ≡ suc (length (drs h)) = ap length (flat_one dr_of h g 0 refl) ∙ length_push (drs h) 0 in
-      let few : length (dcs t.gave) + 1 ≤ length (drs (heard x y)) = subst (λ (r : List Given). length (dcs t.gave) + 1 ≤ length (drs r)) (sym b.heard_is) (omega (arith, v.dc_few, b.alive.no_dr_heard)) in
-      subst (λ (r : Transport × Deed). Arrived s c k w (heard_at s x r) l y) (sym (dr_heard t user (ap is_new e ∙ begun))) (record {
+      let few : length (dcs t.gave) + 1 ≤ length (drs (heard x y)) = subst (λ (r : List GivenTpdu). length (dcs t.gave) + 1 ≤ length (drs r)) (sym b.heard_is) (omega (arith, v.dc_few, b.alive.no_dr_heard)) in
+      subst (λ (r : Transport × ReceptionDeed). Arrived s c k w (heard_at s x r) l y) (sym (dr_heard t user (ap is_new e ∙ begun))) (record {
         state = inr (
           why,
           refl,
           cut_gone below s c k w x' l y why some few good (record {
             beside = b.beside;
-            always = subst (λ (r : List Given). AlwaysOf s c x' r) (sym b.heard_is)
+            always = subst (λ (r : List GivenTpdu). AlwaysOf s c x' r) (sym b.heard_is)
                 (always_heard s c t.segments t.given t.acked t.edge t.newest t.contents t.gave x.upper.sent x.upper.accepted h g t.edge refl refl v.gives.below v.gives.near v);
             told = b.told;
           }),
@@ -95,7 +95,7 @@ module _ (below : Below) (s : Opening) (c : Bool) (k : ℕ) (w : List Frame) (x 
       let t : Transport = Side x in
       let u : Transport = Side y in
       let C : ℕ = s.settings.credit in
-      let g : Given = Ak C n in
+      let g : GivenTpdu = Ak C n in
       let own = their_own g b in
       let next = next_of s c k w x l y h g b in
       let v = b.always in
@@ -109,10 +109,10 @@ module _ (below : Below) (s : Opening) (c : Bool) (k : ℕ) (w : List Frame) (x 
       let named : Transport = record t { acked = n; edge = n + C } in
       let x' : Core = with_transport x named in
       let st = stages_at s c x h stages.Open e b.alive in
-      subst (λ (r : Transport × Deed). Arrived s c k w (heard_at s x r) l y) (sym (ak_heard t C n (ap is_open e) a.0 high low (omega (arith, a.0))))
+      subst (λ (r : Transport × ReceptionDeed). Arrived s c k w (heard_at s x r) l y) (sym (ak_heard t C n (ap is_open e) a.0 high low (omega (arith, a.0))))
       (live_arrived s c k w x' l y b.live (record {
         beside = b.beside;
-        always = subst (λ (r : List Given). AlwaysOf s c x' r) (sym b.heard_is) (record {
+        always = subst (λ (r : List GivenTpdu). AlwaysOf s c x' r) (sym b.heard_is) (record {
           gives = record { all = v.gives.all; most = v.gives.most; below = omega (arith, v.gives.below, a.0); near = omega arith; behind = high; tells = v.gives.tells; lag = v.gives.lag };
           gets = record {
             all = flat_none dt_of h g refl ∙ v.gets.all;
@@ -127,7 +127,7 @@ module _ (below : Below) (s : Opening) (c : Bool) (k : ℕ) (w : List Frame) (x 
           sendable = v.sendable;
         });
         told = b.told;
-        alive = subst (λ (r : List Given). AliveOf s c x' r) (sym b.heard_is)
+        alive = subst (λ (r : List GivenTpdu). AliveOf s c x' r) (sym b.heard_is)
             (subst (λ (z : Stage). Alive s c z t.is_caller t.credit t.size t.due t.gave (h ++ g ∷ []) t.given n (n + C) t.newest x.joined x.line.phase) (sym e) (record {
               stages = (omega (arith, length_push h g), st.1);
               role_is = b.alive.role_is;
@@ -163,7 +163,7 @@ module _ (below : Below) (s : Opening) (c : Bool) (k : ℕ) (w : List Frame) (x 
   dt_ends true n user e same head b =
       let t : Transport = Side x in
       let u : Transport = Side y in
-      let g : Given = Dt true n user in
+      let g : GivenTpdu = Dt true n user in
       let own = their_own g b in
       let p : Phase = x.safe.safety.phase in
       let text : List ℕ = text_so_far t.contents ++ user in
@@ -182,7 +182,7 @@ module _ (below : Below) (s : Opening) (c : Bool) (k : ℕ) (w : List Frame) (x 
   dt_comes last n user e b =
       let t : Transport = Side x in
       let u : Transport = Side y in
-      let g : Given = Dt last n user in
+      let g : GivenTpdu = Dt last n user in
       let own = their_own g b in
       let next = next_of s c k w x l y h g b in
       let v = b.always in
@@ -195,13 +195,13 @@ module _ (below : Below) (s : Opening) (c : Bool) (k : ℕ) (w : List Frame) (x 
       let granted : length t.contents < t.newest + t.credit = omega (arith, z.gives.below, z.gives.near, b.alive.credit_is) in
       let short = each_next (IsShort s.settings.size) t.contents (last, user) u.segments all z.cuts.short in
       let small = text_small 1032 [] t.contents u.segments last user z.cuts.closed z.cuts.small all in
-      subst (λ (r : Transport × Deed). Arrived s c k w (heard_at s x r) l y)
+      subst (λ (r : Transport × ReceptionDeed). Arrived s c k w (heard_at s x r) l y)
       (sym (dt_heard t last n user (ap is_open e) d.0 granted (subst (λ (m : ℕ). length user ≤ m - 5) (sym b.alive.size_is) short.1) small))
       (dt_ends last n user e d.0 d.1 b)
 
   -- ---- by the stage
 
-  open_comes : (g : Given) → At x stages.Open → Later s.settings.credit g → Hears s c k w x l y h g → Arrived s c k w (heard_at s x (on_reading (Side x) (Ok (pdu_given g)))) l y
+  open_comes : (g : GivenTpdu) → At x stages.Open → Later s.settings.credit g → Hears s c k w x l y h g → Arrived s c k w (heard_at s x (on_reading (Side x) (Ok (pdu_given g)))) l y
   open_comes (Cr credit size user) e later b = absurd later
   open_comes (Cc credit size user) e later b = absurd later
   open_comes (Dt last n user) e later b = dt_comes last n user e b
@@ -215,7 +215,7 @@ module _ (below : Below) (s : Opening) (c : Bool) (k : ℕ) (w : List Frame) (x 
 
 -- ---- the first TPDU
 
-joint_called : (s : Opening) (p : Phase) → Joint s false stages.New p → (ra : ℕ) × (p ≡ WaitAu1 ra) × (ra ≡ s.ra)
+joint_called : (s : EndLinkOpening) (p : Phase) → Joint s false stages.New p → (ra : ℕ) × (p ≡ WaitAu1 ra) × (ra ≡ s.ra)
 joint_called s (Ready peer kmac rb) j = absurd (let e = j.0 in let u : ⊥ = cc in u)
 joint_called s (WaitAu1 ra) j = (ra, refl, j.1)
 joint_called s (WaitAu2 peer kmac rb) j = absurd j
@@ -224,7 +224,7 @@ joint_called s (WaitAr connection) j = absurd j
 joint_called s (Connected peer key) j = absurd j
 joint_called s (Released release known) j = absurd j
 
-joint_calling : (s : Opening) (p : Phase) → Joint s true stages.Calling p
+joint_calling : (s : EndLinkOpening) (p : Phase) → Joint s true stages.Calling p
     → (peer : ℕ) × (kmac : TripleKey) × (rb : ℕ) × (p ≡ WaitAu2 peer kmac rb) × (peer ≡ s.rbc) × (kmac ≡ s.kmac) × (rb ≡ s.rb)
 joint_calling s (Ready peer kmac rb) j = absurd j
 joint_calling s (WaitAu1 ra) j = absurd j
@@ -234,12 +234,12 @@ joint_calling s (WaitAr connection) j = absurd j
 joint_calling s (Connected peer key) j = absurd j
 joint_calling s (Released release known) j = absurd j
 
-module _ (below : Below) (s : Opening) (k : ℕ) (w : List Frame) (x : Core) (l : List Frame) (y : Core) (h : List Given) where
+module _ (below : Below) (s : EndLinkOpening) (k : ℕ) (w : List Frame) (x : Core) (l : List Frame) (y : Core) (h : List GivenTpdu) where
   cr_comes : (user : List ℕ) → At x stages.New → Hears s false k w x l y h (Cr s.settings.credit s.settings.size user)
       → Arrived s false k w (heard_at s x (on_request (Side x) s.settings.credit 0 1 s.settings.size user)) l y
   cr_comes user e b =
       let t : Transport = Side x in
-      let g : Given = Cr s.settings.credit s.settings.size user in
+      let g : GivenTpdu = Cr s.settings.credit s.settings.size user in
       let own = b.beside.3 in
       let j = joint_called s x.safe.safety.phase (subst (λ (z : Stage). Joint s false z x.safe.safety.phase) e b.trusting.joint) in
       let p : Phase = WaitAu1 j.0 in
@@ -247,7 +247,7 @@ module _ (below : Below) (s : Opening) (k : ℕ) (w : List Frame) (x : Core) (l 
       let x' : Core = with_transport x (record t { stage = stages.Called; edge = s.settings.credit }) in
       let awaits : Agree s → Awaits s false p user = λ a.
       (refl, j.2, each_next (Proper s true) h g y.upper.transport.gave (next_of s false k w x l y h g b) (own.told a).proper) in
-      subst (λ (r : Transport × Deed). Arrived s false k w (heard_at s x r) l y)
+      subst (λ (r : Transport × ReceptionDeed). Arrived s false k w (heard_at s x r) l y)
       (sym (cr_heard t s.settings.credit s.settings.size user b.alive.role_is (ap is_new e) (sym b.alive.size_is) (size_known below s).1))
       (text_arrives s false k w x' l y InCr user p side
       (called_by below s k w x l y h user j.0 (answer_of s x.moment false p user).0 (answer_of s x.moment false p user).1
@@ -257,7 +257,7 @@ module _ (below : Below) (s : Opening) (k : ℕ) (w : List Frame) (x : Core) (l 
       → Arrived s true k w (heard_at s x (on_confirm (Side x) s.settings.credit 1 1 s.settings.size user)) l y
   cc_comes user e b =
       let t : Transport = Side x in
-      let g : Given = Cc s.settings.credit s.settings.size user in
+      let g : GivenTpdu = Cc s.settings.credit s.settings.size user in
       let own = b.beside.3 in
       let j = joint_calling s x.safe.safety.phase (subst (λ (z : Stage). Joint s true z x.safe.safety.phase) e b.trusting.joint) in
       let p : Phase = WaitAu2 j.0 j.1 j.2 in
@@ -265,14 +265,14 @@ module _ (below : Below) (s : Opening) (k : ℕ) (w : List Frame) (x : Core) (l 
       let x' : Core = with_transport x (record t { stage = stages.Open; edge = s.settings.credit }) in
       let awaits : Agree s → Awaits s true p user = λ a.
       (refl, j.4, j.5, j.6, each_next (Proper s false) h g y.upper.transport.gave (next_of s true k w x l y h g b) (own.told a).proper) in
-      subst (λ (r : Transport × Deed). Arrived s true k w (heard_at s x r) l y)
+      subst (λ (r : Transport × ReceptionDeed). Arrived s true k w (heard_at s x r) l y)
       (sym (cc_heard t s.settings.credit s.settings.size user (ap is_calling e) (sym b.alive.size_is)))
       (text_arrives s true k w x' l y InCc user p side
       (confirmed_by below s k w x l y h user j.0 j.2 j.1 (answer_of s x.moment true p user).0 (answer_of s x.moment true p user).1
       (follows below.safety s x.moment true p user tt awaits) e j.3 b))
 
   -- a callee waits for CR
-  new_comes : (g : Given) → At x stages.New → First true s.settings.credit s.settings.size g → Hears s false k w x l y h g
+  new_comes : (g : GivenTpdu) → At x stages.New → First true s.settings.credit s.settings.size g → Hears s false k w x l y h g
       → Arrived s false k w (heard_at s x (on_reading (Side x) (Ok (pdu_given g)))) l y
   new_comes (Cr credit size user) e first b =
       subst (λ (m : ℕ). Arrived s false k w (heard_at s x (on_request (Side x) m 0 1 size user)) l y) (sym first.0)
@@ -285,7 +285,7 @@ module _ (below : Below) (s : Opening) (k : ℕ) (w : List Frame) (x : Core) (l 
   new_comes Dc e first b = absurd first
 
   -- a caller waits for CC or DR
-  calling_comes : (g : Given) → At x stages.Calling → First false s.settings.credit s.settings.size g → Hears s true k w x l y h g
+  calling_comes : (g : GivenTpdu) → At x stages.Calling → First false s.settings.credit s.settings.size g → Hears s true k w x l y h g
       → Arrived s true k w (heard_at s x (on_reading (Side x) (Ok (pdu_given g)))) l y
   calling_comes (Cr credit size user) e first b = absurd first
   calling_comes (Cc credit size user) e first b =
@@ -298,7 +298,7 @@ module _ (below : Below) (s : Opening) (k : ℕ) (w : List Frame) (x : Core) (l 
   calling_comes Dc e first b = absurd first
 
 -- at any stage
-stage_comes : Below → (s : Opening) (c : Bool) (k : ℕ) (w : List Frame) (x : Core) (l : List Frame) (y : Core) (h : List Given) (g : Given) (st : Stage) → At x st
+stage_comes : Below → (s : EndLinkOpening) (c : Bool) (k : ℕ) (w : List Frame) (x : Core) (l : List Frame) (y : Core) (h : List GivenTpdu) (g : GivenTpdu) (st : Stage) → At x st
     → Hears s c k w x l y h g → Arrived s c k w (heard_at s x (on_reading (Side x) (Ok (pdu_given g)))) l y
 stage_comes below s true k w x l y h g stages.New e b = absurd (true≢false (sym b.up ∙ (stages_at s true x h stages.New e b.alive).3))
 stage_comes below s false k w x l y h g stages.New e b =
@@ -314,11 +314,11 @@ stage_comes below s c k w x l y h g stages.Open e b =
     (later_is (not c) s.settings.credit s.settings.size h y.upper.transport.gave g (stages_at s c x h stages.Open e b.alive).0 (next_of s c k w x l y h g b) b.beside.3.always.opens) b
 stage_comes below s c k w x l y h g stages.Over e b = absurd (stages_at s c x h stages.Over e b.alive)
 
-pub tpdu_keeps : Below → (s : Opening) (c : Bool) (k : ℕ) (w : List Frame) (x : Core) (l : List Frame) (y : Core) (h : List Given) (g : Given)
+pub tpdu_keeps : Below → (s : EndLinkOpening) (c : Bool) (k : ℕ) (w : List Frame) (x : Core) (l : List Frame) (y : Core) (h : List GivenTpdu) (g : GivenTpdu)
     → Hears s c k w x l y h g → Arrived s c k w (on_tpdu model s.finder (octets_given g) x) l y
 tpdu_keeps below s c k w x l y h g b =
     let t : Transport = Side x in
     let fits = each_next Fits h g y.upper.transport.gave (next_of s c k w x l y h g b) b.beside.3.always.fits in
-    subst (λ (r : Transport × Deed). Arrived s c k w (heard_at s x r) l y)
+    subst (λ (r : Transport × ReceptionDeed). Arrived s c k w (heard_at s x r) l y)
     (sym (came_is below.reading t g (live_stage c t.stage t.due h t.gave x.line.phase b.alive.stages) fits))
     (stage_comes below s c k w x l y h g t.stage refl b)

@@ -5,13 +5,13 @@ use Rattle.std.proofs.lemmas.List.{take_more, length-take-le}
 use Rattle.std.proofs.Math.Nat.{mod-lt}
 use Rattle.x224_tpdu.specs.Writing.{IsSize}
 use Rattle.x224_class2.specs.Segments.{Segment}
-use Rattle.x224_class2.specs.Tpdus.{Given, Cr, Cc, Dt, Ak, Dr, Dc}
+use Rattle.x224_class2.specs.Tpdus.{GivenTpdu, Cr, Cc, Dt, Ak, Dr, Dc}
 use Rattle.er_end_pair_laws.proofs.Lists.{Each, each_push, number, number_push, Climbs, climbs_push, flat_none, flat_one}
 use Rattle.er_end_pair_laws.proofs.Segments.{IsShort}
 use Rattle.er_end_pair_laws.proofs.Locals.{dt_of, ak_of, aks, Gives, Later, Opens, Fits}
 
 -- a TPDU that is neither a DT nor an AK
-pub gives_other : (C : ℕ) (segs : List Segment) (given acked edge newest : ℕ) (got : List Segment) (gave : List Given) (g : Given)
+pub gives_other : (C : ℕ) (segs : List Segment) (given acked edge newest : ℕ) (got : List Segment) (gave : List GivenTpdu) (g : GivenTpdu)
     → dt_of g ≡ [] → ak_of g ≡ [] → Gives C segs given acked edge newest got gave → Gives C segs given acked edge newest got (gave ++ g ∷ [])
 gives_other C segs given acked edge newest got gave g d a h = record {
   all = flat_none dt_of gave g d ∙ h.all;
@@ -24,7 +24,7 @@ gives_other C segs given acked edge newest got gave g d a h = record {
 }
 
 -- an AK of a higher number
-pub gives_ak : (C : ℕ) (segs : List Segment) (given acked edge newest : ℕ) (got : List Segment) (gave : List Given) (credit n : ℕ)
+pub gives_ak : (C : ℕ) (segs : List Segment) (given acked edge newest : ℕ) (got : List Segment) (gave : List GivenTpdu) (credit n : ℕ)
     → newest ≤ n → n ≤ length got → Gives C segs given acked edge newest got gave → Gives C segs given acked edge n got (gave ++ Ak credit n ∷ [])
 gives_ak C segs given acked edge newest got gave credit n up lag h = record {
   all = flat_none dt_of gave (Ak credit n) refl ∙ h.all;
@@ -37,7 +37,7 @@ gives_ak C segs given acked edge newest got gave credit n up lag h = record {
 }
 
 -- the next segment
-pub gives_dt : (C : ℕ) (segs : List Segment) (given acked edge newest : ℕ) (got : List Segment) (gave : List Given) (last : Bool) (user : List ℕ)
+pub gives_dt : (C : ℕ) (segs : List Segment) (given acked edge newest : ℕ) (got : List Segment) (gave : List GivenTpdu) (last : Bool) (user : List ℕ)
     → given < length segs → given < edge → slice_index_or segs given (true, []) ≡ (last, user)
     → Gives C segs given acked edge newest got gave → Gives C segs (given + 1) acked edge newest got (gave ++ Dt last given user ∷ [])
 gives_dt C segs given acked edge newest got gave last user some low e h =
@@ -59,7 +59,7 @@ gives_dt C segs given acked edge newest got gave last user some low e h =
 
 -- ---- what opens
 
-pub opens_later : (c : Bool) (C S : ℕ) (gave : List Given) (g : Given) → 1 ≤ length gave → Later C g → Opens c C S gave → Opens c C S (gave ++ g ∷ [])
+pub opens_later : (c : Bool) (C S : ℕ) (gave : List GivenTpdu) (g : GivenTpdu) → 1 ≤ length gave → Later C g → Opens c C S gave → Opens c C S (gave ++ g ∷ [])
 opens_later c C S [] g some l h = absurd (let u : ⊥ = omega arith in u)
 opens_later c C S (x ∷ xs) g some l h = (h.0, each_push (Later C) xs g h.1 l)
 

@@ -11,29 +11,29 @@ use Rattle.hdlc_station_model.specs.Frames.{Frame, sent_octets}
 use Rattle.hdlc_station_model.specs.Stations.{Station}
 use Rattle.hdlc_station_model.specs.Events.{said_octets, news}
 use Rattle.hdlc_station_model.specs.Lines.{altered, next_of}
-use Rattle.hdlc_pair_laws.specs.Invariant.{Pair}
-use Rattle.hdlc_pair_laws.specs.Keeping.{found, octets_from, IsAtFlag}
+use Rattle.hdlc_pair_laws.specs.Invariant.{IsStationPair}
+use Rattle.hdlc_pair_laws.specs.Keeping.{found, frame_octets_of_station, IsAtFlag}
 use Rattle.x224_class2.specs.Transport.{waiting_count}
 use Rattle.er_end_model.specs.Outcomes.{SendRefusal}
 use Rattle.er_end_model.specs.Layers.{Core, model}
 use Rattle.er_end_model.specs.Steps.{new_event_at, step_frame, refusal_at, is_connected, step_send_unless, on_send, step_take, step_release, step_tick}
-use Rattle.er_end_model.specs.Ends.{End, Event, Come, hears_each, step}
+use Rattle.er_end_model.specs.Ends.{End, Event, Come, hears_each, step_event}
 use Rattle.er_end_model.specs.Ends as event
-use Rattle.er_end_pair_laws.specs.Openings.{Opening}
-use Rattle.er_end_pair_laws.specs.Links.{Link, line_of, with_line, frames_said, frames_of_each, frames_unless, give}
-use Rattle.er_end_pair_laws.specs.Steps.{LinkStep, Send, Pass, Lose, Repeat, Alter, Put, Take, UserRelease, Drain, Tick, pass, lose, repeat, alter, expires_at, tick, is_overfull, pass_next, drained, link_step, run, FitsStep, AllFit}
+use Rattle.er_end_pair_laws.specs.Openings.{EndLinkOpening}
+use Rattle.er_end_pair_laws.specs.Links.{EndLink, frames_from_end, with_frames_from_end, frames_said, frames_of_each, frames_unless, give}
+use Rattle.er_end_pair_laws.specs.Steps.{EndLinkStep, Send, Pass, Lose, Repeat, Alter, Put, Take, UserRelease, Drain, Tick, pass, lose, repeat, alter, is_end_expired_at, tick, is_overfull, pass_next, drained, end_link_step, end_link_run, FitsStep, AllFit}
 use Rattle.er_end_pair_laws.proofs.Own.{Done}
 use Rattle.er_end_pair_laws.proofs.Below.{Below}
 use Rattle.er_end_pair_laws.proofs.Happens.{received_keeps, ticked_keeps, left_keeps, used_keeps, sent_keeps, Two, e_begins, r_begins, e_ends, r_ends}
 
 -- two ends between events, the octets on their lines, and their deframers at a flag
-pub record Holds (s : Opening) (l : Link) : Type 0 where
+pub record Holds (s : EndLinkOpening) (l : EndLink) : Type 0 where
   pub k : ℕ
   pub fe : List Frame
   pub fr : List Frame
   pub two : Two s k fe l.e.core fr l.r.core
-  pub lined_e : l.from_e ≡ map (octets_from l.e.core.line) fe
-  pub lined_r : l.from_r ≡ map (octets_from l.r.core.line) fr
+  pub lined_e : l.from_e ≡ map (frame_octets_of_station l.e.core.line) fe
+  pub lined_r : l.from_r ≡ map (frame_octets_of_station l.r.core.line) fr
   pub flag_e : IsAtFlag l.e.stream
   pub flag_r : IsAtFlag l.r.stream
 
@@ -43,22 +43,22 @@ same_calling : (b c d : Bool) → b ≡ not c → d ≡ not c → d ≡ b
 same_calling b c d h g = g ∙ sym h
 
 -- the octets of frames are the same from the station before a call and behind it
-same_octets : (k k' : ℕ) (lx lx' : List Frame) (x x' : Station) (ly ly' : List Frame) (y : Station) (fs : List Frame) → Pair false k lx x ly y → Pair false k' lx' x' ly' y
-    → map (octets_from x) fs ≡ map (octets_from x') fs
+same_octets : (k k' : ℕ) (lx lx' : List Frame) (x x' : Station) (ly ly' : List Frame) (y : Station) (fs : List Frame) → IsStationPair false k lx x ly y → IsStationPair false k' lx' x' ly' y
+    → map (frame_octets_of_station x) fs ≡ map (frame_octets_of_station x') fs
 same_octets k k' lx lx' x x' ly ly' y fs h g =
     let c : x.calling ≡ x'.calling = h.2 ∙ sym g.2 in
     let e : x.extended ≡ x'.extended = h.3 ∙ sym g.3 in
     ap (λ (b : Bool). map (sent_octets b x.extended) fs) c ∙ ap (λ (b : Bool). map (sent_octets x'.calling b) fs) e
 
-pub lined_more : (k k' : ℕ) (lx lx' : List Frame) (x x' : Station) (ly ly' : List Frame) (y : Station) (fs : List Frame) (line : List (List ℕ)) → Pair false k lx x ly y → Pair false k' lx' x' ly' y
-    → line ≡ map (octets_from x) fs → line ++ said_octets x' ≡ map (octets_from x') (fs ++ x'.said)
+pub lined_more : (k k' : ℕ) (lx lx' : List Frame) (x x' : Station) (ly ly' : List Frame) (y : Station) (fs : List Frame) (line : List (List ℕ)) → IsStationPair false k lx x ly y → IsStationPair false k' lx' x' ly' y
+    → line ≡ map (frame_octets_of_station x) fs → line ++ said_octets x' ≡ map (frame_octets_of_station x') (fs ++ x'.said)
 lined_more k k' lx lx' x x' ly ly' y fs line h g e =
-    ap (λ (t : List (List ℕ)). t ++ said_octets x') (e ∙ same_octets k k' lx lx' x x' ly ly' y fs h g) ∙ sym (map-append (octets_from x') fs x'.said)
+    ap (λ (t : List (List ℕ)). t ++ said_octets x') (e ∙ same_octets k k' lx lx' x x' ly ly' y fs h g) ∙ sym (map-append (frame_octets_of_station x') fs x'.said)
 
 -- ---- an event at an end leads to this core
 
 -- the other line may have lost its first frame, and the end may have read
-unfoldable pub e_did : Below → (s : Opening) (l : Link) (h : Holds s l) (fr : List Frame) (line_r : List (List ℕ)) (stream : List ℕ) (x : Core) → line_r ≡ map (octets_from l.r.core.line) fr → IsAtFlag stream
+unfoldable pub e_did : Below → (s : EndLinkOpening) (l : EndLink) (h : Holds s l) (fr : List Frame) (line_r : List (List ℕ)) (stream : List ℕ) (x : Core) → line_r ≡ map (frame_octets_of_station l.r.core.line) fr → IsAtFlag stream
     → Done s true h.k h.fe x fr l.r.core → Holds s (record l { e = record { stream = stream; core = x }; from_e = l.from_e ++ frames_said x; from_r = line_r })
 e_did below s l h fr line_r stream x lined flag d = record {
   k = h.k;
@@ -71,7 +71,7 @@ e_did below s l h fr line_r stream x lined flag d = record {
   flag_r = h.flag_r;
 }
 
-unfoldable pub r_did : Below → (s : Opening) (l : Link) (h : Holds s l) (fe : List Frame) (line_e : List (List ℕ)) (stream : List ℕ) (x : Core) → line_e ≡ map (octets_from l.e.core.line) fe → IsAtFlag stream
+unfoldable pub r_did : Below → (s : EndLinkOpening) (l : EndLink) (h : Holds s l) (fe : List Frame) (line_e : List (List ℕ)) (stream : List ℕ) (x : Core) → line_e ≡ map (frame_octets_of_station l.e.core.line) fe → IsAtFlag stream
     → Done s false h.k h.fr x fe l.e.core → Holds s (record l { r = record { stream = stream; core = x }; from_r = l.from_r ++ frames_said x; from_e = line_e })
 r_did below s l h fe line_e stream x lined flag d = record {
   k = h.k;
@@ -86,20 +86,20 @@ r_did below s l h fe line_e stream x lined flag d = record {
 }
 
 -- an event that is none of a frame
-unfoldable pub e_event : Below → (s : Opening) (l : Link) (h : Holds s l) (x : Core) → Done s true h.k h.fe x h.fr l.r.core → Holds s (record l { e = record (l.e) { core = x }; from_e = l.from_e ++ frames_said x })
+unfoldable pub e_event : Below → (s : EndLinkOpening) (l : EndLink) (h : Holds s l) (x : Core) → Done s true h.k h.fe x h.fr l.r.core → Holds s (record l { e = record (l.e) { core = x }; from_e = l.from_e ++ frames_said x })
 e_event below s l h x d = e_did below s l h h.fr l.from_r l.e.stream x h.lined_r h.flag_e d
 
-unfoldable pub r_event : Below → (s : Opening) (l : Link) (h : Holds s l) (x : Core) → Done s false h.k h.fr x h.fe l.e.core → Holds s (record l { r = record (l.r) { core = x }; from_r = l.from_r ++ frames_said x })
+unfoldable pub r_event : Below → (s : EndLinkOpening) (l : EndLink) (h : Holds s l) (x : Core) → Done s false h.k h.fr x h.fe l.e.core → Holds s (record l { r = record (l.r) { core = x }; from_r = l.from_r ++ frames_said x })
 r_event below s l h x d = r_did below s l h h.fe l.from_e l.r.stream x h.lined_e h.flag_r d
 
 -- the flags, the moment and the count aren't read
-unfoldable pub other_parts : (s : Opening) (l : Link) (moment passes : ℕ) (order_kept loss_free : Bool) → Holds s l → Holds s (record l { moment = moment; passes = passes; order_kept = order_kept; loss_free = loss_free })
+unfoldable pub other_parts : (s : EndLinkOpening) (l : EndLink) (moment passes : ℕ) (order_kept loss_free : Bool) → Holds s l → Holds s (record l { moment = moment; passes = passes; order_kept = order_kept; loss_free = loss_free })
 other_parts s l moment passes order_kept loss_free h =
     record { k = h.k; fe = h.fe; fr = h.fr; two = h.two; lined_e = h.lined_e; lined_r = h.lined_r; flag_e = h.flag_e; flag_r = h.flag_r }
 
 -- ---- the users
 
-e_sends : Below → (s : Opening) (l : Link) (user : List ℕ) (o : Option SendRefusal) → AreOctets user → refusal_at l.e.core.released (is_connected l.e.core.safe.safety.phase) user (waiting_count l.e.core.upper.transport) ≡ o
+e_sends : Below → (s : EndLinkOpening) (l : EndLink) (user : List ℕ) (o : Option SendRefusal) → AreOctets user → refusal_at l.e.core.released (is_connected l.e.core.safe.safety.phase) user (waiting_count l.e.core.upper.transport) ≡ o
     → Holds s l → Holds s (record l { e = record (l.e) { core = step_send_unless model o l.moment user l.e.core }; from_e = l.from_e ++ frames_unless o (step_send_unless model o l.moment user l.e.core) })
 e_sends below s l user (Some refusal) are e h =
     subst (λ (line : List (List ℕ)). Holds s (record l { from_e = line })) (sym (append-nil l.from_e)) h
@@ -107,7 +107,7 @@ e_sends below s l user None are e h =
     e_event below s l h (on_send model user (new_event_at model l.moment l.e.core))
     (sent_keeps below s true h.k h.fe (new_event_at model l.moment l.e.core) h.fr l.r.core user are e (e_begins s h.k h.fe l.e.core h.fr l.r.core l.moment h.two))
 
-r_sends : Below → (s : Opening) (l : Link) (user : List ℕ) (o : Option SendRefusal) → AreOctets user → refusal_at l.r.core.released (is_connected l.r.core.safe.safety.phase) user (waiting_count l.r.core.upper.transport) ≡ o
+r_sends : Below → (s : EndLinkOpening) (l : EndLink) (user : List ℕ) (o : Option SendRefusal) → AreOctets user → refusal_at l.r.core.released (is_connected l.r.core.safe.safety.phase) user (waiting_count l.r.core.upper.transport) ≡ o
     → Holds s l → Holds s (record l { r = record (l.r) { core = step_send_unless model o l.moment user l.r.core }; from_r = l.from_r ++ frames_unless o (step_send_unless model o l.moment user l.r.core) })
 r_sends below s l user (Some refusal) are e h =
     subst (λ (line : List (List ℕ)). Holds s (record l { from_r = line })) (sym (append-nil l.from_r)) h
@@ -115,13 +115,13 @@ r_sends below s l user None are e h =
     r_event below s l h (on_send model user (new_event_at model l.moment l.r.core))
     (sent_keeps below s false h.k h.fr (new_event_at model l.moment l.r.core) h.fe l.e.core user are e (r_begins below s h.k h.fe l.e.core h.fr l.r.core l.moment h.two))
 
-pub send_holds : Below → (s : Opening) (side : Side) (l : Link) (user : List ℕ) → AreOctets user → Holds s l → Holds s (give side (event.Send user) l)
+pub send_holds : Below → (s : EndLinkOpening) (side : Side) (l : EndLink) (user : List ℕ) → AreOctets user → Holds s l → Holds s (give side (event.Send user) l)
 send_holds below s E l user are h =
     e_sends below s l user (refusal_at l.e.core.released (is_connected l.e.core.safe.safety.phase) user (waiting_count l.e.core.upper.transport)) are refl h
 send_holds below s R l user are h =
     r_sends below s l user (refusal_at l.r.core.released (is_connected l.r.core.safe.safety.phase) user (waiting_count l.r.core.upper.transport)) are refl h
 
-pub take_holds : Below → (s : Opening) (side : Side) (l : Link) → Holds s l → Holds s (give side event.Take l)
+pub take_holds : Below → (s : EndLinkOpening) (side : Side) (l : EndLink) → Holds s l → Holds s (give side event.Take l)
 take_holds below s E l h =
     e_event below s l h (step_take model l.moment l.e.core)
     (used_keeps below s true h.k h.fe (new_event_at model l.moment l.e.core) h.fr l.r.core (e_begins s h.k h.fe l.e.core h.fr l.r.core l.moment h.two))
@@ -129,7 +129,7 @@ take_holds below s R l h =
     r_event below s l h (step_take model l.moment l.r.core)
     (used_keeps below s false h.k h.fr (new_event_at model l.moment l.r.core) h.fe l.e.core (r_begins below s h.k h.fe l.e.core h.fr l.r.core l.moment h.two))
 
-pub leave_holds : Below → (s : Opening) (side : Side) (l : Link) (sub : ℕ) → Holds s l → Holds s (give side (event.Leave sub) l)
+pub leave_holds : Below → (s : EndLinkOpening) (side : Side) (l : EndLink) (sub : ℕ) → Holds s l → Holds s (give side (event.Leave sub) l)
 leave_holds below s E l sub h =
     e_event below s l h (step_release model l.moment sub l.e.core)
     (left_keeps below s true h.k h.fe (new_event_at model l.moment l.e.core) h.fr l.r.core sub (e_begins s h.k h.fe l.e.core h.fr l.r.core l.moment h.two))
@@ -137,7 +137,7 @@ leave_holds below s R l sub h =
     r_event below s l h (step_release model l.moment sub l.r.core)
     (left_keeps below s false h.k h.fr (new_event_at model l.moment l.r.core) h.fe l.e.core sub (r_begins below s h.k h.fe l.e.core h.fr l.r.core l.moment h.two))
 
-pub tick_holds : Below → (s : Opening) (side : Side) (l : Link) → Holds s l → Holds s (give side event.Tick l)
+pub tick_holds : Below → (s : EndLinkOpening) (side : Side) (l : EndLink) → Holds s l → Holds s (give side event.Tick l)
 tick_holds below s E l h =
     e_event below s l h (step_tick model l.moment l.e.core)
     (ticked_keeps below s true h.k h.fe (new_event_at model l.moment l.e.core) h.fr l.r.core refl (e_begins s h.k h.fe l.e.core h.fr l.r.core l.moment h.two))
@@ -151,21 +151,21 @@ pub record First (y : Station) (octets : List ℕ) (rest : List (List ℕ)) (l :
   pub frame : Frame
   pub frames : List Frame
   pub all : l ≡ frame ∷ frames
-  pub octets_are : octets ≡ octets_from y frame
-  pub rest_are : rest ≡ map (octets_from y) frames
+  pub octets_are : octets ≡ frame_octets_of_station y frame
+  pub rest_are : rest ≡ map (frame_octets_of_station y) frames
 
-pub first_of_line : (y : Station) (octets : List ℕ) (rest : List (List ℕ)) (l : List Frame) → octets ∷ rest ≡ map (octets_from y) l → First y octets rest l
+pub first_of_line : (y : Station) (octets : List ℕ) (rest : List (List ℕ)) (l : List Frame) → octets ∷ rest ≡ map (frame_octets_of_station y) l → First y octets rest l
 first_of_line y octets rest [] e = absurd cc
 first_of_line y octets rest (f ∷ fs) e = record { frame = f; frames = fs; all = refl; octets_are = cc; rest_are = cc }
 
-pub none_on_line : (y : Station) (l : List Frame) → [] ≡ map (octets_from y) l → l ≡ []
+pub none_on_line : (y : Station) (l : List Frame) → [] ≡ map (frame_octets_of_station y) l → l ≡ []
 none_on_line y [] e = refl
 none_on_line y (f ∷ fs) e = absurd cc
 
 -- ---- a frame is passed
 
 -- an event begins once more
-again : (s : Opening) (c : Bool) (k : ℕ) (w : List Frame) (x : Core) (l : List Frame) (y : Core) (now : ℕ) → Done s c k w (new_event_at model now x) l y
+again : (s : EndLinkOpening) (c : Bool) (k : ℕ) (w : List Frame) (x : Core) (l : List Frame) (y : Core) (now : ℕ) → Done s c k w (new_event_at model now x) l y
     → Done s c k w (new_event_at model now (new_event_at model now x)) l y
 again s c k w x l y now d = record {
   beside = d.beside;
@@ -177,25 +177,25 @@ again s c k w x l y now d = record {
 }
 
 -- the core behind a frame of e at r, of r at e
-abbrev pub r_behind : Opening → Link → Frame → Core
+abbrev pub r_behind : EndLinkOpening → EndLink → Frame → Core
 r_behind s l f = step_frame model s.finder l.moment (found l.e.core.line f) (new_event_at model l.moment l.r.core)
 
-abbrev pub e_behind : Opening → Link → Frame → Core
+abbrev pub e_behind : EndLinkOpening → EndLink → Frame → Core
 e_behind s l f = step_frame model s.finder l.moment (found l.r.core.line f) (new_event_at model l.moment l.e.core)
 
-pub r_news : Below → (s : Opening) (l : Link) (h : Holds s l) (octets : List ℕ) (rest : List (List ℕ)) (f : First l.e.core.line octets rest h.fe)
-    → news l.r.stream (octets_from l.e.core.line f.frame) ≡ found l.e.core.line f.frame ∷ []
+pub r_news : Below → (s : EndLinkOpening) (l : EndLink) (h : Holds s l) (octets : List ℕ) (rest : List (List ℕ)) (f : First l.e.core.line octets rest h.fe)
+    → news l.r.stream (frame_octets_of_station l.e.core.line f.frame) ≡ found l.e.core.line f.frame ∷ []
 r_news below s l h octets rest f =
     below.keep.one_frame false h.k h.fr l.r.core.line f.frame f.frames l.e.core.line l.r.stream h.flag_r
-    (subst (λ (t : List Frame). Pair false h.k h.fr l.r.core.line t l.e.core.line) f.all (below.keep.swapped false h.k h.fe l.e.core.line h.fr l.r.core.line h.two.lines))
+    (subst (λ (t : List Frame). IsStationPair false h.k h.fr l.r.core.line t l.e.core.line) f.all (below.keep.swapped false h.k h.fe l.e.core.line h.fr l.r.core.line h.two.lines))
 
-pub e_news : Below → (s : Opening) (l : Link) (h : Holds s l) (octets : List ℕ) (rest : List (List ℕ)) (f : First l.r.core.line octets rest h.fr)
-    → news l.e.stream (octets_from l.r.core.line f.frame) ≡ found l.r.core.line f.frame ∷ []
+pub e_news : Below → (s : EndLinkOpening) (l : EndLink) (h : Holds s l) (octets : List ℕ) (rest : List (List ℕ)) (f : First l.r.core.line octets rest h.fr)
+    → news l.e.stream (frame_octets_of_station l.r.core.line f.frame) ≡ found l.r.core.line f.frame ∷ []
 e_news below s l h octets rest f =
-    below.keep.one_frame false h.k h.fe l.e.core.line f.frame f.frames l.r.core.line l.e.stream h.flag_e (subst (λ (t : List Frame). Pair false h.k h.fe l.e.core.line t l.r.core.line) f.all h.two.lines)
+    below.keep.one_frame false h.k h.fe l.e.core.line f.frame f.frames l.r.core.line l.e.stream h.flag_e (subst (λ (t : List Frame). IsStationPair false h.k h.fe l.e.core.line t l.r.core.line) f.all h.two.lines)
 
 -- the link behind it
-abbrev r_reads : Opening → Link → List (List ℕ) → ℕ → List ℕ → List Verdict → Link
+abbrev r_reads : EndLinkOpening → EndLink → List (List ℕ) → ℕ → List ℕ → List Verdict → EndLink
 r_reads s l rest passes octets vs = record l {
   r = record { stream = l.r.stream ++ octets; core = hears_each s.finder l.moment vs (new_event_at model l.moment l.r.core) };
   from_r = l.from_r ++ frames_of_each s.finder l.moment vs (new_event_at model l.moment l.r.core);
@@ -203,7 +203,7 @@ r_reads s l rest passes octets vs = record l {
   passes = passes;
 }
 
-abbrev e_reads : Opening → Link → List (List ℕ) → ℕ → List ℕ → List Verdict → Link
+abbrev e_reads : EndLinkOpening → EndLink → List (List ℕ) → ℕ → List ℕ → List Verdict → EndLink
 e_reads s l rest passes octets vs = record l {
   e = record { stream = l.e.stream ++ octets; core = hears_each s.finder l.moment vs (new_event_at model l.moment l.e.core) };
   from_e = l.from_e ++ frames_of_each s.finder l.moment vs (new_event_at model l.moment l.e.core);
@@ -212,85 +212,85 @@ e_reads s l rest passes octets vs = record l {
 }
 
 -- a pass of one frame, as a link that an event leads to
-pub e_passes : Below → (s : Opening) (P : Link → Type 0) (l : Link) (h : Holds s l) (octets : List ℕ) (rest : List (List ℕ)) (f : First l.e.core.line octets rest h.fe)
+pub e_passes : Below → (s : EndLinkOpening) (P : EndLink → Type 0) (l : EndLink) (h : Holds s l) (octets : List ℕ) (rest : List (List ℕ)) (f : First l.e.core.line octets rest h.fe)
     → P (record l {
-      r = record { stream = l.r.stream ++ octets_from l.e.core.line f.frame; core = r_behind s l f.frame };
+      r = record { stream = l.r.stream ++ frame_octets_of_station l.e.core.line f.frame; core = r_behind s l f.frame };
       from_r = l.from_r ++ frames_said (r_behind s l f.frame);
       from_e = rest;
       passes = l.passes + 1;
     }) → P (pass s.finder E (octets ∷ rest) l)
 e_passes below s P l h octets rest f p =
     subst (λ (os : List ℕ). P (r_reads s l rest (l.passes + 1) os (news l.r.stream os))) (sym f.octets_are)
-    (subst (λ (vs : List Verdict). P (r_reads s l rest (l.passes + 1) (octets_from l.e.core.line f.frame) vs)) (sym (r_news below s l h octets rest f))
+    (subst (λ (vs : List Verdict). P (r_reads s l rest (l.passes + 1) (frame_octets_of_station l.e.core.line f.frame) vs)) (sym (r_news below s l h octets rest f))
     (subst (λ (said : List (List ℕ)). P (record l {
-      r = record { stream = l.r.stream ++ octets_from l.e.core.line f.frame; core = r_behind s l f.frame };
+      r = record { stream = l.r.stream ++ frame_octets_of_station l.e.core.line f.frame; core = r_behind s l f.frame };
       from_r = l.from_r ++ said;
       from_e = rest;
       passes = l.passes + 1;
     })) (sym (append-nil (frames_said (r_behind s l f.frame)))) p))
 
-pub r_passes : Below → (s : Opening) (P : Link → Type 0) (l : Link) (h : Holds s l) (octets : List ℕ) (rest : List (List ℕ)) (f : First l.r.core.line octets rest h.fr)
+pub r_passes : Below → (s : EndLinkOpening) (P : EndLink → Type 0) (l : EndLink) (h : Holds s l) (octets : List ℕ) (rest : List (List ℕ)) (f : First l.r.core.line octets rest h.fr)
     → P (record l {
-      e = record { stream = l.e.stream ++ octets_from l.r.core.line f.frame; core = e_behind s l f.frame };
+      e = record { stream = l.e.stream ++ frame_octets_of_station l.r.core.line f.frame; core = e_behind s l f.frame };
       from_e = l.from_e ++ frames_said (e_behind s l f.frame);
       from_r = rest;
       passes = l.passes + 1;
     }) → P (pass s.finder R (octets ∷ rest) l)
 r_passes below s P l h octets rest f p =
     subst (λ (os : List ℕ). P (e_reads s l rest (l.passes + 1) os (news l.e.stream os))) (sym f.octets_are)
-    (subst (λ (vs : List Verdict). P (e_reads s l rest (l.passes + 1) (octets_from l.r.core.line f.frame) vs)) (sym (e_news below s l h octets rest f))
+    (subst (λ (vs : List Verdict). P (e_reads s l rest (l.passes + 1) (frame_octets_of_station l.r.core.line f.frame) vs)) (sym (e_news below s l h octets rest f))
     (subst (λ (said : List (List ℕ)). P (record l {
-      e = record { stream = l.e.stream ++ octets_from l.r.core.line f.frame; core = e_behind s l f.frame };
+      e = record { stream = l.e.stream ++ frame_octets_of_station l.r.core.line f.frame; core = e_behind s l f.frame };
       from_e = l.from_e ++ said;
       from_r = rest;
       passes = l.passes + 1;
     })) (sym (append-nil (frames_said (e_behind s l f.frame)))) p))
 
 -- what stands at r before a frame of e comes, with the frame
-pub r_waits : Below → (s : Opening) (l : Link) (h : Holds s l) (octets : List ℕ) (rest : List (List ℕ)) (f : First l.e.core.line octets rest h.fe)
+pub r_waits : Below → (s : EndLinkOpening) (l : EndLink) (h : Holds s l) (octets : List ℕ) (rest : List (List ℕ)) (f : First l.e.core.line octets rest h.fe)
     → Done s false h.k h.fr (new_event_at model l.moment (new_event_at model l.moment l.r.core)) (f.frame ∷ f.frames) l.e.core
 r_waits below s l h octets rest f =
     again s false h.k h.fr l.r.core (f.frame ∷ f.frames) l.e.core l.moment
     (subst (λ (t : List Frame). Done s false h.k h.fr (new_event_at model l.moment l.r.core) t l.e.core) f.all (r_begins below s h.k h.fe l.e.core h.fr l.r.core l.moment h.two))
 
-pub e_waits : Below → (s : Opening) (l : Link) (h : Holds s l) (octets : List ℕ) (rest : List (List ℕ)) (f : First l.r.core.line octets rest h.fr)
+pub e_waits : Below → (s : EndLinkOpening) (l : EndLink) (h : Holds s l) (octets : List ℕ) (rest : List (List ℕ)) (f : First l.r.core.line octets rest h.fr)
     → Done s true h.k h.fe (new_event_at model l.moment (new_event_at model l.moment l.e.core)) (f.frame ∷ f.frames) l.r.core
 e_waits below s l h octets rest f =
     again s true h.k h.fe l.e.core (f.frame ∷ f.frames) l.r.core l.moment
     (subst (λ (t : List Frame). Done s true h.k h.fe (new_event_at model l.moment l.e.core) t l.r.core) f.all (e_begins s h.k h.fe l.e.core h.fr l.r.core l.moment h.two))
 
-e_passed : Below → (s : Opening) (l : Link) (line : List (List ℕ)) → l.from_e ≡ line → Holds s l → Holds s (pass s.finder E line l)
+e_passed : Below → (s : EndLinkOpening) (l : EndLink) (line : List (List ℕ)) → l.from_e ≡ line → Holds s l → Holds s (pass s.finder E line l)
 e_passed below s l [] e h = h
 e_passed below s l (octets ∷ rest) e h =
     let f = first_of_line l.e.core.line octets rest h.fe (sym e ∙ h.lined_e) in
     let x : Core = r_behind s l f.frame in
     e_passes below s (Holds s) l h octets rest f
-    (other_parts s (record l { r = record { stream = l.r.stream ++ octets_from l.e.core.line f.frame; core = x }; from_r = l.from_r ++ frames_said x; from_e = rest }) l.moment (l.passes + 1) l.order_kept l.loss_free
-    (r_did below s l h f.frames rest (l.r.stream ++ octets_from l.e.core.line f.frame) x f.rest_are (below.keep.at_flag l.e.core.line f.frame l.r.stream)
+    (other_parts s (record l { r = record { stream = l.r.stream ++ frame_octets_of_station l.e.core.line f.frame; core = x }; from_r = l.from_r ++ frames_said x; from_e = rest }) l.moment (l.passes + 1) l.order_kept l.loss_free
+    (r_did below s l h f.frames rest (l.r.stream ++ frame_octets_of_station l.e.core.line f.frame) x f.rest_are (below.keep.at_flag l.e.core.line f.frame l.r.stream)
     (received_keeps below s false h.k h.fr (new_event_at model l.moment (new_event_at model l.moment l.r.core)) f.frame f.frames l.e.core refl (r_waits below s l h octets rest f))))
 
-r_passed : Below → (s : Opening) (l : Link) (line : List (List ℕ)) → l.from_r ≡ line → Holds s l → Holds s (pass s.finder R line l)
+r_passed : Below → (s : EndLinkOpening) (l : EndLink) (line : List (List ℕ)) → l.from_r ≡ line → Holds s l → Holds s (pass s.finder R line l)
 r_passed below s l [] e h = h
 r_passed below s l (octets ∷ rest) e h =
     let f = first_of_line l.r.core.line octets rest h.fr (sym e ∙ h.lined_r) in
     let x : Core = e_behind s l f.frame in
     r_passes below s (Holds s) l h octets rest f
-    (other_parts s (record l { e = record { stream = l.e.stream ++ octets_from l.r.core.line f.frame; core = x }; from_e = l.from_e ++ frames_said x; from_r = rest }) l.moment (l.passes + 1) l.order_kept l.loss_free
-    (e_did below s l h f.frames rest (l.e.stream ++ octets_from l.r.core.line f.frame) x f.rest_are (below.keep.at_flag l.r.core.line f.frame l.e.stream)
+    (other_parts s (record l { e = record { stream = l.e.stream ++ frame_octets_of_station l.r.core.line f.frame; core = x }; from_e = l.from_e ++ frames_said x; from_r = rest }) l.moment (l.passes + 1) l.order_kept l.loss_free
+    (e_did below s l h f.frames rest (l.e.stream ++ frame_octets_of_station l.r.core.line f.frame) x f.rest_are (below.keep.at_flag l.r.core.line f.frame l.e.stream)
     (received_keeps below s true h.k h.fe (new_event_at model l.moment (new_event_at model l.moment l.e.core)) f.frame f.frames l.r.core refl (e_waits below s l h octets rest f))))
 
-pub pass_holds : Below → (s : Opening) (side : Side) (l : Link) → Holds s l → Holds s (pass s.finder side (line_of l side) l)
+pub pass_holds : Below → (s : EndLinkOpening) (side : Side) (l : EndLink) → Holds s l → Holds s (pass s.finder side (frames_from_end l side) l)
 pass_holds below s E l h = e_passed below s l l.from_e refl h
 pass_holds below s R l h = r_passed below s l l.from_r refl h
 
 -- ---- a frame is lost or repeated
 
 -- the lines changed, and the ends didn't
-pub two_lines : (s : Opening) (k : ℕ) (fe fr fe' fr' : List Frame) (e r : Core) → Pair false k fe' e.line fr' r.line → Two s k fe e fr r → Two s k fe' e fr' r
+pub two_lines : (s : EndLinkOpening) (k : ℕ) (fe fr fe' fr' : List Frame) (e r : Core) → IsStationPair false k fe' e.line fr' r.line → Two s k fe e fr r → Two s k fe' e fr' r
 two_lines s k fe fr fe' fr' e r p t = record { lines = p; spelled_e = t.spelled_e; spelled_r = t.spelled_r; own_e = t.own_e; own_r = t.own_r }
 
-unfoldable pub e_changed : Below → (s : Opening) (l : Link) (h : Holds s l) (fe : List Frame) (line : List (List ℕ)) → line ≡ map (octets_from l.e.core.line) fe
-    → Pair false h.k h.fr l.r.core.line fe l.e.core.line → Holds s (record l { from_e = line })
+unfoldable pub e_changed : Below → (s : EndLinkOpening) (l : EndLink) (h : Holds s l) (fe : List Frame) (line : List (List ℕ)) → line ≡ map (frame_octets_of_station l.e.core.line) fe
+    → IsStationPair false h.k h.fr l.r.core.line fe l.e.core.line → Holds s (record l { from_e = line })
 e_changed below s l h fe line lined p = record {
   k = h.k;
   fe = fe;
@@ -302,8 +302,8 @@ e_changed below s l h fe line lined p = record {
   flag_r = h.flag_r;
 }
 
-unfoldable pub r_changed : (s : Opening) (l : Link) (h : Holds s l) (fr : List Frame) (line : List (List ℕ)) → line ≡ map (octets_from l.r.core.line) fr
-    → Pair false h.k h.fe l.e.core.line fr l.r.core.line → Holds s (record l { from_r = line })
+unfoldable pub r_changed : (s : EndLinkOpening) (l : EndLink) (h : Holds s l) (fr : List Frame) (line : List (List ℕ)) → line ≡ map (frame_octets_of_station l.r.core.line) fr
+    → IsStationPair false h.k h.fe l.e.core.line fr l.r.core.line → Holds s (record l { from_r = line })
 r_changed s l h fr line lined p = record {
   k = h.k;
   fe = h.fe;
@@ -316,86 +316,86 @@ r_changed s l h fr line lined p = record {
 }
 
 -- the frames of e, as r sees them
-pub e_first_pair : Below → (s : Opening) (l : Link) (h : Holds s l) (octets : List ℕ) (rest : List (List ℕ)) (f : First l.e.core.line octets rest h.fe)
-    → Pair false h.k h.fr l.r.core.line (f.frame ∷ f.frames) l.e.core.line
+pub e_first_pair : Below → (s : EndLinkOpening) (l : EndLink) (h : Holds s l) (octets : List ℕ) (rest : List (List ℕ)) (f : First l.e.core.line octets rest h.fe)
+    → IsStationPair false h.k h.fr l.r.core.line (f.frame ∷ f.frames) l.e.core.line
 e_first_pair below s l h octets rest f =
-    subst (λ (t : List Frame). Pair false h.k h.fr l.r.core.line t l.e.core.line) f.all (below.keep.swapped false h.k h.fe l.e.core.line h.fr l.r.core.line h.two.lines)
+    subst (λ (t : List Frame). IsStationPair false h.k h.fr l.r.core.line t l.e.core.line) f.all (below.keep.swapped false h.k h.fe l.e.core.line h.fr l.r.core.line h.two.lines)
 
-pub r_first_pair : (s : Opening) (l : Link) (h : Holds s l) (octets : List ℕ) (rest : List (List ℕ)) (f : First l.r.core.line octets rest h.fr)
-    → Pair false h.k h.fe l.e.core.line (f.frame ∷ f.frames) l.r.core.line
-r_first_pair s l h octets rest f = subst (λ (t : List Frame). Pair false h.k h.fe l.e.core.line t l.r.core.line) f.all h.two.lines
+pub r_first_pair : (s : EndLinkOpening) (l : EndLink) (h : Holds s l) (octets : List ℕ) (rest : List (List ℕ)) (f : First l.r.core.line octets rest h.fr)
+    → IsStationPair false h.k h.fe l.e.core.line (f.frame ∷ f.frames) l.r.core.line
+r_first_pair s l h octets rest f = subst (λ (t : List Frame). IsStationPair false h.k h.fe l.e.core.line t l.r.core.line) f.all h.two.lines
 
-e_lost : Below → (s : Opening) (l : Link) (line : List (List ℕ)) → l.from_e ≡ line → Holds s l → Holds s (lose E line l)
+e_lost : Below → (s : EndLinkOpening) (l : EndLink) (line : List (List ℕ)) → l.from_e ≡ line → Holds s l → Holds s (lose E line l)
 e_lost below s l [] e h = h
 e_lost below s l (octets ∷ rest) e h =
     let f = first_of_line l.e.core.line octets rest h.fe (sym e ∙ h.lined_e) in
     other_parts s (record l { from_e = rest }) l.moment l.passes l.order_kept false
     (e_changed below s l h f.frames rest f.rest_are (below.keep.lost false h.k h.fr l.r.core.line f.frame f.frames l.e.core.line (e_first_pair below s l h octets rest f)))
 
-r_lost : Below → (s : Opening) (l : Link) (line : List (List ℕ)) → l.from_r ≡ line → Holds s l → Holds s (lose R line l)
+r_lost : Below → (s : EndLinkOpening) (l : EndLink) (line : List (List ℕ)) → l.from_r ≡ line → Holds s l → Holds s (lose R line l)
 r_lost below s l [] e h = h
 r_lost below s l (octets ∷ rest) e h =
     let f = first_of_line l.r.core.line octets rest h.fr (sym e ∙ h.lined_r) in
     other_parts s (record l { from_r = rest }) l.moment l.passes l.order_kept false
     (r_changed s l h f.frames rest f.rest_are (below.keep.lost false h.k h.fe l.e.core.line f.frame f.frames l.r.core.line (r_first_pair s l h octets rest f)))
 
-e_repeated : Below → (s : Opening) (l : Link) (line : List (List ℕ)) → l.from_e ≡ line → Holds s l → Holds s (repeat E line l)
+e_repeated : Below → (s : EndLinkOpening) (l : EndLink) (line : List (List ℕ)) → l.from_e ≡ line → Holds s l → Holds s (repeat E line l)
 e_repeated below s l [] e h = h
 e_repeated below s l (octets ∷ rest) e h =
     let f = first_of_line l.e.core.line octets rest h.fe (sym e ∙ h.lined_e) in
     other_parts s (record l { from_e = octets ∷ octets ∷ rest }) l.moment l.passes l.order_kept false
     (e_changed below s l h (f.frame ∷ f.frame ∷ f.frames) (octets ∷ octets ∷ rest)
-    (ap (λ o. o ∷ o ∷ rest) f.octets_are ∙ ap (λ r. octets_from l.e.core.line f.frame ∷ octets_from l.e.core.line f.frame ∷ r) f.rest_are)
+    (ap (λ o. o ∷ o ∷ rest) f.octets_are ∙ ap (λ r. frame_octets_of_station l.e.core.line f.frame ∷ frame_octets_of_station l.e.core.line f.frame ∷ r) f.rest_are)
     (below.keep.repeated false h.k h.fr l.r.core.line f.frame f.frames l.e.core.line (e_first_pair below s l h octets rest f)))
 
-r_repeated : Below → (s : Opening) (l : Link) (line : List (List ℕ)) → l.from_r ≡ line → Holds s l → Holds s (repeat R line l)
+r_repeated : Below → (s : EndLinkOpening) (l : EndLink) (line : List (List ℕ)) → l.from_r ≡ line → Holds s l → Holds s (repeat R line l)
 r_repeated below s l [] e h = h
 r_repeated below s l (octets ∷ rest) e h =
     let f = first_of_line l.r.core.line octets rest h.fr (sym e ∙ h.lined_r) in
     other_parts s (record l { from_r = octets ∷ octets ∷ rest }) l.moment l.passes l.order_kept false
     (r_changed s l h (f.frame ∷ f.frame ∷ f.frames) (octets ∷ octets ∷ rest)
-    (ap (λ o. o ∷ o ∷ rest) f.octets_are ∙ ap (λ r. octets_from l.r.core.line f.frame ∷ octets_from l.r.core.line f.frame ∷ r) f.rest_are)
+    (ap (λ o. o ∷ o ∷ rest) f.octets_are ∙ ap (λ r. frame_octets_of_station l.r.core.line f.frame ∷ frame_octets_of_station l.r.core.line f.frame ∷ r) f.rest_are)
     (below.keep.repeated false h.k h.fe l.e.core.line f.frame f.frames l.r.core.line (r_first_pair s l h octets rest f)))
 
 -- ---- a drain
 
-next_holds : Below → (s : Opening) (side : Option Side) (overfull : Bool) (l : Link) → Holds s l → Holds s (pass_next s.finder side overfull l)
+next_holds : Below → (s : EndLinkOpening) (side : Option Side) (overfull : Bool) (l : EndLink) → Holds s l → Holds s (pass_next s.finder side overfull l)
 next_holds below s None overfull l h = h
 next_holds below s (Some side) true l h = h
 next_holds below s (Some side) false l h = pass_holds below s side l h
 
-pub drained_holds : Below → (s : Opening) (most : ℕ) (l : Link) → Holds s l → Holds s (drained s.finder most l)
+pub drained_holds : Below → (s : EndLinkOpening) (most : ℕ) (l : EndLink) → Holds s l → Holds s (drained s.finder most l)
 drained_holds below s zero l h = h
 drained_holds below s (suc most) l h =
     drained_holds below s most (pass_next s.finder (next_of l.from_e l.from_r) (is_overfull l) l) (next_holds below s (next_of l.from_e l.from_r) (is_overfull l) l h)
 
 -- ---- a line keeps its order before a step where it does so behind it
 
-pub give_kept : (side : Side) (event : Event) (l : Link) → (give side event l).order_kept ≡ l.order_kept
+pub give_kept : (side : Side) (event : Event) (l : EndLink) → (give side event l).order_kept ≡ l.order_kept
 give_kept E event l = refl
 give_kept R event l = refl
 
-pub passed_kept : (s : Opening) (side : Side) (line : List (List ℕ)) (l : Link) → (pass s.finder side line l).order_kept ≡ l.order_kept
+pub passed_kept : (s : EndLinkOpening) (side : Side) (line : List (List ℕ)) (l : EndLink) → (pass s.finder side line l).order_kept ≡ l.order_kept
 passed_kept s side [] l = refl
 passed_kept s E (octets ∷ rest) l = refl
 passed_kept s R (octets ∷ rest) l = refl
 
-pub next_kept : (s : Opening) (side : Option Side) (overfull : Bool) (l : Link) → (pass_next s.finder side overfull l).order_kept ≡ l.order_kept
+pub next_kept : (s : EndLinkOpening) (side : Option Side) (overfull : Bool) (l : EndLink) → (pass_next s.finder side overfull l).order_kept ≡ l.order_kept
 next_kept s None overfull l = refl
 next_kept s (Some side) true l = refl
-next_kept s (Some side) false l = passed_kept s side (line_of l side) l
+next_kept s (Some side) false l = passed_kept s side (frames_from_end l side) l
 
-pub drained_kept : (s : Opening) (most : ℕ) (l : Link) → (drained s.finder most l).order_kept ≡ l.order_kept
+pub drained_kept : (s : EndLinkOpening) (most : ℕ) (l : EndLink) → (drained s.finder most l).order_kept ≡ l.order_kept
 drained_kept s zero l = refl
 drained_kept s (suc most) l =
     drained_kept s most (pass_next s.finder (next_of l.from_e l.from_r) (is_overfull l) l) ∙ next_kept s (next_of l.from_e l.from_r) (is_overfull l) l
 
-pub lost_kept : (side : Side) (line : List (List ℕ)) (l : Link) → (lose side line l).order_kept ≡ l.order_kept
+pub lost_kept : (side : Side) (line : List (List ℕ)) (l : EndLink) → (lose side line l).order_kept ≡ l.order_kept
 lost_kept side [] l = refl
 lost_kept E (octets ∷ rest) l = refl
 lost_kept R (octets ∷ rest) l = refl
 
-pub repeated_kept : (side : Side) (line : List (List ℕ)) (l : Link) → (repeat side line l).order_kept ≡ l.order_kept
+pub repeated_kept : (side : Side) (line : List (List ℕ)) (l : EndLink) → (repeat side line l).order_kept ≡ l.order_kept
 repeated_kept side [] l = refl
 repeated_kept E (octets ∷ rest) l = refl
 repeated_kept R (octets ∷ rest) l = refl
@@ -403,37 +403,37 @@ repeated_kept R (octets ∷ rest) l = refl
 -- ---- the steps
 
 -- the invariant holds as long as no frame was altered or put in
-abbrev pub Kept : Opening → Link → Type 0
+abbrev pub Kept : EndLinkOpening → EndLink → Type 0
 Kept s l = l.order_kept ≡ true → Holds s l
 
-changed_kept : (s : Opening) (side : Side) (frames : List (List ℕ)) (l : Link) → Kept s (with_line side frames (record l { order_kept = false; loss_free = false }))
+changed_kept : (s : EndLinkOpening) (side : Side) (frames : List (List ℕ)) (l : EndLink) → Kept s (with_frames_from_end side frames (record l { order_kept = false; loss_free = false }))
 changed_kept s E frames l = λ e. absurd cc
 changed_kept s R frames l = λ e. absurd cc
 
-altered_kept : (s : Opening) (side : Side) (place mask : ℕ) (line : List (List ℕ)) (l : Link) → Kept s l → Kept s (alter side place mask line l)
+altered_kept : (s : EndLinkOpening) (side : Side) (place mask : ℕ) (line : List (List ℕ)) (l : EndLink) → Kept s l → Kept s (alter side place mask line l)
 altered_kept s side place mask [] l h = h
 altered_kept s side place mask (octets ∷ rest) l h =
     cond_both (nat_lt place (length octets))
-    (if mask == 0 then l else with_line side (altered octets place mask ∷ rest) (record l { order_kept = false; loss_free = false })) l (Kept s)
-    (λ in_frame. cond_both (mask == 0) l (with_line side (altered octets place mask ∷ rest) (record l { order_kept = false; loss_free = false })) (Kept s)
+    (if mask == 0 then l else with_frames_from_end side (altered octets place mask ∷ rest) (record l { order_kept = false; loss_free = false })) l (Kept s)
+    (λ in_frame. cond_both (mask == 0) l (with_frames_from_end side (altered octets place mask ∷ rest) (record l { order_kept = false; loss_free = false })) (Kept s)
     (λ none. h) (λ some. changed_kept s side (altered octets place mask ∷ rest) l))
     (λ short. h)
 
-link_tick_holds : Below → (s : Opening) (l : Link) (now : ℕ) → Holds s l → Holds s (tick now l)
+link_tick_holds : Below → (s : EndLinkOpening) (l : EndLink) (now : ℕ) → Holds s l → Holds s (tick now l)
 link_tick_holds below s l now h =
     let to : ℕ = max l.moment now in
-    let first : Link = record l { moment = to; loss_free = l.loss_free && not (expires_at to l.e || expires_at to l.r) } in
-    tick_holds below s R (give E event.Tick first) (tick_holds below s E first (other_parts s l to l.passes l.order_kept (l.loss_free && not (expires_at to l.e || expires_at to l.r)) h))
+    let first : EndLink = record l { moment = to; loss_free = l.loss_free && not (is_end_expired_at to l.e || is_end_expired_at to l.r) } in
+    tick_holds below s R (give E event.Tick first) (tick_holds below s E first (other_parts s l to l.passes l.order_kept (l.loss_free && not (is_end_expired_at to l.e || is_end_expired_at to l.r)) h))
 
-pub step_keeps : Below → (s : Opening) (st : LinkStep) (l : Link) → FitsStep st → Kept s l → Kept s (link_step s.finder st l)
+pub step_keeps : Below → (s : EndLinkOpening) (st : EndLinkStep) (l : EndLink) → FitsStep st → Kept s l → Kept s (end_link_step s.finder st l)
 step_keeps below s (Send side user) l fits h e = send_holds below s side l user fits (h (sym (give_kept side (event.Send user) l) ∙ e))
-step_keeps below s (Pass side) l fits h e = pass_holds below s side l (h (sym (passed_kept s side (line_of l side) l) ∙ e))
+step_keeps below s (Pass side) l fits h e = pass_holds below s side l (h (sym (passed_kept s side (frames_from_end l side) l) ∙ e))
 step_keeps below s (Lose E) l fits h e = e_lost below s l l.from_e refl (h (sym (lost_kept E l.from_e l) ∙ e))
 step_keeps below s (Lose R) l fits h e = r_lost below s l l.from_r refl (h (sym (lost_kept R l.from_r l) ∙ e))
 step_keeps below s (Repeat E) l fits h e = e_repeated below s l l.from_e refl (h (sym (repeated_kept E l.from_e l) ∙ e))
 step_keeps below s (Repeat R) l fits h e = r_repeated below s l l.from_r refl (h (sym (repeated_kept R l.from_r l) ∙ e))
-step_keeps below s (Alter side place mask) l fits h e = altered_kept s side place mask (line_of l side) l h e
-step_keeps below s (Put side octets) l fits h e = changed_kept s side (octets ∷ line_of l side) l e
+step_keeps below s (Alter side place mask) l fits h e = altered_kept s side place mask (frames_from_end l side) l h e
+step_keeps below s (Put side octets) l fits h e = changed_kept s side (octets ∷ frames_from_end l side) l e
 step_keeps below s (Take side) l fits h e = take_holds below s side l (h (sym (give_kept side event.Take l) ∙ e))
 step_keeps below s (UserRelease side sub) l fits h e =
     leave_holds below s side (record l { loss_free = false }) sub
@@ -441,6 +441,6 @@ step_keeps below s (UserRelease side sub) l fits h e =
 step_keeps below s (Drain most) l fits h e = drained_holds below s most l (h (sym (drained_kept s most l) ∙ e))
 step_keeps below s (Tick moment) l fits h e = link_tick_holds below s l moment (h e)
 
-pub run_keeps : Below → (s : Opening) (steps : List LinkStep) (l : Link) → AllFit steps → Kept s l → Kept s (run s.finder l steps)
+pub run_keeps : Below → (s : EndLinkOpening) (steps : List EndLinkStep) (l : EndLink) → AllFit steps → Kept s l → Kept s (end_link_run s.finder l steps)
 run_keeps below s [] l fits h = h
-run_keeps below s (st ∷ rest) l fits h = run_keeps below s rest (link_step s.finder st l) fits.1 (step_keeps below s st l fits.0 h)
+run_keeps below s (st ∷ rest) l fits h = run_keeps below s rest (end_link_step s.finder st l) fits.1 (step_keeps below s st l fits.0 h)

@@ -5,12 +5,12 @@ use Rattle.t70_header.specs.Blocks.{last_block}
 use Rattle.x224_tpdu.specs.Spelling.{connection_request, connection_confirm, disconnect_request}
 use Rattle.x224_tpdu.specs.Function.{reading}
 use Rattle.sapdu.specs.Spelling.{Au1, Au2, read_of}
-use Rattle.er_end_pair_laws.specs.Openings.{Opening, Agree}
-use Rattle.er_end_pair_laws.specs.Steps.{LinkStep, AllFit}
-use Rattle.er_end_pair_laws.specs.Laws.{after}
+use Rattle.er_end_pair_laws.specs.Openings.{EndLinkOpening, Agree}
+use Rattle.er_end_pair_laws.specs.Steps.{EndLinkStep, AllFit}
+use Rattle.er_end_pair_laws.specs.Laws.{end_link_after}
 
 -- a payload is the block of a CR whose user data is the AU1 of the engine
-pub record IsCall (s : Opening) (payload : List ℕ) : Type 0 where
+pub record IsCallBlock (s : EndLinkOpening) (payload : List ℕ) : Type 0 where
   pub tpdu : List ℕ
   pub credit : ℕ
   pub dst : ℕ
@@ -23,11 +23,11 @@ pub record IsCall (s : Opening) (payload : List ℕ) : Type 0 where
   pub text : read_of user ≡ Ok (Au1 s.engine 1 s.rb, false)
 
 -- that of a CC whose user data is the AU2 of the radio block centre, or that of a DR
-pub data IsAnswer (s : Opening) (payload : List ℕ) : Type 0 where
+pub data IsAnswerBlock (s : EndLinkOpening) (payload : List ℕ) : Type 0 where
   Confirms : (tpdu user : List ℕ) (credit dst src size mac : ℕ) → payload ≡ last_block tpdu → length tpdu ≤ 1024
-      → reading tpdu ≡ Ok (connection_confirm credit dst src size user) → read_of user ≡ Ok (Au2 s.rbc 1 s.ra mac, true) → IsAnswer s payload
+      → reading tpdu ≡ Ok (connection_confirm credit dst src size user) → read_of user ≡ Ok (Au2 s.rbc 1 s.ra mac, true) → IsAnswerBlock s payload
   Parts : (tpdu user : List ℕ) (dst src reason : ℕ) → payload ≡ last_block tpdu → length tpdu ≤ 1024
-      → reading tpdu ≡ Ok (disconnect_request dst src reason user) → IsAnswer s payload
+      → reading tpdu ≡ Ok (disconnect_request dst src reason user) → IsAnswerBlock s payload
 
 abbrev pub StartsWith : (List ℕ → Type 0) → List (List ℕ) → Type 0
 StartsWith P [] = Unit {0}
@@ -35,5 +35,5 @@ StartsWith P (payload ∷ payloads) = P payload
 
 abbrev pub Greets : Type 0
 Greets =
-    (s : Opening) (steps : List LinkStep) → AllFit steps → Agree s → (after s steps).order_kept ≡ true
-    → StartsWith (IsCall s) (after s steps).r.core.line.taken × StartsWith (IsAnswer s) (after s steps).e.core.line.taken
+    (s : EndLinkOpening) (steps : List EndLinkStep) → AllFit steps → Agree s → (end_link_after s steps).order_kept ≡ true
+    → StartsWith (IsCallBlock s) (end_link_after s steps).r.core.line.taken × StartsWith (IsAnswerBlock s) (end_link_after s steps).e.core.line.taken

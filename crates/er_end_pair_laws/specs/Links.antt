@@ -8,11 +8,11 @@ use Rattle.hdlc_station_model.specs.Events.{said_octets, news}
 use Rattle.er_end_model.specs.Outcomes.{SendRefusal}
 use Rattle.er_end_model.specs.Layers.{Core, model}
 use Rattle.er_end_model.specs.Steps.{Finds, new_event_at, step_frame, refusal_of}
-use Rattle.er_end_model.specs.Ends.{End, Event, Start, Come, Send, Take, Leave, Tick, Ended, Fault, Stalled, Call, Answer, step}
+use Rattle.er_end_model.specs.Ends.{End, Event, Start, Come, Send, Take, Leave, Tick, Ended, Fault, Stalled, Call, Answer, step_event}
 use Rattle.er_end_model.specs.Ends as end
-use Rattle.er_end_pair_laws.specs.Openings.{Opening}
+use Rattle.er_end_pair_laws.specs.Openings.{EndLinkOpening}
 
-pub record Link : Type 0 where
+pub record EndLink : Type 0 where
   pub e : End
   pub r : End
   -- the frames that e sent and that wait, the first to be passed first, and those of r
@@ -26,17 +26,17 @@ pub record Link : Type 0 where
   -- whether besides none was lost or repeated, no user released, and no tick found an expired timer
   pub loss_free : Bool
 
-abbrev pub end_of : Link → Side → End
+abbrev pub end_of : EndLink → Side → End
 end_of l E = l.e
 end_of l R = l.r
 
-abbrev pub line_of : Link → Side → List (List ℕ)
-line_of l E = l.from_e
-line_of l R = l.from_r
+abbrev pub frames_from_end : EndLink → Side → List (List ℕ)
+frames_from_end l E = l.from_e
+frames_from_end l R = l.from_r
 
-abbrev pub with_line : Side → List (List ℕ) → Link → Link
-with_line E frames l = record l { from_e = frames }
-with_line R frames l = record l { from_r = frames }
+abbrev pub with_frames_from_end : Side → List (List ℕ) → EndLink → EndLink
+with_frames_from_end E frames l = record l { from_e = frames }
+with_frames_from_end R frames l = record l { from_r = frames }
 
 -- ---- an event at an end
 
@@ -57,26 +57,26 @@ frames_unless None x = frames_said x
 
 -- the frames that an end sends at an event
 abbrev pub frames_by : (now : ℕ) → Event → End → List (List ℕ)
-frames_by now Start m = frames_said (step now Start m).0.core
+frames_by now Start m = frames_said (step_event now Start m).0.core
 frames_by now (Come finds octets) m = frames_of_each finds now (news m.stream octets) (new_event_at model now m.core)
-frames_by now (Send user) m = frames_unless (refusal_of model user m.core) (step now (Send user) m).0.core
-frames_by now Take m = frames_said (step now Take m).0.core
-frames_by now (Leave sub) m = frames_said (step now (Leave sub) m).0.core
-frames_by now Tick m = frames_said (step now Tick m).0.core
-frames_by now Ended m = frames_said (step now Ended m).0.core
-frames_by now Fault m = frames_said (step now Fault m).0.core
-frames_by now Stalled m = frames_said (step now Stalled m).0.core
+frames_by now (Send user) m = frames_unless (refusal_of model user m.core) (step_event now (Send user) m).0.core
+frames_by now Take m = frames_said (step_event now Take m).0.core
+frames_by now (Leave sub) m = frames_said (step_event now (Leave sub) m).0.core
+frames_by now Tick m = frames_said (step_event now Tick m).0.core
+frames_by now Ended m = frames_said (step_event now Ended m).0.core
+frames_by now Fault m = frames_said (step_event now Fault m).0.core
+frames_by now Stalled m = frames_said (step_event now Stalled m).0.core
 
 -- an end is given an event: its frames join those that wait
-abbrev pub give : Side → Event → Link → Link
-give E event l = record l { e = (step l.moment event l.e).0; from_e = l.from_e ++ frames_by l.moment event l.e }
-give R event l = record l { r = (step l.moment event l.r).0; from_r = l.from_r ++ frames_by l.moment event l.r }
+abbrev pub give : Side → Event → EndLink → EndLink
+give E event l = record l { e = (step_event l.moment event l.e).0; from_e = l.from_e ++ frames_by l.moment event l.e }
+give R event l = record l { r = (step_event l.moment event l.r).0; from_r = l.from_r ++ frames_by l.moment event l.r }
 
 -- ---- a link that is opened
 
 -- two ends that were just made; the one that calls begins
-abbrev pub opened : Opening → Link
-opened s =
+abbrev pub opened_end_link : EndLinkOpening → EndLink
+opened_end_link s =
     give E Start (record {
       e = end.opened (Call s.settings s.engine s.rbc s.kmac s.rb s.moment);
       r = end.opened (Answer s.settings s.rbc s.ra s.moment);

@@ -7,7 +7,7 @@ use Rattle.er_end_model.specs.Steps.{Finds}
 
 -- the settings of both ends; an engine that calls a radio block centre, with its KMAC; the KMACs that are found, by moment, engine and
 -- radio block centre; the random number of each, the radio block centre's first; the moment of the making
-pub record Opening : Type 0 where
+pub record EndLinkOpening : Type 0 where
   pub settings : Settings
   pub engine : ℕ
   pub rbc : ℕ
@@ -24,5 +24,5 @@ pub record Opening : Type 0 where
   pub rb_fits : rb < 2 ^ 64
 
 -- the radio block centre finds the engine's KMAC, at every moment
-abbrev pub Agree : Opening → Type 0
+abbrev pub Agree : EndLinkOpening → Type 0
 Agree s = (now : ℕ) → s.finder now s.engine s.rbc ≡ Some s.kmac

@@ -5,16 +5,16 @@ use Rattle.des_block.specs.declared.triple_key.TripleKey.{TripleKey}
 use Rattle.safety_automaton.specs.declared.role.Role.TheVariants.{Initiator, Responder}
 use Rattle.safety_automaton.specs.Safety.{Safety, session_in}
 use Rattle.x224_class2.specs.Segments.{messages_in}
-use Rattle.x224_class2.specs.Tpdus.{Given, Cr, Cc, Dt, Ak, Dr, Dc}
+use Rattle.x224_class2.specs.Tpdus.{GivenTpdu, Cr, Cc, Dt, Ak, Dr, Dc}
 use Rattle.er_end_model.specs.Layers.{Core}
 use Rattle.er_end_model.specs.Steps.{is_connected}
-use Rattle.er_end_pair_laws.specs.Openings.{Opening, Agree}
-use Rattle.er_end_pair_laws.specs.Phases.{IsEngines, IsCentres}
-use Rattle.er_end_pair_laws.specs.Steps.{LinkStep, AllFit}
-use Rattle.er_end_pair_laws.specs.Laws.{after}
+use Rattle.er_end_pair_laws.specs.Openings.{EndLinkOpening, Agree}
+use Rattle.er_end_pair_laws.specs.Phases.{IsEnginesPhase, IsCentres}
+use Rattle.er_end_pair_laws.specs.Steps.{EndLinkStep, AllFit}
+use Rattle.er_end_pair_laws.specs.Laws.{end_link_after}
 
 -- the first TPDU that was given is a CC
-abbrev pub is_cc : Given → Bool
+abbrev pub is_cc : GivenTpdu → Bool
 is_cc (Cr credit size user) = false
 is_cc (Cc credit size user) = true
 is_cc (Dt last n user) = false
@@ -22,7 +22,7 @@ is_cc (Ak credit n) = false
 is_cc (Dr reason user) = false
 is_cc Dc = false
 
-abbrev pub begins_with_cc : List Given → Bool
+abbrev pub begins_with_cc : List GivenTpdu → Bool
 begins_with_cc [] = false
 begins_with_cc (tpdu ∷ later) = is_cc tpdu
 
@@ -44,7 +44,7 @@ IsJoined x = is_connected x.safe.safety.phase ≡ true
 pub record IsEngine (engine rbc : ℕ) (kmac : TripleKey) (ra rb : ℕ) (s : Safety) : Type 0 where
   pub me : s.me ≡ engine
   pub role : s.role ≡ Initiator
-  pub is : IsEngines engine rbc kmac ra rb s.phase
+  pub is : IsEnginesPhase engine rbc kmac ra rb s.phase
 
 pub record IsCentre (engine rbc : ℕ) (kmac : TripleKey) (ra rb : ℕ) (s : Safety) : Type 0 where
   pub me : s.me ≡ rbc
@@ -65,5 +65,5 @@ pub record AreOrdered (engine rbc : ℕ) (kmac : TripleKey) (ra rb : ℕ) (e r :
 
 abbrev pub InStepWhileOrdered : Type 0
 InStepWhileOrdered =
-    (s : Opening) (steps : List LinkStep) → AllFit steps → Agree s → (after s steps).order_kept ≡ true
-    → AreOrdered s.engine s.rbc s.kmac s.ra s.rb (after s steps).e.core (after s steps).r.core
+    (s : EndLinkOpening) (steps : List EndLinkStep) → AllFit steps → Agree s → (end_link_after s steps).order_kept ≡ true
+    → AreOrdered s.engine s.rbc s.kmac s.ra s.rb (end_link_after s steps).e.core (end_link_after s steps).r.core

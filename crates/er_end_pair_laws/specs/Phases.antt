@@ -12,14 +12,14 @@ abbrev pub connection_of : (me peer : ℕ) → (kmac : TripleKey) → (ra rb : �
 connection_of me peer kmac ra rb = record { me = me; peer = peer; ra = ra; rb = rb; session = session_of kmac ra rb }
 
 -- the engine's side is about to begin, waits for AU2, waits for AR, or is connected
-abbrev pub IsEngines : (engine rbc : ℕ) → (kmac : TripleKey) → (ra rb : ℕ) → Phase → Type 0
-IsEngines engine rbc kmac ra rb (Ready peer own own_rb) = Unit {0}
-IsEngines engine rbc kmac ra rb (WaitAu1 own_ra) = ⊥
-IsEngines engine rbc kmac ra rb (WaitAu2 peer own own_rb) = Unit {0}
-IsEngines engine rbc kmac ra rb (WaitAu3 connection) = ⊥
-IsEngines engine rbc kmac ra rb (WaitAr connection) = connection ≡ connection_of engine rbc kmac ra rb
-IsEngines engine rbc kmac ra rb (Connected peer session) = (peer ≡ rbc) × (session ≡ session_of kmac ra rb)
-IsEngines engine rbc kmac ra rb (Released release session) = ⊥
+abbrev pub IsEnginesPhase : (engine rbc : ℕ) → (kmac : TripleKey) → (ra rb : ℕ) → Phase → Type 0
+IsEnginesPhase engine rbc kmac ra rb (Ready peer own own_rb) = Unit {0}
+IsEnginesPhase engine rbc kmac ra rb (WaitAu1 own_ra) = ⊥
+IsEnginesPhase engine rbc kmac ra rb (WaitAu2 peer own own_rb) = Unit {0}
+IsEnginesPhase engine rbc kmac ra rb (WaitAu3 connection) = ⊥
+IsEnginesPhase engine rbc kmac ra rb (WaitAr connection) = connection ≡ connection_of engine rbc kmac ra rb
+IsEnginesPhase engine rbc kmac ra rb (Connected peer session) = (peer ≡ rbc) × (session ≡ session_of kmac ra rb)
+IsEnginesPhase engine rbc kmac ra rb (Released release session) = ⊥
 
 -- the radio block centre's side waits for AU1, waits for AU3, or is connected
 abbrev pub IsCentres : (engine rbc : ℕ) → (kmac : TripleKey) → (ra rb : ℕ) → Phase → Type 0
@@ -35,7 +35,7 @@ IsCentres engine rbc kmac ra rb (Released release session) = ⊥
 pub record AreInStep (engine rbc : ℕ) (kmac : TripleKey) (ra rb : ℕ) (e r : Safety) : Type 0 where
   pub e_me : e.me ≡ engine
   pub e_role : e.role ≡ Initiator
-  pub e_is : IsEngines engine rbc kmac ra rb e.phase
+  pub e_is : IsEnginesPhase engine rbc kmac ra rb e.phase
   pub r_me : r.me ≡ rbc
   pub r_role : r.role ≡ Responder
   pub r_is : IsCentres engine rbc kmac ra rb r.phase

@@ -5,13 +5,13 @@ use Rattle.hdlc_station_model.specs.Repeating.{MayRepeat}
 use Rattle.er_end_model.specs.Layers.{model}
 use Rattle.er_end_model.specs.Steps.{new_event_at, is_spent}
 use Rattle.er_end_model.specs.Ends.{End}
-use Rattle.er_end_pair_laws.specs.Openings.{Opening, Agree}
-use Rattle.er_end_pair_laws.specs.Links.{Link}
-use Rattle.er_end_pair_laws.specs.Steps.{LinkStep, Send, Pass, Lose, Repeat, Alter, Put, Take, UserRelease, Drain, Tick, AllFit}
-use Rattle.er_end_pair_laws.specs.Laws.{after, IsEmpty, HasAll}
+use Rattle.er_end_pair_laws.specs.Openings.{EndLinkOpening, Agree}
+use Rattle.er_end_pair_laws.specs.Links.{EndLink}
+use Rattle.er_end_pair_laws.specs.Steps.{EndLinkStep, Send, Pass, Lose, Repeat, Alter, Put, Take, UserRelease, Drain, Tick, AllFit}
+use Rattle.er_end_pair_laws.specs.Laws.{end_link_after, IsEmpty, HasAll}
 
 -- the line gives a frame, or a user takes what was accepted
-abbrev pub IsPassOrTake : LinkStep → Type 0
+abbrev pub IsPassOrTake : EndLinkStep → Type 0
 IsPassOrTake (Send side user) = ⊥
 IsPassOrTake (Pass side) = Unit {0}
 IsPassOrTake (Lose side) = ⊥
@@ -23,15 +23,15 @@ IsPassOrTake (UserRelease side sub) = ⊥
 IsPassOrTake (Drain most) = ⊥
 IsPassOrTake (Tick moment) = ⊥
 
-abbrev pub ArePassesAndTakes : List LinkStep → Type 0
+abbrev pub ArePassesAndTakes : List EndLinkStep → Type 0
 ArePassesAndTakes [] = Unit {0}
 ArePassesAndTakes (s ∷ steps) = IsPassOrTake s × ArePassesAndTakes steps
 
 -- neither end was released
-abbrev pub AreLive : Link → Type 0
+abbrev pub AreLive : EndLink → Type 0
 AreLive l = (l.e.core.released ≡ None) × (l.r.core.released ≡ None)
 
-abbrev pub NoFrameWaits : Link → Type 0
+abbrev pub NoFrameWaits : EndLink → Type 0
 NoFrameWaits l = (l.from_e ≡ []) × (l.from_r ≡ [])
 
 -- an end at a moment: T1 of its station doesn't run, or is found expired and the station doesn't give up yet; and the time for the set-up isn't
@@ -40,11 +40,11 @@ abbrev pub GoesOnAt : (now : ℕ) → End → Type 0
 GoesOnAt now m = let x = new_event_at model now m.core in MayRepeat x.moment x.line × (is_spent x ≡ false)
 
 -- so do both at a tick; a moment below the link's counts as the link's
-abbrev pub GoOn : (now : ℕ) → Link → Type 0
+abbrev pub GoOn : (now : ℕ) → EndLink → Type 0
 GoOn now l = GoesOnAt (max l.moment now) l.e × GoesOnAt (max l.moment now) l.r
 
 -- both ends are connected and live, and each accepted all that the other sent, in order
-pub record IsRecovered (l : Link) : Type 0 where
+pub record IsRecovered (l : EndLink) : Type 0 where
   pub live : AreLive l
   pub all : HasAll l
 
@@ -52,14 +52,14 @@ pub record IsRecovered (l : Link) : Type 0 where
 -- expired; then all that waits is given, and all that was accepted is taken
 abbrev pub Recovery : Type 0
 Recovery =
-    (s : Opening) (steps : List LinkStep) → AllFit steps → Agree s → (after s steps).order_kept ≡ true → AreLive (after s steps)
-    → (first : List LinkStep) → ArePassesAndTakes first → NoFrameWaits (after s (steps ++ first))
-    → (now : ℕ) → GoOn now (after s (steps ++ first))
-    → (second : List LinkStep) → ArePassesAndTakes second → IsEmpty (after s (steps ++ first ++ Tick now ∷ second))
-    → IsRecovered (after s (steps ++ first ++ Tick now ∷ second))
+    (s : EndLinkOpening) (steps : List EndLinkStep) → AllFit steps → Agree s → (end_link_after s steps).order_kept ≡ true → AreLive (end_link_after s steps)
+    → (first : List EndLinkStep) → ArePassesAndTakes first → NoFrameWaits (end_link_after s (steps ++ first))
+    → (now : ℕ) → GoOn now (end_link_after s (steps ++ first))
+    → (second : List EndLinkStep) → ArePassesAndTakes second → IsEmpty (end_link_after s (steps ++ first ++ Tick now ∷ second))
+    → IsRecovered (end_link_after s (steps ++ first ++ Tick now ∷ second))
 
 -- while frames are given and messages taken, no live end is released
 abbrev pub PassesRelease : Type 0
 PassesRelease =
-    (s : Opening) (steps : List LinkStep) → AllFit steps → Agree s → (after s steps).order_kept ≡ true → AreLive (after s steps)
-    → (passes : List LinkStep) → ArePassesAndTakes passes → AreLive (after s (steps ++ passes))
+    (s : EndLinkOpening) (steps : List EndLinkStep) → AllFit steps → Agree s → (end_link_after s steps).order_kept ≡ true → AreLive (end_link_after s steps)
+    → (passes : List EndLinkStep) → ArePassesAndTakes passes → AreLive (end_link_after s (steps ++ passes))

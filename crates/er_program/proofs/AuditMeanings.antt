@@ -5,14 +5,14 @@ use Rattle.er_base.specs.declared.text_fault.TextFault.TheVariants as text
 use Rattle.er_base.specs.declared.why.Why.{Why}
 use Rattle.er_tap.specs.declared.tap.Tap.{Tap}
 use Rattle.er_tap.specs.Files.{tap_of}
-use Rattle.safety_automaton.specs.Keys.{Entry, key_at}
+use Rattle.safety_automaton.specs.Keys.{KmacEntry, key_at}
 use Rattle.key_store.specs.declared.key_file_fault.KeyFileFault.{KeyFileFault}
 use Rattle.key_store.specs.declared.key_file_fault.KeyFileFault.TheVariants as keys
 use Rattle.key_store.specs.KeyFiles.{keys_of}
-use Rattle.tap_model.specs.Lines.{TapFault, NoLinkAt, TwiceAt, fault_of}
+use Rattle.tap_model.specs.Lines.{TapFault, NoLinkAt, TwiceAt, fault_of_tap_lines}
 use Rattle.tap_model.specs.Texts.{audit_text}
 use Rattle.link_trait.specs.Outside.{Grew, Rose, HasFile}
-use Rattle.er_program.specs.Asking.{Names, Asks}
+use Rattle.er_program.specs.Asking.{AskedNames, Asks}
 use Rattle.er_program.specs.AuditRuns.{SpellTap, HasTapStatus, HasAuditStatus, IsTapStatusBehindKeys, tap_fault_line}
 use Rattle.er_program.specs.Commands.{Audit}
 use Rattle.er_statuses.specs.KeyLines.{keys_line}
@@ -23,7 +23,7 @@ use Rattle.er_program.specs.FileMeans.{FileMeans, IsUnfetched}
 
 -- ---- a name that wasn't fetched
 
-unfetched : (keys_name name : List ℕ) (p q : Names) (c d : ℕ) (before now : Option (List ℕ)) (status : ℕ)
+unfetched : (keys_name name : List ℕ) (p q : AskedNames) (c d : ℕ) (before now : Option (List ℕ)) (status : ℕ)
     → Asks (Audit keys_name name) status p q before now → status ≡ 2 → Rose c d → IsUnfetched (Audit keys_name name) p q c d before now
 unfetched keys_name name p q c d before now status asks is rose =
     elim asks [
@@ -47,7 +47,7 @@ unfetched keys_name name p q c d before now status asks is rose =
       }
     ]
 
-means_lost : (keys_name name : List ℕ) (files : Files) (p q : Names) (c d f g : ℕ) (before now : Option (List ℕ)) (status : ℕ)
+means_lost : (keys_name name : List ℕ) (files : Files) (p q : AskedNames) (c d f g : ℕ) (before now : Option (List ℕ)) (status : ℕ)
     → Asks (Audit keys_name name) status p q before now → status ≡ 2 → Rose c d → FileMeans (Audit keys_name name) files p q c d f g before now status
 means_lost keys_name name files p q c d f g before now status asks is rose = record {
   known = inr (inr (inl is));
@@ -64,7 +64,7 @@ means_lost keys_name name files p q c d f g before now status asks is rose = rec
 
 -- ---- memory ran out
 
-means_forgot : (keys_name name : List ℕ) (files : Files) (p q : Names) (c d f g : ℕ) (before now : Option (List ℕ)) (status : ℕ)
+means_forgot : (keys_name name : List ℕ) (files : Files) (p q : AskedNames) (c d f g : ℕ) (before now : Option (List ℕ)) (status : ℕ)
     → status ≡ 7 → Grew before now memory_line → FileMeans (Audit keys_name name) files p q c d f g before now status
 means_forgot keys_name name files p q c d f g before now status is printed = record {
   known = inr (inr (inr (inr (inr (inr (inl is))))));
@@ -81,7 +81,7 @@ means_forgot keys_name name files p q c d f g before now status is printed = rec
 
 -- ---- the key file is refused
 
-means_keyless : (keys_name name key_file : List ℕ) (why : KeyFileFault) (files : Files) (p q : Names) (c d f g : ℕ) (before now : Option (List ℕ)) (status : ℕ)
+means_keyless : (keys_name name key_file : List ℕ) (why : KeyFileFault) (files : Files) (p q : AskedNames) (c d f g : ℕ) (before now : Option (List ℕ)) (status : ℕ)
     → Asks (Audit keys_name name) status p q before now → HasFile files keys_name key_file → keys_of key_file ≡ Err why → HasAuditStatus keys_name name files status
     → status ≡ 4 → Grew before now (keys_line why) → FileMeans (Audit keys_name name) files p q c d f g before now status
 means_keyless keys_name name key_file why files p q c d f g before now status asks stands unspelled has is printed = record {
@@ -108,7 +108,7 @@ means_keyless keys_name name key_file why files p q c d f g before now status as
   complete = λ good fine. inl has;
 }
 
-means_fault : (keys_name name key_file : List ℕ) (why : KeyFileFault) (files : Files) (p q : Names) (c d f g : ℕ) (before now : Option (List ℕ)) (status : ℕ)
+means_fault : (keys_name name key_file : List ℕ) (why : KeyFileFault) (files : Files) (p q : AskedNames) (c d f g : ℕ) (before now : Option (List ℕ)) (status : ℕ)
     → Asks (Audit keys_name name) status p q before now → HasFile files keys_name key_file → keys_of key_file ≡ Err why → HasAuditStatus keys_name name files status
     → status ≡ (keys_answer why).status → Grew before now (keys_answer why).text → FileMeans (Audit keys_name name) files p q c d f g before now status
 means_fault keys_name name key_file keys.Document files p q c d f g before now status asks stands un has is printed =
@@ -130,7 +130,7 @@ means_fault keys_name name key_file (keys.NoMemory want) files p q c d f g befor
 
 -- ---- the tap
 
-means_out_of_form : (keys_name name key_file file : List ℕ) (known : List Entry) (line : ℕ) (why : Why) (files : Files) (p q : Names) (c d f g : ℕ) (before now : Option (List ℕ)) (status : ℕ)
+means_out_of_form : (keys_name name key_file file : List ℕ) (known : List KmacEntry) (line : ℕ) (why : Why) (files : Files) (p q : AskedNames) (c d f g : ℕ) (before now : Option (List ℕ)) (status : ℕ)
     → HasFile files keys_name key_file → keys_of key_file ≡ Ok known → HasFile files name file → tap_of file ≡ Err (text.At line why)
     → HasAuditStatus keys_name name files status → status ≡ 3 → Grew before now (fault_line line (why_word why))
     → FileMeans (Audit keys_name name) files p q c d f g before now status
@@ -158,8 +158,8 @@ means_out_of_form keys_name name key_file file known line why files p q c d f g 
   complete = λ good fine. inl has;
 }
 
-means_refused : (keys_name name : List ℕ) (known : List Entry) (tap : Tap) (why : TapFault) (files : Files) (p q : Names) (c d f g : ℕ) (before now : Option (List ℕ)) (status : ℕ)
-    → SpellTap keys_name name files known tap → fault_of tap.lines ≡ Some why → HasAuditStatus keys_name name files status
+means_refused : (keys_name name : List ℕ) (known : List KmacEntry) (tap : Tap) (why : TapFault) (files : Files) (p q : AskedNames) (c d f g : ℕ) (before now : Option (List ℕ)) (status : ℕ)
+    → SpellTap keys_name name files known tap → fault_of_tap_lines tap.lines ≡ Some why → HasAuditStatus keys_name name files status
     → status ≡ 3 → Grew before now (tap_fault_line why) → FileMeans (Audit keys_name name) files p q c d f g before now status
 means_refused keys_name name known tap why files p q c d f g before now status spell first has is printed = record {
   known = inr (inr (inr (inl is)));
@@ -174,8 +174,8 @@ means_refused keys_name name known tap why files p q c d f g before now status s
   complete = λ good fine. inl has;
 }
 
-means_all : (keys_name name : List ℕ) (known : List Entry) (tap : Tap) (files : Files) (p q : Names) (c d f g : ℕ) (before now : Option (List ℕ)) (status : ℕ)
-    → SpellTap keys_name name files known tap → fault_of tap.lines ≡ None → HasAuditStatus keys_name name files status
+means_all : (keys_name name : List ℕ) (known : List KmacEntry) (tap : Tap) (files : Files) (p q : AskedNames) (c d f g : ℕ) (before now : Option (List ℕ)) (status : ℕ)
+    → SpellTap keys_name name files known tap → fault_of_tap_lines tap.lines ≡ None → HasAuditStatus keys_name name files status
     → status ≡ 0 → Grew before now (audit_text (key_at known) tap.lines) → FileMeans (Audit keys_name name) files p q c d f g before now status
 means_all keys_name name known tap files p q c d f g before now status spell in_order has is printed = record {
   known = inl is;
@@ -191,8 +191,8 @@ means_all keys_name name known tap files p q c d f g before now status spell in_
 }
 
 -- by the first line that doesn't stand in order, if there is one
-means_lines : (keys_name name : List ℕ) (known : List Entry) (tap : Tap) (first : Option TapFault) (files : Files) (p q : Names) (c d f g : ℕ) (before now : Option (List ℕ)) (status : ℕ)
-    → SpellTap keys_name name files known tap → fault_of tap.lines ≡ first → HasAuditStatus keys_name name files status
+means_lines : (keys_name name : List ℕ) (known : List KmacEntry) (tap : Tap) (first : Option TapFault) (files : Files) (p q : AskedNames) (c d f g : ℕ) (before now : Option (List ℕ)) (status : ℕ)
+    → SpellTap keys_name name files known tap → fault_of_tap_lines tap.lines ≡ first → HasAuditStatus keys_name name files status
     → status ≡ (lines_answer (key_at known) tap.lines first).status → Grew before now (lines_answer (key_at known) tap.lines first).text
     → FileMeans (Audit keys_name name) files p q c d f g before now status
 means_lines keys_name name known tap None files p q c d f g before now status spell in_order has is printed =
@@ -202,7 +202,7 @@ means_lines keys_name name known tap (Some (NoLinkAt line n)) files p q c d f g 
 means_lines keys_name name known tap (Some (TwiceAt line n)) files p q c d f g before now status spell first has is printed =
     means_refused keys_name name known tap (TwiceAt line n) files p q c d f g before now status spell first has is printed
 
-means_tap : (keys_name name key_file file : List ℕ) (known : List Entry) (read : Result Tap TextFault) (files : Files) (p q : Names) (c d f g : ℕ) (before now : Option (List ℕ)) (status : ℕ)
+means_tap : (keys_name name key_file file : List ℕ) (known : List KmacEntry) (read : Result Tap TextFault) (files : Files) (p q : AskedNames) (c d f g : ℕ) (before now : Option (List ℕ)) (status : ℕ)
     → HasFile files keys_name key_file → keys_of key_file ≡ Ok known → HasFile files name file → tap_of file ≡ read
     → HasAuditStatus keys_name name files status → status ≡ (tap_answer known read).status → Grew before now (tap_answer known read).text
     → FileMeans (Audit keys_name name) files p q c d f g before now status
@@ -211,7 +211,7 @@ means_tap keys_name name key_file file known (Err (text.At line why)) files p q 
 means_tap keys_name name key_file file known (Err (text.NoMemory want)) files p q c d f g before now status keys_stand keys_are stands is has stated printed =
     means_forgot keys_name name files p q c d f g before now status stated printed
 means_tap keys_name name key_file file known (Ok tap) files p q c d f g before now status keys_stand keys_are stands is has stated printed =
-    means_lines keys_name name known tap (fault_of tap.lines) files p q c d f g before now status
+    means_lines keys_name name known tap (fault_of_tap_lines tap.lines) files p q c d f g before now status
     (record {
       key_file = key_file;
       keys_stand = keys_stand;
@@ -224,20 +224,20 @@ means_tap keys_name name key_file file known (Ok tap) files p q c d f g before n
 
 -- ---- statuses
 
-tap_status : (known : List Entry) (name file : List ℕ) (files : Files) (status : ℕ)
+tap_status : (known : List KmacEntry) (name file : List ℕ) (files : Files) (status : ℕ)
     → HasFile files name file → status ≡ (tap_answer known (tap_of file)).status → HasTapStatus known name files status
 tap_status known name file files status stands stated = record { file = file; stands = stands; is = stated }
 
 -- the status of the words, where the key file was fetched
-words_status : (keys_name name key_file : List ℕ) (read : Result (List Entry) KeyFileFault) (files : Files) (status : ℕ)
+words_status : (keys_name name key_file : List ℕ) (read : Result (List KmacEntry) KeyFileFault) (files : Files) (status : ℕ)
     → HasFile files keys_name key_file → keys_of key_file ≡ read → IsTapStatusBehindKeys read name files status → HasAuditStatus keys_name name files status
 words_status keys_name name key_file read files status stands is behind =
-    record { key_file = key_file; keys_stand = stands; is = subst (λ (x : Result (List Entry) KeyFileFault). IsTapStatusBehindKeys x name files status) (sym is) behind }
+    record { key_file = key_file; keys_stand = stands; is = subst (λ (x : Result (List KmacEntry) KeyFileFault). IsTapStatusBehindKeys x name files status) (sym is) behind }
 
 -- ---- the words
 
 -- the tap's name was fetched or not
-means_behind : (keys_name name key_file : List ℕ) (known : List Entry) (fetched : Option (List ℕ)) (a : Answer) (files : Files) (p q : Names) (c d f g : ℕ) (before now : Option (List ℕ)) (status : ℕ)
+means_behind : (keys_name name key_file : List ℕ) (known : List KmacEntry) (fetched : Option (List ℕ)) (a : Answer) (files : Files) (p q : AskedNames) (c d f g : ℕ) (before now : Option (List ℕ)) (status : ℕ)
     → Asks (Audit keys_name name) status p q before now → HasFile files keys_name key_file → keys_of key_file ≡ Ok known
     → HasFetched name fetched files c d → IsFetchedTap known name fetched a → status ≡ a.status → Grew before now a.text
     → FileMeans (Audit keys_name name) files p q c d f g before now status
@@ -250,7 +250,7 @@ means_behind keys_name name key_file known (Some file) a files p q c d f g befor
     so (subst (λ (x : Answer). Grew before now x.text) answers printed)
 
 -- the key file was read
-means_keys : (keys_name name key_file : List ℕ) (read : Result (List Entry) KeyFileFault) (a : Answer) (files : Files) (p q : Names) (c d f g : ℕ) (before now : Option (List ℕ)) (status : ℕ)
+means_keys : (keys_name name key_file : List ℕ) (read : Result (List KmacEntry) KeyFileFault) (a : Answer) (files : Files) (p q : AskedNames) (c d f g : ℕ) (before now : Option (List ℕ)) (status : ℕ)
     → Asks (Audit keys_name name) status p q before now → HasFile files keys_name key_file → keys_of key_file ≡ read → IsTapAnswerBehindKeys read name files c d a
     → status ≡ a.status → Grew before now a.text → FileMeans (Audit keys_name name) files p q c d f g before now status
 means_keys keys_name name key_file (Err why) a files p q c d f g before now status asks stands is answers stated printed =
@@ -261,7 +261,7 @@ means_keys keys_name name key_file (Ok known) a files p q c d f g before now sta
     means_behind keys_name name key_file known answers.fetched a files p q c d f g before now status asks stands is answers.stands answers.is stated printed
 
 -- the key file's name was fetched or not
-pub means_audit : (keys_name name : List ℕ) (fetched : Option (List ℕ)) (a : Answer) (files : Files) (p q : Names) (c d f g : ℕ) (before now : Option (List ℕ)) (status : ℕ)
+pub means_audit : (keys_name name : List ℕ) (fetched : Option (List ℕ)) (a : Answer) (files : Files) (p q : AskedNames) (c d f g : ℕ) (before now : Option (List ℕ)) (status : ℕ)
     → Asks (Audit keys_name name) status p q before now → HasFetched keys_name fetched files c d → IsFetchedAudit keys_name name fetched files c d a
     → status ≡ a.status → Grew before now a.text → FileMeans (Audit keys_name name) files p q c d f g before now status
 means_audit keys_name name None a files p q c d f g before now status asks rose answers stated printed =

@@ -10,7 +10,7 @@ use Rattle.bit_lists.specs.LowestFirst.{low_bits}
 use Rattle.bit_lists.proofs.LowestFirstLaws.{length-low_bits}
 use Rattle.hdlc_fcs.specs.FrameCheck.{sent_bits}
 use Rattle.hdlc_bits.specs.Framing.{Verdict, frames_of_bits}
-use Rattle.hdlc_bits.specs.Keeping.{Kept, kept_of, kept_after}
+use Rattle.hdlc_bits.specs.Keeping.{KeptBitDeframer, kept_of, kept_after}
 use Rattle.hdlc_bits.specs.Pieces.{bits_between, AddsToFrames}
 use Rattle.hdlc_bits.specs.Laws.{NothingIsRead, FramesGrow, ReadingGoesOn}
 use Rattle.link_trait.specs.Outside.{Grew, GrewPart, Rose, HasFile}
@@ -22,9 +22,9 @@ use Rattle.er_statuses.specs.LastLines.{fault_line, fetch_line}
 use Rattle.er_statuses.specs.Answers.{Answer, Files}
 use Rattle.er_program.specs.Answers.{bits_answer}
 use Rattle.er_program.specs.BitTexts.{most_line_octets, verdict_words, verdict_lines, is_frame, frame_count, counts_line, verdicts_in, bits_text}
-use Rattle.er_program.specs.BitWriting.{found_count, Tells, ReadTo, FirstVerdicts, EndsBits}
-use Rattle.er_statuses.specs.Writing.{Gives, EndsUnfetched}
-use Rattle.er_program.specs.Writing.{Ends}
+use Rattle.er_program.specs.BitWriting.{found_count, WritesTextWithFrameCount, ReadTo, FirstVerdicts, EndsBits}
+use Rattle.er_statuses.specs.Writing.{GivesAnswer, EndsUnfetched}
+use Rattle.er_program.specs.Writing.{EndsCommand}
 use Rattle.er_statuses.specs.declared.stop.Stop.{Stop}
 use Rattle.er_statuses.specs.declared.stop.Stop.TheVariants as stop
 use Rattle.er_statuses.specs.declared.status.Status.{Status}
@@ -72,10 +72,10 @@ length-sent_bits (o ∷ os) = length-append (low_bits 8 o) (flat_map (low_bits 8
 -- ---- what one call told
 
 pub tells_some : (v : Option Verdict) (x : Verdict) (before now : Option (List ℕ)) (f g : ℕ) (r : Result ℕ Stop) → v ≡ Some x
-    → Tells (line_text (verdict_words x)) (found_count (Some x)) before now f g r → Tells (verdict_lines (option_to_list v)) (found_count v) before now f g r
+    → WritesTextWithFrameCount (line_text (verdict_words x)) (found_count (Some x)) before now f g r → WritesTextWithFrameCount (verdict_lines (option_to_list v)) (found_count v) before now f g r
 tells_some v x before now f g r is tells =
-    subst (λ (u : Option Verdict). Tells (verdict_lines (option_to_list u)) (found_count u) before now f g r) (sym is)
-    (subst (λ (text : List ℕ). Tells text (found_count (Some x)) before now f g r) (sym (one_line x)) tells)
+    subst (λ (u : Option Verdict). WritesTextWithFrameCount (verdict_lines (option_to_list u)) (found_count u) before now f g r) (sym is)
+    (subst (λ (text : List ℕ). WritesTextWithFrameCount text (found_count (Some x)) before now f g r) (sym (one_line x)) tells)
 
 pub tells_none : (v : Option Verdict) (before : Option (List ℕ)) (f : ℕ) → v ≡ None
     → (0 ≡ found_count v) × Grew before before (verdict_lines (option_to_list v)) × (f ≤ f)
@@ -87,7 +87,7 @@ tells_none v before f is = (
 
 -- ---- so far
 
-pub read_none : NothingIsRead → (file : List ℕ) (kept : Kept) (before : Option (List ℕ)) (f : ℕ) → kept ≡ kept_of [] → ReadTo file 0 0 kept before before f f
+pub read_none : NothingIsRead → (file : List ℕ) (kept : KeptBitDeframer) (before : Option (List ℕ)) (f : ℕ) → kept ≡ kept_of [] → ReadTo file 0 0 kept before before f f
 read_none none file kept before f is = record {
   within = omega arith;
   few = omega arith;
@@ -98,20 +98,20 @@ read_none none file kept before f is = record {
 }
 
 -- what one call more adds
-pub record More (file : List ℕ) (at used : ℕ) (next : Kept) (v : Option Verdict) : Type 0 where
+pub record More (file : List ℕ) (at used : ℕ) (next : KeptBitDeframer) (v : Option Verdict) : Type 0 where
   pub within : at + used ≤ 8 * length file
   pub moves : 0 < used
   pub frames : frames_of_bits (take (at + used) (sent_bits file)) ≡ frames_of_bits (take at (sent_bits file)) ++ option_to_list v
   pub kept_is : next ≡ kept_of (take (at + used) (sent_bits file))
 
-pub call_more : ReadingGoesOn → (file : List ℕ) (at used end frames : ℕ) (kept next : Kept) (v : Option Verdict) (before mid : Option (List ℕ)) (f g : ℕ)
+pub call_more : ReadingGoesOn → (file : List ℕ) (at used end frames : ℕ) (kept next : KeptBitDeframer) (v : Option Verdict) (before mid : Option (List ℕ)) (f g : ℕ)
     → ReadTo file at frames kept before mid f g → end ≡ 8 * length file → at + used ≤ end → 0 < used
     → AddsToFrames kept (bits_between file at end) used v → next ≡ kept_after kept (take used (bits_between file at end)) → More file at used next v
 call_more goes file at used end frames kept next v before mid f g r all most moves adds is =
     let read = goes file at end used kept next v r.kept_is most adds is in
     record { within = omega arith; moves = moves; frames = read.0; kept_is = read.1 }
 
-pub read_more : (file : List ℕ) (at used frames n : ℕ) (kept next : Kept) (v : Option Verdict) (before mid now : Option (List ℕ)) (f g h : ℕ)
+pub read_more : (file : List ℕ) (at used frames n : ℕ) (kept next : KeptBitDeframer) (v : Option Verdict) (before mid now : Option (List ℕ)) (f g h : ℕ)
     → ReadTo file at frames kept before mid f g → More file at used next v → n ≡ found_count v → Grew mid now (verdict_lines (option_to_list v)) → g ≤ h
     → ReadTo file (at + used) (frames + n) next before now f h
 read_more file at used frames n kept next v before mid now f g h r more is grew later =
@@ -164,11 +164,11 @@ first_lines grow file at before mid now printed nothing =
 
 -- ---- a call whose line wasn't written
 
-pub read_memory : FramesGrow → (file : List ℕ) (at frames : ℕ) (kept : Kept) (before mid now : Option (List ℕ)) (f g h : ℕ) (want : NoMemory)
+pub read_memory : FramesGrow → (file : List ℕ) (at frames : ℕ) (kept : KeptBitDeframer) (before mid now : Option (List ℕ)) (f g h : ℕ) (want : NoMemory)
     → ReadTo file at frames kept before mid f g → Grew mid now [] → g ≤ h → EndsBits file before now f h (Err (stop.NoMemory want))
 read_memory grow file at frames kept before mid now f g h want r nothing later = (first_lines grow file at before mid now r.printed nothing, omega (arith, r.later))
 
-pub read_sink : FramesGrow → (file : List ℕ) (at used frames : ℕ) (kept next : Kept) (v : Option Verdict) (before mid now : Option (List ℕ)) (f g h : ℕ)
+pub read_sink : FramesGrow → (file : List ℕ) (at used frames : ℕ) (kept next : KeptBitDeframer) (v : Option Verdict) (before mid now : Option (List ℕ)) (f g h : ℕ)
     → length file ≤ most_line_octets → ReadTo file at frames kept before mid f g → More file at used next v → GrewPart mid now (verdict_lines (option_to_list v)) → Rose g h
     → EndsBits file before now f h (Err stop.Sink)
 read_sink grow file at used frames kept next v before mid now f g h short r more part rose =
@@ -187,8 +187,8 @@ read_sink grow file at used frames kept next v before mid now f g h short r more
     part_then before mid now (verdict_lines us) (verdict_lines (option_to_list v) ++ rest) r.printed (part_more mid now (verdict_lines (option_to_list v)) rest part) in
     (subst (λ (text : List ℕ). GrewPart before now text) (sym (ap (λ (a : Answer). a.text) answer ∙ whole)) grew, omega (arith, r.later))
 
-pub read_stop : FramesGrow → (file : List ℕ) (at used frames : ℕ) (kept next : Kept) (v : Option Verdict) (before mid now : Option (List ℕ)) (f g h : ℕ) (stop : Stop)
-    → length file ≤ most_line_octets → ReadTo file at frames kept before mid f g → More file at used next v → Tells (verdict_lines (option_to_list v)) (found_count v) mid now g h (Err stop)
+pub read_stop : FramesGrow → (file : List ℕ) (at used frames : ℕ) (kept next : KeptBitDeframer) (v : Option Verdict) (before mid now : Option (List ℕ)) (f g h : ℕ) (stop : Stop)
+    → length file ≤ most_line_octets → ReadTo file at frames kept before mid f g → More file at used next v → WritesTextWithFrameCount (verdict_lines (option_to_list v)) (found_count v) mid now g h (Err stop)
     → EndsBits file before now f h (Err stop)
 read_stop grow file at used frames kept next v before mid now f g h stop.Sink short r more tells =
     read_sink grow file at used frames kept next v before mid now f g h short r more tells.0 tells.1
@@ -197,7 +197,7 @@ read_stop grow file at used frames kept next v before mid now f g h (stop.NoMemo
 
 -- ---- the end
 
-ended_text : (file : List ℕ) (at frames : ℕ) (kept : Kept) (before mid : Option (List ℕ)) (f g : ℕ) → 8 * length file ≤ at → ReadTo file at frames kept before mid f g
+ended_text : (file : List ℕ) (at frames : ℕ) (kept : KeptBitDeframer) (before mid : Option (List ℕ)) (f g : ℕ) → 8 * length file ≤ at → ReadTo file at frames kept before mid f g
     → bits_text file ≡ verdict_lines (frames_of_bits (take at (sent_bits file))) ++ counts_line (8 * length file) frames
 ended_text file at frames kept before mid f g end r =
     let all : take at (sent_bits file) ≡ sent_bits file = take_all at (sent_bits file) (omega (arith, length-sent_bits file)) in
@@ -206,9 +206,9 @@ ended_text file at frames kept before mid f g end r =
     ∙ ap (λ n. verdict_lines (frames_of_bits (take at (sent_bits file))) ++ counts_line n (frame_count (frames_of_bits (take at (sent_bits file))))) (length-sent_bits file)
     ∙ ap (λ n. verdict_lines (frames_of_bits (take at (sent_bits file))) ++ counts_line (8 * length file) n) (sym r.count)
 
-pub read_end : FramesGrow → (file : List ℕ) (at frames : ℕ) (kept : Kept) (before mid now : Option (List ℕ)) (f g h : ℕ) (r : Result Status Stop)
+pub read_end : FramesGrow → (file : List ℕ) (at frames : ℕ) (kept : KeptBitDeframer) (before mid now : Option (List ℕ)) (f g h : ℕ) (r : Result Status Stop)
     → length file ≤ most_line_octets → 8 * length file ≤ at → ReadTo file at frames kept before mid f g
-    → Gives (record { status = 0; text = counts_line (8 * length file) frames }) mid now g h r → EndsBits file before now f h r
+    → GivesAnswer (record { status = 0; text = counts_line (8 * length file) frames }) mid now g h r → EndsBits file before now f h r
 read_end grow file at frames kept before mid now f g h (Ok s) short end r gives =
     let text = ap (λ (a : Answer). a.text) (short_answer file short) ∙ ended_text file at frames kept before mid f g end r in
     let lines : List ℕ = verdict_lines (frames_of_bits (take at (sent_bits file))) in (
@@ -227,7 +227,7 @@ read_end grow file at frames kept before mid now f g h (Err (stop.NoMemory want)
 
 -- a file that is too long had its line told
 pub ends_long : (file : List ℕ) (before now : Option (List ℕ)) (f g : ℕ) (r : Result Status Stop) → most_line_octets < length file
-    → Gives (record { status = 3; text = fault_line 0 (codes "long") }) before now f g r → EndsBits file before now f g r
+    → GivesAnswer (record { status = 3; text = fault_line 0 (codes "long") }) before now f g r → EndsBits file before now f g r
 ends_long file before now f g (Ok s) long gives = rw (long_answer file long) gives
 ends_long file before now f g (Err stop.Sink) long gives = rw (long_answer file long) gives
 ends_long file before now f g (Err (stop.NoMemory want)) long gives = (record { count = 0; grew = subst (λ (text : List ℕ). Grew before now text) (sym no_lines) gives.0 }, gives.1)
@@ -235,7 +235,7 @@ ends_long file before now f g (Err (stop.NoMemory want)) long gives = (record { 
 -- ---- the file word
 
 pub ends_bits : (name file : List ℕ) (files : Files) (c d : ℕ) (before now : Option (List ℕ)) (f g : ℕ) (r : Result Status Stop)
-    → HasFile files name file → EndsBits file before now f g r → Ends (Bits name) files c d before now f g r
+    → HasFile files name file → EndsBits file before now f g r → EndsCommand (Bits name) files c d before now f g r
 ends_bits name file files c d before now f g (Ok s) stands ends = record {
   answer = bits_answer file;
   is = record { fetched = Some file; stands = stands; is = refl };
@@ -257,7 +257,7 @@ ends_bits name file files c d before now f g (Err (stop.NoMemory want)) stands e
 }
 
 pub ends_bits_unfetched : (name : List ℕ) (files : Files) (c d : ℕ) (before now : Option (List ℕ)) (f g : ℕ) (r : Result Status Stop)
-    → EndsUnfetched name c d before now f g r → Ends (Bits name) files c d before now f g r
+    → EndsUnfetched name c d before now f g r → EndsCommand (Bits name) files c d before now f g r
 ends_bits_unfetched name files c d before now f g (Ok status) ends = record {
   answer = record { status = 2; text = fetch_line name };
   is = record { fetched = None; stands = ends.0; is = refl };

@@ -3,7 +3,7 @@ use Rattle.std.proofs.Common.{◌≡◌, ℕ, inl, inr, List, length, Option, sy
 use Rattle.std.proofs.lemmas.Option.{none-some, slice_get_within}
 use Rattle.drill_model.specs.declared.world_fault.WorldFault.TheVariants.{Overfull}
 use Rattle.link_trait.specs.Outside.{Grew}
-use Rattle.er_program.specs.Asking.{Names}
+use Rattle.er_program.specs.Asking.{AskedNames}
 use Rattle.er_program.specs.Commands.{Bulk}
 use Rattle.er_statuses.specs.LastLines.{overfull_line}
 use Rattle.er_program.specs.BulkTexts.{bulk_plan, steps_of_bulk, totals_of_bulk, totals_line, FirstOverfull}
@@ -24,7 +24,7 @@ zero_where_done seed count a (TooManyWait f is) all =
     absurd (none-some (Overfull f.link f.side f.most)
     (sym (all f.count f.step (slice_get_within (steps_of_bulk seed count) f.count f.step f.next) f.next) ∙ f.is_overfull))
 
-means_counted : BulkHolds → (seed count : ℕ) (files : Files) (p q : Names) (c d f g : ℕ) (before now : Option (List ℕ)) (status : ℕ)
+means_counted : BulkHolds → (seed count : ℕ) (files : Files) (p q : AskedNames) (c d f g : ℕ) (before now : Option (List ℕ)) (status : ℕ)
     → AllDone bulk_plan (steps_of_bulk seed count) (length (steps_of_bulk seed count)) → HasBulkStatus seed count status → status ≡ 0
     → Grew before now (totals_line seed count (totals_of_bulk seed count)) → FileMeans (Bulk seed count) files p q c d f g before now status
 means_counted law seed count files p q c d f g before now status done has is printed = record {
@@ -40,7 +40,7 @@ means_counted law seed count files p q c d f g before now status done has is pri
   complete = λ fine. inl has;
 }
 
-means_overfull : BulkHolds → (seed count : ℕ) (files : Files) (p q : Names) (c d f g : ℕ) (before now : Option (List ℕ)) (status : ℕ)
+means_overfull : BulkHolds → (seed count : ℕ) (files : Files) (p q : AskedNames) (c d f g : ℕ) (before now : Option (List ℕ)) (status : ℕ)
     → (first : FirstOverfull bulk_plan (steps_of_bulk seed count)) → HasBulkStatus seed count status → status ≡ 8
     → Grew before now (overfull_line first.link first.side first.most) → FileMeans (Bulk seed count) files p q c d f g before now status
 means_overfull law seed count files p q c d f g before now status first has is printed = record {
@@ -64,7 +64,7 @@ has_status seed count a status answers stated = record {
   all_done = λ all. stated ∙ zero_where_done seed count a answers all;
 }
 
-pub means_bulk : BulkHolds → (seed count : ℕ) (a : Answer) (files : Files) (p q : Names) (c d f g : ℕ) (before now : Option (List ℕ)) (status : ℕ)
+pub means_bulk : BulkHolds → (seed count : ℕ) (a : Answer) (files : Files) (p q : AskedNames) (c d f g : ℕ) (before now : Option (List ℕ)) (status : ℕ)
     → IsBulkAnswer seed count a → status ≡ a.status → Grew before now a.text → FileMeans (Bulk seed count) files p q c d f g before now status
 means_bulk law seed count a files p q c d f g before now status (AllAreCounted done is) stated printed =
     means_counted law seed count files p q c d f g before now status done (has_status seed count a status (AllAreCounted done is) stated)

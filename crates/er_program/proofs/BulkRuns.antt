@@ -13,7 +13,7 @@ use Rattle.er_scenario.specs.declared.step.Step.{Step}
 use Rattle.drill_model.specs.declared.totals.Totals.{Totals}
 use Rattle.drill_model.specs.declared.world_fault.WorldFault.{WorldFault}
 use Rattle.drill_model.specs.declared.world_fault.WorldFault.TheVariants.{NoLink, LinkTwice, MomentBack, Overfull, NoMemory}
-use Rattle.drill_model.specs.Worlds.{Plan, world_run}
+use Rattle.drill_model.specs.Worlds.{DrillPlan, world_run}
 use Rattle.drill_model.specs.Faults.{fault_behind, AllDone}
 use Rattle.drill_laws.specs.Laws.{OpensAlways}
 use Rattle.drill_model.specs.Totals.{totals_of}
@@ -27,8 +27,8 @@ use Rattle.er_program.specs.BulkTexts.{bulk_plan, steps_of_bulk, totals_of_bulk,
 use Rattle.er_program.specs.BulkRuns.{IsDoable, AreDoable, DidFirst, HaltedAt}
 use Rattle.er_program.specs.KeyWriting.{GivesOne}
 use Rattle.er_statuses.specs.LastLines.{overfull_line}
-use Rattle.er_statuses.specs.Writing.{Gives}
-use Rattle.er_program.specs.Writing.{TellsFault, Ends}
+use Rattle.er_statuses.specs.Writing.{GivesAnswer}
+use Rattle.er_program.specs.Writing.{TellsFault, EndsCommand}
 use Rattle.er_statuses.specs.declared.status.Status.{Status}
 use Rattle.er_statuses.specs.declared.stop.Stop.{Stop}
 use Rattle.er_statuses.specs.declared.stop.Stop.TheVariants as stop
@@ -43,7 +43,7 @@ doable_at level [] i s all at = absurd (cc)
 doable_at level (x ∷ xs) zero s all at = subst (IsDoable level) (same_Some x s at) all.0
 doable_at level (x ∷ xs) (suc i) s all at = doable_at level xs i s all.1 at
 
-all_more : (plan : Plan) (steps : List Step) (i : ℕ) (s : Step) → AllDone plan steps i → slice_get steps i ≡ Some s → fault_behind plan (take i steps) s ≡ None
+all_more : (plan : DrillPlan) (steps : List Step) (i : ℕ) (s : Step) → AllDone plan steps i → slice_get steps i ≡ Some s → fault_behind plan (take i steps) s ≡ None
     → AllDone plan steps (i + 1)
 all_more plan steps i s done at none k y lt is =
     elim (cases_eq k i) [
@@ -55,15 +55,15 @@ all_more plan steps i s done at none k y lt is =
       | inr apart ↦ done k y (omega (arith, lt, apart)) is
     ]
 
-pub did_none : (plan : Plan) (steps : List Step) (kept : KeptWorld) → kept.plan ≡ plan → Ran kept kept.plan [] → kept.spent ≡ false → DidFirst plan steps 0 kept
+pub did_none : (plan : DrillPlan) (steps : List Step) (kept : KeptWorld) → kept.plan ≡ plan → Ran kept kept.plan [] → kept.spent ≡ false → DidFirst plan steps 0 kept
 did_none plan steps kept is ran unspent = record {
   are_done = λ k s lt at. absurd (omega (arith, lt));
-  ran = subst (λ (p : Plan). Ran kept p []) is ran;
+  ran = subst (λ (p : DrillPlan). Ran kept p []) is ran;
   plan_is = is;
   unspent = unspent;
 }
 
-pub did_more : (plan : Plan) (steps : List Step) (i : ℕ) (s : Step) (k m : KeptWorld) → DidFirst plan steps i k → slice_get steps i ≡ Some s
+pub did_more : (plan : DrillPlan) (steps : List Step) (i : ℕ) (s : Step) (k m : KeptWorld) → DidFirst plan steps i k → slice_get steps i ≡ Some s
     → Ran m plan (take i steps ++ s ∷ []) → fault_behind plan (take i steps) s ≡ None → m.plan ≡ k.plan → m.spent ≡ false
     → DidFirst plan steps (i + 1) m
 did_more plan steps i s k m did at ran none is unspent = record {
@@ -73,7 +73,7 @@ did_more plan steps i s k m did at ran none is unspent = record {
   unspent = unspent;
 }
 
-pub did_all : (plan : Plan) (steps : List Step) (i : ℕ) (kept : KeptWorld) → DidFirst plan steps i kept → length steps ≤ i → DidFirst plan steps (length steps) kept
+pub did_all : (plan : DrillPlan) (steps : List Step) (i : ℕ) (kept : KeptWorld) → DidFirst plan steps i kept → length steps ≤ i → DidFirst plan steps (length steps) kept
 did_all plan steps i kept did over = record {
   are_done = λ k s lt at. did.are_done k s (omega (arith, lt, over)) at;
   ran = subst (λ (first : List Step). Ran kept plan first) (take_all i steps over ∙ sym (take_all (length steps) steps (omega arith))) did.ran;
@@ -89,27 +89,27 @@ unfolding steps_of_bulk
 drawn_doable items seed count (Ok v) le is = steps_doable seed count (items v) le is
 drawn_doable items seed count (Err e) le is = tt
 
-pub planned : (plan : Plan) (s : Settings) → plan ≡ record { level = level.Full; settings = s; show = false } → s ≡ usual_settings → plan ≡ bulk_plan
+pub planned : (plan : DrillPlan) (s : Settings) → plan ≡ record { level = level.Full; settings = s; show = false } → s ≡ usual_settings → plan ≡ bulk_plan
 planned plan s is same = is ∙ ap (λ (x : Settings). record { level = level.Full; settings = x; show = false }) same
 
-pub doable_so : (plan : Plan) (xs ys : List Step) → plan ≡ bulk_plan → xs ≡ ys → AreDoable level.Full ys → AreDoable plan.level xs
+pub doable_so : (plan : DrillPlan) (xs ys : List Step) → plan ≡ bulk_plan → xs ≡ ys → AreDoable level.Full ys → AreDoable plan.level xs
 doable_so plan xs ys is same doable =
-    subst (λ (p : Plan). AreDoable p.level xs) (sym is) (subst (AreDoable level.Full) (sym same) doable)
+    subst (λ (p : DrillPlan). AreDoable p.level xs) (sym is) (subst (AreDoable level.Full) (sym same) doable)
 
-pub ran_so : (kept : KeptWorld) (plan : Plan) → kept.plan ≡ plan → Ran kept plan [] → Ran kept kept.plan []
-ran_so kept plan is ran = subst (λ (p : Plan). Ran kept p []) (sym is) ran
+pub ran_so : (kept : KeptWorld) (plan : DrillPlan) → kept.plan ≡ plan → Ran kept plan [] → Ran kept kept.plan []
+ran_so kept plan is ran = subst (λ (p : DrillPlan). Ran kept p []) (sym is) ran
 
 -- ---- the end
 
 -- all steps were done, and their totals were written
-pub ends_counted : (seed count : ℕ) (plan : Plan) (steps : List Step) (kept : KeptWorld) (totals : Totals) (before now : Option (List ℕ)) (f g : ℕ) (r : Result Status Stop)
+pub ends_counted : (seed count : ℕ) (plan : DrillPlan) (steps : List Step) (kept : KeptWorld) (totals : Totals) (before now : Option (List ℕ)) (f g : ℕ) (r : Result Status Stop)
     → plan ≡ bulk_plan → steps ≡ steps_of_bulk seed count → DidFirst plan steps (length steps) kept
-    → ((plan : Plan) (done : List Step) → Ran kept plan done → totals ≡ totals_of (world_run plan done).1)
-    → Gives (record { status = 0; text = totals_line seed count totals }) before now f g r → GivesOne (IsBulkAnswer seed count) before now f g r
+    → ((plan : DrillPlan) (done : List Step) → Ran kept plan done → totals ≡ totals_of (world_run plan done).1)
+    → GivesAnswer (record { status = 0; text = totals_line seed count totals }) before now f g r → GivesOne (IsBulkAnswer seed count) before now f g r
 ends_counted seed count plan steps kept totals before now f g r plan_is is did counted gives =
     let P : List Step → Type 0 = λ xs. DidFirst bulk_plan xs (length xs) kept in
     let so : DidFirst bulk_plan (steps_of_bulk seed count) (length (steps_of_bulk seed count)) kept =
-    subst P is (subst (λ (p : Plan). DidFirst p steps (length steps) kept) plan_is did) in
+    subst P is (subst (λ (p : DrillPlan). DidFirst p steps (length steps) kept) plan_is did) in
     let all : take (length (steps_of_bulk seed count)) (steps_of_bulk seed count) ≡ steps_of_bulk seed count =
     take_all (length (steps_of_bulk seed count)) (steps_of_bulk seed count) (omega arith) in
     let are : totals ≡ totals_of_bulk seed count = counted bulk_plan (steps_of_bulk seed count) (subst (λ (first : List Step). Ran kept bulk_plan first) all so.ran) in
@@ -123,7 +123,7 @@ faulty opens seed count fault halted is =
     only_overfull bulk_plan (take halted.count (steps_of_bulk seed count)) halted.step fault (unrefused opens seed count halted.count halted.step halted.next) is
 
 ends_overfull : (seed count link most : ℕ) (side : Side) (before now : Option (List ℕ)) (f g : ℕ) (r : Result Status Stop)
-    → HaltedAt bulk_plan (steps_of_bulk seed count) (Overfull link side most) → Gives (record { status = 8; text = overfull_line link side most }) before now f g r
+    → HaltedAt bulk_plan (steps_of_bulk seed count) (Overfull link side most) → GivesAnswer (record { status = 8; text = overfull_line link side most }) before now f g r
     → GivesOne (IsBulkAnswer seed count) before now f g r
 ends_overfull seed count link most side before now f g r halted gives =
     gives_one (IsBulkAnswer seed count) (record { status = 8; text = overfull_line link side most }) before now f g r
@@ -157,17 +157,17 @@ by_fault opens seed count line (Overfull n side most) before now f g r halted te
 by_fault opens seed count line (NoMemory want) before now f g r halted tells = ends_wanted seed count want before now f g r tells.0 tells.1 tells.2
 
 -- a step wasn't done, and its fault was told
-pub ends_halted : OpensAlways → (seed count line : ℕ) (plan : Plan) (steps : List Step) (fault : WorldFault) (before now : Option (List ℕ)) (f g : ℕ) (r : Result Status Stop)
+pub ends_halted : OpensAlways → (seed count line : ℕ) (plan : DrillPlan) (steps : List Step) (fault : WorldFault) (before now : Option (List ℕ)) (f g : ℕ) (r : Result Status Stop)
     → plan ≡ bulk_plan → steps ≡ steps_of_bulk seed count → HaltedAt plan steps fault → TellsFault line fault before now f g r → GivesOne (IsBulkAnswer seed count) before now f g r
 ends_halted opens seed count line plan steps fault before now f g r plan_is is halted tells =
     by_fault opens seed count line fault before now f g r
-    (subst (λ (xs : List Step). HaltedAt bulk_plan xs fault) is (subst (λ (p : Plan). HaltedAt p steps fault) plan_is halted)) tells
+    (subst (λ (xs : List Step). HaltedAt bulk_plan xs fault) is (subst (λ (p : DrillPlan). HaltedAt p steps fault) plan_is halted)) tells
 
 -- ---- the words
 
 -- an answer to the words of a bulk run
 pub ends_bulk : (seed count : ℕ) (files : Files) (c d : ℕ) (before now : Option (List ℕ)) (f g : ℕ) (r : Result Status Stop)
-    → GivesOne (IsBulkAnswer seed count) before now f g r → Ends (Bulk seed count) files c d before now f g r
+    → GivesOne (IsBulkAnswer seed count) before now f g r → EndsCommand (Bulk seed count) files c d before now f g r
 ends_bulk seed count files c d before now f g (Ok s) ends =
     record { answer = ends.answer; is = ends.is; stated = ends.stated; printed = ends.printed; later = ends.later }
 ends_bulk seed count files c d before now f g (Err stop.Sink) ends =

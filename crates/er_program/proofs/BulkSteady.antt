@@ -8,8 +8,8 @@ use Rattle.er_scenario.specs.declared.step.Step.TheVariants as does
 use Rattle.drill_model.specs.declared.world_fault.WorldFault.{WorldFault}
 use Rattle.drill_model.specs.declared.world_fault.WorldFault.TheVariants.{Overfull}
 use Rattle.drill_model.specs.Links.{Link, LinkOpening, LinkStep}
-use Rattle.drill_model.specs.Worlds.{Plan, World, Came, new_world, is_link, link_at, overfull_side, at_link, open_link, drain_link, tick_each_link, tick_world, world_step, world_run_from, world_run, link_opening}
-use Rattle.drill_model.specs.Faults.{or_else, refusal, overfull_fault, overfull_at, first_overfull, overfull_of, fault_behind}
+use Rattle.drill_model.specs.Worlds.{DrillPlan, World, Came, new_world, is_link, link_at, overfull_side, at_link, open_link, drain_link, tick_each_link, tick_world, world_step, world_run_from, world_run, link_opening}
+use Rattle.drill_model.specs.Faults.{or_else, refusal_of_step, overfull_fault, overfull_at, first_overfull, overfull_of, fault_behind}
 use Rattle.drill_laws.specs.Laws.{OpensAlways}
 use Rattle.drill_model.specs.Claims.{opening_by, or_opening, opening_of}
 use Rattle.drill_bulk.specs.Turns.{kmac}
@@ -30,7 +30,7 @@ either_moment : (m : ℕ) (b : Bool) (x y : World × List Came) → x.0.moment �
 either_moment m true x y one two = one
 either_moment m false x y one two = two
 
-open_moment : (plan : Plan) (w : World) (n : ℕ) (o : Option Link) (opening : Option LinkOpening) → (open_link plan w n o opening).0.moment ≡ w.moment
+open_moment : (plan : DrillPlan) (w : World) (n : ℕ) (o : Option Link) (opening : Option LinkOpening) → (open_link plan w n o opening).0.moment ≡ w.moment
 open_moment plan w n (Some l) opening = refl
 open_moment plan w n None None = refl
 open_moment plan w n None (Some opening) = either_moment w.moment (is_link n) _ _ refl refl
@@ -44,7 +44,7 @@ ticks_moment moment w n (suc count) =
 ticked_moment : (w : World) (moment : ℕ) → w.moment ≤ moment → (tick_world w moment).0.moment ≡ moment
 ticked_moment w moment le = rw (le-ltb moment w.moment le) (ticks_moment moment (record w { moment = moment }) 1 64)
 
-step_moment : (plan : Plan) (most : ℕ) (w : World) (s : Step) → IsGood most w.moment s → (world_step plan w s).0.moment ≡ moment_after w.moment s
+step_moment : (plan : DrillPlan) (most : ℕ) (w : World) (s : Step) → IsGood most w.moment s → (world_step plan w s).0.moment ≡ moment_after w.moment s
 step_moment plan most w (does.Fixed n engine rbc ke kr) good = absurd good
 step_moment plan most w (does.Link n engine rbc ke kr ra rb) good = absurd good
 step_moment plan most w (does.Wire n) good = absurd good
@@ -61,7 +61,7 @@ step_moment plan most w (does.Tick moment) good = ticked_moment w moment good.0
 step_moment plan most w (does.Drain n passes) good = drain_moment w n passes (link_at w n)
 
 -- behind the first steps the next one is good
-run_good : (plan : Plan) (most : ℕ) (w : World) (steps : List Step) (k : ℕ) (s : Step) → AreGood most w.moment steps → slice_get steps k ≡ Some s
+run_good : (plan : DrillPlan) (most : ℕ) (w : World) (steps : List Step) (k : ℕ) (s : Step) → AreGood most w.moment steps → slice_get steps k ≡ Some s
     → IsGood most (world_run_from plan w (take k steps)).0.moment s
 run_good plan most w [] k s good at = absurd (cc)
 run_good plan most w (x ∷ xs) zero s good at = subst (λ (y : Step). IsGood most w.moment y) (same_Some x s at) good.0
@@ -71,7 +71,7 @@ run_good plan most w (x ∷ xs) (suc k) s good at =
 -- ---- refusals
 
 -- a good step isn't refused where link 1 was opened
-good_unrefused : (most : ℕ) (w : World) (s : Step) → IsGood most w.moment s → (l : Link) × (link_at w 1 ≡ Some l) → refusal w s ≡ None
+good_unrefused : (most : ℕ) (w : World) (s : Step) → IsGood most w.moment s → (l : Link) × (link_at w 1 ≡ Some l) → refusal_of_step w s ≡ None
 good_unrefused most w (does.Fixed n engine rbc ke kr) good stands = absurd good
 good_unrefused most w (does.Link n engine rbc ke kr ra rb) good stands = absurd good
 good_unrefused most w (does.Wire n) good stands = absurd good
@@ -92,11 +92,11 @@ opened_so None opening is = absurd (cc)
 opened_so (Some l) opening is = (l, refl)
 
 -- behind a step that opens link 1
-then_unrefused : OpensAlways → (plan : Plan) (most : ℕ) (first : Step) (opening : LinkOpening) (rest : List Step) → opening_by plan 1 first ≡ Some opening
-    → refusal new_world first ≡ None → (world_step plan new_world first).0.moment ≡ 0 → AreGood most 0 rest
-    → (k : ℕ) (s : Step) → slice_get (first ∷ rest) k ≡ Some s → refusal (world_run plan (take k (first ∷ rest))).0 s ≡ None
+then_unrefused : OpensAlways → (plan : DrillPlan) (most : ℕ) (first : Step) (opening : LinkOpening) (rest : List Step) → opening_by plan 1 first ≡ Some opening
+    → refusal_of_step new_world first ≡ None → (world_step plan new_world first).0.moment ≡ 0 → AreGood most 0 rest
+    → (k : ℕ) (s : Step) → slice_get (first ∷ rest) k ≡ Some s → refusal_of_step (world_run plan (take k (first ∷ rest))).0 s ≡ None
 then_unrefused opens plan most first opening rest by new still good zero s at =
-    subst (λ (x : Step). refusal new_world x ≡ None) (same_Some first s at) new
+    subst (λ (x : Step). refusal_of_step new_world x ≡ None) (same_Some first s at) new
 then_unrefused opens plan most first opening rest by new still good (suc k) s at =
     let w : World = (world_run plan (first ∷ take k rest)).0 in
     let is_good : IsGood most w.moment s =
@@ -105,9 +105,9 @@ then_unrefused opens plan most first opening rest by new still good (suc k) s at
     good_unrefused most w s is_good (opened_so (link_at w 1) opening (opens plan (first ∷ take k rest) 1 ∙ is))
 
 pub unrefused : OpensAlways → (seed count k : ℕ) (s : Step) → slice_get (steps_of_bulk seed count) k ≡ Some s
-    → refusal (world_run bulk_plan (take k (steps_of_bulk seed count))).0 s ≡ None
+    → refusal_of_step (world_run bulk_plan (take k (steps_of_bulk seed count))).0 s ≡ None
 unrefused opens seed count k s =
-    let Holds : List Step → Type 0 = λ steps. slice_get steps k ≡ Some s → refusal (world_run bulk_plan (take k steps)).0 s ≡ None in
+    let Holds : List Step → Type 0 = λ steps. slice_get steps k ≡ Some s → refusal_of_step (world_run bulk_plan (take k steps)).0 s ≡ None in
     subst Holds (sym (steps_are seed count))
     (then_unrefused opens bulk_plan (1000 * count) first_step _ (later_steps seed count) refl refl (open_moment bulk_plan new_world 1 None (link_opening bulk_plan.level 1 2 kmac (Some kmac) 1 2)) (later_good seed count) k s)
 
@@ -140,7 +140,7 @@ some_overfull w n (suc count) fault is =
     one_overfull (overfull_at n (link_at w n)) (first_overfull w (n + 1) count) fault (link_overfull n (link_at w n) fault) (some_overfull w (n + 1) count fault) is
 
 -- a step that isn't refused has no other fault
-pub only_overfull : (plan : Plan) (before : List Step) (s : Step) (fault : WorldFault) → refusal (world_run plan before).0 s ≡ None
+pub only_overfull : (plan : DrillPlan) (before : List Step) (s : Step) (fault : WorldFault) → refusal_of_step (world_run plan before).0 s ≡ None
     → fault_behind plan before s ≡ Some fault → IsOverfull fault
 only_overfull plan before s fault none is =
     let w : World = (world_run plan before).0 in

@@ -14,7 +14,7 @@ use Rattle.er_scenario.specs.declared.step.Step.{Step}
 use Rattle.er_scenario.specs.declared.step.Step.TheVariants as does
 use Rattle.drill_model.specs.Steps.{FitsFields, AllFit}
 use Rattle.drill_bulk.specs.Draws.{words_drawn, seeded}
-use Rattle.drill_bulk.specs.Turns.{kmac, sender, message, mishap, turn, turns}
+use Rattle.drill_bulk.specs.Turns.{kmac, sender, message, mishap, steps_of_bulk_turn, turns}
 use Rattle.er_program.specs.BulkTexts.{steps_of_bulk}
 use Rattle.er_program.specs.BulkRuns.{IsDoable, AreDoable}
 
@@ -114,7 +114,7 @@ mishap_good most m false false s rest good = good
 
 -- a turn, and then others
 turn_good : (most m i word : ℕ) (rest : List Step) → m ≤ 1000 * (i + 1) → 1000 * (i + 1) ≤ most → AreGood most (1000 * (i + 1)) rest
-    → AreGood most m (turn i word ++ rest)
+    → AreGood most m (steps_of_bulk_turn i word ++ rest)
 turn_good most m i word rest le within good =
     let last : List Step = does.Drain 1 1000 ∷ does.Tick (1000 * (i + 1)) ∷ does.Drain 1 1000 ∷ does.Take 1 (other (sender word)) ∷ does.Drain 1 1000 ∷ [] in
     let so : AreGood most m (mishap word ++ (last ++ rest)) =

@@ -11,7 +11,7 @@ use Rattle.er_scenario.specs.declared.numbered.Numbered.{Numbered}
 use Rattle.er_scenario.specs.declared.scenario.Scenario.{Scenario}
 use Rattle.er_scenario.specs.Table.{levels_of, has_level}
 use Rattle.er_scenario.specs.StepRanges.{IsInRange}
-use Rattle.er_scenario.specs.Texts.{name_of, IsReadable, AreReadable}
+use Rattle.er_scenario.specs.Texts.{name_of, IsReadableStep, AreReadableSteps}
 use Rattle.drill_model.specs.declared.world_fault.WorldFault.{WorldFault}
 use Rattle.drill_model.specs.Steps.{IsOfLevel, HasEtcsNumbers, HasMoment}
 use Rattle.drill_model.specs.Worlds.{plan_of, steps_of}
@@ -87,10 +87,10 @@ has_moment (does.Tick moment) range = range
 has_moment (does.Drain n most) range = tt
 
 -- a step of the list is readable
-pub readable_at : (l : Level) (xs : List Numbered) (i : ℕ) (x : Numbered) → AreReadable l xs → slice_get xs i ≡ Some x
-    → IsReadable l x.step
+pub readable_at : (l : Level) (xs : List Numbered) (i : ℕ) (x : Numbered) → AreReadableSteps l xs → slice_get xs i ≡ Some x
+    → IsReadableStep l x.step
 readable_at l [] i x all at = absurd (cc)
-readable_at l (y ∷ ys) zero x all at = subst (λ (n : Numbered). IsReadable l n.step) (same_Some y x at) all.0
+readable_at l (y ∷ ys) zero x all at = subst (λ (n : Numbered). IsReadableStep l n.step) (same_Some y x at) all.0
 readable_at l (y ∷ ys) (suc i) x all at = readable_at l ys i x all.1 at
 
 -- ---- first steps

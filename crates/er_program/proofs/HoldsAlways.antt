@@ -13,8 +13,8 @@ use Rattle.er_scenario.specs.declared.step.Step.{Step}
 use Rattle.er_scenario.specs.declared.step.Step.TheVariants as does
 use Rattle.er_scenario.specs.declared.numbered.Numbered.{Numbered}
 use Rattle.er_scenario.specs.declared.scenario.Scenario.{Scenario}
-use Rattle.er_scenario.specs.StepRanges.{IsInRange, IsText}
-use Rattle.er_scenario.specs.Texts.{AreReadable}
+use Rattle.er_scenario.specs.StepRanges.{IsInRange, IsStepText}
+use Rattle.er_scenario.specs.Texts.{AreReadableSteps}
 use Rattle.drill_model.specs.Steps.{HasOctets, AllFit}
 use Rattle.drill_model.specs.Worlds.{plan_of, steps_of}
 use Rattle.drill_model.specs.Faults.{AllDone}
@@ -27,7 +27,7 @@ use Rattle.er_program.proofs.BulkMeanings.{BulkHolds}
 use Rattle.er_program.proofs.BulkSteps.{usual_allowed, bulk_fits}
 
 -- the octets of a text
-text_octets : (text : List ℕ) → IsText text → AreOctets text
+text_octets : (text : List ℕ) → IsStepText text → AreOctets text
 text_octets text is k =
     elim (cases_lt k (length text)) [
       | inl within ↦ is.1 k within
@@ -53,7 +53,7 @@ has_octets (does.Tick moment) range = tt
 has_octets (does.Drain n most) range = tt
 
 -- the steps of a file fit their fields
-steps_fit : (l : Level) (xs : List Numbered) → AreReadable l xs → AllFit (map (λ (x : Numbered). x.step) xs)
+steps_fit : (l : Level) (xs : List Numbered) → AreReadableSteps l xs → AllFit (map (λ (x : Numbered). x.step) xs)
 steps_fit l [] all = tt
 steps_fit l (x ∷ xs) all = ((etcs_numbers x.step all.0.range, has_octets x.step all.0.range), steps_fit l xs all.1)
 

@@ -1,6 +1,6 @@
 -- What a run that reads a key file alone means by its status, from how it ended.
 use Rattle.std.proofs.Common.{◌≡◌, ℕ, inl, inr, List, [], ◌∷◌, Option, Some, None, Result, Ok, Err, refl, subst, ◌∙◌, ap, arith}
-use Rattle.safety_automaton.specs.Keys.{Entry}
+use Rattle.safety_automaton.specs.Keys.{KmacEntry}
 use Rattle.key_store.specs.declared.key_file_fault.KeyFileFault.{KeyFileFault}
 use Rattle.key_store.specs.declared.key_file_fault.KeyFileFault.TheVariants as keys
 use Rattle.key_store.specs.KeyFiles.{keys_of}
@@ -17,7 +17,7 @@ abbrev Names : Type 0
 Names = Option (List (List ℕ))
 
 -- its entries were printed
-means_migrated : (name file : List ℕ) (entries : List Entry) (a : Answer) (files : Files) (p q : Names) (c d f g : ℕ) (before now : Option (List ℕ)) (status : ℕ)
+means_migrated : (name file : List ℕ) (entries : List KmacEntry) (a : Answer) (files : Files) (p q : Names) (c d f g : ℕ) (before now : Option (List ℕ)) (status : ℕ)
     → HasFile files name file → keys_of file ≡ Ok entries → IsKeyText entries a → HasKeysStatus file status → status ≡ 0 → Grew before now a.text
     → FileMeans (Migrate name) files p q c d f g before now status
 means_migrated name file entries a files p q c d f g before now status stands spelled text has is printed = record {
@@ -88,7 +88,7 @@ means_fault name file (keys.NoMemory want) files p q c d f g before now status a
     means_forgot name file files p q c d f g before now status is printed
 
 -- the file was read
-means_file : (name file : List ℕ) (read : Result (List Entry) KeyFileFault) (a : Answer) (files : Files) (p q : Names) (c d f g : ℕ) (before now : Option (List ℕ)) (status : ℕ)
+means_file : (name file : List ℕ) (read : Result (List KmacEntry) KeyFileFault) (a : Answer) (files : Files) (p q : Names) (c d f g : ℕ) (before now : Option (List ℕ)) (status : ℕ)
     → Grew p q (name ∷ []) → HasFile files name file → keys_of file ≡ read → IsKeysAnswer read a → HasKeysStatus file status
     → status ≡ a.status → Grew before now a.text → FileMeans (Migrate name) files p q c d f g before now status
 means_file name file (Ok entries) a files p q c d f g before now status asked stands is text has stated printed =

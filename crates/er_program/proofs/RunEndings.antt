@@ -6,20 +6,20 @@ use Rattle.er_base.specs.declared.text_fault.TextFault.TheVariants as text
 use Rattle.er_base.specs.declared.why.Why.{Why}
 use Rattle.er_scenario.specs.Files.{scenario_of}
 use Rattle.er_scenario.specs.Texts.{CanBeRead}
-use Rattle.link_trait.specs.Outside.{Rose, Kept, HasFile}
+use Rattle.link_trait.specs.Outside.{Rose, HasStayedAsTold, HasFile}
 use Rattle.er_program.specs.Commands.{Misused, Drill}
 use Rattle.er_statuses.specs.LastLines.{fetch_line, usage_line, fault_line, why_word}
 use Rattle.er_statuses.specs.Answers.{Files}
 use Rattle.er_program.specs.Answers.{lines_of_first}
-use Rattle.er_statuses.specs.Writing.{Gives, EndsUnfetched}
-use Rattle.er_program.specs.Writing.{Drills, IsReadable, WritesFirst, EndsFile, Exhausted, Ends}
+use Rattle.er_statuses.specs.Writing.{GivesAnswer, EndsUnfetched}
+use Rattle.er_program.specs.Writing.{Drills, SpellsScenarioInRange, WritesFirst, EndsFile, Exhausted, EndsCommand}
 use Rattle.er_statuses.specs.declared.stop.Stop.{Stop}
 use Rattle.er_statuses.specs.declared.stop.Stop.TheVariants as stop
 use Rattle.er_statuses.specs.declared.status.Status.{Status}
 
 -- memory ran out in the drill of a file
 exhausted : (name file : List ℕ) (files : Files) (read : Result Scenario TextFault) (before now : Option (List ℕ)) (f g : ℕ)
-    → HasFile files name file → scenario_of file ≡ read → IsReadable read → WritesFirst read before now → f ≤ g
+    → HasFile files name file → scenario_of file ≡ read → SpellsScenarioInRange read → WritesFirst read before now → f ≤ g
     → Exhausted (Drill name) files before now f g
 exhausted name file files (Err fault) before now f g stands is readable first later = absurd first
 exhausted name file files (Ok s) before now f g stands is readable first later = record {
@@ -38,7 +38,7 @@ exhausted name file files (Ok s) before now f g stands is readable first later =
 
 -- the file of that name was drilled
 pub ends_file : (name file : List ℕ) (files : Files) (c d : ℕ) (before now : Option (List ℕ)) (f g : ℕ) (r : Result Status Stop)
-    → HasFile files name file → EndsFile (scenario_of file) before now f g r → Ends (Drill name) files c d before now f g r
+    → HasFile files name file → EndsFile (scenario_of file) before now f g r → EndsCommand (Drill name) files c d before now f g r
 ends_file name file files c d before now f g (Ok status) stands ends = record {
   answer = ends.answer;
   is = record {
@@ -66,7 +66,7 @@ ends_file name file files c d before now f g (Err (stop.NoMemory want)) stands e
 
 -- the fetch failed
 pub ends_unfetched : (name : List ℕ) (files : Files) (c d : ℕ) (before now : Option (List ℕ)) (f g : ℕ) (r : Result Status Stop)
-    → EndsUnfetched name c d before now f g r → Ends (Drill name) files c d before now f g r
+    → EndsUnfetched name c d before now f g r → EndsCommand (Drill name) files c d before now f g r
 ends_unfetched name files c d before now f g (Ok status) ends = record {
   answer = record { status = 2; text = fetch_line name };
   is = record {
@@ -91,7 +91,7 @@ ends_unfetched name files c d before now f g (Err (stop.NoMemory want)) ends =
 
 -- the words fit no command
 pub ends_unfit : (files : Files) (c d : ℕ) (before now : Option (List ℕ)) (f g : ℕ) (r : Result Status Stop)
-    → Gives (record { status = 1; text = usage_line }) before now f g r → Ends Misused files c d before now f g r
+    → GivesAnswer (record { status = 1; text = usage_line }) before now f g r → EndsCommand Misused files c d before now f g r
 ends_unfit files c d before now f g (Ok status) ends = record {
   answer = record { status = 1; text = usage_line };
   is = refl;
@@ -134,7 +134,7 @@ ends_drilled read s before now f g r is readable drills =
 
 -- a file that is out of its grammar had its line told
 refused : (line : ℕ) (why : Why) (before now : Option (List ℕ)) (f g : ℕ) (r : Result Status Stop)
-    → Gives (record { status = 3; text = fault_line line (why_word why) }) before now f g r → EndsFile (Err (text.At line why)) before now f g r
+    → GivesAnswer (record { status = 3; text = fault_line line (why_word why) }) before now f g r → EndsFile (Err (text.At line why)) before now f g r
 refused line why before now f g (Ok status) gives = record {
   readable = tt;
   answer = record { status = 3; text = fault_line line (why_word why) };
@@ -153,6 +153,6 @@ refused line why before now f g (Err stop.Sink) gives = record {
 refused line why before now f g (Err (stop.NoMemory want)) gives = record { first = inl gives.0; later = gives.1 }
 
 pub ends_refused : (read : Result Scenario TextFault) (line : ℕ) (why : Why) (before now : Option (List ℕ)) (f g : ℕ) (r : Result Status Stop)
-    → read ≡ Err (text.At line why) → Gives (record { status = 3; text = fault_line line (why_word why) }) before now f g r → EndsFile read before now f g r
+    → read ≡ Err (text.At line why) → GivesAnswer (record { status = 3; text = fault_line line (why_word why) }) before now f g r → EndsFile read before now f g r
 ends_refused read line why before now f g r is gives =
     subst (λ (x : Result Scenario TextFault). EndsFile x before now f g r) (sym is) (refused line why before now f g r gives)

@@ -17,9 +17,9 @@ use Rattle.er_program.specs.Commands.{Command, Misused, Drill, Bits, Migrate, Re
 use Rattle.er_statuses.specs.LastLines.{fault_line, why_word, fetch_line, usage_line, memory_line}
 use Rattle.er_statuses.specs.Answers.{Answer, HasFetched, Files}
 use Rattle.er_program.specs.Answers.{IsAnswer, IsFetchedAnswer, FirstFault, AreDone, IsDrillAnswer, IsWhole, BreaksOff, IsScenarioAnswer, lines_of_first, fault_answer}
-use Rattle.er_program.specs.Runs.{HoldsInDrill, WorldsHold, BrokeOff, AreFirstLines, HasStatus, IsSpent}
-use Rattle.er_program.specs.FileMeans.{FileMeans, IsSinkFailed, IsComplete}
-use Rattle.er_program.specs.Writing.{HasReadable, IsReadable, IsGiven, IsBegun, Finished, Broken, Exhausted}
+use Rattle.er_program.specs.Runs.{HoldsInDrill, WorldsHold, IsDrillBrokenOff, AreFirstLines, HasStatus, IsSpent}
+use Rattle.er_program.specs.FileMeans.{FileMeans, IsSinkFailed, IsCompleteByFiles}
+use Rattle.er_program.specs.Writing.{HasReadable, SpellsScenarioInRange, IsGivenAnswer, IsOutputBeginning, Finished, Broken, Exhausted}
 use Rattle.er_statuses.specs.Writing.{Exhausts}
 use Rattle.er_statuses.specs.declared.status.Status.{Status}
 use Rattle.er_program.proofs.BitMeanings.{means_bits}
@@ -69,7 +69,7 @@ means_unfetched name files p q c d f g before now status asked is rose printed =
 }
 
 -- want of memory is complete
-memory_complete : (command : Command) (files : Files) (c d f g status : ℕ) → status ≡ 7 → IsComplete command files c d f g status
+memory_complete : (command : Command) (files : Files) (c d f g status : ℕ) → status ≡ 7 → IsCompleteByFiles command files c d f g status
 memory_complete Misused files c d f g status is = λ fine. inr is
 memory_complete (Drill name) files c d f g status is = λ good fine. inr is
 memory_complete (Bits name) files c d f g status is = λ good fine. inr is
@@ -96,7 +96,7 @@ means_memory command files p q c d f g before now status is out = record {
 }
 
 -- nothing is complete where the sink's count rose
-not_complete : (command : Command) (files : Files) (c d f g status : ℕ) → Rose f g → IsComplete command files c d f g status
+not_complete : (command : Command) (files : Files) (c d f g status : ℕ) → Rose f g → IsCompleteByFiles command files c d f g status
 not_complete Misused files c d f g status rose = λ fine. absurd (fine rose)
 not_complete (Drill name) files c d f g status rose = λ good fine. absurd (fine rose)
 not_complete (Bits name) files c d f g status rose = λ good fine. absurd (fine rose)
@@ -174,7 +174,7 @@ means_done name file s files p q c d f g before now status law stands spelled re
 
 -- a step isn't done: it is refused, or too many frames would wait
 means_refused : (name file : List ℕ) (files : Files) (p q : Names) (c d f g : ℕ) (before now : Option (List ℕ)) (status : ℕ)
-    → status ≡ 3 → BrokeOff name files 3 before now → HasFile files name file → HasStatus file status → FileMeans (Drill name) files p q c d f g before now status
+    → status ≡ 3 → IsDrillBrokenOff name files 3 before now → HasFile files name file → HasStatus file status → FileMeans (Drill name) files p q c d f g before now status
 means_refused name file files p q c d f g before now status is broke stands has = record {
   known = inr (inr (inr (inl is)));
   done = λ h. absurd (omega arith);
@@ -189,7 +189,7 @@ means_refused name file files p q c d f g before now status is broke stands has 
 }
 
 means_overfull : (name file : List ℕ) (files : Files) (p q : Names) (c d f g : ℕ) (before now : Option (List ℕ)) (status : ℕ)
-    → status ≡ 8 → BrokeOff name files 8 before now → HasFile files name file → HasStatus file status → FileMeans (Drill name) files p q c d f g before now status
+    → status ≡ 8 → IsDrillBrokenOff name files 8 before now → HasFile files name file → HasStatus file status → FileMeans (Drill name) files p q c d f g before now status
 means_overfull name file files p q c d f g before now status is broke stands has = record {
   known = inr (inr (inr (inr (inr (inr (inr is))))));
   done = λ h. absurd (omega arith);
@@ -206,7 +206,7 @@ means_overfull name file files p q c d f g before now status is broke stands has
 -- what a step that isn't done breaks off
 broke_off : (name file : List ℕ) (s : Scenario) (files : Files) (before now : Option (List ℕ)) (status : ℕ) (first : FirstFault s)
     → DrillsHold → HasFile files name file → scenario_of file ≡ Ok s → CanBeRead s → status ≡ (fault_answer first.step.line first.fault).status
-    → Grew before now (lines_of_first s first.count ++ (fault_answer first.step.line first.fault).text) → BrokeOff name files status before now
+    → Grew before now (lines_of_first s first.count ++ (fault_answer first.step.line first.fault).text) → IsDrillBrokenOff name files status before now
 broke_off name file s files before now status first law stands spelled readable stated printed = record {
   scenario = s;
   spells = record { file = file; stands = stands; spelled = spelled };
@@ -280,7 +280,7 @@ means_drilled name file s a files p q c d f g before now status law stands spell
 
 -- the file of that name was read
 means_file : (name file : List ℕ) (read : Result Scenario TextFault) (a : Answer) (files : Files) (p q : Names) (c d f g : ℕ) (before now : Option (List ℕ)) (status : ℕ)
-    → DrillsHold → HasFile files name file → scenario_of file ≡ read → IsReadable read → IsScenarioAnswer read a
+    → DrillsHold → HasFile files name file → scenario_of file ≡ read → SpellsScenarioInRange read → IsScenarioAnswer read a
     → status ≡ a.status → Grew before now a.text → FileMeans (Drill name) files p q c d f g before now status
 means_file name file (Ok s) a files p q c d f g before now status law stands is readable answers stated printed =
     means_drilled name file s a files p q c d f g before now status law stands is readable answers stated printed
@@ -321,7 +321,7 @@ means_finished law bulk (Serve keys address rbc turns) files p q c d before now 
 means_finished law bulk (Call keys address engine rbc turns) files p q c d before now f g status asked ends = absurd asked
 
 -- what was given is the answer
-answer_given : (command : Command) (files : Files) (c d : ℕ) (a : Answer) → IsGiven command files c d a → IsAnswer command files c d a
+answer_given : (command : Command) (files : Files) (c d : ℕ) (a : Answer) → IsGivenAnswer command files c d a → IsAnswer command files c d a
 answer_given Misused files c d a given = given
 answer_given (Drill name) files c d a given = given.answer
 answer_given (Bits name) files c d a given = given
@@ -336,10 +336,10 @@ answer_given (Call keys address engine rbc turns) files c d a given = absurd giv
 readable_of : (fetched : Option (List ℕ)) (file : List ℕ) (s : Scenario) → HasReadable fetched → fetched ≡ Some file → scenario_of file ≡ Ok s → CanBeRead s
 readable_of None file s readable is spelled = absurd cc
 readable_of (Some other) file s readable is spelled =
-    let same : scenario_of other ≡ Ok s = cc in subst IsReadable same readable
+    let same : scenario_of other ≡ Ok s = cc in subst SpellsScenarioInRange same readable
 
 -- what is claimed of the worlds of a command
-worlds_hold : DrillsHold → BulkHolds → (command : Command) (files : Files) (c d : ℕ) (a : Answer) → IsGiven command files c d a → WorldsHold command files c d
+worlds_hold : DrillsHold → BulkHolds → (command : Command) (files : Files) (c d : ℕ) (a : Answer) → IsGivenAnswer command files c d a → WorldsHold command files c d
 worlds_hold law bulk Misused files c d a given = tt
 worlds_hold law bulk (Drill name) files c d a given = record {
   fetched = given.answer.fetched;
@@ -370,7 +370,7 @@ means_broken law bulk command files p q c d before now f g ends =
     })
 
 -- the lines of first steps, and what holds of them
-first_lines_hold : DrillsHold → BulkHolds → (command : Command) (files : Files) (text : List ℕ) → IsBegun command files text → AreFirstLines command files text
+first_lines_hold : DrillsHold → BulkHolds → (command : Command) (files : Files) (text : List ℕ) → IsOutputBeginning command files text → AreFirstLines command files text
 first_lines_hold law bulk Misused files text begun = begun
 first_lines_hold law bulk (Drill name) files text begun =
     elim begun [

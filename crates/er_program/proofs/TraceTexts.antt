@@ -6,10 +6,10 @@ use Rattle.er_trace.specs.declared.entry.Entry.{Entry}
 use Rattle.er_trace.specs.Texts.{header_words}
 use Rattle.er_end_model.specs.Steps.{Finds}
 use Rattle.trace_model.specs.declared.replay_fault.ReplayFault.{ReplayFault}
-use Rattle.trace_model.specs.Checks.{fault_of}
-use Rattle.trace_model.specs.Printed.{entry_text, entries_text, printed}
+use Rattle.trace_model.specs.Checks.{fault_of_trace_event}
+use Rattle.trace_model.specs.Printed.{entry_text, entries_text, text_of_trace}
 use Rattle.trace_model.specs.Replays.{AreTaken}
-use Rattle.er_program.specs.Answers.{refused_line, IsReplayAnswer, AllAreTaken, OneIsRefused}
+use Rattle.er_program.specs.Answers.{replay_fault_line, IsReplayAnswer, AllAreTaken, OneIsRefused}
 use Rattle.er_statuses.specs.Answers.{Answer}
 
 -- ---- the text
@@ -25,7 +25,7 @@ text_append s f before (x ∷ xs) ys =
     ∙ sym (append_assoc (entry_text s f before x) (entries_text s f (before ++ x ∷ []) xs) (entries_text s f (before ++ x ∷ xs) ys))
 
 -- the text of events, and of others behind them
-printed_more : (s : Settings) (f : Finds) (xs ys : List Entry) → printed s f (xs ++ ys) ≡ printed s f xs ++ entries_text s f xs ys
+printed_more : (s : Settings) (f : Finds) (xs ys : List Entry) → text_of_trace s f (xs ++ ys) ≡ text_of_trace s f xs ++ entries_text s f xs ys
 printed_more s f xs ys =
     ap (λ t. line_text (header_words s) ++ t) (text_append s f [] xs ys)
     ∙ sym (append_assoc (line_text (header_words s)) (entries_text s f [] xs) (entries_text s f xs ys))
@@ -49,7 +49,7 @@ split_more (a ∷ xs) e (b ∷ ys) y zs is =
 pub taken_none : (s : Settings) (f : Finds) → AreTaken s f []
 taken_none s f = λ first entry rest is. absurd (omega (arith, ap length is, length-append first (entry ∷ rest)))
 
-taken_more : (s : Settings) (f : Finds) (xs : List Entry) (e : Entry) → AreTaken s f xs → fault_of s f xs e ≡ None → AreTaken s f (xs ++ e ∷ [])
+taken_more : (s : Settings) (f : Finds) (xs : List Entry) (e : Entry) → AreTaken s f xs → fault_of_trace_event s f xs e ≡ None → AreTaken s f (xs ++ e ∷ [])
 taken_more s f xs e taken none = λ first entry rest is.
     elim (split_more xs e first entry rest is) [
       | inl last ↦ rw (last.0, last.1) none
@@ -65,12 +65,12 @@ pub record Begins (s : Settings) (f : Finds) (entries : List Entry) (front : Lis
   pub rest : List ℕ
   pub text_is : answer.text ≡ front ++ rest
 
-begins_on : (s : Settings) (f : Finds) (first : List Entry) (e : Entry) (rest : List Entry) → AreTaken s f first → (fault : Option ReplayFault) → fault_of s f first e ≡ fault
-    → (AreTaken s f (first ++ e ∷ []) → Begins s f ((first ++ e ∷ []) ++ rest) (printed s f (first ++ e ∷ []))) → Begins s f (first ++ e ∷ rest) (printed s f first)
+begins_on : (s : Settings) (f : Finds) (first : List Entry) (e : Entry) (rest : List Entry) → AreTaken s f first → (fault : Option ReplayFault) → fault_of_trace_event s f first e ≡ fault
+    → (AreTaken s f (first ++ e ∷ []) → Begins s f ((first ++ e ∷ []) ++ rest) (text_of_trace s f (first ++ e ∷ []))) → Begins s f (first ++ e ∷ rest) (text_of_trace s f first)
 begins_on s f first e rest taken (Some fault) is further = record {
-  answer = record { status = 3; text = printed s f first ++ refused_line fault };
+  answer = record { status = 3; text = text_of_trace s f first ++ replay_fault_line fault };
   is = OneIsRefused fault (record { first = first; entry = e; rest = rest; is = refl; taken = taken; refused = is }) refl;
-  rest = refused_line fault;
+  rest = replay_fault_line fault;
   text_is = refl;
 }
 begins_on s f first e rest taken None is further =
@@ -82,15 +82,15 @@ begins_on s f first e rest taken None is further =
       rest = entries_text s f first (e ∷ []) ++ it.rest;
       text_is =
           it.text_is ∙ ap (λ t. t ++ it.rest) (printed_more s f first (e ∷ []))
-          ∙ append_assoc (printed s f first) (entries_text s f first (e ∷ [])) it.rest;
+          ∙ append_assoc (text_of_trace s f first) (entries_text s f first (e ∷ [])) it.rest;
     }
 
-pub begins : (s : Settings) (f : Finds) (first rest : List Entry) → AreTaken s f first → Begins s f (first ++ rest) (printed s f first)
+pub begins : (s : Settings) (f : Finds) (first rest : List Entry) → AreTaken s f first → Begins s f (first ++ rest) (text_of_trace s f first)
 begins s f first [] taken = record {
-  answer = record { status = 0; text = printed s f (first ++ []) };
+  answer = record { status = 0; text = text_of_trace s f (first ++ []) };
   is = AllAreTaken (rw (append-nil first) taken) refl;
   rest = [];
-  text_is = ap (printed s f) (append-nil first) ∙ sym (append-nil (printed s f first));
+  text_is = ap (text_of_trace s f) (append-nil first) ∙ sym (append-nil (text_of_trace s f first));
 }
 begins s f first (e ∷ rest) taken =
-    begins_on s f first e rest taken (fault_of s f first e) refl (λ more. begins s f (first ++ e ∷ []) rest more)
+    begins_on s f first e rest taken (fault_of_trace_event s f first e) refl (λ more. begins s f (first ++ e ∷ []) rest more)

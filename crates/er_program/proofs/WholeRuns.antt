@@ -2,17 +2,17 @@
 use Rattle.std.proofs.Common.{◌≡◌, ◌≢◌, ◌⊎◌, inl, inr, ℕ, Bool, false, List, [], Option, refl, arith}
 use Rattle.er_statuses.specs.Answers.{Files}
 use Rattle.er_serving.specs.LineCommands as line
-use Rattle.er_serving.specs.LineRuns.{Given, IsLineStatus}
+use Rattle.er_serving.specs.LineRuns.{GivenToLoop, IsLineStatus}
 use Rattle.er_serving.specs.LineStatuses.{IsLineRun}
 use Rattle.er_serving.specs.Outsides.{Outside, Traffic, IsSteady}
 use Rattle.er_program.specs.Commands.{Command, Misused, Drill, Bits, Migrate, Replay, Audit, Bulk, Serve, Call, needs_wires}
-use Rattle.er_program.specs.FileMeans.{FileMeans, Names}
+use Rattle.er_program.specs.FileMeans.{FileMeans, AskedNames}
 use Rattle.er_program.specs.Statuses.{IsFileStatus, AreAsked, IsRun}
 
 -- ---- a command that needs no wires
 
 -- the outside with this cabinet and sink, and the rest as it was
-abbrev with_rest : Traffic → Files → Names → (unfetched : ℕ) → Option (List ℕ) → (sunk : ℕ) → Outside
+abbrev with_rest : Traffic → Files → AskedNames → (unfetched : ℕ) → Option (List ℕ) → (sunk : ℕ) → Outside
 with_rest rest files asked unfetched held sunk = record {
   files = files;
   asked = asked;
@@ -37,7 +37,7 @@ no_six s is (inr (inr (inr (inr (inr (inl x)))))) = omega (arith)
 no_six s is (inr (inr (inr (inr (inr (inr (inl x))))))) = omega (arith)
 no_six s is (inr (inr (inr (inr (inr (inr (inr x))))))) = omega (arith)
 
-pub off_run : (command : Command) (g : Given) (rest : Traffic) (files before_files : Files) (p q : Names) (c d f h : ℕ) (before now : Option (List ℕ)) (status : ℕ)
+pub off_run : (command : Command) (g : GivenToLoop) (rest : Traffic) (files before_files : Files) (p q : AskedNames) (c d f h : ℕ) (before now : Option (List ℕ)) (status : ℕ)
     → needs_wires command ≡ false → FileMeans command files p q c d f h before now status
     → AreAsked command (with_rest rest before_files p c before f) (with_rest rest files q d now h) status
     → IsSteady (with_rest rest before_files p c before f) (with_rest rest files q d now h)
@@ -202,7 +202,7 @@ apart_line s (inl x) known = no_line s known (omega (arith, x)) (omega (arith, x
 apart_line s (inr (inl x)) known = no_line s known (omega (arith, x)) (omega (arith, x)) (omega (arith, x)) (omega (arith, x)) (omega (arith, x)) (omega (arith, x))
 apart_line s (inr (inr x)) known = no_line s known (omega (arith, x)) (omega (arith, x)) (omega (arith, x)) (omega (arith, x)) (omega (arith, x)) (omega (arith, x))
 
-pub serve_run : (keys address : List ℕ) (rbc turns : ℕ) (g : Given) (before now : Outside) (status : ℕ)
+pub serve_run : (keys address : List ℕ) (rbc turns : ℕ) (g : GivenToLoop) (before now : Outside) (status : ℕ)
     → IsLineRun (line.Serve keys address rbc turns) g before now status → IsRun (Serve keys address rbc turns) g before now status
 serve_run keys address rbc turns g before now status m = record {
   known = m.known;
@@ -231,7 +231,7 @@ serve_run keys address rbc turns g before now status m = record {
   steady = m.steady;
 }
 
-pub call_run : (keys address : List ℕ) (engine rbc turns : ℕ) (g : Given) (before now : Outside) (status : ℕ)
+pub call_run : (keys address : List ℕ) (engine rbc turns : ℕ) (g : GivenToLoop) (before now : Outside) (status : ℕ)
     → IsLineRun (line.Call keys address engine rbc turns) g before now status → IsRun (Call keys address engine rbc turns) g before now status
 call_run keys address engine rbc turns g before now status m = record {
   known = m.known;

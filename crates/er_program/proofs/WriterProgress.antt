@@ -5,7 +5,7 @@ use Rattle.std.proofs.lemmas.List.{length-drop}
 use Rattle.std.specs.Io.{WritesAtMost}
 use Rattle.std.specs.Io.KnownBytes.{Appends, WriteAppends, Keeps}
 use Rattle.std.specs.declared.io.Error.{Error}
-use Rattle.er_program.specs.WriterSinks.{IsProgress}
+use Rattle.er_program.specs.WriterSinks.{IsWriteProgress}
 
 kept_nothing : (a b : Option (List ℕ)) → Keeps a b → Appends a b []
 kept_nothing None b p = tt
@@ -20,25 +20,25 @@ appends_then (Some before) (Some mid) (Some now) xs ys p q = q ∙ ap (λ zs. zs
 
 -- one write of the rest appended so many octets of it
 appended : (b c : Option (List ℕ)) (rest : List ℕ) (count : ℕ) (answer : Result ℕ Error)
-    → WriteAppends b c answer rest → IsProgress answer (Some count) → Appends b c (take count rest)
+    → WriteAppends b c answer rest → IsWriteProgress answer (Some count) → Appends b c (take count rest)
 appended b c rest count (Ok n) q r = subst (λ k. Appends b c (take k rest)) (sym r.0) q
 appended b c rest count (Err e) q r = subst (λ k. Appends b c (take k rest)) (sym r.0) (kept_nothing b c q)
 
 -- a write behind the first octets
 pub taken_further : (a b c : Option (List ℕ)) (piece : List ℕ) (taken count : ℕ) (rest : List ℕ) (answer : Result ℕ Error)
-    → rest ≡ drop taken piece → Appends a b (take taken piece) → WriteAppends b c answer rest → IsProgress answer (Some count)
+    → rest ≡ drop taken piece → Appends a b (take taken piece) → WriteAppends b c answer rest → IsWriteProgress answer (Some count)
     → Appends a c (take (taken + count) piece)
 taken_further a b c piece taken count rest answer e p q r =
     let next : Appends b c (take count (drop taken piece)) = subst (λ l. Appends b c (take count l)) e (appended b c rest count answer q r) in
     subst (Appends a c) (sym (take-add taken count piece)) (appends_then a b c (take taken piece) (take count (drop taken piece)) p next)
 
 -- how far it leads lies within the piece
-within : (rest : List ℕ) (count : ℕ) (answer : Result ℕ Error) → WritesAtMost answer rest → IsProgress answer (Some count) → count ≤ length rest
+within : (rest : List ℕ) (count : ℕ) (answer : Result ℕ Error) → WritesAtMost answer rest → IsWriteProgress answer (Some count) → count ≤ length rest
 within rest count (Ok n) p q = subst (λ k. k ≤ length rest) (sym q.0) p
 within rest count (Err e) p q = subst (λ k. k ≤ length rest) (sym q.0) (omega arith)
 
 pub within_piece : (piece : List ℕ) (taken count : ℕ) (rest : List ℕ) (answer : Result ℕ Error)
-    → rest ≡ drop taken piece → taken ≤ length piece → WritesAtMost answer rest → IsProgress answer (Some count) → taken + count ≤ length piece
+    → rest ≡ drop taken piece → taken ≤ length piece → WritesAtMost answer rest → IsWriteProgress answer (Some count) → taken + count ≤ length piece
 within_piece piece taken count rest answer e most p q =
     let part : count ≤ length piece - taken = subst (λ k. count ≤ k) (ap length e ∙ length-drop taken piece) (within rest count answer p q) in
     omega arith

@@ -15,7 +15,7 @@ use Rattle.link_trait.specs.Outside.{HasFile, Rose}
 use Rattle.er_program.specs.Commands.{Command, Misused, Drill, Bits, Migrate, Replay, Audit, Bulk, Serve, Call}
 use Rattle.er_program.specs.BitTexts.{most_line_octets, bits_text}
 use Rattle.er_program.specs.BulkTexts.{bulk_plan, steps_of_bulk, totals_of_bulk, totals_line, FirstOverfull}
-use Rattle.safety_automaton.specs.Keys.{Entry, key_at}
+use Rattle.safety_automaton.specs.Keys.{KmacEntry, key_at}
 use Rattle.er_settings.specs.Values.{Settings}
 use Rattle.er_trace.specs.declared.entry.Entry.{Entry as TraceEntry}
 use Rattle.er_trace.specs.declared.trace.Trace.{Trace}
@@ -24,12 +24,12 @@ use Rattle.er_end_model.specs.Steps.{Finds}
 use Rattle.er_tap.specs.declared.tap.Tap.{Tap}
 use Rattle.er_tap.specs.declared.tap_line.TapLine.{TapLine}
 use Rattle.er_tap.specs.Files.{tap_of}
-use Rattle.tap_model.specs.Lines.{TapFault, NoLinkAt, TwiceAt, fault_of}
+use Rattle.tap_model.specs.Lines.{TapFault, NoLinkAt, TwiceAt, fault_of_tap_lines}
 use Rattle.tap_model.specs.Texts.{audit_text}
 use Rattle.trace_model.specs.declared.replay_fault.ReplayFault.{ReplayFault}
 use Rattle.trace_model.specs.declared.replay_fault.ReplayFault.TheVariants as refused
-use Rattle.trace_model.specs.Printed.{printed}
-use Rattle.trace_model.specs.Replays.{AreTaken, FirstRefused}
+use Rattle.trace_model.specs.Printed.{text_of_trace}
+use Rattle.trace_model.specs.Replays.{AreTaken, HasFirstRefusedEvent}
 use Rattle.key_store.specs.declared.key_file_fault.KeyFileFault.{KeyFileFault}
 use Rattle.key_store.specs.declared.key_file_fault.KeyFileFault.TheVariants as keys
 use Rattle.key_store.specs.KeyFiles.{keys_of}
@@ -120,11 +120,11 @@ pub record IsBitsAnswer (name : List ℕ) (files : Files) (c d : ℕ) (a : Answe
 
 -- entries are printed as a key file that has them one by one, in order; its octets are those that TOML's printer gives, and nothing is
 -- claimed of them
-pub record IsKeyText (entries : List Entry) (a : Answer) : Type 0 where
+pub record IsKeyText (entries : List KmacEntry) (a : Answer) : Type 0 where
   pub stated : a.status ≡ 0
   pub same : keys_of a.text ≡ Ok entries
 
-abbrev pub IsKeysAnswer : Result (List Entry) KeyFileFault → Answer → Type 0
+abbrev pub IsKeysAnswer : Result (List KmacEntry) KeyFileFault → Answer → Type 0
 IsKeysAnswer (Ok entries) a = IsKeyText entries a
 IsKeysAnswer (Err fault) a = a ≡ keys_answer fault
 
@@ -141,41 +141,41 @@ pub record IsMigrateAnswer (name : List ℕ) (files : Files) (c d : ℕ) (a : An
 -- ---- a key file and a trace
 
 -- the line of an event that isn't taken; no event is refused as the sink's failure or as want of memory
-abbrev pub refused_line : ReplayFault → List ℕ
-refused_line (refused.NoConn line conn) = fault_line line (codes "noconn")
-refused_line (refused.ConnTwice line conn) = fault_line line (codes "twice")
-refused_line (refused.MomentBack line was now) = fault_line line (codes "back")
-refused_line (refused.NoKey line engine rbc) = fault_line line (codes "nokey")
-refused_line (refused.Many line live) = fault_line line (codes "many")
-refused_line refused.Sink = []
-refused_line (refused.NoMemory want) = []
+abbrev pub replay_fault_line : ReplayFault → List ℕ
+replay_fault_line (refused.NoConn line conn) = fault_line line (codes "noconn")
+replay_fault_line (refused.ConnTwice line conn) = fault_line line (codes "twice")
+replay_fault_line (refused.MomentBack line was now) = fault_line line (codes "back")
+replay_fault_line (refused.NoKey line engine rbc) = fault_line line (codes "nokey")
+replay_fault_line (refused.Many line live) = fault_line line (codes "many")
+replay_fault_line refused.Sink = []
+replay_fault_line (refused.NoMemory want) = []
 
 -- events that are all taken give their printed text; where one is refused, the text of those before it is followed by its line
 pub data IsReplayAnswer (settings : Settings) (finds : Finds) (entries : List TraceEntry) (a : Answer) : Type 0 where
-  AllAreTaken : AreTaken settings finds entries → a ≡ record { status = 0; text = printed settings finds entries }
+  AllAreTaken : AreTaken settings finds entries → a ≡ record { status = 0; text = text_of_trace settings finds entries }
       → IsReplayAnswer settings finds entries a
-  OneIsRefused : (fault : ReplayFault) (first : FirstRefused settings finds entries fault)
-      → a ≡ record { status = 3; text = printed settings finds first.first ++ refused_line fault }
+  OneIsRefused : (fault : ReplayFault) (first : HasFirstRefusedEvent settings finds entries fault)
+      → a ≡ record { status = 3; text = text_of_trace settings finds first.first ++ replay_fault_line fault }
       → IsReplayAnswer settings finds entries a
 
 -- a file that spells a trace is replayed with these entries of a key file; a fault of its grammar prints its line alone
-abbrev pub IsTraceAnswer : List Entry → Result Trace TextFault → Answer → Type 0
+abbrev pub IsTraceAnswer : List KmacEntry → Result Trace TextFault → Answer → Type 0
 IsTraceAnswer keys (Err (text.At line why)) a = a ≡ record { status = 3; text = fault_line line (why_word why) }
 IsTraceAnswer keys (Err (text.NoMemory want)) a = a ≡ record { status = 7; text = memory_line }
 IsTraceAnswer keys (Ok trace) a = IsReplayAnswer trace.settings (key_at keys) trace.entries a
 
-abbrev pub IsFetchedTrace : List Entry → List ℕ → Option (List ℕ) → Answer → Type 0
+abbrev pub IsFetchedTrace : List KmacEntry → List ℕ → Option (List ℕ) → Answer → Type 0
 IsFetchedTrace keys name None a = a ≡ record { status = 2; text = fetch_line name }
 IsFetchedTrace keys name (Some file) a = IsTraceAnswer keys (trace_of file) a
 
 -- the answer to the file word of a trace, where the key file has these entries
-pub record IsTraceFileAnswer (keys : List Entry) (name : List ℕ) (files : Files) (c d : ℕ) (a : Answer) : Type 0 where
+pub record IsTraceFileAnswer (keys : List KmacEntry) (name : List ℕ) (files : Files) (c d : ℕ) (a : Answer) : Type 0 where
   pub fetched : Option (List ℕ)
   pub stands : HasFetched name fetched files c d
   pub is : IsFetchedTrace keys name fetched a
 
 -- the trace is asked for where the key file is good
-abbrev pub IsAnswerBehindKeys : Result (List Entry) KeyFileFault → (name : List ℕ) → Files → ℕ → ℕ → Answer → Type 0
+abbrev pub IsAnswerBehindKeys : Result (List KmacEntry) KeyFileFault → (name : List ℕ) → Files → ℕ → ℕ → Answer → Type 0
 IsAnswerBehindKeys (Err fault) name files c d a = a ≡ keys_answer fault
 IsAnswerBehindKeys (Ok keys) name files c d a = IsTraceFileAnswer keys name files c d a
 
@@ -198,23 +198,23 @@ lines_answer finds lines (Some (NoLinkAt line n)) = record { status = 3; text = 
 lines_answer finds lines (Some (TwiceAt line n)) = record { status = 3; text = fault_line line (codes "twice") }
 
 -- a file that spells a tap is audited with these entries of a key file; a fault of its grammar prints its line alone
-abbrev pub tap_answer : List Entry → Result Tap TextFault → Answer
+abbrev pub tap_answer : List KmacEntry → Result Tap TextFault → Answer
 tap_answer keys (Err (text.At line why)) = record { status = 3; text = fault_line line (why_word why) }
 tap_answer keys (Err (text.NoMemory want)) = record { status = 7; text = memory_line }
-tap_answer keys (Ok tap) = lines_answer (key_at keys) tap.lines (fault_of tap.lines)
+tap_answer keys (Ok tap) = lines_answer (key_at keys) tap.lines (fault_of_tap_lines tap.lines)
 
-abbrev pub IsFetchedTap : List Entry → List ℕ → Option (List ℕ) → Answer → Type 0
+abbrev pub IsFetchedTap : List KmacEntry → List ℕ → Option (List ℕ) → Answer → Type 0
 IsFetchedTap keys name None a = a ≡ record { status = 2; text = fetch_line name }
 IsFetchedTap keys name (Some file) a = a ≡ tap_answer keys (tap_of file)
 
 -- the answer to the file word of a tap, where the key file has these entries
-pub record IsTapFileAnswer (keys : List Entry) (name : List ℕ) (files : Files) (c d : ℕ) (a : Answer) : Type 0 where
+pub record IsTapFileAnswer (keys : List KmacEntry) (name : List ℕ) (files : Files) (c d : ℕ) (a : Answer) : Type 0 where
   pub fetched : Option (List ℕ)
   pub stands : HasFetched name fetched files c d
   pub is : IsFetchedTap keys name fetched a
 
 -- the tap is asked for where the key file is good
-abbrev pub IsTapAnswerBehindKeys : Result (List Entry) KeyFileFault → (name : List ℕ) → Files → ℕ → ℕ → Answer → Type 0
+abbrev pub IsTapAnswerBehindKeys : Result (List KmacEntry) KeyFileFault → (name : List ℕ) → Files → ℕ → ℕ → Answer → Type 0
 IsTapAnswerBehindKeys (Err fault) name files c d a = a ≡ keys_answer fault
 IsTapAnswerBehindKeys (Ok keys) name files c d a = IsTapFileAnswer keys name files c d a
 

@@ -5,18 +5,18 @@ use Rattle.er_base.specs.declared.why.Why.{Why}
 use Rattle.er_base.specs.declared.text_fault.TextFault.TheVariants.{At}
 use Rattle.er_tap.specs.declared.tap.Tap.{Tap}
 use Rattle.er_tap.specs.Files.{tap_of}
-use Rattle.safety_automaton.specs.Keys.{Entry, key_at}
+use Rattle.safety_automaton.specs.Keys.{KmacEntry, key_at}
 use Rattle.key_store.specs.declared.key_file_fault.KeyFileFault.{KeyFileFault}
 use Rattle.key_store.specs.KeyFiles.{keys_of}
 use Rattle.link_trait.specs.Outside.{Grew, HasFile}
-use Rattle.tap_model.specs.Lines.{TapFault, NoLinkAt, TwiceAt, fault_of}
+use Rattle.tap_model.specs.Lines.{TapFault, NoLinkAt, TwiceAt, fault_of_tap_lines}
 use Rattle.tap_model.specs.Texts.{audit_text}
 use Rattle.er_statuses.specs.Answers.{Files, keys_answer}
 use Rattle.er_program.specs.Answers.{tap_answer}
 use Rattle.er_statuses.specs.LastLines.{fault_line, why_word}
 
 -- the file of the first name is a key file with these entries, and that of the second one spells this tap
-pub record SpellTap (keys name : List ℕ) (files : Files) (entries : List Entry) (tap : Tap) : Type 0 where
+pub record SpellTap (keys name : List ℕ) (files : Files) (entries : List KmacEntry) (tap : Tap) : Type 0 where
   pub key_file : List ℕ
   pub keys_stand : HasFile files keys key_file
   pub keys_spelled : keys_of key_file ≡ Ok entries
@@ -26,17 +26,17 @@ pub record SpellTap (keys name : List ℕ) (files : Files) (entries : List Entry
 
 -- status 0: the lines of the tap stand in order, and exactly the lines of its audit were written
 pub record Audited (keys name : List ℕ) (files : Files) (before now : Option (List ℕ)) : Type 0 where
-  pub entries : List Entry
+  pub entries : List KmacEntry
   pub tap : Tap
   pub spell : SpellTap keys name files entries tap
-  pub in_order : fault_of tap.lines ≡ None
+  pub in_order : fault_of_tap_lines tap.lines ≡ None
   pub written : Grew before now (audit_text (key_at entries) tap.lines)
 
 -- status 3: the key file is good, and the file of the second name is out of the grammar of taps: its first fault, which is printed alone
 pub record IsTapOutOfForm (keys name : List ℕ) (files : Files) (before now : Option (List ℕ)) : Type 0 where
   pub key_file : List ℕ
   pub keys_stand : HasFile files keys key_file
-  pub entries : List Entry
+  pub entries : List KmacEntry
   pub keys_spelled : keys_of key_file ≡ Ok entries
   pub file : List ℕ
   pub stands : HasFile files name file
@@ -52,32 +52,32 @@ tap_fault_line (TwiceAt line n) = fault_line line (codes "twice")
 
 -- or a line of the tap doesn't stand in order, the first such, whose line is printed alone
 pub record IsTapLineRefused (keys name : List ℕ) (files : Files) (before now : Option (List ℕ)) : Type 0 where
-  pub entries : List Entry
+  pub entries : List KmacEntry
   pub tap : Tap
   pub spell : SpellTap keys name files entries tap
   pub fault : TapFault
-  pub first : fault_of tap.lines ≡ Some fault
+  pub first : fault_of_tap_lines tap.lines ≡ Some fault
   pub written : Grew before now (tap_fault_line fault)
 
 -- status 7: a beginning of the lines of the audit, where those of the tap stand in order
 pub record FirstAuditText (keys name : List ℕ) (files : Files) (text : List ℕ) : Type 0 where
-  pub entries : List Entry
+  pub entries : List KmacEntry
   pub tap : Tap
   pub spell : SpellTap keys name files entries tap
-  pub in_order : fault_of tap.lines ≡ None
+  pub in_order : fault_of_tap_lines tap.lines ≡ None
   pub rest : List ℕ
   pub is : text ++ rest ≡ audit_text (key_at entries) tap.lines
 
 -- ---- completeness
 
 -- a tap's status is that of its answer: 0 where it is in its grammar and its lines stand in order
-pub record HasTapStatus (entries : List Entry) (name : List ℕ) (files : Files) (status : ℕ) : Type 0 where
+pub record HasTapStatus (entries : List KmacEntry) (name : List ℕ) (files : Files) (status : ℕ) : Type 0 where
   pub file : List ℕ
   pub stands : HasFile files name file
   pub is : status ≡ (tap_answer entries (tap_of file)).status
 
 -- a key file that is refused has its status, and one that is good leaves it to the tap
-abbrev pub IsTapStatusBehindKeys : Result (List Entry) KeyFileFault → (name : List ℕ) → Files → ℕ → Type 0
+abbrev pub IsTapStatusBehindKeys : Result (List KmacEntry) KeyFileFault → (name : List ℕ) → Files → ℕ → Type 0
 IsTapStatusBehindKeys (Err fault) name files status = status ≡ (keys_answer fault).status
 IsTapStatusBehindKeys (Ok entries) name files status = HasTapStatus entries name files status
 

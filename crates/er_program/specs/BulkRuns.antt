@@ -5,7 +5,7 @@ use Rattle.er_scenario.specs.declared.level.Level.{Level}
 use Rattle.er_scenario.specs.declared.step.Step.{Step}
 use Rattle.drill_model.specs.declared.world_fault.WorldFault.{WorldFault}
 use Rattle.drill_model.specs.Steps.{IsOfLevel, HasEtcsNumbers, HasMoment}
-use Rattle.drill_model.specs.Worlds.{Plan}
+use Rattle.drill_model.specs.Worlds.{DrillPlan}
 use Rattle.er_world.specs.Standing.{KeptWorld, Ran, IsFaultBehind}
 use Rattle.drill_model.specs.Faults.{AllDone}
 
@@ -19,14 +19,14 @@ abbrev pub AreDoable : Level → List Step → Type 0
 AreDoable level steps = AllByRecursion (IsDoable level) steps
 
 -- so many steps of a list were done: where the world stands
-pub record DidFirst (plan : Plan) (steps : List Step) (count : ℕ) (kept : KeptWorld) : Type 0 where
+pub record DidFirst (plan : DrillPlan) (steps : List Step) (count : ℕ) (kept : KeptWorld) : Type 0 where
   pub are_done : AllDone plan steps count
   pub ran : Ran kept plan (take count steps)
   pub plan_is : kept.plan ≡ plan
   pub unspent : kept.spent ≡ false
 
 -- so many were done, and the next one wasn't, for this fault
-pub record HaltedAt (plan : Plan) (steps : List Step) (fault : WorldFault) : Type 0 where
+pub record HaltedAt (plan : DrillPlan) (steps : List Step) (fault : WorldFault) : Type 0 where
   pub count : ℕ
   pub step : Step
   pub next : slice_get steps count ≡ Some step
@@ -34,6 +34,6 @@ pub record HaltedAt (plan : Plan) (steps : List Step) (fault : WorldFault) : Typ
   pub is : IsFaultBehind plan (take count steps) step fault
 
 -- all were done, or one wasn't
-abbrev pub DoesAll : Plan → List Step → KeptWorld → Result (Unit {0}) WorldFault → Type 0
+abbrev pub DoesAll : DrillPlan → List Step → KeptWorld → Result (Unit {0}) WorldFault → Type 0
 DoesAll plan steps kept (Ok done) = DidFirst plan steps (length steps) kept
 DoesAll plan steps kept (Err fault) = HaltedAt plan steps fault

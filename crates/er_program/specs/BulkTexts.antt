@@ -8,8 +8,8 @@ use Rattle.er_scenario.specs.declared.level.Level.TheVariants as level
 use Rattle.er_scenario.specs.declared.step.Step.{Step}
 use Rattle.drill_model.specs.declared.totals.Totals.{Totals}
 use Rattle.drill_model.specs.declared.world_fault.WorldFault.TheVariants.{Overfull}
-use Rattle.drill_model.specs.Worlds.{Plan, world_run}
-use Rattle.drill_model.specs.Faults.{fault_behind}
+use Rattle.drill_model.specs.Worlds.{DrillPlan, world_run}
+use Rattle.drill_model.specs.Faults.{fault_behind, AllDone}
 use Rattle.drill_model.specs.Totals.{totals_of}
 use Rattle.drill_bulk.specs.Turns.{bulk_steps}
 
@@ -17,7 +17,7 @@ use Rattle.drill_bulk.specs.Turns.{bulk_steps}
 abbrev pub most_messages : ℕ
 most_messages = 10000
 
-abbrev pub bulk_plan : Plan
+abbrev pub bulk_plan : DrillPlan
 bulk_plan = record { level = level.Full; settings = usual_settings; show = false }
 
 -- the steps of a seed and a count
@@ -34,12 +34,8 @@ totals_line seed count totals =
     line_text (codes "bulk" ∷ decimal seed ∷ decimal count ∷ codes "sent" ∷ decimal totals.sent ∷ codes "accepted" ∷ decimal totals.accepted
     ∷ codes "passes" ∷ decimal totals.passes ∷ codes "lost" ∷ decimal totals.lost ∷ codes "repeated" ∷ decimal totals.repeated ∷ [])
 
--- the first steps of a list are all done
-abbrev pub AllDone : Plan → List Step → (count : ℕ) → Type 0
-AllDone plan steps count = (k : ℕ) (s : Step) → k < count → slice_get steps k ≡ Some s → fault_behind plan (take k steps) s ≡ None
-
 -- so many steps of a list are done, and in the next one too many frames would wait in one direction
-pub record FirstOverfull (plan : Plan) (steps : List Step) : Type 0 where
+pub record FirstOverfull (plan : DrillPlan) (steps : List Step) : Type 0 where
   pub count : ℕ
   pub step : Step
   pub next : slice_get steps count ≡ Some step

@@ -26,8 +26,8 @@ pub data Command : Type 0 where
   Call : (keys address : List ℕ) (engine rbc turns : ℕ) → Command
 
 -- words as octets
-abbrev pub texts : List (String Global) → List (List ℕ)
-texts words = map string_bytes words
+abbrev pub octets_of_words : List (String Global) → List (List ℕ)
+octets_of_words words = map string_bytes words
 
 -- ---- numbers
 
@@ -83,16 +83,16 @@ abbrev pub command_of_five : (command keys address rbc turns : List ℕ) → Com
 command_of_five command keys address rbc turns =
     if bytes_eq command (codes "serve") then serve_of keys address (etcs_number rbc) (turns_number turns) else Misused
 
-abbrev pub call_of : (keys address : List ℕ) → (engine rbc turns : Option ℕ) → Command
-call_of keys address None rbc turns = Misused
-call_of keys address (Some engine) None turns = Misused
-call_of keys address (Some engine) (Some rbc) None = Misused
-call_of keys address (Some engine) (Some rbc) (Some turns) = Call keys address engine rbc turns
+abbrev pub call_command_of : (keys address : List ℕ) → (engine rbc turns : Option ℕ) → Command
+call_command_of keys address None rbc turns = Misused
+call_command_of keys address (Some engine) None turns = Misused
+call_command_of keys address (Some engine) (Some rbc) None = Misused
+call_command_of keys address (Some engine) (Some rbc) (Some turns) = Call keys address engine rbc turns
 
 -- six words
 abbrev pub command_of_six : (command keys address engine rbc turns : List ℕ) → Command
 command_of_six command keys address engine rbc turns =
-    if bytes_eq command (codes "call") then call_of keys address (etcs_number engine) (etcs_number rbc) (turns_number turns) else Misused
+    if bytes_eq command (codes "call") then call_command_of keys address (etcs_number engine) (etcs_number rbc) (turns_number turns) else Misused
 
 abbrev pub command_of : List (List ℕ) → Command
 command_of [] = Misused

@@ -7,15 +7,15 @@ use Rattle.er_serving.specs.Outsides.{Outside}
 use Rattle.er_statuses.specs.LastLines.{fetch_line}
 use Rattle.er_statuses.specs.Answers.{Files}
 use Rattle.er_program.specs.Runs.{IsSpent, IsTextBegun}
-use Rattle.er_serving.specs.LineRuns.{Given, given}
+use Rattle.er_serving.specs.LineRuns.{GivenToLoop, given_to_loop}
 use Rattle.er_program.specs.Statuses as statuses
 
 -- names that were asked for
-abbrev pub Names : Type 0
-Names = Option (List (List ℕ))
+abbrev pub AskedNames : Type 0
+AskedNames = Option (List (List ℕ))
 
 -- an outside with this cabinet and sink, whose wires and clock tell nothing
-abbrev pub sight : Files → Names → ℕ → Option (List ℕ) → ℕ → Outside
+abbrev pub sight : Files → AskedNames → ℕ → Option (List ℕ) → ℕ → Outside
 sight files asked unfetched held sunk = record {
   files = files;
   asked = asked;
@@ -29,10 +29,10 @@ sight files asked unfetched held sunk = record {
   clock = None;
 }
 
-abbrev pub nobody : Given
-nobody = given 0 [] (record { u32_after = λ calls. 0; u64_after = λ calls. 0; bytes_after = λ calls n. [] })
+abbrev pub nobody : GivenToLoop
+nobody = given_to_loop 0 [] (record { u32_after = λ calls. 0; u64_after = λ calls. 0; bytes_after = λ calls n. [] })
 
-pub record IsUnfetched (command : Command) (asked asked_now : Names) (c d : ℕ) (before now : Option (List ℕ)) : Type 0 where
+pub record IsUnfetched (command : Command) (asked asked_now : AskedNames) (c d : ℕ) (before now : Option (List ℕ)) : Type 0 where
   pub first : List (List ℕ)
   pub name : List ℕ
   pub rest : List (List ℕ)
@@ -45,10 +45,10 @@ pub record IsSinkFailed (command : Command) (files : Files) (c d f g : ℕ) (bef
   pub rose : Rose f g
   pub beginning : IsTextBegun command files c d before now
 
-abbrev pub IsComplete : Command → Files → (c d f g status : ℕ) → Type 0
-IsComplete command files c d f g status = statuses.IsComplete command (sight files None c None f) (sight files None d None g) status
+abbrev pub IsCompleteByFiles : Command → Files → (c d f g status : ℕ) → Type 0
+IsCompleteByFiles command files c d f g status = statuses.IsComplete command (sight files None c None f) (sight files None d None g) status
 
-pub record FileMeans (command : Command) (files : Files) (asked asked_now : Names) (c d f g : ℕ) (before now : Option (List ℕ)) (status : ℕ) : Type 0 where
+pub record FileMeans (command : Command) (files : Files) (asked asked_now : AskedNames) (c d f g : ℕ) (before now : Option (List ℕ)) (status : ℕ) : Type 0 where
   pub known : statuses.IsFileStatus status
   pub done : status ≡ 0 → statuses.IsDone command nobody (sight files asked c before f) (sight files asked_now d now g)
   pub usage : status ≡ 1 → statuses.IsMisused command (sight files asked c before f) (sight files asked_now d now g)
@@ -58,4 +58,4 @@ pub record FileMeans (command : Command) (files : Files) (asked asked_now : Name
   pub sink : status ≡ 5 → IsSinkFailed command files c d f g before now
   pub memory : status ≡ 7 → IsSpent command files before now
   pub overfull : status ≡ 8 → statuses.IsOverfull command (sight files asked c before f) (sight files asked_now d now g)
-  pub complete : IsComplete command files c d f g status
+  pub complete : IsCompleteByFiles command files c d f g status

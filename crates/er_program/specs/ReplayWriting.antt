@@ -8,15 +8,15 @@ use Rattle.er_trace.specs.Files.{trace_of}
 use Rattle.er_end_model.specs.Steps.{Finds}
 use Rattle.trace_model.specs.declared.replay_fault.ReplayFault.{ReplayFault}
 use Rattle.trace_model.specs.declared.replay_fault.ReplayFault.TheVariants.{NoConn, ConnTwice, MomentBack, NoKey, Many, Sink, NoMemory}
-use Rattle.trace_model.specs.Printed.{printed}
+use Rattle.trace_model.specs.Printed.{text_of_trace}
 use Rattle.trace_model.specs.Replays.{AreTaken}
-use Rattle.safety_automaton.specs.Keys.{Entry, key_at}
+use Rattle.safety_automaton.specs.Keys.{KmacEntry, key_at}
 use Rattle.key_store.specs.declared.key_file_fault.KeyFileFault.{KeyFileFault}
 use Rattle.link_trait.specs.Outside.{Grew, HasFile}
-use Rattle.er_program.specs.Answers.{refused_line}
+use Rattle.er_program.specs.Answers.{replay_fault_line}
 use Rattle.er_statuses.specs.Answers.{Answer, Files}
 use Rattle.er_program.specs.KeyWriting.{GaveOne, BrokeOne}
-use Rattle.er_statuses.specs.Writing.{Gives}
+use Rattle.er_statuses.specs.Writing.{GivesAnswer}
 use Rattle.er_statuses.specs.declared.status.Status.{Status}
 use Rattle.er_statuses.specs.declared.stop.Stop.{Stop}
 use Rattle.er_statuses.specs.declared.stop.Stop.TheVariants as stop
@@ -45,41 +45,41 @@ pub record BeginsEvents (settings : Settings) (finds : Finds) (entries : List Tr
   pub are_first : entries ≡ first ++ others
   pub taken : AreTaken settings finds first
   pub rest : List ℕ
-  pub is : text ++ rest ≡ printed settings finds first
+  pub is : text ++ rest ≡ text_of_trace settings finds first
 
 -- where the file spells a trace
-abbrev pub BeginsSpelled : List Entry → Result Trace TextFault → List ℕ → Type 0
+abbrev pub BeginsSpelled : List KmacEntry → Result Trace TextFault → List ℕ → Type 0
 BeginsSpelled keys (Err fault) text = ⊥
 BeginsSpelled keys (Ok trace) text = BeginsEvents trace.settings (key_at keys) trace.entries text
 
-abbrev pub BeginsTrace : List Entry → Result Trace TextFault → List ℕ → Type 0
+abbrev pub BeginsTrace : List KmacEntry → Result Trace TextFault → List ℕ → Type 0
 BeginsTrace keys read text = (text ≡ []) ⊎ BeginsSpelled keys read text
 
 -- of the file of that name
-pub record BeginsFile (keys : List Entry) (name : List ℕ) (files : Files) (text : List ℕ) : Type 0 where
+pub record BeginsFile (keys : List KmacEntry) (name : List ℕ) (files : Files) (text : List ℕ) : Type 0 where
   pub file : List ℕ
   pub stands : HasFile files name file
   pub begins : BeginsSpelled keys (trace_of file) text
 
-abbrev pub BeginsTraceFile : List Entry → (name : List ℕ) → Files → List ℕ → Type 0
+abbrev pub BeginsTraceFile : List KmacEntry → (name : List ℕ) → Files → List ℕ → Type 0
 BeginsTraceFile keys name files text = (text ≡ []) ⊎ BeginsFile keys name files text
 
 -- behind a key file
-abbrev pub BeginsGood : Result (List Entry) KeyFileFault → (name : List ℕ) → Files → List ℕ → Type 0
+abbrev pub BeginsGood : Result (List KmacEntry) KeyFileFault → (name : List ℕ) → Files → List ℕ → Type 0
 BeginsGood (Err fault) name files text = ⊥
 BeginsGood (Ok keys) name files text = BeginsFile keys name files text
 
-abbrev pub BeginsBehindKeys : Result (List Entry) KeyFileFault → (name : List ℕ) → Files → List ℕ → Type 0
+abbrev pub BeginsBehindKeys : Result (List KmacEntry) KeyFileFault → (name : List ℕ) → Files → List ℕ → Type 0
 BeginsBehindKeys read name files text = (text ≡ []) ⊎ BeginsGood read name files text
 
 -- ---- the fault of a replay
 
 -- an event's refusal was told; where the sink failed or memory ran out, nothing more was written
 abbrev pub TellsRefusal : ReplayFault → Option (List ℕ) → Option (List ℕ) → ℕ → ℕ → Result Status Stop → Type 0
-TellsRefusal (NoConn line conn) before now f g r = Gives (record { status = 3; text = refused_line (NoConn line conn) }) before now f g r
-TellsRefusal (ConnTwice line conn) before now f g r = Gives (record { status = 3; text = refused_line (ConnTwice line conn) }) before now f g r
-TellsRefusal (MomentBack line was moment) before now f g r = Gives (record { status = 3; text = refused_line (MomentBack line was moment) }) before now f g r
-TellsRefusal (NoKey line engine rbc) before now f g r = Gives (record { status = 3; text = refused_line (NoKey line engine rbc) }) before now f g r
-TellsRefusal (Many line live) before now f g r = Gives (record { status = 3; text = refused_line (Many line live) }) before now f g r
+TellsRefusal (NoConn line conn) before now f g r = GivesAnswer (record { status = 3; text = replay_fault_line (NoConn line conn) }) before now f g r
+TellsRefusal (ConnTwice line conn) before now f g r = GivesAnswer (record { status = 3; text = replay_fault_line (ConnTwice line conn) }) before now f g r
+TellsRefusal (MomentBack line was moment) before now f g r = GivesAnswer (record { status = 3; text = replay_fault_line (MomentBack line was moment) }) before now f g r
+TellsRefusal (NoKey line engine rbc) before now f g r = GivesAnswer (record { status = 3; text = replay_fault_line (NoKey line engine rbc) }) before now f g r
+TellsRefusal (Many line live) before now f g r = GivesAnswer (record { status = 3; text = replay_fault_line (Many line live) }) before now f g r
 TellsRefusal Sink before now f g r = (r ≡ Err stop.Sink) × Grew before now [] × (f ≤ g)
 TellsRefusal (NoMemory want) before now f g r = (r ≡ Err (stop.NoMemory want)) × Grew before now [] × (f ≤ g)

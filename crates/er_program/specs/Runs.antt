@@ -10,18 +10,18 @@ use Rattle.drill_model.specs.Headline.{Holds}
 use Rattle.link_trait.specs.Outside.{Grew, GrewPart, Rose, HasFile}
 use Rattle.er_program.specs.Commands.{Command, Misused, Drill, Bits, Migrate, Replay, Audit, Bulk, Serve, Call}
 use Rattle.er_statuses.specs.LastLines.{usage_line, memory_line, fetch_line, fault_line, overfull_line, why_word}
-use Rattle.er_program.specs.Answers.{refused_line, IsAnswer, IsScenarioAnswer, FirstFault, AreDone, first_steps, lines_of_first, fault_answer, bits_answer, IsKeysAnswer, IsTraceAnswer, IsBulkAnswer}
+use Rattle.er_program.specs.Answers.{replay_fault_line, IsAnswer, IsScenarioAnswer, FirstFault, AreDone, first_steps, lines_of_first, fault_answer, bits_answer, IsKeysAnswer, IsTraceAnswer, IsBulkAnswer}
 use Rattle.er_statuses.specs.Answers.{Answer, HasFetched, Files, keys_answer}
 use Rattle.er_program.specs.BitTexts.{most_line_octets, verdict_lines, verdicts_in, bits_text}
 use Rattle.er_program.specs.BulkTexts.{bulk_plan, steps_of_bulk, totals_of_bulk, totals_line, FirstOverfull}
 use Rattle.drill_model.specs.Faults.{AllDone}
-use Rattle.safety_automaton.specs.Keys.{Entry, key_at}
+use Rattle.safety_automaton.specs.Keys.{KmacEntry, key_at}
 use Rattle.er_trace.specs.declared.entry.Entry.{Entry as TraceEntry}
 use Rattle.er_trace.specs.declared.trace.Trace.{Trace}
 use Rattle.er_trace.specs.Files.{trace_of}
 use Rattle.trace_model.specs.declared.replay_fault.ReplayFault.{ReplayFault}
-use Rattle.trace_model.specs.Printed.{printed}
-use Rattle.trace_model.specs.Replays.{AreTaken, FirstRefused}
+use Rattle.trace_model.specs.Printed.{text_of_trace}
+use Rattle.trace_model.specs.Replays.{AreTaken, HasFirstRefusedEvent}
 use Rattle.key_store.specs.declared.key_file_fault.KeyFileFault.{KeyFileFault}
 use Rattle.key_store.specs.KeyFiles.{keys_of}
 use Rattle.er_statuses.specs.KeyLines.{keys_line}
@@ -34,7 +34,7 @@ abbrev pub HoldsInDrill : Scenario → ℕ → Type 0
 HoldsInDrill s count = (k : ℕ) → k ≤ count → Holds (plan_of s) (first_steps s k)
 
 -- the file of that name spells this scenario
-pub record Spells (name : List ℕ) (files : Files) (scenario : Scenario) : Type 0 where
+pub record SpellsScenario (name : List ℕ) (files : Files) (scenario : Scenario) : Type 0 where
   pub file : List ℕ
   pub stands : HasFile files name file
   pub spelled : scenario_of file ≡ Ok scenario
@@ -44,7 +44,7 @@ pub record Spells (name : List ℕ) (files : Files) (scenario : Scenario) : Type
 -- the file of that name spells a scenario, its steps are all done, and its text was written
 pub record Drilled (name : List ℕ) (files : Files) (before now : Option (List ℕ)) : Type 0 where
   pub scenario : Scenario
-  pub spells : Spells name files scenario
+  pub spells : SpellsScenario name files scenario
   pub are_done : AreDone scenario (length scenario.steps)
   pub printed : Grew before now (drill_text scenario)
   pub holds : HoldsInDrill scenario (length scenario.steps)
@@ -60,14 +60,14 @@ pub record BitsRead (name : List ℕ) (files : Files) (before now : Option (List
 pub record Migrated (name : List ℕ) (files : Files) (before now : Option (List ℕ)) : Type 0 where
   pub file : List ℕ
   pub stands : HasFile files name file
-  pub entries : List Entry
+  pub entries : List KmacEntry
   pub spelled : keys_of file ≡ Ok entries
   pub text : List ℕ
   pub printed : Grew before now text
   pub same : keys_of text ≡ Ok entries
 
 -- the file of the first name is a key file with these entries, and that of the second one spells this trace
-pub record SpellTrace (keys name : List ℕ) (files : Files) (entries : List Entry) (trace : Trace) : Type 0 where
+pub record SpellTrace (keys name : List ℕ) (files : Files) (entries : List KmacEntry) (trace : Trace) : Type 0 where
   pub key_file : List ℕ
   pub keys_stand : HasFile files keys key_file
   pub keys_spelled : keys_of key_file ≡ Ok entries
@@ -77,11 +77,11 @@ pub record SpellTrace (keys name : List ℕ) (files : Files) (entries : List Ent
 
 -- the events of the trace are all taken, and their printed text was written
 pub record Replayed (keys name : List ℕ) (files : Files) (before now : Option (List ℕ)) : Type 0 where
-  pub entries : List Entry
+  pub entries : List KmacEntry
   pub trace : Trace
   pub spell : SpellTrace keys name files entries trace
   pub taken : AreTaken trace.settings (key_at entries) trace.entries
-  pub written : Grew before now (printed trace.settings (key_at entries) trace.entries)
+  pub written : Grew before now (text_of_trace trace.settings (key_at entries) trace.entries)
 
 -- what is claimed of a world holds at every moment of the first steps of a bulk run
 abbrev pub HoldsInBulk : (seed count : ℕ) → (done : ℕ) → Type 0
@@ -110,9 +110,9 @@ pub record IsOutOfForm (name : List ℕ) (files : Files) (before now : Option (L
 
 -- the file of that name spells a scenario, of which so many steps are done and the next one isn't, for this fault: the lines of those
 -- steps were written, and then the fault's line
-pub record BrokeOff (name : List ℕ) (files : Files) (status : ℕ) (before now : Option (List ℕ)) : Type 0 where
+pub record IsDrillBrokenOff (name : List ℕ) (files : Files) (status : ℕ) (before now : Option (List ℕ)) : Type 0 where
   pub scenario : Scenario
-  pub spells : Spells name files scenario
+  pub spells : SpellsScenario name files scenario
   pub first : FirstFault scenario
   pub stated : status ≡ (fault_answer first.step.line first.fault).status
   pub printed : Grew before now (lines_of_first scenario first.count ++ (fault_answer first.step.line first.fault).text)
@@ -129,7 +129,7 @@ pub record BitsTooLong (name : List ℕ) (files : Files) (before now : Option (L
 pub record IsTraceOutOfForm (keys name : List ℕ) (files : Files) (before now : Option (List ℕ)) : Type 0 where
   pub key_file : List ℕ
   pub keys_stand : HasFile files keys key_file
-  pub entries : List Entry
+  pub entries : List KmacEntry
   pub keys_spelled : keys_of key_file ≡ Ok entries
   pub file : List ℕ
   pub stands : HasFile files name file
@@ -140,12 +140,12 @@ pub record IsTraceOutOfForm (keys name : List ℕ) (files : Files) (before now :
 
 -- an event of the trace isn't taken, the first such, for this fault: the printed text of those before it was written, and then its line
 pub record IsEventRefused (keys name : List ℕ) (files : Files) (before now : Option (List ℕ)) : Type 0 where
-  pub entries : List Entry
+  pub entries : List KmacEntry
   pub trace : Trace
   pub spell : SpellTrace keys name files entries trace
   pub fault : ReplayFault
-  pub first : FirstRefused trace.settings (key_at entries) trace.entries fault
-  pub written : Grew before now (printed trace.settings (key_at entries) first.first ++ refused_line fault)
+  pub first : HasFirstRefusedEvent trace.settings (key_at entries) trace.entries fault
+  pub written : Grew before now (text_of_trace trace.settings (key_at entries) first.first ++ replay_fault_line fault)
 
 -- in a step of a bulk run too many frames would wait, which is printed alone
 pub record IsBulkOverfull (seed count : ℕ) (before now : Option (List ℕ)) : Type 0 where
@@ -158,7 +158,7 @@ pub record IsBulkOverfull (seed count : ℕ) (before now : Option (List ℕ)) : 
 -- the lines of some first steps of the drill that the file spells
 pub record FirstLines (name : List ℕ) (files : Files) (text : List ℕ) : Type 0 where
   pub scenario : Scenario
-  pub spells : Spells name files scenario
+  pub spells : SpellsScenario name files scenario
   pub count : ℕ
   pub are_done : AreDone scenario count
   pub is : text ≡ lines_of_first scenario count
@@ -173,7 +173,7 @@ pub record FirstVerdictLines (name : List ℕ) (files : Files) (text : List ℕ)
 
 -- a beginning of the printed text of some first events, which are taken
 pub record FirstEventLines (keys name : List ℕ) (files : Files) (text : List ℕ) : Type 0 where
-  pub entries : List Entry
+  pub entries : List KmacEntry
   pub trace : Trace
   pub spell : SpellTrace keys name files entries trace
   pub first : List TraceEntry
@@ -181,7 +181,7 @@ pub record FirstEventLines (keys name : List ℕ) (files : Files) (text : List �
   pub are_first : trace.entries ≡ first ++ others
   pub taken : AreTaken trace.settings (key_at entries) first
   pub rest : List ℕ
-  pub is : text ++ rest ≡ printed trace.settings (key_at entries) first
+  pub is : text ++ rest ≡ text_of_trace trace.settings (key_at entries) first
 
 -- nothing was written where memory ran out before the first step
 abbrev pub AreFirstLines : Command → Files → List ℕ → Type 0
@@ -258,7 +258,7 @@ pub record HasKeysStatus (file : List ℕ) (status : ℕ) : Type 0 where
   pub is : status ≡ answer.status
 
 -- a trace's status is that of its answer; in particular 0 where it spells a trace whose events are all taken
-pub record HasTraceStatus (entries : List Entry) (name : List ℕ) (files : Files) (status : ℕ) : Type 0 where
+pub record HasTraceStatus (entries : List KmacEntry) (name : List ℕ) (files : Files) (status : ℕ) : Type 0 where
   pub file : List ℕ
   pub stands : HasFile files name file
   pub answer : Answer
@@ -267,7 +267,7 @@ pub record HasTraceStatus (entries : List Entry) (name : List ℕ) (files : File
   pub all_taken : (trace : Trace) → trace_of file ≡ Ok trace → AreTaken trace.settings (key_at entries) trace.entries → status ≡ 0
 
 -- a key file that is refused has its status, and one that is good leaves it to the trace
-abbrev pub IsStatusBehindKeys : Result (List Entry) KeyFileFault → (name : List ℕ) → Files → ℕ → Type 0
+abbrev pub IsStatusBehindKeys : Result (List KmacEntry) KeyFileFault → (name : List ℕ) → Files → ℕ → Type 0
 IsStatusBehindKeys (Err fault) name files status = status ≡ (keys_answer fault).status
 IsStatusBehindKeys (Ok entries) name files status = HasTraceStatus entries name files status
 

@@ -7,10 +7,10 @@ use Rattle.er_serving.specs.Outsides.{Outside, traffic_of, IsUnasked, IsLeftAlon
 use Rattle.er_serving.specs.LineCommands as line
 use Rattle.er_statuses.specs.LastLines.{usage_line, fetch_line, memory_line}
 use Rattle.er_program.specs.Answers.{bits_answer}
-use Rattle.er_program.specs.Runs.{Drilled, BitsRead, Migrated, Replayed, BulkCounted, IsOutOfForm, BrokeOff, BitsTooLong, IsTraceOutOfForm, IsEventRefused, IsBulkOverfull, IsSpent, IsTextBegun, HasStatus, HasKeysStatus, HasReplayStatus, HasBulkStatus}
+use Rattle.er_program.specs.Runs.{Drilled, BitsRead, Migrated, Replayed, BulkCounted, IsOutOfForm, IsDrillBrokenOff, BitsTooLong, IsTraceOutOfForm, IsEventRefused, IsBulkOverfull, IsSpent, IsTextBegun, HasStatus, HasKeysStatus, HasReplayStatus, HasBulkStatus}
 use Rattle.er_statuses.specs.Answers.{AreKeysRefused}
 use Rattle.er_program.specs.AuditRuns.{Audited, IsTapOutOfForm, IsTapLineRefused, HasAuditStatus}
-use Rattle.er_serving.specs.LineRuns.{IsLineStatus, Given, IsServed, IsPairKeyless, IsLineBegun, IsLoopFailed, IsMemoryTold, IsLineIdle, HasLineStatus}
+use Rattle.er_serving.specs.LineRuns.{IsLineStatus, GivenToLoop, IsServed, IsPairKeyless, IsLineBegun, IsLoopFailed, IsMemoryTold, IsLineIdle, HasLineStatus}
 
 -- ---- the closed list of statuses
 
@@ -33,7 +33,7 @@ IsStatusOf (Call keys address engine rbc turns) s = IsLineStatus s
 -- ---- what each status means
 
 -- status 0: all was done and all was printed; of `serve` and `call` the loop answered that it served
-abbrev pub IsDone : Command → Given → Outside → Outside → Type 0
+abbrev pub IsDone : Command → GivenToLoop → Outside → Outside → Type 0
 IsDone Misused g before now = ⊥
 IsDone (Drill name) g before now = Drilled name now.files before.held now.held
 IsDone (Bits name) g before now = BitsRead name now.files before.held now.held
@@ -69,7 +69,7 @@ pub record IsUnfetched (command : Command) (before now : Outside) : Type 0 where
 -- status 3: the file is out of its grammar, or a step, an event or a line of a tap is refused
 abbrev pub IsRefused : Command → Outside → Outside → Type 0
 IsRefused Misused before now = ⊥
-IsRefused (Drill name) before now = IsOutOfForm name now.files before.held now.held ⊎ BrokeOff name now.files 3 before.held now.held
+IsRefused (Drill name) before now = IsOutOfForm name now.files before.held now.held ⊎ IsDrillBrokenOff name now.files 3 before.held now.held
 IsRefused (Bits name) before now = BitsTooLong name now.files before.held now.held
 IsRefused (Migrate keys) before now = ⊥
 IsRefused (Replay keys trace) before now = IsTraceOutOfForm keys trace now.files before.held now.held ⊎ IsEventRefused keys trace now.files before.held now.held
@@ -91,24 +91,24 @@ IsKeyless (Serve keys address rbc turns) before now = AreKeysRefused keys now.fi
 IsKeyless (Call keys address engine rbc turns) before now = AreKeysRefused keys now.files before.asked now.asked before.held now.held ⊎ IsPairKeyless (line.Call keys address engine rbc turns) before now
 
 -- a beginning of what the run would have printed
-abbrev pub IsBegun : Command → Given → Outside → Outside → Type 0
-IsBegun Misused g before now = IsTextBegun Misused now.files before.unfetched now.unfetched before.held now.held
-IsBegun (Drill name) g before now = IsTextBegun (Drill name) now.files before.unfetched now.unfetched before.held now.held
-IsBegun (Bits name) g before now = IsTextBegun (Bits name) now.files before.unfetched now.unfetched before.held now.held
-IsBegun (Migrate keys) g before now = IsTextBegun (Migrate keys) now.files before.unfetched now.unfetched before.held now.held
-IsBegun (Replay keys trace) g before now = IsTextBegun (Replay keys trace) now.files before.unfetched now.unfetched before.held now.held
-IsBegun (Audit keys tap) g before now = IsTextBegun (Audit keys tap) now.files before.unfetched now.unfetched before.held now.held
-IsBegun (Bulk seed count) g before now = IsTextBegun (Bulk seed count) now.files before.unfetched now.unfetched before.held now.held
-IsBegun (Serve keys address rbc turns) g before now = IsLineBegun (line.Serve keys address rbc turns) g before now
-IsBegun (Call keys address engine rbc turns) g before now = IsLineBegun (line.Call keys address engine rbc turns) g before now
+abbrev pub HasPrintedBeginning : Command → GivenToLoop → Outside → Outside → Type 0
+HasPrintedBeginning Misused g before now = IsTextBegun Misused now.files before.unfetched now.unfetched before.held now.held
+HasPrintedBeginning (Drill name) g before now = IsTextBegun (Drill name) now.files before.unfetched now.unfetched before.held now.held
+HasPrintedBeginning (Bits name) g before now = IsTextBegun (Bits name) now.files before.unfetched now.unfetched before.held now.held
+HasPrintedBeginning (Migrate keys) g before now = IsTextBegun (Migrate keys) now.files before.unfetched now.unfetched before.held now.held
+HasPrintedBeginning (Replay keys trace) g before now = IsTextBegun (Replay keys trace) now.files before.unfetched now.unfetched before.held now.held
+HasPrintedBeginning (Audit keys tap) g before now = IsTextBegun (Audit keys tap) now.files before.unfetched now.unfetched before.held now.held
+HasPrintedBeginning (Bulk seed count) g before now = IsTextBegun (Bulk seed count) now.files before.unfetched now.unfetched before.held now.held
+HasPrintedBeginning (Serve keys address rbc turns) g before now = IsLineBegun (line.Serve keys address rbc turns) g before now
+HasPrintedBeginning (Call keys address engine rbc turns) g before now = IsLineBegun (line.Call keys address engine rbc turns) g before now
 
 -- status 5: a write of the sink failed
-pub record IsSinkFailed (command : Command) (g : Given) (before now : Outside) : Type 0 where
+pub record IsSinkFailed (command : Command) (g : GivenToLoop) (before now : Outside) : Type 0 where
   pub rose : Rose before.sunk now.sunk
-  pub beginning : IsBegun command g before now
+  pub beginning : HasPrintedBeginning command g before now
 
 -- status 6: a listen, dial or turn of the wires failed
-abbrev pub AreWiresFailed : Command → Given → Outside → Outside → Type 0
+abbrev pub AreWiresFailed : Command → GivenToLoop → Outside → Outside → Type 0
 AreWiresFailed Misused g before now = ⊥
 AreWiresFailed (Drill name) g before now = ⊥
 AreWiresFailed (Bits name) g before now = ⊥
@@ -120,7 +120,7 @@ AreWiresFailed (Serve keys address rbc turns) g before now = IsLoopFailed (line.
 AreWiresFailed (Call keys address engine rbc turns) g before now = IsLoopFailed (line.Call keys address engine rbc turns) g before now
 
 -- status 7: memory ran out
-abbrev pub IsOutOfMemory : Command → Given → Outside → Outside → Type 0
+abbrev pub IsOutOfMemory : Command → GivenToLoop → Outside → Outside → Type 0
 IsOutOfMemory Misused g before now = IsSpent Misused now.files before.held now.held
 IsOutOfMemory (Drill name) g before now = IsSpent (Drill name) now.files before.held now.held
 IsOutOfMemory (Bits name) g before now = IsSpent (Bits name) now.files before.held now.held
@@ -134,7 +134,7 @@ IsOutOfMemory (Call keys address engine rbc turns) g before now = IsMemoryTold (
 -- status 8: a frame would be one more than may wait in one direction
 abbrev pub IsOverfull : Command → Outside → Outside → Type 0
 IsOverfull Misused before now = ⊥
-IsOverfull (Drill name) before now = BrokeOff name now.files 8 before.held now.held
+IsOverfull (Drill name) before now = IsDrillBrokenOff name now.files 8 before.held now.held
 IsOverfull (Bits name) before now = ⊥
 IsOverfull (Migrate keys) before now = ⊥
 IsOverfull (Replay keys trace) before now = ⊥
@@ -143,7 +143,7 @@ IsOverfull (Bulk seed count) before now = IsBulkOverfull seed count before.held 
 IsOverfull (Serve keys address rbc turns) before now = ⊥
 IsOverfull (Call keys address engine rbc turns) before now = ⊥
 
-pub record Means (command : Command) (g : Given) (before now : Outside) (status : ℕ) : Type 0 where
+pub record Means (command : Command) (g : GivenToLoop) (before now : Outside) (status : ℕ) : Type 0 where
   pub done : status ≡ 0 → IsDone command g before now
   pub misused : status ≡ 1 → IsMisused command before now
   pub unfetched : status ≡ 2 → IsUnfetched command before now
@@ -197,7 +197,7 @@ IsComplete (Call keys address engine rbc turns) before now status = (Rose before
 -- ---- a run
 
 -- all of this
-pub record IsRun (command : Command) (g : Given) (before now : Outside) (status : ℕ) : Type 0 where
+pub record IsRun (command : Command) (g : GivenToLoop) (before now : Outside) (status : ℕ) : Type 0 where
   pub known : IsStatusOf command status
   pub means : Means command g before now status
   pub idle : IsIdle command before now status

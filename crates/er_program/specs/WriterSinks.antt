@@ -24,8 +24,8 @@ WritesPiece before now piece (Err failed) = WritesPart before now piece
 
 -- by how many octets a write brings the piece further: by those that it took, by none where it was interrupted, so that it is tried again;
 -- and no further where it took no octet or gave any other error
-abbrev pub IsProgress : Result ℕ Error → Option ℕ → Type 0
-IsProgress (Ok taken) (Some count) = (count ≡ taken) × (0 < taken)
-IsProgress (Ok taken) None = taken ≡ 0
-IsProgress (Err error) (Some count) = (count ≡ 0) × (error_kind error ≡ Interrupted)
-IsProgress (Err error) None = error_kind error ≢ Interrupted
+abbrev pub IsWriteProgress : Result ℕ Error → Option ℕ → Type 0
+IsWriteProgress (Ok taken) (Some count) = (count ≡ taken) × (0 < taken)
+IsWriteProgress (Ok taken) None = taken ≡ 0
+IsWriteProgress (Err error) (Some count) = (count ≡ 0) × (error_kind error ≡ Interrupted)
+IsWriteProgress (Err error) None = error_kind error ≢ Interrupted

@@ -7,7 +7,7 @@ use Rattle.er_scenario.specs.Files.{scenario_of}
 use Rattle.er_scenario.specs.Texts.{CanBeRead}
 use Rattle.drill_model.specs.declared.world_fault.WorldFault.{WorldFault}
 use Rattle.drill_model.specs.declared.world_fault.WorldFault.TheVariants.{NoLink, LinkTwice, MomentBack, Overfull, NoMemory}
-use Rattle.drill_model.specs.Worlds.{Plan, plan_of}
+use Rattle.drill_model.specs.Worlds.{DrillPlan, plan_of}
 use Rattle.drill_model.specs.Texts.{step_lines}
 use Rattle.er_world.specs.Standing.{KeptWorld, Ran, IsFaultBehind}
 use Rattle.drill_model.specs.Faults.{fault_behind}
@@ -16,10 +16,10 @@ use Rattle.link_trait.specs.declared.sink.Failed.{Failed}
 use Rattle.er_program.specs.Commands.{Command, Misused, Drill, Bits, Migrate, Replay, Audit, Bulk, Serve, Call}
 use Rattle.er_statuses.specs.LastLines.{usage_line, memory_line}
 use Rattle.er_statuses.specs.Answers.{Answer, Files}
-use Rattle.er_statuses.specs.Writing.{Gives}
+use Rattle.er_statuses.specs.Writing.{GivesAnswer}
 use Rattle.er_program.specs.Answers.{IsDrillAnswer, IsScenarioAnswer, IsFileAnswer, IsBitsAnswer, AreDone, first_steps, lines_of_first, fault_answer, IsMigrateAnswer, IsReplayWordsAnswer, IsAuditWordsAnswer, IsBulkAnswer}
 use Rattle.er_program.specs.AuditRuns.{FirstAuditText}
-use Rattle.er_program.specs.Runs.{Spells, FirstVerdictLines, FirstEventLines}
+use Rattle.er_program.specs.Runs.{SpellsScenario, FirstVerdictLines, FirstEventLines}
 use Rattle.er_statuses.specs.declared.status.Status.{Status}
 use Rattle.er_program.specs.declared.halt.Halt.{Halt}
 use Rattle.er_program.specs.declared.halt.Halt.TheVariants as halt
@@ -31,15 +31,15 @@ use Rattle.er_statuses.specs.declared.stop.Stop.TheVariants as stop
 -- the fault of a step that isn't done was told; where it is want of memory, nothing was written
 abbrev pub TellsFault : ℕ → WorldFault → Option (List ℕ) → Option (List ℕ) → ℕ → ℕ → Result Status Stop → Type 0
 TellsFault line (NoMemory want) before now f g r = (r ≡ Err (stop.NoMemory want)) × Grew before now [] × (f ≤ g)
-TellsFault line (NoLink n) before now f g r = Gives (fault_answer line (NoLink n)) before now f g r
-TellsFault line (LinkTwice n) before now f g r = Gives (fault_answer line (LinkTwice n)) before now f g r
-TellsFault line (MomentBack was moment) before now f g r = Gives (fault_answer line (MomentBack was moment)) before now f g r
-TellsFault line (Overfull n side most) before now f g r = Gives (fault_answer line (Overfull n side most)) before now f g r
+TellsFault line (NoLink n) before now f g r = GivesAnswer (fault_answer line (NoLink n)) before now f g r
+TellsFault line (LinkTwice n) before now f g r = GivesAnswer (fault_answer line (LinkTwice n)) before now f g r
+TellsFault line (MomentBack was moment) before now f g r = GivesAnswer (fault_answer line (MomentBack was moment)) before now f g r
+TellsFault line (Overfull n side most) before now f g r = GivesAnswer (fault_answer line (Overfull n side most)) before now f g r
 
 -- ---- one step
 
 -- it was done, behind these steps, and its lines were written
-pub record WentOne (plan : Plan) (done : List Step) (old : KeptWorld) (s : Step) (new : KeptWorld) (before now : Option (List ℕ)) (f g : ℕ) : Type 0 where
+pub record WentOne (plan : DrillPlan) (done : List Step) (old : KeptWorld) (s : Step) (new : KeptWorld) (before now : Option (List ℕ)) (f g : ℕ) : Type 0 where
   pub ran : Ran new plan (done ++ s ∷ [])
   pub none : fault_behind plan done s ≡ None
   pub plan_is : new.plan ≡ old.plan
@@ -48,18 +48,18 @@ pub record WentOne (plan : Plan) (done : List Step) (old : KeptWorld) (s : Step)
   pub later : f ≤ g
 
 -- it was done, and the sink failed in its lines
-pub record FailedOne (plan : Plan) (done : List Step) (s : Step) (before now : Option (List ℕ)) (f g : ℕ) : Type 0 where
+pub record FailedOne (plan : DrillPlan) (done : List Step) (s : Step) (before now : Option (List ℕ)) (f g : ℕ) : Type 0 where
   pub none : fault_behind plan done s ≡ None
   pub part : GrewPart before now (step_lines plan done s)
   pub rose : Rose f g
 
 -- it wasn't done, for this fault
-pub record HaltsOne (plan : Plan) (done : List Step) (s : Step) (before now : Option (List ℕ)) (f g : ℕ) (fault : WorldFault) : Type 0 where
+pub record HaltsOne (plan : DrillPlan) (done : List Step) (s : Step) (before now : Option (List ℕ)) (f g : ℕ) (fault : WorldFault) : Type 0 where
   pub is : IsFaultBehind plan done s fault
   pub printed : Grew before now []
   pub later : f ≤ g
 
-abbrev pub StepsOne : Plan → List Step → KeptWorld → Step → KeptWorld → Option (List ℕ) → Option (List ℕ) → ℕ → ℕ → Result (Unit {0}) Halt → Type 0
+abbrev pub StepsOne : DrillPlan → List Step → KeptWorld → Step → KeptWorld → Option (List ℕ) → Option (List ℕ) → ℕ → ℕ → Result (Unit {0}) Halt → Type 0
 StepsOne plan done old s new before now f g (Ok none) = WentOne plan done old s new before now f g
 StepsOne plan done old s new before now f g (Err halt.Sink) = FailedOne plan done s before now f g
 StepsOne plan done old s new before now f g (Err (halt.Fault fault)) = HaltsOne plan done s before now f g fault
@@ -73,7 +73,7 @@ pub record FirstSteps (s : Scenario) (before now : Option (List ℕ)) : Type 0 w
   pub grew : Grew before now (lines_of_first s count)
 
 -- so many steps of a drill were done: where the world stands, and the lines that were written
-pub record Went (s : Scenario) (count : ℕ) (kept : KeptWorld) (before now : Option (List ℕ)) (f g : ℕ) : Type 0 where
+pub record HasDoneDrillSteps (s : Scenario) (count : ℕ) (kept : KeptWorld) (before now : Option (List ℕ)) (f g : ℕ) : Type 0 where
   pub are_done : AreDone s count
   pub ran : Ran kept (plan_of s) (first_steps s count)
   pub plan_is : kept.plan ≡ plan_of s
@@ -103,9 +103,9 @@ Drills s before now f g (Err (stop.NoMemory want)) = FirstSteps s before now × 
 -- ---- a file
 
 -- what a file spells is in its ranges
-abbrev pub IsReadable : Result Scenario TextFault → Type 0
-IsReadable (Ok s) = CanBeRead s
-IsReadable (Err fault) = Unit {0}
+abbrev pub SpellsScenarioInRange : Result Scenario TextFault → Type 0
+SpellsScenarioInRange (Ok s) = CanBeRead s
+SpellsScenarioInRange (Err fault) = Unit {0}
 
 -- lines of first steps, where the file spells a scenario
 abbrev pub WritesFirst : Result Scenario TextFault → Option (List ℕ) → Option (List ℕ) → Type 0
@@ -114,7 +114,7 @@ WritesFirst (Err fault) before now = ⊥
 
 -- a file was read and its answer was given; where memory ran out, nothing was written before the first step
 pub record GaveFile (read : Result Scenario TextFault) (before now : Option (List ℕ)) (f g status : ℕ) : Type 0 where
-  pub readable : IsReadable read
+  pub readable : SpellsScenarioInRange read
   pub answer : Answer
   pub is : IsScenarioAnswer read answer
   pub stated : status ≡ answer.status
@@ -122,14 +122,14 @@ pub record GaveFile (read : Result Scenario TextFault) (before now : Option (Lis
   pub later : f ≤ g
 
 pub record BrokeFile (read : Result Scenario TextFault) (before now : Option (List ℕ)) (f g : ℕ) : Type 0 where
-  pub readable : IsReadable read
+  pub readable : SpellsScenarioInRange read
   pub answer : Answer
   pub is : IsScenarioAnswer read answer
   pub part : GrewPart before now answer.text
   pub rose : Rose f g
 
 pub record SpentFile (read : Result Scenario TextFault) (before now : Option (List ℕ)) (f g : ℕ) : Type 0 where
-  pub first : Grew before now [] ⊎ (IsReadable read × WritesFirst read before now)
+  pub first : Grew before now [] ⊎ (SpellsScenarioInRange read × WritesFirst read before now)
   pub later : f ≤ g
 
 abbrev pub EndsFile : Result Scenario TextFault → Option (List ℕ) → Option (List ℕ) → ℕ → ℕ → Result Status Stop → Type 0
@@ -141,28 +141,28 @@ EndsFile read before now f g (Err (stop.NoMemory want)) = SpentFile read before 
 
 abbrev pub HasReadable : Option (List ℕ) → Type 0
 HasReadable None = Unit {0}
-HasReadable (Some file) = IsReadable (scenario_of file)
+HasReadable (Some file) = SpellsScenarioInRange (scenario_of file)
 
 -- the answer to a file word, and what its file spells is in its ranges
 pub record IsReadAnswer (name : List ℕ) (files : Files) (c d : ℕ) (a : Answer) : Type 0 where
   pub answer : IsFileAnswer name files c d a
   pub readable : HasReadable answer.fetched
 
-abbrev pub IsGiven : Command → Files → ℕ → ℕ → Answer → Type 0
-IsGiven Misused files c d a = a ≡ record { status = 1; text = usage_line }
-IsGiven (Drill name) files c d a = IsReadAnswer name files c d a
-IsGiven (Bits name) files c d a = IsBitsAnswer name files c d a
-IsGiven (Migrate keys) files c d a = IsMigrateAnswer keys files c d a
-IsGiven (Replay keys trace) files c d a = IsReplayWordsAnswer keys trace files c d a
-IsGiven (Audit keys tap) files c d a = IsAuditWordsAnswer keys tap files c d a
-IsGiven (Bulk seed count) files c d a = IsBulkAnswer seed count a
-IsGiven (Serve keys address rbc turns) files c d a = ⊥
-IsGiven (Call keys address engine rbc turns) files c d a = ⊥
+abbrev pub IsGivenAnswer : Command → Files → ℕ → ℕ → Answer → Type 0
+IsGivenAnswer Misused files c d a = a ≡ record { status = 1; text = usage_line }
+IsGivenAnswer (Drill name) files c d a = IsReadAnswer name files c d a
+IsGivenAnswer (Bits name) files c d a = IsBitsAnswer name files c d a
+IsGivenAnswer (Migrate keys) files c d a = IsMigrateAnswer keys files c d a
+IsGivenAnswer (Replay keys trace) files c d a = IsReplayWordsAnswer keys trace files c d a
+IsGivenAnswer (Audit keys tap) files c d a = IsAuditWordsAnswer keys tap files c d a
+IsGivenAnswer (Bulk seed count) files c d a = IsBulkAnswer seed count a
+IsGivenAnswer (Serve keys address rbc turns) files c d a = ⊥
+IsGivenAnswer (Call keys address engine rbc turns) files c d a = ⊥
 
 -- the words were answered
 pub record Finished (command : Command) (files : Files) (c d : ℕ) (before now : Option (List ℕ)) (f g status : ℕ) : Type 0 where
   pub answer : Answer
-  pub is : IsGiven command files c d answer
+  pub is : IsGivenAnswer command files c d answer
   pub stated : status ≡ answer.status
   pub printed : Grew before now answer.text
   pub later : f ≤ g
@@ -170,38 +170,38 @@ pub record Finished (command : Command) (files : Files) (c d : ℕ) (before now 
 -- a write failed
 pub record Broken (command : Command) (files : Files) (c d : ℕ) (before now : Option (List ℕ)) (f g : ℕ) : Type 0 where
   pub answer : Answer
-  pub is : IsGiven command files c d answer
+  pub is : IsGivenAnswer command files c d answer
   pub part : GrewPart before now answer.text
   pub rose : Rose f g
 
 -- the lines of some first steps of the drill that the file spells
 pub record StepsBegun (name : List ℕ) (files : Files) (text : List ℕ) : Type 0 where
   pub scenario : Scenario
-  pub spells : Spells name files scenario
+  pub spells : SpellsScenario name files scenario
   pub readable : CanBeRead scenario
   pub count : ℕ
   pub are_done : AreDone scenario count
   pub is : text ≡ lines_of_first scenario count
 
-abbrev pub IsBegun : Command → Files → List ℕ → Type 0
-IsBegun Misused files text = text ≡ []
-IsBegun (Drill name) files text = (text ≡ []) ⊎ StepsBegun name files text
-IsBegun (Bits name) files text = (text ≡ []) ⊎ FirstVerdictLines name files text
-IsBegun (Migrate keys) files text = text ≡ []
-IsBegun (Replay keys trace) files text = (text ≡ []) ⊎ FirstEventLines keys trace files text
-IsBegun (Audit keys tap) files text = (text ≡ []) ⊎ FirstAuditText keys tap files text
-IsBegun (Bulk seed count) files text = text ≡ []
-IsBegun (Serve keys address rbc turns) files text = ⊥
-IsBegun (Call keys address engine rbc turns) files text = ⊥
+abbrev pub IsOutputBeginning : Command → Files → List ℕ → Type 0
+IsOutputBeginning Misused files text = text ≡ []
+IsOutputBeginning (Drill name) files text = (text ≡ []) ⊎ StepsBegun name files text
+IsOutputBeginning (Bits name) files text = (text ≡ []) ⊎ FirstVerdictLines name files text
+IsOutputBeginning (Migrate keys) files text = text ≡ []
+IsOutputBeginning (Replay keys trace) files text = (text ≡ []) ⊎ FirstEventLines keys trace files text
+IsOutputBeginning (Audit keys tap) files text = (text ≡ []) ⊎ FirstAuditText keys tap files text
+IsOutputBeginning (Bulk seed count) files text = text ≡ []
+IsOutputBeginning (Serve keys address rbc turns) files text = ⊥
+IsOutputBeginning (Call keys address engine rbc turns) files text = ⊥
 
 -- memory ran out
 pub record Exhausted (command : Command) (files : Files) (before now : Option (List ℕ)) (f g : ℕ) : Type 0 where
   pub text : List ℕ
-  pub first : IsBegun command files text
+  pub first : IsOutputBeginning command files text
   pub printed : Grew before now text
   pub later : f ≤ g
 
-abbrev pub Ends : Command → Files → ℕ → ℕ → Option (List ℕ) → Option (List ℕ) → ℕ → ℕ → Result Status Stop → Type 0
-Ends command files c d before now f g (Ok s) = Finished command files c d before now f g s.0
-Ends command files c d before now f g (Err stop.Sink) = Broken command files c d before now f g
-Ends command files c d before now f g (Err (stop.NoMemory want)) = Exhausted command files before now f g
+abbrev pub EndsCommand : Command → Files → ℕ → ℕ → Option (List ℕ) → Option (List ℕ) → ℕ → ℕ → Result Status Stop → Type 0
+EndsCommand command files c d before now f g (Ok s) = Finished command files c d before now f g s.0
+EndsCommand command files c d before now f g (Err stop.Sink) = Broken command files c d before now f g
+EndsCommand command files c d before now f g (Err (stop.NoMemory want)) = Exhausted command files before now f g

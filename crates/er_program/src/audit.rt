@@ -5,15 +5,15 @@ ghost use Rattle.safety_automaton.specs.Keys.{key_at};
 ghost use Rattle.er_tap.specs.Files.{tap_of};
 ghost use Rattle.er_tap.specs.Ranges.{CanBeRead};
 ghost use Rattle.key_store.specs.KeyFiles.{keys_of};
-ghost use Rattle.link_trait.specs.Outside.{Grew, GrewPart, Kept};
+ghost use Rattle.link_trait.specs.Outside.{Grew, GrewPart, HasStayedAsTold};
 ghost use Rattle.er_statuses.specs.LastLines.{fault_line};
 ghost use Rattle.er_program.specs.Answers.{IsTapFileAnswer, IsTapAnswerBehindKeys};
 ghost use Rattle.er_program.specs.Asking.{Asks, AsksLast, AsksBehindKeys};
 ghost use Rattle.er_program.specs.AuditWriting.{IsLinesAnswer, IsTapAnswer, BeginsLines, BeginsTap, BeginsTapFile, BeginsTapBehindKeys, TellsTapFault};
 ghost use Rattle.er_program.specs.Commands.{Audit};
 ghost use Rattle.er_program.specs.ReplayWriting.{EndsOne};
-ghost use Rattle.er_statuses.specs.Writing.{Gives};
-ghost use Rattle.er_program.specs.Writing.{Ends};
+ghost use Rattle.er_statuses.specs.Writing.{GivesAnswer};
+ghost use Rattle.er_program.specs.Writing.{EndsCommand};
 
 use er_base::TextFault;
 use er_statuses::{Status, Stop, fault_line, fetched, keys_refused, last, out_of_form};
@@ -26,7 +26,7 @@ use tap_model::AuditFault;
 
 // This line of the tap doesn't stand in order.
 fn refused<K: Sink>(alloc: Global, line: usize, word: &[u8], sink: &mut K) -> Result<Status, Stop>
-    ensures gives { Gives (record { status = 3; text = fault_line line word.now }) (K.state sink.old).held (K.state sink.new).held
+    ensures gives { GivesAnswer (record { status = 3; text = fault_line line word.now }) (K.state sink.old).held (K.state sink.new).held
         (K.state sink.old).faults (K.state sink.new).faults result }
     ensures sink_count { (K.state sink.old).faults ≤ (K.state sink.new).faults }
 {
@@ -98,7 +98,7 @@ fn audit_tap<F: Cabinet, K: Sink>(
     ensures asked { IfOk result (λ _. Grew (F.state cabinet.old).asked (F.state cabinet.new).asked (name.now ∷ [])) }
     ensures asks { IfOk result (λ s. AsksLast name.now s.0 (K.state sink.old).held (K.state sink.new).held) }
     ensures part { GrewPart (F.state cabinet.old).asked (F.state cabinet.new).asked (name.now ∷ []) }
-    ensures files { Kept (F.state cabinet.old).files (F.state cabinet.new).files }
+    ensures files { HasStayedAsTold (F.state cabinet.old).files (F.state cabinet.new).files }
     ensures count { (F.state cabinet.old).faults ≤ (F.state cabinet.new).faults }
     ensures sink_count { (K.state sink.old).faults ≤ (K.state sink.new).faults }
 {
@@ -122,7 +122,7 @@ fn audit_with<F: Cabinet, K: Sink>(
     ensures asks { IfOk result (λ s. AsksBehindKeys name.now s.0 (F.state cabinet.old).asked (F.state cabinet.new).asked
         (K.state sink.old).held (K.state sink.new).held) }
     ensures part { GrewPart (F.state cabinet.old).asked (F.state cabinet.new).asked (name.now ∷ []) }
-    ensures files { Kept (F.state cabinet.old).files (F.state cabinet.new).files }
+    ensures files { HasStayedAsTold (F.state cabinet.old).files (F.state cabinet.new).files }
     ensures count { (F.state cabinet.old).faults ≤ (F.state cabinet.new).faults }
     ensures sink_count { (K.state sink.old).faults ≤ (K.state sink.new).faults }
 {
@@ -140,12 +140,12 @@ pub fn audit_run<F: Cabinet, K: Sink>(
     cabinet: &mut F,
     sink: &mut K,
 ) -> Result<Status, Stop>
-    ensures ends { Ends (Audit keys.now tap.now) (F.state cabinet.new).files (F.state cabinet.old).faults (F.state cabinet.new).faults
+    ensures ends { EndsCommand (Audit keys.now tap.now) (F.state cabinet.new).files (F.state cabinet.old).faults (F.state cabinet.new).faults
         (K.state sink.old).held (K.state sink.new).held (K.state sink.old).faults (K.state sink.new).faults result }
     ensures asks { IfOk result (λ s. Asks (Audit keys.now tap.now) s.0 (F.state cabinet.old).asked (F.state cabinet.new).asked
         (K.state sink.old).held (K.state sink.new).held) }
     ensures part { GrewPart (F.state cabinet.old).asked (F.state cabinet.new).asked (keys.now ∷ tap.now ∷ []) }
-    ensures files { Kept (F.state cabinet.old).files (F.state cabinet.new).files }
+    ensures files { HasStayedAsTold (F.state cabinet.old).files (F.state cabinet.new).files }
     ensures count { (F.state cabinet.old).faults ≤ (F.state cabinet.new).faults }
     ensures sink_count { (K.state sink.old).faults ≤ (K.state sink.new).faults }
 {

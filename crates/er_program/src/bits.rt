@@ -2,15 +2,15 @@
 
 ghost use Rattle.std.specs.Prelude.{◌≡◌, ◌≤◌, ◌*◌, ◌++◌, [], ◌∷◌, length, IfOk, OnOk, option_map};
 ghost use Rattle.std.specs.Option.{option_to_list};
-ghost use Rattle.link_trait.specs.Outside.{Grew, GrewPart, Kept};
+ghost use Rattle.link_trait.specs.Outside.{Grew, GrewPart, HasStayedAsTold};
 ghost use Rattle.er_base.specs.LineTexts.{line_text};
-ghost use Rattle.hdlc_bits.specs.Shown.{shown};
+ghost use Rattle.hdlc_bits.specs.Shown.{verdict_of_bits_found};
 ghost use Rattle.er_program.specs.Answers.{bits_answer};
 ghost use Rattle.er_program.specs.BitTexts.{verdict_words, verdict_lines, counts_line};
-ghost use Rattle.er_program.specs.BitWriting.{found_count, Tells, EndsBits};
+ghost use Rattle.er_program.specs.BitWriting.{found_count, WritesTextWithFrameCount, EndsBits};
 ghost use Rattle.er_program.specs.Commands.{Bits};
-ghost use Rattle.er_statuses.specs.Writing.{Gives};
-ghost use Rattle.er_program.specs.Writing.{Ends};
+ghost use Rattle.er_statuses.specs.Writing.{GivesAnswer};
+ghost use Rattle.er_program.specs.Writing.{EndsCommand};
 
 use er_base::{NoMemory, PrintedWord, Why, put_line};
 use er_statuses::{Status, Stop, fetched, last, out_of_form, say};
@@ -24,7 +24,7 @@ const MOST_LINE_OCTETS: usize = 16_777_216;
 
 // Appends the line of a verdict.
 fn put_verdict(found: &BitFound<'_>, out: &mut Vec<u8>) -> Result<(), NoMemory>
-    ensures { OnOk result (out.new.items ≡ out.old.items ++ line_text (verdict_words (shown found.now))) }
+    ensures { OnOk result (out.new.items ≡ out.old.items ++ line_text (verdict_words (verdict_of_bits_found found.now))) }
 {
     match found {
         BitFound::Frame { address, body } => put_line(
@@ -49,14 +49,14 @@ fn put_verdict(found: &BitFound<'_>, out: &mut Vec<u8>) -> Result<(), NoMemory>
 
 // How many frames that is.
 fn frames_in(found: &BitFound<'_>) -> u64
-    ensures { result ≡ found_count (Some (shown found.now)) }
+    ensures { result ≡ found_count (Some (verdict_of_bits_found found.now)) }
 {
     matches!(found, BitFound::Frame { .. }) as u64
 }
 
 // Writes the line of what was found, and answers how many frames that is.
 fn tell_found<K: Sink>(alloc: Global, found: &BitFound<'_>, sink: &mut K) -> Result<u64, Stop>
-    ensures tells { Tells (line_text (verdict_words (shown found.now))) (found_count (Some (shown found.now)))
+    ensures tells { WritesTextWithFrameCount (line_text (verdict_words (verdict_of_bits_found found.now))) (found_count (Some (verdict_of_bits_found found.now)))
         (K.state sink.old).held (K.state sink.new).held (K.state sink.old).faults (K.state sink.new).faults result }
     ensures sink_count { (K.state sink.old).faults ≤ (K.state sink.new).faults }
 {
@@ -70,7 +70,7 @@ fn tell_found<K: Sink>(alloc: Global, found: &BitFound<'_>, sink: &mut K) -> Res
 
 // The same of what one call found, which may be nothing.
 fn tell<K: Sink>(alloc: Global, found: &Option<BitFound<'_>>, sink: &mut K) -> Result<u64, Stop>
-    ensures tells { Tells (verdict_lines (option_to_list (option_map shown found.now))) (found_count (option_map shown found.now))
+    ensures tells { WritesTextWithFrameCount (verdict_lines (option_to_list (option_map verdict_of_bits_found found.now))) (found_count (option_map verdict_of_bits_found found.now))
         (K.state sink.old).held (K.state sink.new).held (K.state sink.old).faults (K.state sink.new).faults result }
     ensures sink_count { (K.state sink.old).faults ≤ (K.state sink.new).faults }
 {
@@ -82,7 +82,7 @@ fn tell<K: Sink>(alloc: Global, found: &Option<BitFound<'_>>, sink: &mut K) -> R
 
 // The last line: how many bits there are, and how many frames.
 fn counted<K: Sink>(alloc: Global, bits: u64, frames: u64, sink: &mut K) -> Result<Status, Stop>
-    ensures gives { Gives (record { status = 0; text = counts_line bits frames }) (K.state sink.old).held (K.state sink.new).held
+    ensures gives { GivesAnswer (record { status = 0; text = counts_line bits frames }) (K.state sink.old).held (K.state sink.new).held
         (K.state sink.old).faults (K.state sink.new).faults result }
     ensures sink_count { (K.state sink.old).faults ≤ (K.state sink.new).faults }
 {
@@ -141,11 +141,11 @@ pub fn bits_run<F: Cabinet, K: Sink>(
     cabinet: &mut F,
     sink: &mut K,
 ) -> Result<Status, Stop>
-    ensures ends { Ends (Bits name.now) (F.state cabinet.new).files (F.state cabinet.old).faults (F.state cabinet.new).faults
+    ensures ends { EndsCommand (Bits name.now) (F.state cabinet.new).files (F.state cabinet.old).faults (F.state cabinet.new).faults
         (K.state sink.old).held (K.state sink.new).held (K.state sink.old).faults (K.state sink.new).faults result }
     ensures asked { IfOk result (λ _. Grew (F.state cabinet.old).asked (F.state cabinet.new).asked (name.now ∷ [])) }
     ensures part { GrewPart (F.state cabinet.old).asked (F.state cabinet.new).asked (name.now ∷ []) }
-    ensures files { Kept (F.state cabinet.old).files (F.state cabinet.new).files }
+    ensures files { HasStayedAsTold (F.state cabinet.old).files (F.state cabinet.new).files }
     ensures count { (F.state cabinet.old).faults ≤ (F.state cabinet.new).faults }
     ensures sink_count { (K.state sink.old).faults ≤ (K.state sink.new).faults }
 {

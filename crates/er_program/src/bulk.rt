@@ -4,13 +4,13 @@ ghost use Rattle.std.specs.Prelude.{◌≡◌, ◌≤◌, [], ◌∷◌, ◌++�
 ghost use Rattle.er_scenario.specs.declared.step.Step.{Step as AnyStep};
 ghost use Rattle.drill_model.specs.Faults.{fault_behind};
 ghost use Rattle.drill_model.specs.Steps.{IsOfLevel, HasEtcsNumbers, HasMoment};
-ghost use Rattle.drill_model.specs.Worlds.{Plan};
+ghost use Rattle.drill_model.specs.Worlds.{DrillPlan};
 ghost use Rattle.er_world.specs.Standing.{Ran, IsFaultBehind};
 ghost use Rattle.er_program.specs.Answers.{IsBulkAnswer};
 ghost use Rattle.er_program.specs.BulkTexts.{bulk_plan, steps_of_bulk, totals_line};
 ghost use Rattle.er_program.specs.BulkRuns.{AreDoable, DoesAll};
 ghost use Rattle.er_program.specs.KeyWriting.{GivesOne};
-ghost use Rattle.er_statuses.specs.Writing.{Gives};
+ghost use Rattle.er_statuses.specs.Writing.{GivesAnswer};
 
 use crate::endings::not_done;
 use crate::message_count::MessageCount;
@@ -30,11 +30,11 @@ fn do_unseen(alloc: Global, step: &Step, world: &mut World) -> Result<(), WorldF
     requires numbers { HasEtcsNumbers step.now }
     requires moment { HasMoment step.now }
     requires unspent { world.old.spent ≡ false }
-    ensures ran { OnOk result ((plan : Plan) (before : List AnyStep) → Ran world.old plan before
+    ensures ran { OnOk result ((plan : DrillPlan) (before : List AnyStep) → Ran world.old plan before
         → Ran world.new plan (before ++ step.now ∷ [])) }
-    ensures none { OnOk result ((plan : Plan) (before : List AnyStep) → Ran world.old plan before
+    ensures none { OnOk result ((plan : DrillPlan) (before : List AnyStep) → Ran world.old plan before
         → fault_behind plan before step.now ≡ None) }
-    ensures fault { IfErr result (λ fault. (plan : Plan) (before : List AnyStep) → Ran world.old plan before
+    ensures fault { IfErr result (λ fault. (plan : DrillPlan) (before : List AnyStep) → Ran world.old plan before
         → IsFaultBehind plan before step.now fault) }
     ensures unspent { OnOk result (world.new.spent ≡ false) }
     ensures plan { world.new.plan ≡ world.old.plan }
@@ -91,7 +91,7 @@ fn counted<K: Sink>(
     totals: &Totals,
     sink: &mut K,
 ) -> Result<Status, Stop>
-    ensures gives { Gives (record { status = 0; text = totals_line seed count totals.now }) (K.state sink.old).held
+    ensures gives { GivesAnswer (record { status = 0; text = totals_line seed count totals.now }) (K.state sink.old).held
         (K.state sink.new).held (K.state sink.old).faults (K.state sink.new).faults result }
     ensures sink_count { (K.state sink.old).faults ≤ (K.state sink.new).faults }
 {

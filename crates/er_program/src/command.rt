@@ -1,7 +1,7 @@
 //! The commands of the program, and the words that fit them.
 
 ghost use Rattle.std.specs.Prelude.{◌≡◌, ◌≤◌, IfSome};
-ghost use Rattle.er_program.specs.Commands.{command_of, command_of_two, bulk_of, command_of_three, at_most, etcs_number, turns_number, serve_of, command_of_five, call_of, command_of_six, needs_wires, texts};
+ghost use Rattle.er_program.specs.Commands.{command_of, command_of_two, bulk_of, command_of_three, at_most, etcs_number, turns_number, serve_of, command_of_five, call_command_of, command_of_six, needs_wires, octets_of_words};
 ghost use Rattle.er_program.specs.CommandViews.{command_view};
 
 use crate::message_count::MessageCount;
@@ -222,7 +222,7 @@ fn call_of<'a>(
     rbc: Option<EtcsNumber>,
     turns: Option<u64>,
 ) -> Command<'a>
-    ensures { command_view result ≡ call_of keys.now address.now engine rbc turns }
+    ensures { command_view result ≡ call_command_of keys.now address.now engine rbc turns }
 {
     let Some(engine) = engine else {
         return Command::Misused;
@@ -267,7 +267,7 @@ fn command_of_six<'a>(
 
 /// The command that these words fit. They leave out the program's name.
 pub fn command_from(words: &[String]) -> Command<'_>
-    ensures { command_view result ≡ command_of (texts words.now) }
+    ensures { command_view result ≡ command_of (octets_of_words words.now) }
 {
     match words {
         [command, name] => command_of_two(command.as_str(), name.as_str()),

@@ -4,7 +4,7 @@ ghost use Rattle.std.specs.Prelude.{◌≡◌, ◌≤◌, List, false};
 ghost use Rattle.er_scenario.specs.declared.step.Step.{Step as AnyStep};
 ghost use Rattle.er_scenario.specs.Texts.{CanBeRead};
 ghost use Rattle.drill_model.specs.Steps.{IsOfLevel, HasEtcsNumbers, HasMoment};
-ghost use Rattle.drill_model.specs.Worlds.{Plan};
+ghost use Rattle.drill_model.specs.Worlds.{DrillPlan};
 ghost use Rattle.er_world.specs.Standing.{Ran};
 ghost use Rattle.er_program.specs.Writing.{Drills, StepsOne};
 
@@ -27,7 +27,7 @@ fn step_once<K: Sink>(
     requires numbers { HasEtcsNumbers step.now }
     requires moment { HasMoment step.now }
     requires unspent { world.old.spent ≡ false }
-    ensures drills { (plan : Plan) (done : List AnyStep) → Ran world.old plan done
+    ensures drills { (plan : DrillPlan) (done : List AnyStep) → Ran world.old plan done
         → StepsOne plan done world.old step.now world.new (K.state sink.old).held (K.state sink.new).held (K.state sink.old).faults
         (K.state sink.new).faults result }
     ensures sink_count { (K.state sink.old).faults ≤ (K.state sink.new).faults }

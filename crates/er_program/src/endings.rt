@@ -2,11 +2,11 @@
 
 ghost use Rattle.std.specs.Prelude.{◌≡◌, ◌≤◌, List, false};
 ghost use Rattle.er_scenario.specs.declared.step.Step.{Step as AnyStep};
-ghost use Rattle.drill_model.specs.Worlds.{Plan};
+ghost use Rattle.drill_model.specs.Worlds.{DrillPlan};
 ghost use Rattle.drill_model.specs.Texts.{last_lines};
 ghost use Rattle.er_world.specs.Standing.{Ran};
 ghost use Rattle.er_statuses.specs.Answers.{Answer};
-ghost use Rattle.er_statuses.specs.Writing.{Gives};
+ghost use Rattle.er_statuses.specs.Writing.{GivesAnswer};
 ghost use Rattle.er_program.specs.Writing.{TellsFault};
 
 use er_statuses::{Status, Stop, fault_line, last, overfull_line};
@@ -49,8 +49,8 @@ pub fn not_done<K: Sink>(
 /// All steps are done: the closing lines of the links.
 pub fn closed<K: Sink>(alloc: Global, world: &World, sink: &mut K) -> Result<Status, Stop>
     requires { world.now.spent ≡ false }
-    ensures gives { (plan : Plan) (steps : List AnyStep) → Ran world.now plan steps
-        → Gives (record { status = 0; text = last_lines plan steps }) (K.state sink.old).held (K.state sink.new).held
+    ensures gives { (plan : DrillPlan) (steps : List AnyStep) → Ran world.now plan steps
+        → GivesAnswer (record { status = 0; text = last_lines plan steps }) (K.state sink.old).held (K.state sink.new).held
         (K.state sink.old).faults (K.state sink.new).faults result }
     ensures sink_count { (K.state sink.old).faults ≤ (K.state sink.new).faults }
 {

@@ -1,12 +1,12 @@
 //! `migrate KEYS`: a key file, printed as one of version 2.
 
 ghost use Rattle.std.specs.Prelude.{◌≡◌, ◌≤◌, [], ◌∷◌, Ok, IfOk};
-ghost use Rattle.link_trait.specs.Outside.{Grew, GrewPart, Kept};
+ghost use Rattle.link_trait.specs.Outside.{Grew, GrewPart, HasStayedAsTold};
 ghost use Rattle.key_store.specs.KeyFiles.{keys_of};
 ghost use Rattle.er_program.specs.Answers.{IsKeyText, IsKeysAnswer};
 ghost use Rattle.er_program.specs.Commands.{Migrate};
 ghost use Rattle.er_program.specs.KeyWriting.{GivesOne};
-ghost use Rattle.er_program.specs.Writing.{Ends};
+ghost use Rattle.er_program.specs.Writing.{EndsCommand};
 
 use er_statuses::{Status, Stop, fetched, keys_refused, last};
 use key_store::KeyStore;
@@ -42,11 +42,11 @@ pub fn migrate_run<F: Cabinet, K: Sink>(
     cabinet: &mut F,
     sink: &mut K,
 ) -> Result<Status, Stop>
-    ensures ends { Ends (Migrate name.now) (F.state cabinet.new).files (F.state cabinet.old).faults (F.state cabinet.new).faults
+    ensures ends { EndsCommand (Migrate name.now) (F.state cabinet.new).files (F.state cabinet.old).faults (F.state cabinet.new).faults
         (K.state sink.old).held (K.state sink.new).held (K.state sink.old).faults (K.state sink.new).faults result }
     ensures asked { IfOk result (λ _. Grew (F.state cabinet.old).asked (F.state cabinet.new).asked (name.now ∷ [])) }
     ensures part { GrewPart (F.state cabinet.old).asked (F.state cabinet.new).asked (name.now ∷ []) }
-    ensures files { Kept (F.state cabinet.old).files (F.state cabinet.new).files }
+    ensures files { HasStayedAsTold (F.state cabinet.old).files (F.state cabinet.new).files }
     ensures count { (F.state cabinet.old).faults ≤ (F.state cabinet.new).faults }
     ensures sink_count { (K.state sink.old).faults ≤ (K.state sink.new).faults }
 {

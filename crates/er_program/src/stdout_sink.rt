@@ -3,7 +3,7 @@
 ghost use Rattle.std.specs.Prelude.{◌≡◌, ◌≤◌, ◌-◌, ◌^◌, length, take, None};
 ghost use Rattle.std.specs.Io.KnownBytes.{Appends};
 ghost use Rattle.link_trait.specs.Outside.{faults_after_write};
-ghost use Rattle.er_program.specs.WriterSinks.{IsProgress, WritesPiece};
+ghost use Rattle.er_program.specs.WriterSinks.{IsWriteProgress, WritesPiece};
 
 use link_trait::{Failed, Sink};
 use std::io;
@@ -42,7 +42,7 @@ impl<W: Write + Drop> StdoutSink<W> {
 // By how many octets a write brought the piece further: by none where it was interrupted, so that it is tried again.
 // None where it gave another error or took no octet.
 fn progress(answer: io::Result<usize>) -> Option<usize>
-    ensures { IsProgress answer result }
+    ensures { IsWriteProgress answer result }
 {
     match answer {
         Ok(0) => None,

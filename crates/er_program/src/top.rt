@@ -2,15 +2,15 @@
 
 ghost use Rattle.std.specs.Prelude.{◌≡◌, ◌≢◌, ◌≤◌, true, false, [], ◌∷◌, length, map, IfOk};
 ghost use Rattle.er_scenario.specs.Files.{scenario_of};
-ghost use Rattle.link_trait.specs.Outside.{Grew, GrewPart, Kept};
+ghost use Rattle.link_trait.specs.Outside.{Grew, GrewPart, HasStayedAsTold};
 ghost use Rattle.er_program.specs.Asking.{Asks};
-ghost use Rattle.er_program.specs.Commands.{Drill, command_of, names_of, needs_wires, texts};
+ghost use Rattle.er_program.specs.Commands.{Drill, command_of, names_of, needs_wires, octets_of_words};
 ghost use Rattle.er_program.specs.CommandViews.{command_view};
 ghost use Rattle.er_program.specs.FileMeans.{FileMeans};
-ghost use Rattle.er_serving.specs.LineRuns.{Given, given};
+ghost use Rattle.er_serving.specs.LineRuns.{GivenToLoop, given_to_loop};
 ghost use Rattle.er_serving.specs.Outsides.{Traffic, outside_of, beside, IsSteady};
 ghost use Rattle.er_program.specs.Statuses.{IsStatusOf, Means, IsIdle, AreAsked, IsComplete, IsRun};
-ghost use Rattle.er_program.specs.Writing.{EndsFile, Ends};
+ghost use Rattle.er_program.specs.Writing.{EndsFile, EndsCommand};
 
 use crate::audit::audit_run;
 use crate::bits::bits_run;
@@ -47,11 +47,11 @@ fn drill_run<F: Cabinet, K: Sink>(
     cabinet: &mut F,
     sink: &mut K,
 ) -> Result<Status, Stop>
-    ensures ends { Ends (Drill name.now) (F.state cabinet.new).files (F.state cabinet.old).faults (F.state cabinet.new).faults
+    ensures ends { EndsCommand (Drill name.now) (F.state cabinet.new).files (F.state cabinet.old).faults (F.state cabinet.new).faults
         (K.state sink.old).held (K.state sink.new).held (K.state sink.old).faults (K.state sink.new).faults result }
     ensures asked { IfOk result (λ _. Grew (F.state cabinet.old).asked (F.state cabinet.new).asked (name.now ∷ [])) }
     ensures part { GrewPart (F.state cabinet.old).asked (F.state cabinet.new).asked (name.now ∷ []) }
-    ensures files { Kept (F.state cabinet.old).files (F.state cabinet.new).files }
+    ensures files { HasStayedAsTold (F.state cabinet.old).files (F.state cabinet.new).files }
     ensures count { (F.state cabinet.old).faults ≤ (F.state cabinet.new).faults }
     ensures sink_count { (K.state sink.old).faults ≤ (K.state sink.new).faults }
 {
@@ -69,12 +69,12 @@ fn answered<F: Cabinet, K: Sink>(
     sink: &mut K,
 ) -> Result<Status, Stop>
     requires off_line { needs_wires (command_view command.now) ≡ false }
-    ensures ends { Ends (command_view command.now) (F.state cabinet.new).files (F.state cabinet.old).faults (F.state cabinet.new).faults
+    ensures ends { EndsCommand (command_view command.now) (F.state cabinet.new).files (F.state cabinet.old).faults (F.state cabinet.new).faults
         (K.state sink.old).held (K.state sink.new).held (K.state sink.old).faults (K.state sink.new).faults result }
     ensures asks { IfOk result (λ s. Asks (command_view command.now) s.0 (F.state cabinet.old).asked (F.state cabinet.new).asked
         (K.state sink.old).held (K.state sink.new).held) }
     ensures part { GrewPart (F.state cabinet.old).asked (F.state cabinet.new).asked (names_of (command_view command.now)) }
-    ensures files { Kept (F.state cabinet.old).files (F.state cabinet.new).files }
+    ensures files { HasStayedAsTold (F.state cabinet.old).files (F.state cabinet.new).files }
     ensures count { (F.state cabinet.old).faults ≤ (F.state cabinet.new).faults }
     ensures sink_count { (K.state sink.old).faults ≤ (K.state sink.new).faults }
 {
@@ -103,7 +103,7 @@ fn ran<F: Cabinet, K: Sink>(
     ensures asked { result.0 ≢ 2 → result.0 ≢ 4 → result.0 ≢ 5 → result.0 ≢ 7
         → Grew (F.state cabinet.old).asked (F.state cabinet.new).asked (names_of (command_view command.now)) }
     ensures part { GrewPart (F.state cabinet.old).asked (F.state cabinet.new).asked (names_of (command_view command.now)) }
-    ensures files { Kept (F.state cabinet.old).files (F.state cabinet.new).files }
+    ensures files { HasStayedAsTold (F.state cabinet.old).files (F.state cabinet.new).files }
     ensures count { (F.state cabinet.old).faults ≤ (F.state cabinet.new).faults }
     ensures sink_count { (K.state sink.old).faults ≤ (K.state sink.new).faults }
 {
@@ -124,7 +124,7 @@ pub fn run_off_line<F: Cabinet, K: Sink>(
 ) -> Status
     requires off_line { needs_wires (command_view command.now) ≡ false }
     // Whatever wires, clock and random words there are beside its cabinet and sink, they are left alone.
-    ensures run { (g : Given) (rest : Traffic) → IsRun (command_view command.now) g (beside rest F.Cabinet K.Sink cabinet.old sink.old)
+    ensures run { (g : GivenToLoop) (rest : Traffic) → IsRun (command_view command.now) g (beside rest F.Cabinet K.Sink cabinet.old sink.old)
         (beside rest F.Cabinet K.Sink cabinet.new sink.new) result.0 }
 {
     ran(alloc, command, cabinet, sink)
@@ -138,7 +138,7 @@ fn ran_on_line<F: Cabinet, K: Sink, W: Wires, C: Clock, R: Rng>(
     outside: &mut Outside<F, K, W, C, R>,
 ) -> Status
     requires on_line { needs_wires (command_view command.now) ≡ true }
-    ensures run { IsRun (command_view command.now) (given (length users.items) (map mind users.items) (R.stream outside.old.randoms)) outside.old.seen outside.new.seen
+    ensures run { IsRun (command_view command.now) (given_to_loop (length users.items) (map mind users.items) (R.stream outside.old.randoms)) outside.old.seen outside.new.seen
         result.0 }
     ensures names { outside.new.names ≡ outside.old.names }
 {
@@ -190,7 +190,7 @@ fn dispatched<F: Cabinet, K: Sink, W: Wires, C: Clock, R: Rng>(
     users: Vec<Box<dyn SafeUser>>,
     outside: &mut Outside<F, K, W, C, R>,
 ) -> Status
-    ensures run { IsRun (command_view command.now) (given (length users.items) (map mind users.items) (R.stream outside.old.randoms)) outside.old.seen outside.new.seen
+    ensures run { IsRun (command_view command.now) (given_to_loop (length users.items) (map mind users.items) (R.stream outside.old.randoms)) outside.old.seen outside.new.seen
         result.0 }
     ensures names { outside.new.names ≡ outside.old.names }
 {
@@ -245,20 +245,20 @@ pub fn run<F: Cabinet, K: Sink, W: Wires, C: Clock, R: Rng>(
     users: Vec<Box<dyn SafeUser>>,
 ) -> Status
     // The list of statuses is closed, and each has its cause. With `complete` each comes exactly where its cause is met.
-    ensures known { IsStatusOf (command_of (texts words.now)) result.0 }
-    ensures means { Means (command_of (texts words.now)) (given (length users.items) (map mind users.items) (R.stream randoms.old))
+    ensures known { IsStatusOf (command_of (octets_of_words words.now)) result.0 }
+    ensures means { Means (command_of (octets_of_words words.now)) (given_to_loop (length users.items) (map mind users.items) (R.stream randoms.old))
         (outside_of F.Cabinet K.Sink W.Wires C.Clock cabinet.old sink.old wires.old clock.old)
         (outside_of F.Cabinet K.Sink W.Wires C.Clock cabinet.new sink.new wires.new clock.new) result.0 }
     // The wires of a command that needs none get no call; `serve` and `call` make none before the key file is good.
-    ensures idle { IsIdle (command_of (texts words.now))
+    ensures idle { IsIdle (command_of (octets_of_words words.now))
         (outside_of F.Cabinet K.Sink W.Wires C.Clock cabinet.old sink.old wires.old clock.old)
         (outside_of F.Cabinet K.Sink W.Wires C.Clock cabinet.new sink.new wires.new clock.new) result.0 }
     // The file words are asked for in their order, each once, and nothing else is.
-    ensures asked { AreAsked (command_of (texts words.now))
+    ensures asked { AreAsked (command_of (octets_of_words words.now))
         (outside_of F.Cabinet K.Sink W.Wires C.Clock cabinet.old sink.old wires.old clock.old)
         (outside_of F.Cabinet K.Sink W.Wires C.Clock cabinet.new sink.new wires.new clock.new) result.0 }
     // Where no count of faults rose, the words and the files give their status, want of memory aside.
-    ensures complete { IsComplete (command_of (texts words.now))
+    ensures complete { IsComplete (command_of (octets_of_words words.now))
         (outside_of F.Cabinet K.Sink W.Wires C.Clock cabinet.old sink.old wires.old clock.old)
         (outside_of F.Cabinet K.Sink W.Wires C.Clock cabinet.new sink.new wires.new clock.new) result.0 }
     // The cabinet's files stay, and no count of faults falls.

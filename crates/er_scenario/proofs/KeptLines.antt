@@ -9,9 +9,9 @@ use Rattle.er_scenario.specs.declared.said.Said.{Said}
 use Rattle.er_scenario.specs.declared.level.Level.{Level}
 use Rattle.er_scenario.specs.declared.choices.Choices.{Choices}
 use Rattle.er_scenario.specs.declared.step_name.StepName.TheVariants.{Fixed, Link, Wire, Send, Pass, Lose, Repeat, Alter, Put, Copy, Take, Release, Tick, Drain}
-use Rattle.er_scenario.specs.Files.{Line, SetLine, StepLine, line_kinds, table, line_says, level_of}
+use Rattle.er_scenario.specs.Files.{ScenarioLine, SetLine, StepLine, line_kinds, table, line_says, level_of}
 
-few_kinds : (line : Line) → length (line_kinds line) < 9
+few_kinds : (line : ScenarioLine) → length (line_kinds line) < 9
 few_kinds SetLine = omega arith
 few_kinds (StepLine Fixed) = omega arith
 few_kinds (StepLine Link) = omega arith

@@ -13,7 +13,7 @@ use Rattle.er_base.specs.Numbers.{NamesWhatIsPrinted}
 use Rattle.er_base.specs.OctetLaws.{IsSpelling, JoinsOctets}
 use Rattle.er_base.specs.Octets.{eight, number_in, AreOctets}
 use Rattle.des_block.specs.declared.triple_key.TripleKey.{TripleKey}
-use Rattle.er_scenario.specs.StepRanges.{IsKey, IsOptionalKey, IsText}
+use Rattle.er_scenario.specs.StepRanges.{IsKey, IsOptionalKey, IsStepText}
 use Rattle.er_scenario.specs.Table.{three_keys, key_argument, optional_key_argument, mask_argument}
 use Rattle.er_scenario.specs.Texts.{key_word, optional_key_word}
 
@@ -26,7 +26,7 @@ pub record Laws : Type 0 where
   pub joins : JoinsOctets
 
 -- past its end a list reads as octets too
-pub octets_within : (text : List ℕ) → IsText text → AreOctets text
+pub octets_within : (text : List ℕ) → IsStepText text → AreOctets text
 octets_within text h k =
     elim (cases_lt k (length text)) [
       | inl inside ↦ h.1 k inside

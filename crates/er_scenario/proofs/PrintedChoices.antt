@@ -17,7 +17,7 @@ use Rattle.er_scenario.specs.declared.level.Level.{Level}
 use Rattle.er_scenario.specs.declared.level.Level.TheVariants as level
 use Rattle.er_scenario.specs.declared.said.Said.TheVariants.{Chooses}
 use Rattle.er_scenario.specs.Choices.{choice_named, may_choose, is_narrow, IsNarrow, with_choice, chosen_by, default_window, default_choices}
-use Rattle.er_scenario.specs.Files.{line_says, body_of}
+use Rattle.er_scenario.specs.Files.{line_says, scenario_body_of}
 use Rattle.er_scenario.specs.Texts.{set_lines, show_lines, choice_lines}
 use Rattle.er_scenario.proofs.PrintedArguments.{Laws}
 use Rattle.er_scenario.proofs.PrintedSteps.{solid_codes}
@@ -52,12 +52,12 @@ behind_set before default value = if value == default then before else before + 
 
 pub set_read : (level : Level) (choices new : Choices) (before : ℕ) (word : List ℕ) (default value : ℕ) (more : List (List (List ℕ)))
     → chosen_by level choices word (decimal value) ≡ Ok new → (value ≡ default → new ≡ choices)
-    → body_of level false choices (rows_from before (set_lines word default value ++ more))
-    ≡ body_of level false new (rows_from (behind_set before default value) more)
-unfolding body_of
+    → scenario_body_of level false choices (rows_from before (set_lines word default value ++ more))
+    ≡ scenario_body_of level false new (rows_from (behind_set before default value) more)
+unfolding scenario_body_of
 set_read level choices new before word default value more chosen same =
     elim (cases_Bool (value == default)) [
-      | inl t ↦ rw t (ap (λ (c : Choices). body_of level false c (rows_from before more)) (sym (same (eqb-true _ _ t))))
+      | inl t ↦ rw t (ap (λ (c : Choices). scenario_body_of level false c (rows_from before more)) (sym (same (eqb-true _ _ t))))
       | inr f ↦ rw (f, said_set level choices new word (decimal value) chosen) refl
     ]
 
@@ -66,9 +66,9 @@ abbrev pub behind_show : ℕ → Bool → ℕ
 behind_show before show = if show then before + 1 else before
 
 pub show_read : (laws : Laws) (level : Level) (settings : Settings) (before : ℕ) (show : Bool) (more : List (List (List ℕ))) → IsNarrow level settings
-    → body_of level false (record { settings = settings; show = false }) (rows_from before (show_lines show ++ more))
-    ≡ body_of level false (record { settings = settings; show = show }) (rows_from (behind_show before show) more)
-unfolding body_of
+    → scenario_body_of level false (record { settings = settings; show = false }) (rows_from before (show_lines show ++ more))
+    ≡ scenario_body_of level false (record { settings = settings; show = show }) (rows_from (behind_show before show) more)
+unfolding scenario_body_of
 show_read laws level settings before true more narrow =
     rw (said_set level (record { settings = settings; show = false }) (record { settings = settings; show = true }) (codes "show") (codes "1") (show_chosen laws level (record { settings = settings; show = false }) narrow)) refl
 show_read laws level settings before false more narrow = refl
@@ -146,8 +146,8 @@ regrouped m w c z t n u v more = simp append_assoc
 
 -- the lines that choose, before any others
 pub choices_read : (laws : Laws) (level : Level) (s : Settings) (show : Bool) (more : List (List (List ℕ))) → AllAllowed s → IsNarrow level s → AreSmall s
-    → body_of level false (default_choices level) (rows_from 1 (choice_lines level s show ++ more))
-    ≡ body_of level false (record { settings = s; show = show }) (rows_from (before_steps level s show) more)
+    → scenario_body_of level false (default_choices level) (rows_from 1 (choice_lines level s show ++ more))
+    ≡ scenario_body_of level false (record { settings = s; show = show }) (rows_from (before_steps level s show) more)
 choices_read laws level s show more h narrow b =
     let w0 : ℕ = default_window level in
     let n1 : ℕ = behind_set 1 8 s.modulo in
@@ -173,7 +173,7 @@ choices_read laws level s show more h narrow b =
     let n = set_lines (setting_word N2) 5 s.n2 in
     let u = set_lines (setting_word Setup) 40000 s.setup in
     let v = show_lines show in
-    ap (λ (lines : List (List (List ℕ))). body_of level false c0 (rows_from 1 lines)) (regrouped m w c z t n u v more)
+    ap (λ (lines : List (List (List ℕ))). scenario_body_of level false c0 (rows_from 1 lines)) (regrouped m w c z t n u v more)
     ∙ set_read level c0 c1 1 (codes "modulo") 8 s.modulo (w ++ (c ++ (z ++ (t ++ (n ++ (u ++ (v ++ more)))))))
     (chosen laws level c0 (codes "modulo") Modulo s.modulo refl (modulo_may level s.modulo h.modulo) (default_is_narrow level s.modulo h.modulo) b.modulo) (λ e. ap (λ (x : ℕ). made x w0 15 128 1000 5 40000) e)
     ∙ set_read level c1 c2 n1 (setting_word Window) w0 s.window (c ++ (z ++ (t ++ (n ++ (u ++ (v ++ more))))))

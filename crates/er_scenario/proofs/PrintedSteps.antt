@@ -9,8 +9,8 @@ use Rattle.er_scenario.specs.declared.choices.Choices.{Choices}
 use Rattle.er_scenario.specs.declared.said.Said.TheVariants.{Does}
 use Rattle.er_scenario.specs.declared.step.Step.{Step}
 use Rattle.er_scenario.specs.declared.step.Step.TheVariants.{Fixed, Link, Wire, Send, Pass, Lose, Repeat, Alter, Put, Copy, Take, Release, Tick, Drain}
-use Rattle.er_scenario.specs.Files.{line_says, body_of}
-use Rattle.er_scenario.specs.Texts.{IsReadable, AreReadable, step_words, step_lines}
+use Rattle.er_scenario.specs.Files.{line_says, scenario_body_of}
+use Rattle.er_scenario.specs.Texts.{IsReadableStep, AreReadableSteps, step_words, words_of_numbered_steps}
 use Rattle.er_scenario.proofs.PrintedArguments.{Laws, octets_within, one_octet, mask_read, key_read, optional_key_read, solid_key, solid_optional_key, link_read}
 
 -- a word that is written out
@@ -26,7 +26,7 @@ pub solid_codes : (word : List ℕ) → nat_lt 0 (length word) ≡ true → list
 solid_codes word some all = record { some = ltb-true 0 (length word) some; octets = solid_from word all }
 
 -- the line of a step that can be read
-step_read : (laws : Laws) (level : Level) (late : Bool) (choices : Choices) (step : Step) → IsReadable level step
+step_read : (laws : Laws) (level : Level) (late : Bool) (choices : Choices) (step : Step) → IsReadableStep level step
     → line_says level late choices (step_words step) ≡ Ok (Does step)
 unfolding line_says
 step_read laws level late choices (Fixed link engine rbc ke kr) h =
@@ -59,7 +59,7 @@ step_read laws level late choices (Drain link most) h =
     rw (h.of_level, link_read laws link h.range.0.0 h.range.0.1, laws.words.number 1 100000 most h.range.1 h.range.2 (omega (arith, h.range.2))) refl
 
 -- and it is a line
-step_line : (laws : Laws) (level : Level) (step : Step) → IsReadable level step → IsLine (step_words step)
+step_line : (laws : Laws) (level : Level) (step : Step) → IsReadableStep level step → IsLine (step_words step)
 step_line laws level (Fixed link engine rbc ke kr) h = (solid_codes (codes "fixed") refl refl, (laws.words.number_word link (omega (arith, h.range.0.1)), (laws.words.number_word engine (omega (arith, h.range.1)), (laws.words.number_word rbc (omega (arith, h.range.2)), (solid_key laws ke h.range.3, (solid_key laws kr h.range.4, tt))))))
 step_line laws level (Link link engine rbc ke kr ra rb) h = (solid_codes (codes "link") refl refl, (laws.words.number_word link (omega (arith, h.range.0.1)), (laws.words.number_word engine (omega (arith, h.range.1)), (laws.words.number_word rbc (omega (arith, h.range.2)), (solid_key laws ke h.range.3, (solid_optional_key laws kr h.range.4, (laws.words.number16_word ra h.range.5, (laws.words.number16_word rb h.range.6, tt))))))))
 step_line laws level (Wire link) h = (solid_codes (codes "wire") refl refl, (laws.words.number_word link (omega (arith, h.range.1)), tt))
@@ -75,8 +75,8 @@ step_line laws level (Release link side sub) h = (solid_codes (codes "release") 
 step_line laws level (Tick moment) h = (solid_codes (codes "tick") refl refl, (laws.words.number_word moment (omega (arith, h.range)), tt))
 step_line laws level (Drain link most) h = (solid_codes (codes "drain") refl refl, (laws.words.number_word link (omega (arith, h.range.0.1)), (laws.words.number_word most (omega (arith, h.range.2)), tt)))
 
-pub steps_are_lines : (laws : Laws) (level : Level) (steps : List Numbered) → AreReadable level steps
-    → AreLines (step_lines steps)
+pub steps_are_lines : (laws : Laws) (level : Level) (steps : List Numbered) → AreReadableSteps level steps
+    → AreLines (words_of_numbered_steps steps)
 steps_are_lines laws level [] h = tt
 steps_are_lines laws level (numbered ∷ steps) h =
     (step_line laws level numbered.step h.0, steps_are_lines laws level steps h.1)
@@ -87,9 +87,9 @@ done_from before [] = []
 done_from before (numbered ∷ steps) = record { line = before + 1; step = numbered.step } ∷ done_from (before + 1) steps
 
 pub steps_read : (laws : Laws) (level : Level) (late : Bool) (choices : Choices) (before : ℕ) (steps : List Numbered)
-    → AreReadable level steps
-    → body_of level late choices (rows_from before (step_lines steps)) ≡ Ok (record { choices = choices; steps = done_from before steps })
-unfolding body_of
+    → AreReadableSteps level steps
+    → scenario_body_of level late choices (rows_from before (words_of_numbered_steps steps)) ≡ Ok (record { choices = choices; steps = done_from before steps })
+unfolding scenario_body_of
 steps_read laws level late choices before [] h = refl
 steps_read laws level late choices before (numbered ∷ steps) h =
     rw (step_read laws level late choices numbered.step h.0, steps_read laws level true choices (before + 1) steps h.1) refl

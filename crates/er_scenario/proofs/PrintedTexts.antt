@@ -11,7 +11,7 @@ use Rattle.er_scenario.specs.declared.choices.Choices.{Choices}
 use Rattle.er_scenario.specs.Table.{level_word, level_named}
 use Rattle.er_scenario.specs.Files.{scenario_in, scenario_of}
 use Rattle.er_scenario.specs.Laws.{PrintedIsRead}
-use Rattle.er_scenario.specs.Texts.{CanBeRead, header_words, step_lines, words_printed, text_printed}
+use Rattle.er_scenario.specs.Texts.{CanBeRead, header_words, words_of_numbered_steps, words_printed, text_printed}
 use Rattle.er_scenario.proofs.PrintedArguments.{Laws}
 use Rattle.er_scenario.proofs.PrintedChoices.{small, choices_read, choices_are_lines, lines_append, before_steps}
 use Rattle.er_scenario.proofs.PrintedSteps.{solid_codes, steps_are_lines, done_from, steps_read, same_steps}
@@ -50,7 +50,7 @@ lines_read laws bounded scenario h =
     let n : ℕ = before_steps scenario.level scenario.settings scenario.show in
     let c : Choices = record { settings = scenario.settings; show = scenario.show } in
     let fits = small scenario.settings h.settings (bounded scenario.settings h.settings) in
-    rw (level_is_read scenario.level, choices_read laws scenario.level scenario.settings scenario.show (step_lines scenario.steps) h.settings h.narrow fits, steps_read laws scenario.level false c n scenario.steps h.steps)
+    rw (level_is_read scenario.level, choices_read laws scenario.level scenario.settings scenario.show (words_of_numbered_steps scenario.steps) h.settings h.narrow fits, steps_read laws scenario.level false c n scenario.steps h.steps)
     refl
 
 all_lines : (laws : Laws) (bounded : AllowedAreBounded) (scenario : Scenario) → CanBeRead scenario

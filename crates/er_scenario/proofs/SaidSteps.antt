@@ -13,12 +13,12 @@ use Rattle.er_scenario.specs.declared.choices.Choices.{Choices}
 use Rattle.er_scenario.specs.declared.said.Said.TheVariants.{Does}
 use Rattle.er_scenario.specs.declared.step.Step.{Step}
 use Rattle.er_scenario.specs.declared.step_name.StepName.{StepName}
-use Rattle.er_scenario.specs.Files.{Line, StepLine, line_kinds, line_means, line_says}
+use Rattle.er_scenario.specs.Files.{ScenarioLine, StepLine, line_kinds, line_means, line_says}
 use Rattle.er_scenario.specs.Readings.{step_of}
 use Rattle.er_scenario.specs.Table.{Meaning, argument_of, kinds_of, levels_of, has_level, step_named, step_made}
 
 -- the values of its arguments, of this line
-abbrev of_line : (name : StepName) → Values Meaning (kinds_of name) → Result ((line : Line) × Values Meaning (line_kinds line)) Why
+abbrev of_line : (name : StepName) → Values Meaning (kinds_of name) → Result ((line : ScenarioLine) × Values Meaning (line_kinds line)) Why
 of_line name values = Ok (StepLine name, values)
 
 -- its arguments, where they have values

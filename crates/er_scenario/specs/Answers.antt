@@ -5,7 +5,7 @@ use Rattle.er_base.specs.declared.text_fault.TextFault.TheVariants.{At, NoMemory
 use Rattle.er_scenario.specs.declared.scenario.Scenario.{Scenario}
 
 -- the answer is what the file says, but for want of memory
-abbrev pub Answers : Result Scenario TextFault → Result Scenario TextFault → Type 0
-Answers (Ok scenario) said = said ≡ Ok scenario
-Answers (Err (At line why)) said = said ≡ Err (At line why)
-Answers (Err (NoMemory want)) said = Unit {0}
+abbrev pub AnswersAsScenarioSays : Result Scenario TextFault → Result Scenario TextFault → Type 0
+AnswersAsScenarioSays (Ok scenario) said = said ≡ Ok scenario
+AnswersAsScenarioSays (Err (At line why)) said = said ≡ Err (At line why)
+AnswersAsScenarioSays (Err (NoMemory want)) said = Unit {0}

@@ -17,35 +17,35 @@ use Rattle.er_scenario.specs.declared.scenario.Scenario.{Scenario}
 use Rattle.er_scenario.specs.declared.choices.Choices.{Choices}
 use Rattle.er_scenario.specs.declared.said.Said.{Said}
 use Rattle.er_scenario.specs.declared.said.Said.TheVariants.{Chooses, Does}
-use Rattle.er_scenario.specs.Table.{Kind, AnyWord, Meaning, kinds_of, levels_of, has_level, level_named, step_named, argument_of, step_made}
+use Rattle.er_scenario.specs.Table.{ScenarioArgumentKind, AnyWord, Meaning, kinds_of, levels_of, has_level, level_named, step_named, argument_of, step_made}
 use Rattle.er_scenario.specs.Choices.{chosen_by, default_choices}
 
 -- the lines behind the header: `set` lines, and those that are steps
-pub data Line : Type 0 where
-  SetLine : Line
-  StepLine : StepName → Line
+pub data ScenarioLine : Type 0 where
+  SetLine : ScenarioLine
+  StepLine : StepName → ScenarioLine
 
 -- the line that a first word begins, where it begins one
-abbrev pub line_named : List ℕ → Option Line
+abbrev pub line_named : List ℕ → Option ScenarioLine
 line_named word = if bytes_eq word (codes "set") then Some SetLine else option_map StepLine (step_named word)
 
 -- the kinds of its arguments: NAME and VALUE of a `set` are looked at behind all else
-abbrev pub line_kinds : Line → List Kind
+abbrev pub line_kinds : ScenarioLine → List ScenarioArgumentKind
 line_kinds SetLine = AnyWord ∷ AnyWord ∷ []
 line_kinds (StepLine name) = kinds_of name
 
 -- a `set` is one of all levels
-abbrev pub line_has_level : Level → Line → Bool
+abbrev pub line_has_level : Level → ScenarioLine → Bool
 line_has_level level SetLine = true
 line_has_level level (StepLine name) = has_level (levels_of name) level
 
 -- a `set` is late where a line of another word stands before it
-abbrev pub line_is_late : Bool → Line → Bool
+abbrev pub line_is_late : Bool → ScenarioLine → Bool
 line_is_late late SetLine = late
 line_is_late late (StepLine name) = false
 
 -- the table of a file's lines, at its level, where a line of another word than `set` stands before or doesn't
-abbrev pub table : Level → Bool → Table Line Kind Meaning
+abbrev pub table : Level → Bool → Table ScenarioLine ScenarioArgumentKind Meaning
 table level late =
     record {
       line_named = line_named;
@@ -56,7 +56,7 @@ table level late =
     }
 
 -- what a line's arguments mean: new choices, or a step
-abbrev pub line_means : Level → Choices → (line : Line) → Values Meaning (line_kinds line) → Result Said Why
+abbrev pub line_means : Level → Choices → (line : ScenarioLine) → Values Meaning (line_kinds line) → Result Said Why
 line_means level choices SetLine (name, (value, end)) = chosen_by level choices name value >>= λ new. Ok (Chooses new)
 line_means level choices (StepLine name) values = Ok (Does (step_made name values))
 
@@ -83,11 +83,11 @@ before_rest number (Ok (Chooses choices)) chosen done = chosen choices
 before_rest number (Ok (Does step)) chosen done = with_step (record { line = number; step = step }) done
 
 -- all lines behind the header, where lines before them chose and a step stands before them or doesn't
-unfoldable pub body_of : Level → Bool → Choices → List Row → Result Body TextFault
-body_of level late choices [] = Ok (record { choices = choices; steps = [] })
-body_of level late choices (row ∷ rows) =
-    before_rest row.number (line_says level late choices row.words) (λ new. body_of level late new rows)
-    (body_of level true choices rows)
+unfoldable pub scenario_body_of : Level → Bool → Choices → List Row → Result Body TextFault
+scenario_body_of level late choices [] = Ok (record { choices = choices; steps = [] })
+scenario_body_of level late choices (row ∷ rows) =
+    before_rest row.number (line_says level late choices row.words) (λ new. scenario_body_of level late new rows)
+    (scenario_body_of level true choices rows)
 
 -- a scenario of a level
 abbrev pub scenario_from : Level → Result Body TextFault → Result Scenario TextFault
@@ -107,7 +107,7 @@ level_of (drill ∷ version ∷ level ∷ word ∷ words) = None
 -- the header, then the lines behind it
 abbrev pub behind_header : ℕ → Option Level → List Row → Result Scenario TextFault
 behind_header number None rows = Err (At number Header)
-behind_header number (Some level) rows = scenario_from level (body_of level false (default_choices level) rows)
+behind_header number (Some level) rows = scenario_from level (scenario_body_of level false (default_choices level) rows)
 
 -- the first line that isn't skipped is the header; a file without such a line is faulty at line 1
 abbrev pub scenario_in : List Row → Result Scenario TextFault

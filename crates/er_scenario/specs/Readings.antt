@@ -15,7 +15,7 @@ use Rattle.er_scenario.specs.declared.said.Said.{Said}
 use Rattle.er_scenario.specs.declared.said.Said.TheVariants.{Chooses, Does}
 use Rattle.er_scenario.specs.declared.level.Level.{Level}
 use Rattle.er_scenario.specs.Choices.{IsNarrow}
-use Rattle.er_scenario.specs.Texts.{IsReadable}
+use Rattle.er_scenario.specs.Texts.{IsReadableStep}
 use Rattle.er_scenario.specs.Table.{argument_of, kinds_of, levels_of, has_level, step_made}
 
 -- the step of a line whose first word names it and that has as many words as it wants
@@ -28,11 +28,11 @@ step_of level name words =
     demand (length words == length (kinds_of name)) why.Count >>= λ _. (demand (has_level (levels_of name) level) why.Level >>= λ _. step_said name words)
 
 -- where the text is faulty, where its line was
-abbrev pub fault_at : ℕ → LineFault → TextFault
-fault_at number (line.Refused why) = text.At number why
-fault_at number (line.NoMemory want) = text.NoMemory want
+abbrev pub scenario_text_fault : ℕ → LineFault → TextFault
+scenario_text_fault number (line.Refused why) = text.At number why
+scenario_text_fault number (line.NoMemory want) = text.NoMemory want
 
 -- what a line says is in its range, and a step is one of the level whose line is read
 abbrev pub IsWellSaid : Level → Said → Type 0
 IsWellSaid level (Chooses choices) = AllAllowed choices.settings × IsNarrow level choices.settings
-IsWellSaid level (Does step) = IsReadable level step
+IsWellSaid level (Does step) = IsReadableStep level step

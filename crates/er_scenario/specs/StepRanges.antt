@@ -22,8 +22,8 @@ IsOptionalKey None = Unit {0}
 IsOptionalKey (Some key) = IsKey key
 
 -- at most 4,096 octets
-abbrev pub IsText : List ℕ → Type 0
-IsText text = (length text ≤ 4096) × ((k : ℕ) → k < length text → slice_index text k < 256)
+abbrev pub IsStepText : List ℕ → Type 0
+IsStepText text = (length text ≤ 4096) × ((k : ℕ) → k < length text → slice_index text k < 256)
 
 -- a moment in milliseconds, at most 10 ^ 15
 abbrev pub IsMoment : ℕ → Type 0
@@ -35,12 +35,12 @@ IsInRange (Fixed link engine rbc ke kr) = IsLink link × IsEtcsNumber engine × 
 IsInRange (Link link engine rbc ke kr ra rb) =
     IsLink link × IsEtcsNumber engine × IsEtcsNumber rbc × IsKey ke × IsOptionalKey kr × (ra < 2 ^ 64) × (rb < 2 ^ 64)
 IsInRange (Wire link) = IsLink link
-IsInRange (Send link side text) = IsLink link × IsText text
+IsInRange (Send link side text) = IsLink link × IsStepText text
 IsInRange (Pass link side) = IsLink link
 IsInRange (Lose link side) = IsLink link
 IsInRange (Repeat link side) = IsLink link
 IsInRange (Alter link side place mask) = IsLink link × (place < 2 ^ 64) × (1 ≤ mask) × (mask < 256)
-IsInRange (Put link side text) = IsLink link × IsText text
+IsInRange (Put link side text) = IsLink link × IsStepText text
 IsInRange (Copy link side to_link to_side) = IsLink link × IsLink to_link
 IsInRange (Take link side) = IsLink link
 IsInRange (Release link side sub) = IsLink link × (sub < 256)

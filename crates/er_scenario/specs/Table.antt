@@ -59,37 +59,37 @@ step_named word = find (λ name. bytes_eq word (step_word name)) all_steps
 
 -- the kinds of arguments: a decimal number from a least to a greatest one, an end, HEX of at most 4,096 octets, KEY, KEY or `-`,
 -- NUM16, one octet other than 00, and a word that is looked at later
-pub data Kind : Type 0 where
-  Decimal : ℕ → ℕ → Kind
-  End : Kind
-  Hex : Kind
-  Key : Kind
-  OptionalKey : Kind
-  Number16 : Kind
-  Mask : Kind
-  AnyWord : Kind
+pub data ScenarioArgumentKind : Type 0 where
+  Decimal : ℕ → ℕ → ScenarioArgumentKind
+  End : ScenarioArgumentKind
+  Hex : ScenarioArgumentKind
+  Key : ScenarioArgumentKind
+  OptionalKey : ScenarioArgumentKind
+  Number16 : ScenarioArgumentKind
+  Mask : ScenarioArgumentKind
+  AnyWord : ScenarioArgumentKind
 
 -- N and M, a link; E and R, ETCS numbers; PLACE, any number of 64 bits; X, an octet; MOMENT, at most 10 ^ 15 milliseconds; MOST
-abbrev pub link_number : Kind
+abbrev pub link_number : ScenarioArgumentKind
 link_number = Decimal 1 64
 
-abbrev pub etcs_number : Kind
+abbrev pub etcs_number : ScenarioArgumentKind
 etcs_number = Decimal 0 16777215
 
-abbrev pub place : Kind
+abbrev pub place : ScenarioArgumentKind
 place = Decimal 0 18446744073709551615
 
-abbrev pub sub_reason : Kind
+abbrev pub sub_reason : ScenarioArgumentKind
 sub_reason = Decimal 0 255
 
-abbrev pub moment : Kind
+abbrev pub moment : ScenarioArgumentKind
 moment = Decimal 0 1000000000000000
 
-abbrev pub most_passes : Kind
+abbrev pub most_passes : ScenarioArgumentKind
 most_passes = Decimal 1 100000
 
 -- the kinds of the arguments of each step's line
-abbrev pub kinds_of : StepName → List Kind
+abbrev pub kinds_of : StepName → List ScenarioArgumentKind
 kinds_of Fixed = link_number ∷ etcs_number ∷ etcs_number ∷ Key ∷ Key ∷ []
 kinds_of Link = link_number ∷ etcs_number ∷ etcs_number ∷ Key ∷ OptionalKey ∷ Number16 ∷ Number16 ∷ []
 kinds_of Wire = link_number ∷ []
@@ -138,7 +138,7 @@ has_level at level.Full = at.full
 has_level at level.LinkSr = at.link
 
 -- what an argument of a kind means
-abbrev pub Meaning : Kind → Type 0
+abbrev pub Meaning : ScenarioArgumentKind → Type 0
 Meaning (Decimal least most) = ℕ
 Meaning End = Side
 Meaning Hex = List ℕ
@@ -176,7 +176,7 @@ unfoldable pub mask_argument : List ℕ → Result ℕ Why
 mask_argument word = text_argument 4096 word >>= mask_from
 
 -- a word, read as an argument of a kind
-abbrev pub argument_of : (kind : Kind) → List ℕ → Result (Meaning kind) Why
+abbrev pub argument_of : (kind : ScenarioArgumentKind) → List ℕ → Result (Meaning kind) Why
 argument_of (Decimal least most) word = number_argument least most word
 argument_of End word = side_argument word
 argument_of Hex word = text_argument 4096 word

@@ -94,34 +94,34 @@ choice_lines level settings show =
     ++ show_lines show
 
 -- the steps' lines
-abbrev pub step_lines : List Numbered → List (List (List ℕ))
-step_lines [] = []
-step_lines (numbered ∷ steps) = step_words numbered.step ∷ step_lines steps
+abbrev pub words_of_numbered_steps : List Numbered → List (List (List ℕ))
+words_of_numbered_steps [] = []
+words_of_numbered_steps (numbered ∷ steps) = step_words numbered.step ∷ words_of_numbered_steps steps
 
 -- all lines of a scenario, as their words
 abbrev pub words_printed : Scenario → List (List (List ℕ))
 words_printed scenario =
-    header_words scenario.level ∷ (choice_lines scenario.level scenario.settings scenario.show ++ step_lines scenario.steps)
+    header_words scenario.level ∷ (choice_lines scenario.level scenario.settings scenario.show ++ words_of_numbered_steps scenario.steps)
 
 -- the text of a scenario
 unfoldable pub text_printed : Scenario → List ℕ
 text_printed scenario = lines_text (words_printed scenario)
 
 -- a step whose numbers are in their ranges, and whose line is one of the level
-pub record IsReadable (level : Level) (step : Step) : Type 0 where
+pub record IsReadableStep (level : Level) (step : Step) : Type 0 where
   pub range : IsInRange step
   pub of_level : has_level (levels_of (name_of step)) level ≡ true
 
 -- and so are all steps
-abbrev pub AreReadable : Level → List Numbered → Type 0
-AreReadable level [] = Unit {0}
-AreReadable level (numbered ∷ steps) = IsReadable level numbered.step × AreReadable level steps
+abbrev pub AreReadableSteps : Level → List Numbered → Type 0
+AreReadableSteps level [] = Unit {0}
+AreReadableSteps level (numbered ∷ steps) = IsReadableStep level numbered.step × AreReadableSteps level steps
 
 -- a scenario that `read` can answer, line numbers aside
 pub record CanBeRead (scenario : Scenario) : Type 0 where
   pub settings : AllAllowed scenario.settings
   pub narrow : IsNarrow scenario.level scenario.settings
-  pub steps : AreReadable scenario.level scenario.steps
+  pub steps : AreReadableSteps scenario.level scenario.steps
 
 -- two scenarios that differ in line numbers alone
 pub record IsSameButLines (left right : Scenario) : Type 0 where

@@ -1,9 +1,9 @@
 //! The arguments that drill files alone have.
 
 ghost use Rattle.std.specs.Prelude.{◌≡◌, ◌<◌, ◌≤◌, IfOk};
-ghost use Rattle.er_base.specs.Rows.{Gives};
+ghost use Rattle.er_base.specs.Rows.{AnswersAsWordsSay};
 ghost use Rattle.er_scenario.specs.Table.{three_keys, key_argument, optional_key_argument, mask_from, mask_argument};
-ghost use Rattle.er_scenario.specs.StepRanges.{IsLink, IsEtcsNumber, IsKey, IsOptionalKey, IsText};
+ghost use Rattle.er_scenario.specs.StepRanges.{IsLink, IsEtcsNumber, IsKey, IsOptionalKey, IsStepText};
 ghost use Rattle.er_base.specs.Arguments.{number_argument, text_argument};
 
 use des_block::TripleKey;
@@ -37,8 +37,8 @@ pub fn read_etcs_number(word: &[u8]) -> Result<u32, Why>
 
 /// The octets of a message or a frame, at most 4,096.
 pub fn read_octets(alloc: Global, word: &[u8]) -> Result<Octets, LineFault>
-    ensures value { Gives result (text_argument 4096 word.now) }
-    ensures range { IfOk result (λ t. IsText t) }
+    ensures value { AnswersAsWordsSay result (text_argument 4096 word.now) }
+    ensures range { IfOk result (λ t. IsStepText t) }
 {
     read_text(alloc, word, MOST_TEXT_OCTETS)
 }
@@ -62,7 +62,7 @@ fn keys(octets: &[u8; KEY_OCTETS]) -> TripleKey
 /// Three keys, 48 hexadecimal digits.
 #[tactic(auto, unfolding(crate::specs::Table::key_argument))]
 pub fn read_key(alloc: Global, word: &[u8]) -> Result<TripleKey, LineFault>
-    ensures value { Gives result (key_argument word.now) }
+    ensures value { AnswersAsWordsSay result (key_argument word.now) }
     ensures range { IfOk result (λ k. IsKey k) }
 {
     let octets = read_exact(alloc, word, KEY_OCTETS)?;
@@ -75,7 +75,7 @@ pub fn read_key(alloc: Global, word: &[u8]) -> Result<TripleKey, LineFault>
 /// Three keys, or `-` where there are none.
 #[tactic(auto, unfolding(crate::specs::Table::optional_key_argument))]
 pub fn read_optional_key(alloc: Global, word: &[u8]) -> Result<Option<TripleKey>, LineFault>
-    ensures value { Gives result (optional_key_argument word.now) }
+    ensures value { AnswersAsWordsSay result (optional_key_argument word.now) }
     ensures range { IfOk result (λ k. IsOptionalKey k) }
 {
     if word == b"-".as_slice() {
@@ -98,7 +98,7 @@ fn one_octet(octets: &[u8]) -> Result<u8, Why>
 /// What an octet is altered with, one octet other than 00.
 #[tactic(auto, unfolding(crate::specs::Table::mask_argument))]
 pub fn read_mask(alloc: Global, word: &[u8]) -> Result<u8, LineFault>
-    ensures value { Gives result (mask_argument word.now) }
+    ensures value { AnswersAsWordsSay result (mask_argument word.now) }
     ensures range { IfOk result (λ m. (1 ≤ m) × (m < 256)) }
 {
     let octets = read_octets(alloc, word)?;

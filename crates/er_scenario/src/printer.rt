@@ -8,7 +8,7 @@ ghost use Rattle.er_base.specs.Printing.{word_printed, Begins};
 ghost use Rattle.er_base.specs.Sides.{side_word};
 ghost use Rattle.er_scenario.specs.declared.step.Step.TheVariants as step;
 ghost use Rattle.er_scenario.specs.Table.{step_word};
-ghost use Rattle.er_scenario.specs.Texts.{key_word, optional_key_word, step_words, set_lines, show_lines, choice_lines, step_lines, text_printed, CanBeRead};
+ghost use Rattle.er_scenario.specs.Texts.{key_word, optional_key_word, step_words, set_lines, show_lines, choice_lines, words_of_numbered_steps, text_printed, CanBeRead};
 ghost use Rattle.er_scenario.specs.Laws.{IsReadAgain};
 
 use crate::choices::default_settings;
@@ -238,7 +238,7 @@ fn put_step(alloc: Global, step: &Step, out: &mut Vec<u8>) -> Result<(), NoMemor
 
 // Appends the lines of all steps.
 fn put_steps(alloc: Global, steps: &[Numbered], out: &mut Vec<u8>) -> Result<(), NoMemory>
-    ensures ok { OnOk result (out.new.items ≡ out.old.items ++ lines_text (step_lines steps.now)) }
+    ensures ok { OnOk result (out.new.items ≡ out.old.items ++ lines_text (words_of_numbered_steps steps.now)) }
     ensures err { OnErr result (Begins out.old.items out.new.items) }
 {
     for numbered in steps {

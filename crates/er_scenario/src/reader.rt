@@ -3,13 +3,13 @@
 ghost use Rattle.std.specs.Prelude.{◌≡◌, ◌≤◌, ◌+◌, false, length, map, codes, IfOk};
 ghost use Rattle.std.specs.Str.{bytes_eq};
 ghost use Rattle.er_base.specs.Lines.{lines_of, rows_of};
-ghost use Rattle.er_base.specs.Rows.{Gives};
+ghost use Rattle.er_base.specs.Rows.{AnswersAsWordsSay};
 ghost use Rattle.er_settings.specs.Ranges.{AllAllowed};
-ghost use Rattle.er_scenario.specs.Answers.{Answers};
+ghost use Rattle.er_scenario.specs.Answers.{AnswersAsScenarioSays};
 ghost use Rattle.er_scenario.specs.Choices.{IsNarrow, default_choices};
-ghost use Rattle.er_scenario.specs.Files.{line_says, body_of, scenario_from, scenario_of};
-ghost use Rattle.er_scenario.specs.Readings.{IsWellSaid, fault_at};
-ghost use Rattle.er_scenario.specs.Texts.{AreReadable, CanBeRead};
+ghost use Rattle.er_scenario.specs.Files.{line_says, scenario_body_of, scenario_from, scenario_of};
+ghost use Rattle.er_scenario.specs.Readings.{IsWellSaid, scenario_text_fault};
+ghost use Rattle.er_scenario.specs.Texts.{AreReadableSteps, CanBeRead};
 
 use crate::choices::{Choices, choose, defaults};
 use crate::header::header_level;
@@ -27,7 +27,7 @@ use std::alloc::Global;
 const MOST_OCTETS: usize = 16_777_216;
 
 fn at(line: usize, fault: LineFault) -> TextFault
-    ensures { result ≡ fault_at line fault }
+    ensures { result ≡ scenario_text_fault line fault }
 {
     match fault {
         LineFault::Refused(why) => TextFault::At { line, why },
@@ -51,7 +51,7 @@ fn read_line(
     choices: &Choices,
     words: &[&[u8]],
 ) -> Result<Said, LineFault>
-    ensures said { Gives result (line_says level is_late choices.now (map (λ w. w.now) words.now)) }
+    ensures said { AnswersAsWordsSay result (line_says level is_late choices.now (map (λ w. w.now) words.now)) }
     ensures range { IfOk result (λ said. IsWellSaid level said) }
 {
     let Some((first, arguments)) = words.split_first() else {
@@ -75,9 +75,9 @@ fn read_line(
 // The scenario of the lines behind the header, whose number is `header`.
 fn read_body(alloc: Global, level: Level, header: usize, text: &[u8]) -> Result<Scenario, TextFault>
     requires { header + length text.now ≤ 16777216 }
-    ensures exact { Answers result
-        (scenario_from level (body_of level false (default_choices level) (rows_of header (lines_of text.now)))) }
-    ensures range { IfOk result (λ scenario. AllAllowed scenario.settings × IsNarrow scenario.level scenario.settings × AreReadable scenario.level scenario.steps) }
+    ensures exact { AnswersAsScenarioSays result
+        (scenario_from level (scenario_body_of level false (default_choices level) (rows_of header (lines_of text.now)))) }
+    ensures range { IfOk result (λ scenario. AllAllowed scenario.settings × IsNarrow scenario.level scenario.settings × AreReadableSteps scenario.level scenario.steps) }
 {
     let mut choices = defaults(level);
     let mut steps = Vec::new(alloc);
@@ -111,7 +111,7 @@ fn read_body(alloc: Global, level: Level, header: usize, text: &[u8]) -> Result<
 /// `Long` at line 0, and one without a line that isn't skipped is `Header` at line 1.
 #[tactic(auto, unfolding(crate::specs::Files::scenario_of))]
 pub fn read(alloc: Global, bytes: &[u8]) -> Result<Scenario, TextFault>
-    ensures exact { Answers result (scenario_of bytes.now) }
+    ensures exact { AnswersAsScenarioSays result (scenario_of bytes.now) }
     ensures range { IfOk result (λ scenario. CanBeRead scenario) }
 {
     if bytes.len() > MOST_OCTETS {

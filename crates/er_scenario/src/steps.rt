@@ -1,9 +1,9 @@
 //! The lines that are steps: each tests how many words stand behind its first one, and its level, and reads them.
 
 ghost use Rattle.std.specs.Prelude.{◌≡◌, map, IfOk};
-ghost use Rattle.er_base.specs.Rows.{Gives};
+ghost use Rattle.er_base.specs.Rows.{AnswersAsWordsSay};
 ghost use Rattle.er_scenario.specs.Readings.{step_of};
-ghost use Rattle.er_scenario.specs.Texts.{IsReadable};
+ghost use Rattle.er_scenario.specs.Texts.{IsReadableStep};
 
 use crate::arguments::{
     read_etcs_number, read_key, read_link, read_mask, read_octets, read_optional_key,
@@ -18,8 +18,8 @@ use std::alloc::Global;
 const MOST_PASSES: u64 = 100_000;
 
 fn fixed(alloc: Global, level: Level, words: &[&[u8]]) -> Result<Step, LineFault>
-    ensures step { Gives result (step_of level StepName.Fixed (map (λ w. w.now) words.now)) }
-    ensures range { IfOk result (λ step. IsReadable level step) }
+    ensures step { AnswersAsWordsSay result (step_of level StepName.Fixed (map (λ w. w.now) words.now)) }
+    ensures range { IfOk result (λ step. IsReadableStep level step) }
 {
     let [link, engine, rbc, ke, kr] = words else {
         return Err(LineFault::Refused(Why::Count));
@@ -35,8 +35,8 @@ fn fixed(alloc: Global, level: Level, words: &[&[u8]]) -> Result<Step, LineFault
 }
 
 fn link(alloc: Global, level: Level, words: &[&[u8]]) -> Result<Step, LineFault>
-    ensures step { Gives result (step_of level StepName.Link (map (λ w. w.now) words.now)) }
-    ensures range { IfOk result (λ step. IsReadable level step) }
+    ensures step { AnswersAsWordsSay result (step_of level StepName.Link (map (λ w. w.now) words.now)) }
+    ensures range { IfOk result (λ step. IsReadableStep level step) }
 {
     let [link, engine, rbc, ke, kr, ra, rb] = words else {
         return Err(LineFault::Refused(Why::Count));
@@ -54,8 +54,8 @@ fn link(alloc: Global, level: Level, words: &[&[u8]]) -> Result<Step, LineFault>
 }
 
 fn wire(level: Level, words: &[&[u8]]) -> Result<Step, LineFault>
-    ensures step { Gives result (step_of level StepName.Wire (map (λ w. w.now) words.now)) }
-    ensures range { IfOk result (λ step. IsReadable level step) }
+    ensures step { AnswersAsWordsSay result (step_of level StepName.Wire (map (λ w. w.now) words.now)) }
+    ensures range { IfOk result (λ step. IsReadableStep level step) }
 {
     let [link] = words else {
         return Err(LineFault::Refused(Why::Count));
@@ -67,8 +67,8 @@ fn wire(level: Level, words: &[&[u8]]) -> Result<Step, LineFault>
 }
 
 fn send(alloc: Global, level: Level, words: &[&[u8]]) -> Result<Step, LineFault>
-    ensures step { Gives result (step_of level StepName.Send (map (λ w. w.now) words.now)) }
-    ensures range { IfOk result (λ step. IsReadable level step) }
+    ensures step { AnswersAsWordsSay result (step_of level StepName.Send (map (λ w. w.now) words.now)) }
+    ensures range { IfOk result (λ step. IsReadableStep level step) }
 {
     let [link, side, text] = words else {
         return Err(LineFault::Refused(Why::Count));
@@ -82,8 +82,8 @@ fn send(alloc: Global, level: Level, words: &[&[u8]]) -> Result<Step, LineFault>
 }
 
 fn pass(level: Level, words: &[&[u8]]) -> Result<Step, LineFault>
-    ensures step { Gives result (step_of level StepName.Pass (map (λ w. w.now) words.now)) }
-    ensures range { IfOk result (λ step. IsReadable level step) }
+    ensures step { AnswersAsWordsSay result (step_of level StepName.Pass (map (λ w. w.now) words.now)) }
+    ensures range { IfOk result (λ step. IsReadableStep level step) }
 {
     let [link, side] = words else {
         return Err(LineFault::Refused(Why::Count));
@@ -96,8 +96,8 @@ fn pass(level: Level, words: &[&[u8]]) -> Result<Step, LineFault>
 }
 
 fn lose(level: Level, words: &[&[u8]]) -> Result<Step, LineFault>
-    ensures step { Gives result (step_of level StepName.Lose (map (λ w. w.now) words.now)) }
-    ensures range { IfOk result (λ step. IsReadable level step) }
+    ensures step { AnswersAsWordsSay result (step_of level StepName.Lose (map (λ w. w.now) words.now)) }
+    ensures range { IfOk result (λ step. IsReadableStep level step) }
 {
     let [link, side] = words else {
         return Err(LineFault::Refused(Why::Count));
@@ -110,8 +110,8 @@ fn lose(level: Level, words: &[&[u8]]) -> Result<Step, LineFault>
 }
 
 fn repeat(level: Level, words: &[&[u8]]) -> Result<Step, LineFault>
-    ensures step { Gives result (step_of level StepName.Repeat (map (λ w. w.now) words.now)) }
-    ensures range { IfOk result (λ step. IsReadable level step) }
+    ensures step { AnswersAsWordsSay result (step_of level StepName.Repeat (map (λ w. w.now) words.now)) }
+    ensures range { IfOk result (λ step. IsReadableStep level step) }
 {
     let [link, side] = words else {
         return Err(LineFault::Refused(Why::Count));
@@ -124,8 +124,8 @@ fn repeat(level: Level, words: &[&[u8]]) -> Result<Step, LineFault>
 }
 
 fn alter(alloc: Global, level: Level, words: &[&[u8]]) -> Result<Step, LineFault>
-    ensures step { Gives result (step_of level StepName.Alter (map (λ w. w.now) words.now)) }
-    ensures range { IfOk result (λ step. IsReadable level step) }
+    ensures step { AnswersAsWordsSay result (step_of level StepName.Alter (map (λ w. w.now) words.now)) }
+    ensures range { IfOk result (λ step. IsReadableStep level step) }
 {
     let [link, side, place, mask] = words else {
         return Err(LineFault::Refused(Why::Count));
@@ -140,8 +140,8 @@ fn alter(alloc: Global, level: Level, words: &[&[u8]]) -> Result<Step, LineFault
 }
 
 fn put(alloc: Global, level: Level, words: &[&[u8]]) -> Result<Step, LineFault>
-    ensures step { Gives result (step_of level StepName.Put (map (λ w. w.now) words.now)) }
-    ensures range { IfOk result (λ step. IsReadable level step) }
+    ensures step { AnswersAsWordsSay result (step_of level StepName.Put (map (λ w. w.now) words.now)) }
+    ensures range { IfOk result (λ step. IsReadableStep level step) }
 {
     let [link, side, text] = words else {
         return Err(LineFault::Refused(Why::Count));
@@ -155,8 +155,8 @@ fn put(alloc: Global, level: Level, words: &[&[u8]]) -> Result<Step, LineFault>
 }
 
 fn copy(level: Level, words: &[&[u8]]) -> Result<Step, LineFault>
-    ensures step { Gives result (step_of level StepName.Copy (map (λ w. w.now) words.now)) }
-    ensures range { IfOk result (λ step. IsReadable level step) }
+    ensures step { AnswersAsWordsSay result (step_of level StepName.Copy (map (λ w. w.now) words.now)) }
+    ensures range { IfOk result (λ step. IsReadableStep level step) }
 {
     let [link, side, to_link, to_side] = words else {
         return Err(LineFault::Refused(Why::Count));
@@ -171,8 +171,8 @@ fn copy(level: Level, words: &[&[u8]]) -> Result<Step, LineFault>
 }
 
 fn take(level: Level, words: &[&[u8]]) -> Result<Step, LineFault>
-    ensures step { Gives result (step_of level StepName.Take (map (λ w. w.now) words.now)) }
-    ensures range { IfOk result (λ step. IsReadable level step) }
+    ensures step { AnswersAsWordsSay result (step_of level StepName.Take (map (λ w. w.now) words.now)) }
+    ensures range { IfOk result (λ step. IsReadableStep level step) }
 {
     let [link, side] = words else {
         return Err(LineFault::Refused(Why::Count));
@@ -185,8 +185,8 @@ fn take(level: Level, words: &[&[u8]]) -> Result<Step, LineFault>
 }
 
 fn release(level: Level, words: &[&[u8]]) -> Result<Step, LineFault>
-    ensures step { Gives result (step_of level StepName.Release (map (λ w. w.now) words.now)) }
-    ensures range { IfOk result (λ step. IsReadable level step) }
+    ensures step { AnswersAsWordsSay result (step_of level StepName.Release (map (λ w. w.now) words.now)) }
+    ensures range { IfOk result (λ step. IsReadableStep level step) }
 {
     let [link, side, sub] = words else {
         return Err(LineFault::Refused(Why::Count));
@@ -200,8 +200,8 @@ fn release(level: Level, words: &[&[u8]]) -> Result<Step, LineFault>
 }
 
 fn tick(level: Level, words: &[&[u8]]) -> Result<Step, LineFault>
-    ensures step { Gives result (step_of level StepName.Tick (map (λ w. w.now) words.now)) }
-    ensures range { IfOk result (λ step. IsReadable level step) }
+    ensures step { AnswersAsWordsSay result (step_of level StepName.Tick (map (λ w. w.now) words.now)) }
+    ensures range { IfOk result (λ step. IsReadableStep level step) }
 {
     let [moment] = words else {
         return Err(LineFault::Refused(Why::Count));
@@ -213,8 +213,8 @@ fn tick(level: Level, words: &[&[u8]]) -> Result<Step, LineFault>
 }
 
 fn drain(level: Level, words: &[&[u8]]) -> Result<Step, LineFault>
-    ensures step { Gives result (step_of level StepName.Drain (map (λ w. w.now) words.now)) }
-    ensures range { IfOk result (λ step. IsReadable level step) }
+    ensures step { AnswersAsWordsSay result (step_of level StepName.Drain (map (λ w. w.now) words.now)) }
+    ensures range { IfOk result (λ step. IsReadableStep level step) }
 {
     let [link, most] = words else {
         return Err(LineFault::Refused(Why::Count));
@@ -233,8 +233,8 @@ pub fn read_step(
     name: StepName,
     words: &[&[u8]],
 ) -> Result<Step, LineFault>
-    ensures step { Gives result (step_of level name (map (λ w. w.now) words.now)) }
-    ensures range { IfOk result (λ step. IsReadable level step) }
+    ensures step { AnswersAsWordsSay result (step_of level name (map (λ w. w.now) words.now)) }
+    ensures range { IfOk result (λ step. IsReadableStep level step) }
 {
     match name {
         StepName::Fixed => fixed(alloc, level, words),

@@ -1,17 +1,17 @@
 -- What a run of `serve` or `call` means by its status, from how it ended.
 use Rattle.std.proofs.Common.{◌≡◌, ◌≢◌, ◌⊎◌, inl, inr, ℕ, ◌≤◌, List, [], ◌∷◌, Option, Some, None, Result, Ok, Err, refl, sym, subst, arith}
-use Rattle.safety_automaton.specs.Keys.{Entry, key_at}
+use Rattle.safety_automaton.specs.Keys.{KmacEntry, key_at}
 use Rattle.key_store.specs.declared.key_file_fault.KeyFileFault.{KeyFileFault}
 use Rattle.key_store.specs.declared.key_file_fault.KeyFileFault.TheVariants as keys
 use Rattle.key_store.specs.KeyFiles.{keys_of}
-use Rattle.link_trait.specs.Outside.{Grew, GrewPart, Rose, HasFile, Kept}
+use Rattle.link_trait.specs.Outside.{Grew, GrewPart, Rose, HasFile, HasStayedAsTold}
 use Rattle.link_trait.specs.Growth.{grew_nothing}
 use Rattle.er_statuses.specs.Answers.{keys_answer}
 use Rattle.er_statuses.specs.KeyLines.{keys_line}
 use Rattle.er_statuses.specs.LastLines.{memory_line}
 use Rattle.er_serving.specs.LineCommands.{LineCommand, Serve, Call, key_file_of, AsksClock}
 use Rattle.er_serving.specs.Outsides.{Outside, traffic_of, IsLeftAlone, IsSteady}
-use Rattle.er_serving.specs.LineRuns.{Given, Looped, FailsWith, LacksKey, HasLineStatus, IsStatusOfLoop, IsStatusBehindKeyFile, RunsOut, BeforeLoop, Spent, with_sink, wires_line}
+use Rattle.er_serving.specs.LineRuns.{GivenToLoop, Looped, FailsWith, LacksKey, HasLineStatus, IsStatusOfLoop, IsStatusBehindKeyFile, RunsOut, BeforeLoop, Spent, with_sink, wires_line}
 use Rattle.er_serving.specs.LineWriting.{HasLooped, WiresFailed, KeyLacks, FileEnded, LineEnded, NotFetched, WasRead, LineMeans}
 use Rattle.er_serving.specs.LineStatuses.{LineBroke, IsLineRun}
 use Rattle.er_statuses.specs.Writing.{Exhausts}
@@ -20,7 +20,7 @@ use Rattle.er_statuses.specs.declared.status.Status.{Status}
 -- ---- status 0
 
 -- the clock's answers of the loop stand behind that for the look-up
-looped_status : (command : LineCommand) (entries : List Entry) (g : Given) (before now : Outside) (status : ℕ)
+looped_status : (command : LineCommand) (entries : List KmacEntry) (g : GivenToLoop) (before now : Outside) (status : ℕ)
     → Looped command entries g (traffic_of before) (traffic_of now) → status ≡ 0 → IsStatusOfLoop command entries before now status
 looped_status (Serve keys address rbc turns) entries g before now status looped is = is
 looped_status (Call keys address engine rbc turns) entries g before now status looped is = record {
@@ -32,7 +32,7 @@ looped_status (Call keys address engine rbc turns) entries g before now status l
   is = rw looped.holds is;
 }
 
-means_looped : (command : LineCommand) (g : Given) (before now : Outside) (status : ℕ) (file : List ℕ) (entries : List Entry)
+means_looped : (command : LineCommand) (g : GivenToLoop) (before now : Outside) (status : ℕ) (file : List ℕ) (entries : List KmacEntry)
     → HasFile now.files (key_file_of command) file → keys_of file ≡ Ok entries → status ≡ 0 → Looped command entries g (traffic_of before) (traffic_of now)
     → LineMeans command g before now status
 means_looped command g before now status file entries stands spelled is looped = record {
@@ -49,7 +49,7 @@ means_looped command g before now status file entries stands spelled is looped =
 
 -- ---- status 6
 
-means_wires : (command : LineCommand) (g : Given) (before now : Outside) (status : ℕ) (file : List ℕ) (entries : List Entry)
+means_wires : (command : LineCommand) (g : GivenToLoop) (before now : Outside) (status : ℕ) (file : List ℕ) (entries : List KmacEntry)
     → HasFile now.files (key_file_of command) file → keys_of file ≡ Ok entries → status ≡ 6 → Rose before.turns_failed now.turns_failed
     → FailsWith command entries g (traffic_of before) (traffic_of now) (λ held held_now. Grew held held_now wires_line)
     → LineMeans command g before now status
@@ -67,7 +67,7 @@ means_wires command g before now status file entries stands spelled is rose fail
 
 -- ---- status 4
 
-lacks_status : (command : LineCommand) (entries : List Entry) (before now : Outside) (status : ℕ) (Written : List ℕ → Type 0)
+lacks_status : (command : LineCommand) (entries : List KmacEntry) (before now : Outside) (status : ℕ) (Written : List ℕ → Type 0)
     → LacksKey command entries (traffic_of before) (traffic_of now) Written → status ≡ 4 → IsStatusOfLoop command entries before now status
 lacks_status (Serve keys address rbc turns) entries before now status Written lacks is = absurd lacks
 lacks_status (Call keys address engine rbc turns) entries before now status Written lacks is = record {
@@ -79,7 +79,7 @@ lacks_status (Call keys address engine rbc turns) entries before now status Writ
   is = rw lacks.0.none is;
 }
 
-means_lacking : (command : LineCommand) (g : Given) (before now : Outside) (status : ℕ) (file : List ℕ) (entries : List Entry)
+means_lacking : (command : LineCommand) (g : GivenToLoop) (before now : Outside) (status : ℕ) (file : List ℕ) (entries : List KmacEntry)
     → HasFile now.files (key_file_of command) file → keys_of file ≡ Ok entries → status ≡ 4 → IsLeftAlone (AsksClock command) (traffic_of before) (traffic_of now)
     → LacksKey command entries (traffic_of before) (traffic_of now) (Grew before.held now.held)
     → LineMeans command g before now status
@@ -95,7 +95,7 @@ means_lacking command g before now status file entries stands spelled is alone l
   complete = λ good fine well. inl (record { file = file; stands = stands; is = rw spelled (lacks_status command entries before now status (Grew before.held now.held) lacks is) });
 }
 
-means_refused : (command : LineCommand) (g : Given) (before now : Outside) (status : ℕ) (file : List ℕ) (fault : KeyFileFault)
+means_refused : (command : LineCommand) (g : GivenToLoop) (before now : Outside) (status : ℕ) (file : List ℕ) (fault : KeyFileFault)
     → HasFile now.files (key_file_of command) file → keys_of file ≡ Err fault → HasLineStatus command before now status → status ≡ 4 → IsLeftAlone (AsksClock command) (traffic_of before) (traffic_of now)
     → Grew before.held now.held (keys_line fault)
     → LineMeans command g before now status
@@ -113,7 +113,7 @@ means_refused command g before now status file fault stands is has four alone pr
 
 -- ---- status 7
 
-means_forgot : (command : LineCommand) (g : Given) (before now : Outside) (status : ℕ) (held : Option (List ℕ)) (sunk : ℕ)
+means_forgot : (command : LineCommand) (g : GivenToLoop) (before now : Outside) (status : ℕ) (held : Option (List ℕ)) (sunk : ℕ)
     → status ≡ 7 → RunsOut command g now.files (traffic_of before) (with_sink (traffic_of now) held sunk) → Grew held now.held memory_line
     → LineMeans command g before now status
 means_forgot command g before now status held sunk is out printed = record {
@@ -130,7 +130,7 @@ means_forgot command g before now status held sunk is out printed = record {
 
 -- ---- status 5
 
-pub means_line_sunk : (command : LineCommand) (g : Given) (before now : Outside) → LineBroke command g before now → LineMeans command g before now 5
+pub means_line_sunk : (command : LineCommand) (g : GivenToLoop) (before now : Outside) → LineBroke command g before now → LineMeans command g before now 5
 means_line_sunk command g before now failed = record {
   known = inr (inr (inr (inl refl)));
   served = λ h. absurd (omega arith);
@@ -145,7 +145,7 @@ means_line_sunk command g before now failed = record {
 
 -- ---- by how it ended
 
-means_fault : (command : LineCommand) (g : Given) (before now : Outside) (status : ℕ) (file : List ℕ) (fault : KeyFileFault)
+means_fault : (command : LineCommand) (g : GivenToLoop) (before now : Outside) (status : ℕ) (file : List ℕ) (fault : KeyFileFault)
     → HasFile now.files (key_file_of command) file → keys_of file ≡ Err fault → HasLineStatus command before now status
     → status ≡ (keys_answer fault).status → IsLeftAlone (AsksClock command) (traffic_of before) (traffic_of now) → Grew before.held now.held (keys_answer fault).text
     → LineMeans command g before now status
@@ -169,7 +169,7 @@ means_fault command g before now status file (keys.NoMemory want) stands is has 
     (record { calls = alone.calls; failed = alone.failed; turns_failed = alone.turns_failed; listening = alone.listening; clock = alone.clock }))
     printed
 
-means_file : (command : LineCommand) (g : Given) (before now : Outside) (status : ℕ) (file : List ℕ) (read : Result (List Entry) KeyFileFault)
+means_file : (command : LineCommand) (g : GivenToLoop) (before now : Outside) (status : ℕ) (file : List ℕ) (read : Result (List KmacEntry) KeyFileFault)
     → HasFile now.files (key_file_of command) file → keys_of file ≡ read → FileEnded command read g (traffic_of before) (traffic_of now) status
     → LineMeans command g before now status
 means_file command g before now status file (Err fault) stands is ended =
@@ -182,7 +182,7 @@ means_file command g before now status file (Ok entries) stands is (WiresFailed 
 means_file command g before now status file (Ok entries) stands is (KeyLacks four alone lacks) =
     means_lacking command g before now status file entries stands is four alone lacks
 
-pub means_line_ended : (command : LineCommand) (g : Given) (before now : Outside) (status : ℕ) → LineEnded command g before now status → LineMeans command g before now status
+pub means_line_ended : (command : LineCommand) (g : GivenToLoop) (before now : Outside) (status : ℕ) → LineEnded command g before now status → LineMeans command g before now status
 means_line_ended command g before now status (WasRead file stands ended) =
     means_file command g before now status file (keys_of file) stands refl ended
 means_line_ended command g before now status (NotFetched is rose printed alone) = record {
@@ -199,7 +199,7 @@ means_line_ended command g before now status (NotFetched is rose printed alone) 
 
 -- ---- memory ran out
 
-pub means_line_spent : (command : LineCommand) (g : Given) (before now : Outside) (held : Option (List ℕ)) (sunk : ℕ) (s : Status)
+pub means_line_spent : (command : LineCommand) (g : GivenToLoop) (before now : Outside) (held : Option (List ℕ)) (sunk : ℕ) (s : Status)
     → before.sunk ≤ sunk → RunsOut command g now.files (traffic_of before) (with_sink (traffic_of now) held sunk) → Exhausts held now.held sunk now.sunk s
     → LineMeans command g before now s.0
 means_line_spent command g before now held sunk s later out (inl told) =
@@ -213,7 +213,7 @@ means_line_spent command g before now held sunk s later out (inr failed) =
 
 -- ---- all of it
 
-pub line_run : (command : LineCommand) (g : Given) (before now : Outside) (status : ℕ) → LineMeans command g before now status
+pub line_run : (command : LineCommand) (g : GivenToLoop) (before now : Outside) (status : ℕ) → LineMeans command g before now status
     → (status ≢ 5 → status ≢ 7 → Grew before.asked now.asked (key_file_of command ∷ [])) → GrewPart before.asked now.asked (key_file_of command ∷ [])
     → IsSteady before now → IsLineRun command g before now status
 line_run command g before now status m asked part steady = record {
@@ -232,10 +232,10 @@ line_run command g before now status m asked part steady = record {
 }
 
 -- memory ran out, and the last line was written, or a beginning of it
-pub spent_run : (command : LineCommand) (g : Given) (before now : Outside) (held : Option (List ℕ)) (sunk : ℕ) (s : Status)
+pub spent_run : (command : LineCommand) (g : GivenToLoop) (before now : Outside) (held : Option (List ℕ)) (sunk : ℕ) (s : Status)
     → before.sunk ≤ sunk → sunk ≤ now.sunk
     → RunsOut command g now.files (traffic_of before) (with_sink (traffic_of now) held sunk) → Exhausts held now.held sunk now.sunk s
-    → GrewPart before.asked now.asked (key_file_of command ∷ []) → Kept before.files now.files → before.unfetched ≤ now.unfetched
+    → GrewPart before.asked now.asked (key_file_of command ∷ []) → HasStayedAsTold before.files now.files → before.unfetched ≤ now.unfetched
     → IsLineRun command g before now s.0
 spent_run command g before now held sunk s later more out told part kept count =
     line_run command g before now s.0 (means_line_spent command g before now held sunk s later out told)

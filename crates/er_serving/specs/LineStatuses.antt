@@ -5,7 +5,7 @@ use Rattle.er_statuses.specs.Answers.{AreKeysRefused}
 use Rattle.er_statuses.specs.LastLines.{fetch_line, memory_line}
 use Rattle.er_serving.specs.Outsides.{Outside, IsSteady}
 use Rattle.er_serving.specs.LineCommands.{LineCommand, key_file_of}
-use Rattle.er_serving.specs.LineRuns.{Given, IsLineStatus, IsLineIdle, IsServed, IsPairKeyless, IsLineBegun, IsLoopFailed, IsMemoryTold, HasLineStatus}
+use Rattle.er_serving.specs.LineRuns.{GivenToLoop, IsLineStatus, IsLineIdle, IsServed, IsPairKeyless, IsLineBegun, IsLoopFailed, IsMemoryTold, HasLineStatus}
 
 -- the fetch of the key file failed
 pub record IsLineUnfetched (command : LineCommand) (before now : Outside) : Type 0 where
@@ -14,12 +14,12 @@ pub record IsLineUnfetched (command : LineCommand) (before now : Outside) : Type
   pub printed : Grew before.held now.held (fetch_line (key_file_of command))
 
 -- a write failed
-pub record LineBroke (command : LineCommand) (g : Given) (before now : Outside) : Type 0 where
+pub record LineBroke (command : LineCommand) (g : GivenToLoop) (before now : Outside) : Type 0 where
   pub rose : Rose before.sunk now.sunk
   pub beginning : IsLineBegun command g before now
 
 -- all of it
-pub record IsLineRun (command : LineCommand) (g : Given) (before now : Outside) (status : ℕ) : Type 0 where
+pub record IsLineRun (command : LineCommand) (g : GivenToLoop) (before now : Outside) (status : ℕ) : Type 0 where
   pub known : IsLineStatus status
   pub served : status ≡ 0 → IsServed command g before now
   pub unfetched : status ≡ 2 → IsLineUnfetched command before now

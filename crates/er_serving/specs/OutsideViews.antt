@@ -1,13 +1,13 @@
 -- Representation: the program's outside in the code, which is lent to it; no claim rests on it.
 use Rattle.std.specs.Prelude.{◌≡◌, ◌≤◌, ℕ, List, [], ◌∷◌, Result, IfOk}
 use Rattle.std.specs.Borrow.{GName}
-use Rattle.link_trait.specs.Outside.{Grew, GrewPart, Kept}
+use Rattle.link_trait.specs.Outside.{Grew, GrewPart, HasStayedAsTold}
 use Rattle.er_serving.specs.Outsides.{Outside, IsSteady}
 use Rattle.er_statuses.specs.declared.status.Status.{Status}
 use Rattle.er_statuses.specs.declared.stop.Stop.{Stop}
 
 -- which objects they are
-pub record Names : Type 0 where
+pub record ObjectNames : Type 0 where
   pub cabinet : GName
   pub sink : GName
   pub wires : GName
@@ -17,11 +17,11 @@ pub record Names : Type 0 where
 -- what is told of them, which they are, and the random words' generator itself
 pub record Lent (R : Type 0) : Type 0 where
   pub seen : Outside
-  pub names : Names
+  pub names : ObjectNames
   pub randoms : R
 
 -- the cabinet stayed as it was, the sink's count didn't fall, and the objects are the same
-pub record Keeps {R : Type 0} (before now : Lent R) : Type 0 where
+pub record KeepsCabinet {R : Type 0} (before now : Lent R) : Type 0 where
   pub files : now.seen.files ≡ before.seen.files
   pub asked : now.seen.asked ≡ before.seen.asked
   pub unfetched : now.seen.unfetched ≡ before.seen.unfetched

@@ -4,7 +4,7 @@ use Rattle.link_trait.specs.declared.cabinet.Cabinet as cabinet
 use Rattle.link_trait.specs.declared.sink.Sink as sink
 use Rattle.link_trait.specs.declared.wires.Wires as wires
 use Rattle.link_trait.specs.declared.clock.Clock as clock
-use Rattle.link_trait.specs.Outside.{Grew, Kept}
+use Rattle.link_trait.specs.Outside.{Grew, HasStayedAsTold}
 use Rattle.link_trait.specs.Wires.{Call as WiresCall}
 use Rattle.readiness_loop.specs.Claims as loop
 
@@ -61,7 +61,7 @@ traffic_of o = record {
 }
 
 -- the part of it of which the readiness loop's claims speak
-abbrev pub of_loop : Traffic → loop.Outside
+abbrev pub of_loop : Traffic → loop.LoopOutside
 of_loop o = record {
   seen = record { held = o.held; sunk = o.sunk; calls = o.calls; failed = o.failed };
   listening = o.listening;
@@ -103,6 +103,6 @@ pub record IsLeftAlone (IsAsked : (before now : Option (List ℕ)) → Type 0) (
 
 -- the cabinet's files stay, and the counts of failed fetches and writes don't fall
 pub record IsSteady (before now : Outside) : Type 0 where
-  pub files : Kept before.files now.files
+  pub files : HasStayedAsTold before.files now.files
   pub unfetched : before.unfetched ≤ now.unfetched
   pub sunk : before.sunk ≤ now.sunk

@@ -10,13 +10,13 @@ use Rattle.er_end_model.specs.Steps.{Finds}
 use Rattle.loop_model.specs.Loops.{Plan, Halt, beginning, serves, dials}
 use Rattle.loop_recordings.specs.Recordings.{IsItsOwnReplay, recording_of}
 use Rattle.readiness_loop.specs.declared.line_plan.LinePlan.{LinePlan}
-use Rattle.readiness_loop.specs.Claims.{Outside, dialling, HasServed, HasDialled}
+use Rattle.readiness_loop.specs.Claims.{LoopOutside, dialling, HasServed, HasDialled}
 
 -- what a loop that serves printed, where its links have the usual settings and it is no longer than a file of a trace may be: with the same
 -- keys
 abbrev pub ServedReplays : Type 0
 ServedReplays =
-    (before now : Outside) (plan : Plan) (address : List ℕ) (minds : List Mind) (words : Stream) (count : ℕ) (why : Option Halt)
+    (before now : LoopOutside) (plan : Plan) (address : List ℕ) (minds : List Mind) (words : Stream) (count : ℕ) (why : Option Halt)
     (served : HasServed before now plan address minds words count why) → plan.settings ≡ usual_settings
     → length (recording_of plan (serves model_ends plan (beginning minds words) address true served.answers)) ≤ 16777216
     → IsItsOwnReplay (key_at plan.keys) (recording_of plan (serves model_ends plan (beginning minds words) address true served.answers))
@@ -25,7 +25,7 @@ ServedReplays =
 -- clock answered first
 abbrev pub DialledReplays : Type 0
 DialledReplays =
-    (before now : Outside) (kmac : TripleKey) (plan : LinePlan) (engine rbc handed : ℕ) (address : List ℕ) (minds : List Mind) (words : Stream)
+    (before now : LoopOutside) (kmac : TripleKey) (plan : LinePlan) (engine rbc handed : ℕ) (address : List ℕ) (minds : List Mind) (words : Stream)
     (count : ℕ) (why : Option Halt) (finds : Finds)
     (dialled : HasDialled before now (dialling kmac plan engine rbc handed) (record { engine = engine; kmac = kmac }) address minds words count why)
     → plan.settings ≡ usual_settings → before.listening ≡ false → finds dialled.answers.first engine rbc ≡ Some kmac

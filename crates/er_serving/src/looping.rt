@@ -1,13 +1,13 @@
 //! The readiness loop of a command, with its keys: as a radio block centre, which listens, or as an engine, which calls one.
 
 ghost use Rattle.std.specs.Prelude.{◌≡◌, ◌≤◌, ◌∷◌, [], ℕ, List, Option, Some, length, map};
-ghost use Rattle.safety_automaton.specs.Keys.{Entry, key_at};
+ghost use Rattle.safety_automaton.specs.Keys.{KmacEntry, key_at};
 ghost use Rattle.link_trait.specs.Outside.{Grew};
-ghost use Rattle.er_statuses.specs.Writing.{Gives};
+ghost use Rattle.er_statuses.specs.Writing.{GivesAnswer};
 ghost use Rattle.er_serving.specs.LineCommands.{Serve, Call};
-ghost use Rattle.er_serving.specs.LineRuns.{given, none_line, with_clock};
+ghost use Rattle.er_serving.specs.LineRuns.{given_to_loop, no_key_line, with_clock};
 ghost use Rattle.er_serving.specs.LineWriting.{LoopTold, LoopEnds};
-ghost use Rattle.er_serving.specs.OutsideViews.{Keeps};
+ghost use Rattle.er_serving.specs.OutsideViews.{KeepsCabinet};
 ghost use Rattle.er_serving.specs.Outsides.{traffic_of};
 
 use crate::outside::Outside;
@@ -49,8 +49,8 @@ pub(crate) fn serve_with<F: Cabinet, K: Sink, W: Wires, C: Clock, R: Rng>(
     outside: &mut Outside<F, K, W, C, R>,
 ) -> Result<Status, Stop>
     ensures ends { (keys : List ℕ) → LoopEnds (Serve keys address.now rbc turns) store.now
-        (given (length users.items) (map mind users.items) (R.stream outside.old.randoms)) (traffic_of outside.old.seen) (traffic_of outside.new.seen) result }
-    ensures keeps { Keeps outside.old outside.new }
+        (given_to_loop (length users.items) (map mind users.items) (R.stream outside.old.randoms)) (traffic_of outside.old.seen) (traffic_of outside.new.seen) result }
+    ensures keeps { KeepsCabinet outside.old outside.new }
 {
     let plan = LinePlan {
         settings: Settings::usual(),
@@ -73,7 +73,7 @@ pub(crate) fn serve_with<F: Cabinet, K: Sink, W: Wires, C: Clock, R: Rng>(
 
 // No key of the pair holds.
 fn no_key<K: Sink>(alloc: Global, pair: Pair, sink: &mut K) -> Result<Status, Stop>
-    ensures gives { Gives (record { status = 4; text = none_line pair.engine pair.rbc }) (K.state sink.old).held (K.state sink.new).held
+    ensures gives { GivesAnswer (record { status = 4; text = no_key_line pair.engine pair.rbc }) (K.state sink.old).held (K.state sink.new).held
         (K.state sink.old).faults (K.state sink.new).faults result }
     ensures sink_count { (K.state sink.old).faults ≤ (K.state sink.new).faults }
 {
@@ -96,11 +96,11 @@ fn dial_with<F: Cabinet, K: Sink, W: Wires, C: Clock, R: Rng>(
     users: Vec<Box<dyn SafeUser>>,
     outside: &mut Outside<F, K, W, C, R>,
 ) -> Result<Status, Stop>
-    ensures ends { (keys : List ℕ) (entries : List Entry) (moment : ℕ) (before : Option (List ℕ))
+    ensures ends { (keys : List ℕ) (entries : List KmacEntry) (moment : ℕ) (before : Option (List ℕ))
         → Grew before outside.old.seen.clock (moment ∷ []) → key_at entries moment pair.engine pair.rbc ≡ Some kmac
-        → LoopEnds (Call keys address.now pair.engine pair.rbc turns) entries (given (length users.items) (map mind users.items) (R.stream outside.old.randoms))
+        → LoopEnds (Call keys address.now pair.engine pair.rbc turns) entries (given_to_loop (length users.items) (map mind users.items) (R.stream outside.old.randoms))
         (with_clock (traffic_of outside.old.seen) before) (traffic_of outside.new.seen) result }
-    ensures keeps { Keeps outside.old outside.new }
+    ensures keeps { KeepsCabinet outside.old outside.new }
 {
     let plan = LinePlan {
         settings: Settings::usual(),
@@ -133,8 +133,8 @@ pub(crate) fn call_with<F: Cabinet, K: Sink, W: Wires, C: Clock, R: Rng>(
     outside: &mut Outside<F, K, W, C, R>,
 ) -> Result<Status, Stop>
     ensures ends { (keys : List ℕ) → LoopEnds (Call keys address.now pair.engine pair.rbc turns) store.now
-        (given (length users.items) (map mind users.items) (R.stream outside.old.randoms)) (traffic_of outside.old.seen) (traffic_of outside.new.seen) result }
-    ensures keeps { Keeps outside.old outside.new }
+        (given_to_loop (length users.items) (map mind users.items) (R.stream outside.old.randoms)) (traffic_of outside.old.seen) (traffic_of outside.new.seen) result }
+    ensures keeps { KeepsCabinet outside.old outside.new }
 {
     let now = outside.clock.now();
     match store.find(pair.engine.get(), pair.rbc.get(), now) {

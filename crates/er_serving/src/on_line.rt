@@ -4,10 +4,10 @@ ghost use Rattle.std.specs.Prelude.{◌≡◌, length, map};
 ghost use Rattle.key_store.specs.KeyFiles.{keys_of};
 ghost use Rattle.er_serving.specs.LineCommands.{key_file_of};
 ghost use Rattle.er_serving.specs.LineCommandViews.{line_view};
-ghost use Rattle.er_serving.specs.LineRuns.{given};
+ghost use Rattle.er_serving.specs.LineRuns.{given_to_loop};
 ghost use Rattle.er_serving.specs.LineStatuses.{IsLineRun};
 ghost use Rattle.er_serving.specs.LineWriting.{LoopEnds, FileEnds, LineEnds};
-ghost use Rattle.er_serving.specs.OutsideViews.{Keeps, AsksOne};
+ghost use Rattle.er_serving.specs.OutsideViews.{KeepsCabinet, AsksOne};
 ghost use Rattle.er_serving.specs.Outsides.{traffic_of};
 
 use crate::line_command::LineCommand;
@@ -29,9 +29,9 @@ fn looped<F: Cabinet, K: Sink, W: Wires, C: Clock, R: Rng>(
     users: Vec<Box<dyn SafeUser>>,
     outside: &mut Outside<F, K, W, C, R>,
 ) -> Result<Status, Stop>
-    ensures ends { LoopEnds (line_view command.now) store.now (given (length users.items) (map mind users.items) (R.stream outside.old.randoms))
+    ensures ends { LoopEnds (line_view command.now) store.now (given_to_loop (length users.items) (map mind users.items) (R.stream outside.old.randoms))
         (traffic_of outside.old.seen) (traffic_of outside.new.seen) result }
-    ensures keeps { Keeps outside.old outside.new }
+    ensures keeps { KeepsCabinet outside.old outside.new }
 {
     match *command {
         LineCommand::Serve {
@@ -66,9 +66,9 @@ fn keyed<F: Cabinet, K: Sink, W: Wires, C: Clock, R: Rng>(
     users: Vec<Box<dyn SafeUser>>,
     outside: &mut Outside<F, K, W, C, R>,
 ) -> Result<Status, Stop>
-    ensures ends { FileEnds (line_view command.now) (keys_of octets.now) (given (length users.items) (map mind users.items) (R.stream outside.old.randoms))
+    ensures ends { FileEnds (line_view command.now) (keys_of octets.now) (given_to_loop (length users.items) (map mind users.items) (R.stream outside.old.randoms))
         (traffic_of outside.old.seen) (traffic_of outside.new.seen) result }
-    ensures keeps { Keeps outside.old outside.new }
+    ensures keeps { KeepsCabinet outside.old outside.new }
 {
     match KeyStore::from_bytes(alloc, octets) {
         Ok(store) => looped(alloc, &store, command, users, outside),
@@ -83,7 +83,7 @@ fn answered<F: Cabinet, K: Sink, W: Wires, C: Clock, R: Rng>(
     users: Vec<Box<dyn SafeUser>>,
     outside: &mut Outside<F, K, W, C, R>,
 ) -> Result<Status, Stop>
-    ensures ends { LineEnds (line_view command.now) (given (length users.items) (map mind users.items) (R.stream outside.old.randoms))
+    ensures ends { LineEnds (line_view command.now) (given_to_loop (length users.items) (map mind users.items) (R.stream outside.old.randoms))
         outside.old.seen outside.new.seen result }
     ensures asks { AsksOne (key_file_of (line_view command.now)) outside.old outside.new result }
 {
@@ -102,7 +102,7 @@ pub fn run_on_line<F: Cabinet, K: Sink, W: Wires, C: Clock, R: Rng>(
     users: Vec<Box<dyn SafeUser>>,
     outside: &mut Outside<F, K, W, C, R>,
 ) -> Status
-    ensures run { IsLineRun (line_view command.now) (given (length users.items) (map mind users.items) (R.stream outside.old.randoms))
+    ensures run { IsLineRun (line_view command.now) (given_to_loop (length users.items) (map mind users.items) (R.stream outside.old.randoms))
         outside.old.seen outside.new.seen result.0 }
     // The outside's objects stay the same ones.
     ensures names { outside.new.names ≡ outside.old.names }

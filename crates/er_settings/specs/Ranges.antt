@@ -50,17 +50,17 @@ abbrev pub usual_settings : Settings
 usual_settings = settings_of 8 7 15 128 1000 5 40000
 
 -- of the six values, in their order, this is the first one that its setting may not have at this modulo
-abbrev pub FirstRefused : (modulo window credit size t1 n2 setup : ℕ) → SettingName → ℕ → Type 0
-FirstRefused modulo window credit size t1 n2 setup Window v = (¬ Allows modulo Window v) × (v ≡ window)
-FirstRefused modulo window credit size t1 n2 setup Credit v =
+abbrev pub IsFirstRefusedSetting : (modulo window credit size t1 n2 setup : ℕ) → SettingName → ℕ → Type 0
+IsFirstRefusedSetting modulo window credit size t1 n2 setup Window v = (¬ Allows modulo Window v) × (v ≡ window)
+IsFirstRefusedSetting modulo window credit size t1 n2 setup Credit v =
     Allows modulo Window window × (¬ Allows modulo Credit v) × (v ≡ credit)
-FirstRefused modulo window credit size t1 n2 setup Size v =
+IsFirstRefusedSetting modulo window credit size t1 n2 setup Size v =
     Allows modulo Window window × Allows modulo Credit credit × (¬ Allows modulo Size v) × (v ≡ size)
-FirstRefused modulo window credit size t1 n2 setup T1 v =
+IsFirstRefusedSetting modulo window credit size t1 n2 setup T1 v =
     Allows modulo Window window × Allows modulo Credit credit × Allows modulo Size size × (¬ Allows modulo T1 v) × (v ≡ t1)
-FirstRefused modulo window credit size t1 n2 setup N2 v =
+IsFirstRefusedSetting modulo window credit size t1 n2 setup N2 v =
     Allows modulo Window window × Allows modulo Credit credit × Allows modulo Size size × Allows modulo T1 t1
     × (¬ Allows modulo N2 v) × (v ≡ n2)
-FirstRefused modulo window credit size t1 n2 setup Setup v =
+IsFirstRefusedSetting modulo window credit size t1 n2 setup Setup v =
     Allows modulo Window window × Allows modulo Credit credit × Allows modulo Size size × Allows modulo T1 t1
     × Allows modulo N2 n2 × (¬ Allows modulo Setup v) × (v ≡ setup)

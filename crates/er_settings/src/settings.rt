@@ -1,5 +1,5 @@
 ghost use Rattle.std.specs.Prelude.{◌≡◌, MatchResult, IfOk};
-ghost use Rattle.er_settings.specs.Ranges.{Allows, IsModulo, AllAllowed, FirstRefused, settings_of, usual_settings};
+ghost use Rattle.er_settings.specs.Ranges.{Allows, IsModulo, AllAllowed, IsFirstRefusedSetting, settings_of, usual_settings};
 
 use crate::setting_name::SettingName;
 use std::marker::Model;
@@ -91,7 +91,7 @@ impl Settings {
     ) -> Result<Settings, SettingFault>
         ensures exact { MatchResult result
             (λ made. made ≡ settings_of 8 window credit size t1 n2 setup)
-            (λ fault. FirstRefused 8 window credit size t1 n2 setup fault.field fault.value) }
+            (λ fault. IsFirstRefusedSetting 8 window credit size t1 n2 setup fault.field fault.value) }
         ensures allowed { IfOk result (λ made. AllAllowed made) }
     {
         Settings::at_modulo(MODULO, window, credit, size, t1, n2, setup)
@@ -109,7 +109,7 @@ impl Settings {
     ) -> Result<Settings, SettingFault>
         ensures exact { MatchResult result
             (λ made. made ≡ settings_of 128 window credit size t1 n2 setup)
-            (λ fault. FirstRefused 128 window credit size t1 n2 setup fault.field fault.value) }
+            (λ fault. IsFirstRefusedSetting 128 window credit size t1 n2 setup fault.field fault.value) }
         ensures allowed { IfOk result (λ made. AllAllowed made) }
     {
         Settings::at_modulo(EXTENDED_MODULO, window, credit, size, t1, n2, setup)
@@ -145,7 +145,7 @@ impl Settings {
         requires { IsModulo modulo }
         ensures exact { MatchResult result
             (λ made. made ≡ settings_of modulo window credit size t1 n2 setup)
-            (λ fault. FirstRefused modulo window credit size t1 n2 setup fault.field fault.value) }
+            (λ fault. IsFirstRefusedSetting modulo window credit size t1 n2 setup fault.field fault.value) }
         ensures allowed { IfOk result (λ made. AllAllowed made) }
     {
         Ok(Settings {

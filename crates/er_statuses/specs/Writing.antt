@@ -14,10 +14,10 @@ Writes text before now f g (Ok done) = Grew before now text × (f ≤ g)
 Writes text before now f g (Err failed) = GrewPart before now text × Rose f g
 
 -- an answer was given: its text was written, or a beginning of it where the sink failed, or nothing where memory ran out
-abbrev pub Gives : Answer → Option (List ℕ) → Option (List ℕ) → ℕ → ℕ → Result Status Stop → Type 0
-Gives a before now f g (Ok s) = (s.0 ≡ a.status) × Grew before now a.text × (f ≤ g)
-Gives a before now f g (Err stop.Sink) = GrewPart before now a.text × Rose f g
-Gives a before now f g (Err (stop.NoMemory want)) = Grew before now [] × (f ≤ g)
+abbrev pub GivesAnswer : Answer → Option (List ℕ) → Option (List ℕ) → ℕ → ℕ → Result Status Stop → Type 0
+GivesAnswer a before now f g (Ok s) = (s.0 ≡ a.status) × Grew before now a.text × (f ≤ g)
+GivesAnswer a before now f g (Err stop.Sink) = GrewPart before now a.text × Rose f g
+GivesAnswer a before now f g (Err (stop.NoMemory want)) = Grew before now [] × (f ≤ g)
 
 -- the last line of a run for which memory didn't suffice: written, or a beginning of it where the sink failed
 abbrev pub Exhausts : Option (List ℕ) → Option (List ℕ) → ℕ → ℕ → Status → Type 0

@@ -5,7 +5,7 @@ ghost use Rattle.er_base.specs.declared.no_memory.NoMemory.{NoMemory as Want};
 ghost use Rattle.er_statuses.specs.declared.stop.Stop.TheVariants as stop;
 ghost use Rattle.er_statuses.specs.LastLines.{usage_line, fault_line, why_word};
 ghost use Rattle.er_statuses.specs.Answers.{Answer};
-ghost use Rattle.er_statuses.specs.Writing.{Writes, Gives, Exhausts};
+ghost use Rattle.er_statuses.specs.Writing.{Writes, GivesAnswer, Exhausts};
 
 use crate::last_lines::{fault_line, why_octets};
 use crate::status::Status;
@@ -28,7 +28,7 @@ pub fn say<K: Sink>(text: &[u8], sink: &mut K) -> Result<(), Failed>
 
 /// Writes a text, and gives the status that goes with it.
 pub fn last<K: Sink>(status: u8, text: &[u8], sink: &mut K) -> Result<Status, Stop>
-    ensures gives { Gives (record { status = status; text = text.now }) (K.state sink.old).held (K.state sink.new).held
+    ensures gives { GivesAnswer (record { status = status; text = text.now }) (K.state sink.old).held (K.state sink.new).held
         (K.state sink.old).faults (K.state sink.new).faults result }
     ensures never { (want : Want) → result ≢ Err (stop.NoMemory want) }
     ensures sink_count { (K.state sink.old).faults ≤ (K.state sink.new).faults }
@@ -41,7 +41,7 @@ pub fn last<K: Sink>(status: u8, text: &[u8], sink: &mut K) -> Result<Status, St
 
 /// The words fit no command.
 pub fn misused<K: Sink>(sink: &mut K) -> Result<Status, Stop>
-    ensures gives { Gives (record { status = 1; text = usage_line }) (K.state sink.old).held (K.state sink.new).held
+    ensures gives { GivesAnswer (record { status = 1; text = usage_line }) (K.state sink.old).held (K.state sink.new).held
         (K.state sink.old).faults (K.state sink.new).faults result }
     ensures sink_count { (K.state sink.old).faults ≤ (K.state sink.new).faults }
 {
@@ -55,7 +55,7 @@ pub fn out_of_form<K: Sink>(
     why: Why,
     sink: &mut K,
 ) -> Result<Status, Stop>
-    ensures gives { Gives (record { status = 3; text = fault_line line (why_word why) }) (K.state sink.old).held
+    ensures gives { GivesAnswer (record { status = 3; text = fault_line line (why_word why) }) (K.state sink.old).held
         (K.state sink.new).held (K.state sink.old).faults (K.state sink.new).faults result }
     ensures sink_count { (K.state sink.old).faults ≤ (K.state sink.new).faults }
 {

@@ -1,9 +1,9 @@
 //! The octets of a file word.
 
 ghost use Rattle.std.specs.Prelude.{◌≡◌, ◌≤◌, [], ◌∷◌, IfOk, IfErr, OnOk};
-ghost use Rattle.link_trait.specs.Outside.{Grew, GrewPart, HasFile, Kept};
+ghost use Rattle.link_trait.specs.Outside.{Grew, GrewPart, HasFile, HasStayedAsTold};
 ghost use Rattle.er_statuses.specs.LastLines.{fetch_line};
-ghost use Rattle.er_statuses.specs.Writing.{Gives, EndsUnfetched};
+ghost use Rattle.er_statuses.specs.Writing.{GivesAnswer, EndsUnfetched};
 
 use crate::endings::last;
 use crate::last_lines::fetch_line;
@@ -14,7 +14,7 @@ use std::alloc::Global;
 
 // The fetch of that name failed.
 fn unfetched<K: Sink>(alloc: Global, name: &str, sink: &mut K) -> Result<Status, Stop>
-    ensures gives { Gives (record { status = 2; text = fetch_line name.now }) (K.state sink.old).held (K.state sink.new).held
+    ensures gives { GivesAnswer (record { status = 2; text = fetch_line name.now }) (K.state sink.old).held (K.state sink.new).held
         (K.state sink.old).faults (K.state sink.new).faults result }
     ensures sink_count { (K.state sink.old).faults ≤ (K.state sink.new).faults }
 {
@@ -36,7 +36,7 @@ pub fn fetched<F: Cabinet, K: Sink>(
     ensures asked { OnOk result (Grew (F.state cabinet.old).asked (F.state cabinet.new).asked (name.now ∷ [])) }
     ensures asked_for { IfErr result (λ ended. IfOk ended (λ _. Grew (F.state cabinet.old).asked (F.state cabinet.new).asked (name.now ∷ []))) }
     ensures part { GrewPart (F.state cabinet.old).asked (F.state cabinet.new).asked (name.now ∷ []) }
-    ensures files { Kept (F.state cabinet.old).files (F.state cabinet.new).files }
+    ensures files { HasStayedAsTold (F.state cabinet.old).files (F.state cabinet.new).files }
     ensures count { (F.state cabinet.old).faults ≤ (F.state cabinet.new).faults }
     ensures sink_count { (K.state sink.old).faults ≤ (K.state sink.new).faults }
 {

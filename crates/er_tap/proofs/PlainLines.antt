@@ -14,7 +14,7 @@ use Rattle.er_base.specs.LineTexts.{line_text, line_end, lines_text, AreSolid, I
 use Rattle.er_base.specs.Sides.{side_word}
 use Rattle.er_base.specs.Words.{words_of}
 use Rattle.er_tap.specs.declared.tap_step.TapStep.TheVariants.{Octets}
-use Rattle.er_tap.specs.Digits.{value_of, AreDigits}
+use Rattle.er_tap.specs.Digits.{value_of_hexadecimal_digit, AreDigits}
 use Rattle.er_tap.specs.Files.{line_says, lines_said}
 use Rattle.er_tap.specs.Ranges.{IsLink}
 use Rattle.er_tap.specs.Readings.{SaysFirst}
@@ -92,14 +92,14 @@ unfolding rows_of
 row_first before line lines words kept is = rw (kept, is) refl
 
 -- an octet with a value is none of those up to `#`
-above_sign : (octet : ℕ) → value_of octet < 16 → 35 < octet
-unfolding value_of
+above_sign : (octet : ℕ) → value_of_hexadecimal_digit octet < 16 → 35 < octet
+unfolding value_of_hexadecimal_digit
 above_sign octet h =
     elim (cases_lt 35 octet) [
       | inl above ↦ above
       | inr below ↦
-          let small : nat_lt (value_of octet) 16 ≡ false = agree_below_at (λ o. nat_lt (value_of o) 16) (λ _. false) 36 octet refl (omega arith) in
-          let other = lt-ltb (value_of octet) 16 h in
+          let small : nat_lt (value_of_hexadecimal_digit octet) 16 ≡ false = agree_below_at (λ o. nat_lt (value_of_hexadecimal_digit o) 16) (λ _. false) 36 octet refl (omega arith) in
+          let other = lt-ltb (value_of_hexadecimal_digit octet) 16 h in
           absurd (cc)
     ]
 
@@ -107,7 +107,7 @@ solid_digits : (digits : List ℕ) → AreDigits digits → AreSolid digits
 solid_digits [] all = tt
 solid_digits (x ∷ digits) all =
     let small = λ (v : ℕ). v < 16 in
-    (above_sign x (All-head small (value_of x) (map value_of digits) all), solid_digits digits (All-tail small (value_of x) (map value_of digits) all))
+    (above_sign x (All-head small (value_of_hexadecimal_digit x) (map value_of_hexadecimal_digit digits) all), solid_digits digits (All-tail small (value_of_hexadecimal_digit x) (map value_of_hexadecimal_digit digits) all))
 
 -- ---- what they say
 

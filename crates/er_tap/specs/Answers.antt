@@ -4,7 +4,7 @@ use Rattle.er_base.specs.declared.text_fault.TextFault.{TextFault}
 use Rattle.er_base.specs.declared.text_fault.TextFault.TheVariants.{At, NoMemory}
 
 -- the answer is what the file says, but for want of memory
-abbrev pub Answers : {A : Type 0} → Result A TextFault → Result A TextFault → Type 0
-Answers (Ok value) said = said ≡ Ok value
-Answers (Err (At line why)) said = said ≡ Err (At line why)
-Answers (Err (NoMemory want)) said = Unit {0}
+abbrev pub AnswersAsTapSays : {A : Type 0} → Result A TextFault → Result A TextFault → Type 0
+AnswersAsTapSays (Ok value) said = said ≡ Ok value
+AnswersAsTapSays (Err (At line why)) said = said ≡ Err (At line why)
+AnswersAsTapSays (Err (NoMemory want)) said = Unit {0}

@@ -21,14 +21,14 @@ unfoldable pub line_says : List (List ℕ) → Result TapStep Why
 line_says [] = Err Word
 line_says (name ∷ words) = line_read tap_table name words >>= λ read. Ok (step_made read.0 read.1)
 
-abbrev pub with_line : TapLine → Result (List TapLine) TextFault → Result (List TapLine) TextFault
-with_line line (Err fault) = Err fault
-with_line line (Ok lines) = Ok (line ∷ lines)
+abbrev pub tap_lines_with_first : TapLine → Result (List TapLine) TextFault → Result (List TapLine) TextFault
+tap_lines_with_first line (Err fault) = Err fault
+tap_lines_with_first line (Ok lines) = Ok (line ∷ lines)
 
 -- a line before those that follow it: the first faulty line counts
 abbrev pub before_rest : ℕ → Result TapStep Why → Result (List TapLine) TextFault → Result (List TapLine) TextFault
 before_rest number (Err why) rest = Err (At number why)
-before_rest number (Ok said) rest = with_line (record { line = number; step = said }) rest
+before_rest number (Ok said) rest = tap_lines_with_first (record { line = number; step = said }) rest
 
 -- all lines behind the header
 unfoldable pub lines_said : List Row → Result (List TapLine) TextFault

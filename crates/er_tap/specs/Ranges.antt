@@ -19,13 +19,13 @@ abbrev pub IsMoment : ℕ → Type 0
 IsMoment n = n ≤ 1000000000000000
 
 -- at most 4,096 octets
-abbrev pub IsText : List ℕ → Type 0
-IsText text = (length text ≤ 4096) × AreOctets text
+abbrev pub IsTapLineText : List ℕ → Type 0
+IsTapLineText text = (length text ≤ 4096) × AreOctets text
 
 -- what a line says, its numbers in their ranges
 abbrev pub IsInRange : TapStep → Type 0
 IsInRange (Link n engine rbc at) = IsLink n × (IsEtcsNumber engine × (IsEtcsNumber rbc × IsMoment at))
-IsInRange (Octets n side text) = IsLink n × IsText text
+IsInRange (Octets n side text) = IsLink n × IsTapLineText text
 
 abbrev pub AreInRange : List TapLine → Type 0
 AreInRange [] = Unit {0}

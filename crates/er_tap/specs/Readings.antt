@@ -12,7 +12,7 @@ use Rattle.er_base.specs.LineFaults.{demand, values_of}
 use Rattle.er_tap.specs.declared.line_name.LineName.{LineName}
 use Rattle.er_tap.specs.declared.tap_step.TapStep.{TapStep}
 use Rattle.er_tap.specs.declared.tap_line.TapLine.{TapLine}
-use Rattle.er_tap.specs.Files.{with_line, lines_said}
+use Rattle.er_tap.specs.Files.{tap_lines_with_first, lines_said}
 use Rattle.er_tap.specs.Ranges.{IsInRange}
 use Rattle.er_tap.specs.Table.{argument_of, line_kinds, step_made}
 
@@ -25,9 +25,9 @@ abbrev pub step_of : LineName → List (List ℕ) → Result TapStep Why
 step_of name words = demand (length words == length (line_kinds name)) why.Count >>= λ _. step_said name words
 
 -- where the text is faulty, where its line was
-abbrev pub fault_at : ℕ → LineFault → TextFault
-fault_at number (line.Refused why) = text.At number why
-fault_at number (line.NoMemory want) = text.NoMemory want
+abbrev pub tap_text_fault : ℕ → LineFault → TextFault
+tap_text_fault number (line.Refused why) = text.At number why
+tap_text_fault number (line.NoMemory want) = text.NoMemory want
 
 -- what is left of a tap, behind so many lines
 pub record KRest : Type 0 where
@@ -36,7 +36,7 @@ pub record KRest : Type 0 where
 
 -- the first line that isn't skipped, of what was left, says this, and this is left behind it
 pub record SaysFirst (old : KRest) (line : TapLine) (new : KRest) : Type 0 where
-  pub said : lines_said (rows_of old.before (lines_of old.text)) ≡ with_line line (lines_said (rows_of new.before (lines_of new.text)))
+  pub said : lines_said (rows_of old.before (lines_of old.text)) ≡ tap_lines_with_first line (lines_said (rows_of new.before (lines_of new.text)))
   pub range : IsInRange line.step
   pub less : length new.text < length old.text
 

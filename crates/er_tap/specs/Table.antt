@@ -12,29 +12,29 @@ use Rattle.er_tap.specs.declared.tap_step.TapStep.{TapStep}
 use Rattle.er_tap.specs.declared.tap_step.TapStep.TheVariants as step
 
 -- the kinds of arguments: a decimal number from a least to a greatest one, an end, HEX of at most 4,096 octets
-pub data Kind : Type 0 where
-  Decimal : ℕ → ℕ → Kind
-  End : Kind
-  Hex : Kind
+pub data TapArgumentKind : Type 0 where
+  Decimal : ℕ → ℕ → TapArgumentKind
+  End : TapArgumentKind
+  Hex : TapArgumentKind
 
 -- N, the number of a link; E and R, ETCS numbers; MOMENT, at most 10 ^ 15 milliseconds
-abbrev pub link_number : Kind
+abbrev pub link_number : TapArgumentKind
 link_number = Decimal 1 64
 
-abbrev pub etcs_number : Kind
+abbrev pub etcs_number : TapArgumentKind
 etcs_number = Decimal 0 16777215
 
-abbrev pub moment : Kind
+abbrev pub moment : TapArgumentKind
 moment = Decimal 0 1000000000000000
 
 -- what an argument of a kind means
-abbrev pub Meaning : Kind → Type 0
+abbrev pub Meaning : TapArgumentKind → Type 0
 Meaning (Decimal least most) = ℕ
 Meaning End = Side
 Meaning Hex = List ℕ
 
 -- a word, read as an argument of a kind
-abbrev pub argument_of : (kind : Kind) → List ℕ → Result (Meaning kind) Why
+abbrev pub argument_of : (kind : TapArgumentKind) → List ℕ → Result (Meaning kind) Why
 argument_of (Decimal least most) word = number_argument least most word
 argument_of End word = side_argument word
 argument_of Hex word = text_argument 4096 word
@@ -53,7 +53,7 @@ abbrev pub line_named : List ℕ → Option LineName
 line_named word = find (λ name. bytes_eq word (line_word name)) all_lines
 
 -- the words behind that of the line: link N E R MOMENT, octets N S HEX
-abbrev pub line_kinds : LineName → List Kind
+abbrev pub line_kinds : LineName → List TapArgumentKind
 line_kinds Link = link_number ∷ etcs_number ∷ etcs_number ∷ moment ∷ []
 line_kinds Octets = link_number ∷ End ∷ Hex ∷ []
 
@@ -63,6 +63,6 @@ step_made Link (n, (e, (r, (at, end)))) = step.Link n e r at
 step_made Octets (n, (side, (hex, end))) = step.Octets n side hex
 
 -- each line may stand anywhere
-abbrev pub tap_table : Table LineName Kind Meaning
+abbrev pub tap_table : Table LineName TapArgumentKind Meaning
 tap_table =
     record { line_named = line_named; kinds_of = line_kinds; read = argument_of; is_of_level = λ name. true; is_late = λ name. false }

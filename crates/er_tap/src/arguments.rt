@@ -2,8 +2,8 @@
 
 ghost use Rattle.std.specs.Prelude.{◌≡◌, IfOk};
 ghost use Rattle.er_base.specs.Arguments.{number_argument, text_argument};
-ghost use Rattle.er_base.specs.Rows.{Gives};
-ghost use Rattle.er_tap.specs.Ranges.{IsLink, IsEtcsNumber, IsMoment, IsText};
+ghost use Rattle.er_base.specs.Rows.{AnswersAsWordsSay};
+ghost use Rattle.er_tap.specs.Ranges.{IsLink, IsEtcsNumber, IsMoment, IsTapLineText};
 
 use er_base::{LineFault, MOST_ETCS_NUMBER, MOST_MOMENT, Octets, Why, read_number, read_text};
 use std::alloc::Global;
@@ -39,8 +39,8 @@ pub fn read_moment(word: &[u8]) -> Result<u64, Why>
 
 /// Octets, at most 4,096.
 pub fn read_octets(alloc: Global, word: &[u8]) -> Result<Octets, LineFault>
-    ensures value { Gives result (text_argument 4096 word.now) }
-    ensures range { IfOk result (λ t. IsText t) }
+    ensures value { AnswersAsWordsSay result (text_argument 4096 word.now) }
+    ensures range { IfOk result (λ t. IsTapLineText t) }
 {
     read_text(alloc, word, MOST_TEXT_OCTETS)
 }

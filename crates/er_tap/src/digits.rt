@@ -15,7 +15,7 @@ const NO_VALUE: u8 = 0xff;
 
 // The value of a digit of either case.
 fn value_of(digit: u8) -> u8
-    ensures { result ≡ digits_model.value_of digit }
+    ensures { result ≡ digits_model.value_of_hexadecimal_digit digit }
 {
     let number = digit.wrapping_sub(b'0');
     let letter = (digit | 0x20).wrapping_sub(b'a');
@@ -30,7 +30,7 @@ fn value_of(digit: u8) -> u8
 
 // The values of a block of digits.
 fn values_of(digits: &[u8; 32]) -> [u8; 32]
-    ensures { result ≡ map digits_model.value_of digits.now }
+    ensures { result ≡ map digits_model.value_of_hexadecimal_digit digits.now }
 {
     let mut values = [0; 32];
     'digits: for place in 0..32 {
@@ -72,7 +72,7 @@ fn are_values(values: &[u8; 32]) -> bool
 
 // The octets of a block of values.
 fn joined(values: &[u8; 32]) -> [u8; 16]
-    ensures { digits_model.AreValues values.now → result ≡ digits_model.joined values.now }
+    ensures { digits_model.AreValues values.now → result ≡ digits_model.octets_of_digit_pairs values.now }
 {
     let mut octets = [0; 16];
     'octets: for place in 0..16 {

@@ -2,11 +2,11 @@
 
 ghost use Rattle.std.specs.Prelude.{◌≡◌, [], map, IfOk, IfErr, MatchOption};
 ghost use Rattle.er_base.specs.Lines.{lines_of, rows_of};
-ghost use Rattle.er_base.specs.Rows.{Gives};
-ghost use Rattle.er_tap.specs.Answers.{Answers};
+ghost use Rattle.er_base.specs.Rows.{AnswersAsWordsSay};
+ghost use Rattle.er_tap.specs.Answers.{AnswersAsTapSays};
 ghost use Rattle.er_tap.specs.Files.{line_says, lines_said, is_header, tap_from, tap_of};
 ghost use Rattle.er_tap.specs.Ranges.{IsInRange, CanBeRead};
-ghost use Rattle.er_tap.specs.Readings.{fault_at, RefusesLines, SaysFirst};
+ghost use Rattle.er_tap.specs.Readings.{tap_text_fault, RefusesLines, SaysFirst};
 
 use crate::line_name::LineName;
 use crate::plain_line::plain_line;
@@ -20,7 +20,7 @@ use er_base::{LineFault, TextFault, Why};
 use std::alloc::Global;
 
 fn at(line: usize, fault: LineFault) -> TextFault
-    ensures { result ≡ fault_at line fault }
+    ensures { result ≡ tap_text_fault line fault }
 {
     match fault {
         LineFault::Refused(why) => TextFault::At { line, why },
@@ -45,7 +45,7 @@ fn is_header(words: &[&[u8]]) -> bool
 // What a line behind the header says, from its words.
 #[tactic(auto, unfolding(crate::specs::Files::line_says))]
 fn read_line(alloc: Global, words: &[&[u8]]) -> Result<TapStep, LineFault>
-    ensures said { Gives result (line_says (map (λ w. w.now) words.now)) }
+    ensures said { AnswersAsWordsSay result (line_says (map (λ w. w.now) words.now)) }
     ensures range { IfOk result (λ step. IsInRange step) }
 {
     let Some((first, arguments)) = words.split_first() else {
@@ -88,7 +88,7 @@ fn next_line(alloc: Global, rest: &mut Rest<'_>) -> Result<Option<TapLine>, Text
 
 // The tap of the lines behind the header.
 fn read_behind(alloc: Global, rest: &mut Rest<'_>) -> Result<Tap, TextFault>
-    ensures exact { Answers result (tap_from (lines_said (rows_of rest.old.before (lines_of rest.old.text)))) }
+    ensures exact { AnswersAsTapSays result (tap_from (lines_said (rows_of rest.old.before (lines_of rest.old.text)))) }
     ensures range { IfOk result (λ tap. CanBeRead tap) }
 {
     let mut lines = Vec::new(alloc);
@@ -112,7 +112,7 @@ fn read_behind(alloc: Global, rest: &mut Rest<'_>) -> Result<Tap, TextFault>
 /// and one without a line that isn't skipped is `Header` at line 1.
 #[tactic(auto, unfolding(crate::specs::Files::tap_of))]
 pub fn read(alloc: Global, bytes: &[u8]) -> Result<Tap, TextFault>
-    ensures exact { Answers result (tap_of bytes.now) }
+    ensures exact { AnswersAsTapSays result (tap_of bytes.now) }
     ensures range { IfOk result (λ tap. CanBeRead tap) }
 {
     let Some(mut rest) = Rest::of(bytes) else {

@@ -1,7 +1,7 @@
 //! The lines behind the header: each tests how many words stand behind its first one, and reads them.
 
 ghost use Rattle.std.specs.Prelude.{◌≡◌, map, IfOk};
-ghost use Rattle.er_base.specs.Rows.{Gives};
+ghost use Rattle.er_base.specs.Rows.{AnswersAsWordsSay};
 ghost use Rattle.er_tap.specs.Ranges.{IsInRange};
 ghost use Rattle.er_tap.specs.Readings.{step_of};
 
@@ -12,7 +12,7 @@ use er_base::{LineFault, Why, read_side};
 use std::alloc::Global;
 
 fn link(words: &[&[u8]]) -> Result<TapStep, LineFault>
-    ensures step { Gives result (step_of LineName.Link (map (λ w. w.now) words.now)) }
+    ensures step { AnswersAsWordsSay result (step_of LineName.Link (map (λ w. w.now) words.now)) }
     ensures range { IfOk result (λ step. IsInRange step) }
 {
     let [link, engine, rbc, moment] = words else {
@@ -27,7 +27,7 @@ fn link(words: &[&[u8]]) -> Result<TapStep, LineFault>
 }
 
 fn octets(alloc: Global, words: &[&[u8]]) -> Result<TapStep, LineFault>
-    ensures step { Gives result (step_of LineName.Octets (map (λ w. w.now) words.now)) }
+    ensures step { AnswersAsWordsSay result (step_of LineName.Octets (map (λ w. w.now) words.now)) }
     ensures range { IfOk result (λ step. IsInRange step) }
 {
     let [link, side, text] = words else {
@@ -42,7 +42,7 @@ fn octets(alloc: Global, words: &[&[u8]]) -> Result<TapStep, LineFault>
 
 /// What a line says whose first word names it, from the words behind it.
 pub fn read_step(alloc: Global, name: LineName, words: &[&[u8]]) -> Result<TapStep, LineFault>
-    ensures step { Gives result (step_of name (map (λ w. w.now) words.now)) }
+    ensures step { AnswersAsWordsSay result (step_of name (map (λ w. w.now) words.now)) }
     ensures range { IfOk result (λ step. IsInRange step) }
 {
     match name {

@@ -10,10 +10,10 @@ use Rattle.er_base.specs.Rows.{Refuses}
 use Rattle.er_trace.specs.declared.entry.Entry.{Entry}
 use Rattle.er_trace.specs.declared.event.Event.{Event}
 use Rattle.er_trace.specs.declared.said.Said.TheVariants.{Happens, Tells}
-use Rattle.er_trace.specs.Answers.{Answers}
+use Rattle.er_trace.specs.Answers.{AnswersAsTraceSays}
 use Rattle.er_trace.specs.Files.{with_entry, line_says, entries_of}
-use Rattle.er_trace.specs.Readings.{fault_at}
-use Rattle.er_trace.specs.Texts.{IsReadable, AreReadable}
+use Rattle.er_trace.specs.Readings.{trace_text_fault}
+use Rattle.er_trace.specs.Texts.{IsReadableEntry, AreReadableEntries}
 
 abbrev pub behind : List Entry → Result (List Entry) TextFault → Result (List Entry) TextFault
 behind front (Err fault) = Err fault
@@ -49,7 +49,7 @@ unfolding entries_of
 one_refused front why row rows e = rw e refl
 
 pub refused_answers : (front : List Entry) (fault : LineFault) (row : Row) (rows : List Row) (read : Result (List Entry) TextFault)
-    → Refuses fault (line_says row.words) → behind front (entries_of (row ∷ rows)) ≡ read → Answers (Err (fault_at row.number fault)) read
+    → Refuses fault (line_says row.words) → behind front (entries_of (row ∷ rows)) ≡ read → AnswersAsTraceSays (Err (trace_text_fault row.number fault)) read
 refused_answers front (line.Refused why) row rows read refused all = sym all ∙ one_refused front why row rows refused
 refused_answers front (line.NoMemory want) row rows read refused all = tt
 
@@ -59,6 +59,6 @@ unfolding entries_of
 none_left front read all = sym all ∙ ap (λ (l : List Entry). Ok l) (append-nil front)
 
 -- one event more that can be read
-pub readable_more : (front : List Entry) (entry : Entry) → AreReadable front → IsReadable entry → AreReadable (front ++ entry ∷ [])
+pub readable_more : (front : List Entry) (entry : Entry) → AreReadableEntries front → IsReadableEntry entry → AreReadableEntries (front ++ entry ∷ [])
 readable_more [] entry h k = (k, tt)
 readable_more (first ∷ front) entry h k = (h.0, readable_more front entry h.1 k)

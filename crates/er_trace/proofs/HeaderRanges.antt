@@ -3,7 +3,7 @@ use Rattle.std.proofs.Common.{◌≡◌, ℕ, false, Some, None, refl, inl, inr}
 use Rattle.std.proofs.lemmas.Bool.{cases_Bool}
 use Rattle.er_settings.specs.declared.setting_name.SettingName.{SettingName}
 use Rattle.er_settings.specs.declared.setting_name.SettingName.TheVariants.{Window, Credit, Size, T1, N2, Setup}
-use Rattle.er_settings.specs.Ranges.{is_allowed, Allows, AllAllowed, FirstRefused, settings_of}
+use Rattle.er_settings.specs.Ranges.{is_allowed, Allows, AllAllowed, IsFirstRefusedSetting, settings_of}
 use Rattle.er_trace.specs.Headers.{settings_allowed}
 
 pub allowed_some : (w c z t n u : ℕ) → AllAllowed (settings_of 8 w c z t n u) → settings_allowed w c z t n u ≡ Some (settings_of 8 w c z t n u)
@@ -18,7 +18,7 @@ isnt name v refused =
       | inr f ↦ f
     ]
 
-pub refused_none : (w c z t n u : ℕ) (name : SettingName) (v : ℕ) → FirstRefused 8 w c z t n u name v → settings_allowed w c z t n u ≡ None
+pub refused_none : (w c z t n u : ℕ) (name : SettingName) (v : ℕ) → IsFirstRefusedSetting 8 w c z t n u name v → settings_allowed w c z t n u ≡ None
 unfolding settings_allowed
 refused_none w c z t n u Window v h = rw (isnt Window w (rw h.1 at h.0)) refl
 refused_none w c z t n u Credit v h = rw (h.0, isnt Credit c (rw h.2 at h.1)) refl

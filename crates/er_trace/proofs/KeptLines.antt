@@ -17,7 +17,7 @@ use Rattle.er_trace.specs.declared.outcome_name.OutcomeName.{OutcomeName}
 use Rattle.er_trace.specs.declared.outcome_name.OutcomeName.TheVariants as outcome
 use Rattle.er_trace.specs.declared.refusal_name.RefusalName.{RefusalName}
 use Rattle.er_trace.specs.declared.refusal_name.RefusalName.TheVariants as refusal
-use Rattle.er_trace.specs.Files.{event_line_kinds, event_table, outcome_table, refusal_table, event_line, refusal_line, outcome_line, line_says, behind_header, trace_of}
+use Rattle.er_trace.specs.Files.{event_line_kinds, event_table, outcome_table, refusal_table, event_line, refusal_line, outcome_line_check, line_says, behind_header, trace_of}
 use Rattle.er_trace.specs.Headers.{settings_spelled, header_settings}
 
 module _ {Line Kind : Type 0} {Value : Kind → Type 0} (table : Table Line Kind Value) where
@@ -105,8 +105,8 @@ unfolding refusal_line
 kept_refusal conn [] = refl
 kept_refusal conn (name ∷ words) = rw (six_tell refusal_table few_refusals name conn words) refl
 
-kept_outcome : (words : List (List ℕ)) → outcome_line (take 9 words) ≡ outcome_line words
-unfolding outcome_line
+kept_outcome : (words : List (List ℕ)) → outcome_line_check (take 9 words) ≡ outcome_line_check words
+unfolding outcome_line_check
 kept_outcome [] = refl
 kept_outcome (a ∷ []) = refl
 kept_outcome (a ∷ name ∷ words) = rw (kept_refusal a words, seven_tell outcome_table few_outcomes name a words) refl

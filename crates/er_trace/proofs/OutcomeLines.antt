@@ -4,14 +4,14 @@ use Rattle.std.specs.Str.{bytes_eq}
 use Rattle.std.proofs.lemmas.List.{length-map}
 use Rattle.er_base.specs.declared.why.Why.{Why}
 use Rattle.er_base.specs.declared.line_fault.LineFault.{LineFault}
-use Rattle.er_base.specs.Rows.{Gives}
+use Rattle.er_base.specs.Rows.{AnswersAsWordsSay}
 use Rattle.er_base.specs.Arguments.{◌>>=◌, number_argument, text_argument, number16_argument}
 use Rattle.er_base.specs.LineFaults.{Table, Values, values_of, line_read}
 use Rattle.er_trace.specs.declared.argument_kind.ArgumentKind.{ArgumentKind}
 use Rattle.er_trace.specs.declared.argument_kind.ArgumentKind.TheVariants.{Decimal, Hex, Number16, Releaser}
 use Rattle.er_trace.specs.declared.outcome_name.OutcomeName.{OutcomeName}
 use Rattle.er_trace.specs.declared.refusal_name.RefusalName.{RefusalName}
-use Rattle.er_trace.specs.Files.{refusal_table, outcome_table, refusal_line, outcome_line}
+use Rattle.er_trace.specs.Files.{refusal_table, outcome_table, refusal_line, outcome_line_check}
 use Rattle.er_trace.specs.Readings.{are_arguments}
 use Rattle.er_trace.specs.Table.{any_number, Meaning, argument_of, releaser_argument, outcome_named, outcome_kinds, refusal_named, refusal_kinds}
 
@@ -75,8 +75,8 @@ refusal_is name conn n word words named counted read =
 
 pub outcome_is : (name : OutcomeName) (conn : List ℕ) (n : ℕ) (word : List ℕ) (words : List (List ℕ)) → bytes_eq word (codes "refused") ≡ false
     → outcome_named word ≡ Some name → length words ≡ length (outcome_kinds name) → number_argument 0 18446744073709551615 conn ≡ Ok n
-    → outcome_line (conn ∷ word ∷ words) ≡ are_arguments (outcome_kinds name) words
-unfolding outcome_line
+    → outcome_line_check (conn ∷ word ∷ words) ≡ are_arguments (outcome_kinds name) words
+unfolding outcome_line_check
 outcome_is name conn n word words other named counted read =
     rw other
     (ap (λ r. dropped r) (counted_read outcome_table word (conn ∷ words) name named (ap suc counted) refl refl)
@@ -89,24 +89,24 @@ texts words = map (λ w. w.now) words
 pub refusal_gives : (r : Result (Unit {0}) LineFault) (name : RefusalName) (conn : List ℕ) (n : ℕ) (word : Bor (List ℕ)) (arguments words : List (Bor (List ℕ)))
     (kinds same : List ArgumentKind) → words ≡ word ∷ arguments → Some name ≡ refusal_named word.now → length arguments ≡ length kinds
     → kinds ≡ refusal_kinds name → same ≡ refusal_kinds name → Ok n ≡ number_argument 0 18446744073709551615 conn
-    → Gives r (are_arguments same (texts arguments)) → Gives r (refusal_line conn (texts words))
+    → AnswersAsWordsSay r (are_arguments same (texts arguments)) → AnswersAsWordsSay r (refusal_line conn (texts words))
 refusal_gives r name conn n word arguments words kinds same split named counted is also read given =
     let long : length (texts arguments) ≡ length (refusal_kinds name) = length-map arguments (λ w. w.now) ∙ counted ∙ ap length is in
     let line : refusal_line conn (texts words) ≡ are_arguments (refusal_kinds name) (texts arguments) =
     ap (λ (ws : List (Bor (List ℕ))). refusal_line conn (texts ws)) split
     ∙ refusal_is name conn n word.now (texts arguments) (sym named) long (sym read) in
-    subst (λ (said : Result (Unit {0}) Why). Gives r said) (sym line)
-    (subst (λ (k : List ArgumentKind). Gives r (are_arguments k (texts arguments))) also given)
+    subst (λ (said : Result (Unit {0}) Why). AnswersAsWordsSay r said) (sym line)
+    (subst (λ (k : List ArgumentKind). AnswersAsWordsSay r (are_arguments k (texts arguments))) also given)
 
 pub outcome_gives : (r : Result (Unit {0}) LineFault) (name : OutcomeName) (conn : Bor (List ℕ)) (n : ℕ) (word : Bor (List ℕ)) (arguments behind words : List (Bor (List ℕ)))
     (kinds same : List ArgumentKind) → words ≡ conn ∷ behind → behind ≡ word ∷ arguments → bytes_eq word.now (codes "refused") ≡ false
     → Some name ≡ outcome_named word.now → length arguments ≡ length kinds
     → kinds ≡ outcome_kinds name → same ≡ outcome_kinds name → Ok n ≡ number_argument 0 18446744073709551615 conn.now
-    → Gives r (are_arguments same (texts arguments)) → Gives r (outcome_line (texts words))
+    → AnswersAsWordsSay r (are_arguments same (texts arguments)) → AnswersAsWordsSay r (outcome_line_check (texts words))
 outcome_gives r name conn n word arguments behind words kinds same first split other named counted is also read given =
     let long : length (texts arguments) ≡ length (outcome_kinds name) = length-map arguments (λ w. w.now) ∙ counted ∙ ap length is in
-    let line : outcome_line (texts words) ≡ are_arguments (outcome_kinds name) (texts arguments) =
-    ap (λ (ws : List (Bor (List ℕ))). outcome_line (texts ws)) (first ∙ ap (λ (ws : List (Bor (List ℕ))). conn ∷ ws) split)
+    let line : outcome_line_check (texts words) ≡ are_arguments (outcome_kinds name) (texts arguments) =
+    ap (λ (ws : List (Bor (List ℕ))). outcome_line_check (texts ws)) (first ∙ ap (λ (ws : List (Bor (List ℕ))). conn ∷ ws) split)
     ∙ outcome_is name conn.now n word.now (texts arguments) other (sym named) long (sym read) in
-    subst (λ (said : Result (Unit {0}) Why). Gives r said) (sym line)
-    (subst (λ (k : List ArgumentKind). Gives r (are_arguments k (texts arguments))) also given)
+    subst (λ (said : Result (Unit {0}) Why). AnswersAsWordsSay r said) (sym line)
+    (subst (λ (k : List ArgumentKind). AnswersAsWordsSay r (are_arguments k (texts arguments))) also given)

@@ -11,11 +11,11 @@ use Rattle.er_settings.specs.Ranges.{AllAllowed, settings_of}
 use Rattle.er_trace.specs.declared.event.Event.{Event}
 use Rattle.er_trace.specs.declared.event.Event.TheVariants.{Call, Answer, Octets, Send, Take, Release, Tick, Ended, Fault, Stalled, Full, Unserved}
 use Rattle.er_trace.specs.declared.said.Said.TheVariants.{Happens, Tells}
-use Rattle.er_trace.specs.Files.{event_line, refusal_line, outcome_line, line_says, entries_of, trace_of}
+use Rattle.er_trace.specs.Files.{event_line, refusal_line, outcome_line_check, line_says, entries_of, trace_of}
 use Rattle.er_trace.specs.Headers.{settings_allowed, settings_of_six, settings_spelled, header_settings}
 use Rattle.er_trace.specs.Laws as laws_of
-use Rattle.er_trace.specs.Laws.{Printed, Told, printed_words, CanBePrinted, AllCanBePrinted, text_printed, entries_printed, PrintedIsRead}
-use Rattle.er_trace.specs.Outcomes.{Outcome}
+use Rattle.er_trace.specs.Laws.{PrintedLine, Told, printed_words, CanBePrinted, AllCanBePrinted, text_printed, entries_printed, PrintedIsRead}
+use Rattle.er_trace.specs.Outcomes.{TraceOutcome}
 use Rattle.er_trace.specs.Outcomes as of
 use Rattle.er_trace.specs.Ranges.{IsMoment, IsInRange}
 use Rattle.er_trace.specs.Table.{releaser_word, releaser_argument}
@@ -107,8 +107,8 @@ releaser_read : (by_peer : Bool) → releaser_argument (releaser_word by_peer) �
 releaser_read true = refl
 releaser_read false = refl
 
-outcome_read : (laws : Laws) (conn : ℕ) (outcome : Outcome) → conn < 2 ^ 64 → IsTellable outcome → line_says (outcome_words conn outcome) ≡ Ok Tells
-unfolding line_says outcome_line refusal_line
+outcome_read : (laws : Laws) (conn : ℕ) (outcome : TraceOutcome) → conn < 2 ^ 64 → IsTellable outcome → line_says (outcome_words conn outcome) ≡ Ok Tells
+unfolding line_says outcome_line_check refusal_line
 outcome_read laws conn (of.Connected peer) k g =
     rw (laws.words.number 0 18446744073709551615 conn (omega arith) (omega (arith, k)) k, laws.words.number 0 16777215 peer (omega arith) (omega (arith, g)) (omega (arith, g))) refl
 outcome_read laws conn (of.Accepted octets) k g =
@@ -130,7 +130,7 @@ outcome_read laws conn (of.Released r) k g =
 outcome_read laws conn (of.Octets octets) k g =
     rw (laws.words.number 0 18446744073709551615 conn (omega arith) (omega (arith, k)) k, laws.words.text 4096 octets g.1 g.0) refl
 
-outcome_is_line : (laws : Laws) (conn : ℕ) (outcome : Outcome) → conn < 2 ^ 64 → IsTellable outcome → IsLine (outcome_words conn outcome)
+outcome_is_line : (laws : Laws) (conn : ℕ) (outcome : TraceOutcome) → conn < 2 ^ 64 → IsTellable outcome → IsLine (outcome_words conn outcome)
 outcome_is_line laws conn (of.Connected peer) k g =
     (solid_codes (codes "<") refl refl, (laws.words.number_word conn k, (solid_codes (codes "connected") refl refl, (laws.words.number_word peer (omega (arith, g)), tt))))
 outcome_is_line laws conn (of.Accepted octets) k g =
@@ -154,7 +154,7 @@ outcome_is_line laws conn (of.Octets octets) k g =
 
 -- ---- the lines behind the header
 
-lines_read : (laws : Laws) (before : ℕ) (lines : List Printed) → AllCanBePrinted lines
+lines_read : (laws : Laws) (before : ℕ) (lines : List PrintedLine) → AllCanBePrinted lines
     → entries_of (rows_from before (map printed_words lines)) ≡ Ok (entries_printed before lines)
 unfolding entries_of
 lines_read laws before [] h = refl
@@ -163,7 +163,7 @@ lines_read laws before (laws_of.Event entry ∷ lines) h =
 lines_read laws before (Told conn outcome ∷ lines) h =
     rw (outcome_read laws conn outcome h.0.0 h.0.1, lines_read laws (before + 1) lines h.1) refl
 
-all_lines : (laws : Laws) (lines : List Printed) → AllCanBePrinted lines → AreLines (map printed_words lines)
+all_lines : (laws : Laws) (lines : List PrintedLine) → AllCanBePrinted lines → AreLines (map printed_words lines)
 all_lines laws [] h = tt
 all_lines laws (laws_of.Event entry ∷ lines) h =
     (event_is_line laws entry.moment entry.conn entry.event h.0.moment h.0.conn h.0.event, all_lines laws lines h.1)

@@ -4,7 +4,7 @@ use Rattle.er_base.specs.declared.text_fault.TextFault.{TextFault}
 use Rattle.er_base.specs.declared.text_fault.TextFault.TheVariants.{At, NoMemory}
 
 -- the answer is what the file says, but for want of memory
-abbrev pub Answers : {A : Type 0} → Result A TextFault → Result A TextFault → Type 0
-Answers (Ok value) said = said ≡ Ok value
-Answers (Err (At line why)) said = said ≡ Err (At line why)
-Answers (Err (NoMemory want)) said = Unit {0}
+abbrev pub AnswersAsTraceSays : {A : Type 0} → Result A TextFault → Result A TextFault → Type 0
+AnswersAsTraceSays (Ok value) said = said ≡ Ok value
+AnswersAsTraceSays (Err (At line why)) said = said ≡ Err (At line why)
+AnswersAsTraceSays (Err (NoMemory want)) said = Unit {0}

@@ -58,10 +58,10 @@ unfoldable pub refusal_line : List ℕ → List (List ℕ) → Result (Unit {0})
 refusal_line conn [] = Err Count
 refusal_line conn (name ∷ words) = line_read refusal_table name (conn ∷ words) >>= λ read. Ok tt
 
-unfoldable pub outcome_line : List (List ℕ) → Result (Unit {0}) Why
-outcome_line [] = Err Count
-outcome_line (conn ∷ []) = Err Count
-outcome_line (conn ∷ name ∷ words) =
+unfoldable pub outcome_line_check : List (List ℕ) → Result (Unit {0}) Why
+outcome_line_check [] = Err Count
+outcome_line_check (conn ∷ []) = Err Count
+outcome_line_check (conn ∷ name ∷ words) =
     if bytes_eq name (codes "refused") then refusal_line conn words
     else (line_read outcome_table name (conn ∷ words) >>= λ read. Ok tt)
 
@@ -72,7 +72,7 @@ unfoldable pub line_says : List (List ℕ) → Result Said Why
 line_says [] = Err Word
 line_says (mark ∷ words) =
     if bytes_eq mark (codes ">") then event_line words
-    else if bytes_eq mark (codes "<") then (outcome_line words >>= λ read. Ok Tells)
+    else if bytes_eq mark (codes "<") then (outcome_line_check words >>= λ read. Ok Tells)
     else Err Word
 
 -- an event before those that follow it

@@ -4,27 +4,27 @@ use Rattle.er_base.specs.declared.release.Release.{Release}
 use Rattle.er_trace.specs.declared.outcome.Outcome.{Outcome as Lent}
 use Rattle.er_trace.specs.declared.outcome.Outcome.TheVariants as lent
 
-pub data Outcome : Type 0 where
-  Connected : (peer : ℕ) → Outcome
-  Accepted : (text : List ℕ) → Outcome
-  Taken : (text : List ℕ) → Outcome
-  Empty : Outcome
-  RefusedReleased : Release → Outcome
-  RefusedNotConnected : Outcome
-  RefusedLength : (octets : ℕ) → Outcome
-  RefusedFull : (waiting : ℕ) → Outcome
-  Released : Release → Outcome
-  Octets : (octets : List ℕ) → Outcome
+pub data TraceOutcome : Type 0 where
+  Connected : (peer : ℕ) → TraceOutcome
+  Accepted : (text : List ℕ) → TraceOutcome
+  Taken : (text : List ℕ) → TraceOutcome
+  Empty : TraceOutcome
+  RefusedReleased : Release → TraceOutcome
+  RefusedNotConnected : TraceOutcome
+  RefusedLength : (octets : ℕ) → TraceOutcome
+  RefusedFull : (waiting : ℕ) → TraceOutcome
+  Released : Release → TraceOutcome
+  Octets : (octets : List ℕ) → TraceOutcome
 
 -- the outcome that the code has, with octets that it lends
-abbrev pub seen : Lent → Outcome
-seen (lent.Connected peer) = Connected peer
-seen (lent.Accepted text) = Accepted text.now
-seen (lent.Taken text) = Taken text.now
-seen lent.Empty = Empty
-seen (lent.RefusedReleased release) = RefusedReleased release
-seen lent.RefusedNotConnected = RefusedNotConnected
-seen (lent.RefusedLength octets) = RefusedLength octets
-seen (lent.RefusedFull waiting) = RefusedFull waiting
-seen (lent.Released release) = Released release
-seen (lent.Octets octets) = Octets octets.now
+abbrev pub outcome_of_lent : Lent → TraceOutcome
+outcome_of_lent (lent.Connected peer) = Connected peer
+outcome_of_lent (lent.Accepted text) = Accepted text.now
+outcome_of_lent (lent.Taken text) = Taken text.now
+outcome_of_lent lent.Empty = Empty
+outcome_of_lent (lent.RefusedReleased release) = RefusedReleased release
+outcome_of_lent lent.RefusedNotConnected = RefusedNotConnected
+outcome_of_lent (lent.RefusedLength octets) = RefusedLength octets
+outcome_of_lent (lent.RefusedFull waiting) = RefusedFull waiting
+outcome_of_lent (lent.Released release) = Released release
+outcome_of_lent (lent.Octets octets) = Octets octets.now

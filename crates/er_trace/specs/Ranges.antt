@@ -17,15 +17,15 @@ abbrev pub IsOctet : ℕ → Type 0
 IsOctet n = n < 256
 
 -- at most 4,096 octets
-abbrev pub IsText : List ℕ → Type 0
-IsText text = (length text ≤ 4096) × AreOctets text
+abbrev pub IsEventText : List ℕ → Type 0
+IsEventText text = (length text ≤ 4096) × AreOctets text
 
 -- an event whose numbers are in their ranges
 abbrev pub IsInRange : Event → Type 0
 IsInRange (Call engine rbc rb) = IsEtcsNumber engine × IsEtcsNumber rbc × (rb < 2 ^ 64)
 IsInRange (Answer rbc ra) = IsEtcsNumber rbc × (ra < 2 ^ 64)
-IsInRange (Octets octets) = IsText octets
-IsInRange (Send text) = IsText text
+IsInRange (Octets octets) = IsEventText octets
+IsInRange (Send text) = IsEventText text
 IsInRange Take = Unit {0}
 IsInRange (Release sub) = IsOctet sub
 IsInRange Tick = Unit {0}

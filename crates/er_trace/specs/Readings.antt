@@ -36,9 +36,9 @@ are_arguments (kind ∷ kinds) [] = Err Count
 are_arguments (kind ∷ kinds) (word ∷ words) = is_argument kind word >>= λ done. are_arguments kinds words
 
 -- where the text is faulty, where its line was
-abbrev pub fault_at : ℕ → LineFault → TextFault
-fault_at number (line.Refused why) = text.At number why
-fault_at number (line.NoMemory want) = text.NoMemory want
+abbrev pub trace_text_fault : ℕ → LineFault → TextFault
+trace_text_fault number (line.Refused why) = text.At number why
+trace_text_fault number (line.NoMemory want) = text.NoMemory want
 
 -- what a line says is in its range
 abbrev pub IsWellSaid : Said → Type 0

@@ -13,8 +13,8 @@ use Rattle.er_trace.specs.declared.outcome_name.OutcomeName.TheVariants as outco
 use Rattle.er_trace.specs.declared.refusal_name.RefusalName.TheVariants as refusal
 use Rattle.er_trace.specs.declared.trace.Trace.{Trace}
 use Rattle.er_trace.specs.Outcomes as of
-use Rattle.er_trace.specs.Outcomes.{Outcome}
-use Rattle.er_trace.specs.Ranges.{IsMoment, IsEtcsNumber, IsOctet, IsText, IsInRange}
+use Rattle.er_trace.specs.Outcomes.{TraceOutcome}
+use Rattle.er_trace.specs.Ranges.{IsMoment, IsEtcsNumber, IsOctet, IsEventText, IsInRange}
 use Rattle.er_trace.specs.Table.{event_word, outcome_word, refusal_word, releaser_word}
 
 -- the header
@@ -45,7 +45,7 @@ abbrev pub entry_words : (at conn : ℕ) → Event → List (List ℕ)
 entry_words at conn event = event_words at conn (words_of_event event)
 
 -- the word of an outcome, and those behind it
-abbrev pub words_of_outcome : Outcome → List (List ℕ)
+abbrev pub words_of_outcome : TraceOutcome → List (List ℕ)
 words_of_outcome (of.Connected peer) = outcome_word outcome.Connected ∷ decimal peer ∷ []
 words_of_outcome (of.Accepted text) = outcome_word outcome.Accepted ∷ hex_of text ∷ []
 words_of_outcome (of.Taken text) = outcome_word outcome.Taken ∷ hex_of text ∷ []
@@ -58,36 +58,36 @@ words_of_outcome (of.Released r) = outcome_word outcome.Released ∷ decimal r.r
 words_of_outcome (of.Octets octets) = outcome_word outcome.Octets ∷ hex_of octets ∷ []
 
 -- the line of an outcome
-abbrev pub outcome_words : (conn : ℕ) → Outcome → List (List ℕ)
+abbrev pub outcome_words : (conn : ℕ) → TraceOutcome → List (List ℕ)
 outcome_words conn outcome = codes "<" ∷ decimal conn ∷ words_of_outcome outcome
 
 -- ---- what can be read again
 
 -- an event in its ranges, at a moment and a connection in theirs
-pub record IsReadable (entry : Entry) : Type 0 where
+pub record IsReadableEntry (entry : Entry) : Type 0 where
   pub moment : IsMoment entry.moment
   pub conn : entry.conn < 2 ^ 64
   pub event : IsInRange entry.event
 
-abbrev pub AreReadable : List Entry → Type 0
-AreReadable [] = Unit {0}
-AreReadable (entry ∷ entries) = IsReadable entry × AreReadable entries
+abbrev pub AreReadableEntries : List Entry → Type 0
+AreReadableEntries [] = Unit {0}
+AreReadableEntries (entry ∷ entries) = IsReadableEntry entry × AreReadableEntries entries
 
 -- a trace that `read` can answer, line numbers aside
 pub record CanBeRead (trace : Trace) : Type 0 where
   pub settings : AllAllowed trace.settings
   pub modulo : trace.settings.modulo ≡ 8
-  pub entries : AreReadable trace.entries
+  pub entries : AreReadableEntries trace.entries
 
 -- an outcome in its ranges
-abbrev pub IsTellable : Outcome → Type 0
+abbrev pub IsTellable : TraceOutcome → Type 0
 IsTellable (of.Connected peer) = IsEtcsNumber peer
-IsTellable (of.Accepted text) = IsText text
-IsTellable (of.Taken text) = IsText text
+IsTellable (of.Accepted text) = IsEventText text
+IsTellable (of.Taken text) = IsEventText text
 IsTellable of.Empty = Unit {0}
 IsTellable (of.RefusedReleased r) = IsOctet r.reason × IsOctet r.sub
 IsTellable of.RefusedNotConnected = Unit {0}
 IsTellable (of.RefusedLength octets) = octets < 2 ^ 64
 IsTellable (of.RefusedFull waiting) = waiting < 2 ^ 64
 IsTellable (of.Released r) = IsOctet r.reason × IsOctet r.sub
-IsTellable (of.Octets octets) = IsText octets
+IsTellable (of.Octets octets) = IsEventText octets

@@ -1,5 +1,5 @@
 ghost use Rattle.std.specs.Prelude.{◌≡◌};
-ghost use Rattle.er_base.specs.Rows.{Gives};
+ghost use Rattle.er_base.specs.Rows.{AnswersAsWordsSay};
 ghost use Rattle.er_trace.specs.Readings.{is_argument};
 
 use crate::arguments::{read_octets, read_releaser};
@@ -22,7 +22,7 @@ pub enum ArgumentKind {
 impl ArgumentKind {
     /// Reads a word as an argument of this kind, and keeps nothing of it.
     pub fn check(self, alloc: Global, word: &[u8]) -> Result<(), LineFault>
-        ensures { Gives result (is_argument self word.now) }
+        ensures { AnswersAsWordsSay result (is_argument self word.now) }
     {
         match self {
             ArgumentKind::Decimal(most) => {

@@ -2,8 +2,8 @@
 
 ghost use Rattle.std.specs.Prelude.{◌≡◌, ◌<◌, ◌≤◌, ◌^◌, IfOk};
 ghost use Rattle.er_base.specs.Arguments.{number_argument, text_argument};
-ghost use Rattle.er_base.specs.Rows.{Gives};
-ghost use Rattle.er_trace.specs.Ranges.{IsMoment, IsEtcsNumber, IsOctet, IsText};
+ghost use Rattle.er_base.specs.Rows.{AnswersAsWordsSay};
+ghost use Rattle.er_trace.specs.Ranges.{IsMoment, IsEtcsNumber, IsOctet, IsEventText};
 ghost use Rattle.er_trace.specs.Table.{releaser_argument};
 
 use er_base::{LineFault, MOST_ETCS_NUMBER, MOST_MOMENT, Octets, Why, read_number, read_text};
@@ -46,8 +46,8 @@ pub fn read_octet(word: &[u8]) -> Result<u8, Why>
 
 /// Octets, at most 4,096.
 pub fn read_octets(alloc: Global, word: &[u8]) -> Result<Octets, LineFault>
-    ensures value { Gives result (text_argument 4096 word.now) }
-    ensures range { IfOk result (λ t. IsText t) }
+    ensures value { AnswersAsWordsSay result (text_argument 4096 word.now) }
+    ensures range { IfOk result (λ t. IsEventText t) }
 {
     read_text(alloc, word, MOST_TEXT_OCTETS)
 }

@@ -1,7 +1,7 @@
 //! The lines that are events: each reads the words behind that of the event.
 
 ghost use Rattle.std.specs.Prelude.{◌≡◌, ◌∷◌, [], length, map, IfOk};
-ghost use Rattle.er_base.specs.Rows.{Gives};
+ghost use Rattle.er_base.specs.Rows.{AnswersAsWordsSay};
 ghost use Rattle.er_trace.specs.Ranges.{IsInRange};
 ghost use Rattle.er_trace.specs.Readings.{event_said};
 ghost use Rattle.er_trace.specs.Table.{event_kinds};
@@ -13,7 +13,7 @@ use er_base::{LineFault, Octets, Why, read_number16};
 use std::alloc::Global;
 
 fn call(alloc: Global, engine: &[u8], rbc: &[u8], rb: &[u8]) -> Result<Event, LineFault>
-    ensures event { Gives result (event_said EventName.Call (engine.now ∷ rbc.now ∷ rb.now ∷ [])) }
+    ensures event { AnswersAsWordsSay result (event_said EventName.Call (engine.now ∷ rbc.now ∷ rb.now ∷ [])) }
     ensures range { IfOk result (λ event. IsInRange event) }
 {
     Ok(Event::Call {
@@ -24,7 +24,7 @@ fn call(alloc: Global, engine: &[u8], rbc: &[u8], rb: &[u8]) -> Result<Event, Li
 }
 
 fn answer(alloc: Global, rbc: &[u8], ra: &[u8]) -> Result<Event, LineFault>
-    ensures event { Gives result (event_said EventName.Answer (rbc.now ∷ ra.now ∷ [])) }
+    ensures event { AnswersAsWordsSay result (event_said EventName.Answer (rbc.now ∷ ra.now ∷ [])) }
     ensures range { IfOk result (λ event. IsInRange event) }
 {
     Ok(Event::Answer {
@@ -34,35 +34,35 @@ fn answer(alloc: Global, rbc: &[u8], ra: &[u8]) -> Result<Event, LineFault>
 }
 
 fn octets(alloc: Global, octets: &[u8]) -> Result<Event, LineFault>
-    ensures event { Gives result (event_said EventName.Octets (octets.now ∷ [])) }
+    ensures event { AnswersAsWordsSay result (event_said EventName.Octets (octets.now ∷ [])) }
     ensures range { IfOk result (λ event. IsInRange event) }
 {
     Ok(Event::Octets(read_octets(alloc, octets)?))
 }
 
 fn send(alloc: Global, text: &[u8]) -> Result<Event, LineFault>
-    ensures event { Gives result (event_said EventName.Send (text.now ∷ [])) }
+    ensures event { AnswersAsWordsSay result (event_said EventName.Send (text.now ∷ [])) }
     ensures range { IfOk result (λ event. IsInRange event) }
 {
     Ok(Event::Send(read_octets(alloc, text)?))
 }
 
 fn release(sub: &[u8]) -> Result<Event, LineFault>
-    ensures event { Gives result (event_said EventName.Release (sub.now ∷ [])) }
+    ensures event { AnswersAsWordsSay result (event_said EventName.Release (sub.now ∷ [])) }
     ensures range { IfOk result (λ event. IsInRange event) }
 {
     Ok(Event::Release(read_octet(sub)?))
 }
 
 fn full(count: &[u8]) -> Result<Event, LineFault>
-    ensures event { Gives result (event_said EventName.Full (count.now ∷ [])) }
+    ensures event { AnswersAsWordsSay result (event_said EventName.Full (count.now ∷ [])) }
     ensures range { IfOk result (λ event. IsInRange event) }
 {
     Ok(Event::Full(read_any_number(count)?))
 }
 
 fn unserved(count: &[u8]) -> Result<Event, LineFault>
-    ensures event { Gives result (event_said EventName.Unserved (count.now ∷ [])) }
+    ensures event { AnswersAsWordsSay result (event_said EventName.Unserved (count.now ∷ [])) }
     ensures range { IfOk result (λ event. IsInRange event) }
 {
     Ok(Event::Unserved(read_any_number(count)?))
@@ -71,7 +71,7 @@ fn unserved(count: &[u8]) -> Result<Event, LineFault>
 /// The event of a line that names it, from the words behind it, as many as it wants.
 pub fn read_event(alloc: Global, name: EventName, words: &[&[u8]]) -> Result<Event, LineFault>
     requires { length words.now ≡ length (event_kinds name) }
-    ensures event { Gives result (event_said name (map (λ w. w.now) words.now)) }
+    ensures event { AnswersAsWordsSay result (event_said name (map (λ w. w.now) words.now)) }
     ensures range { IfOk result (λ event. IsInRange event) }
 {
     match (name, words) {

@@ -1,7 +1,7 @@
 //! The lines that are outcomes: the words behind that of the outcome are read, and nothing is kept of them.
 
 ghost use Rattle.std.specs.Prelude.{◌≡◌, length, map};
-ghost use Rattle.er_base.specs.Rows.{Gives};
+ghost use Rattle.er_base.specs.Rows.{AnswersAsWordsSay};
 ghost use Rattle.er_trace.specs.Readings.{are_arguments};
 
 use crate::argument_kind::ArgumentKind;
@@ -16,7 +16,7 @@ pub fn check_arguments(
     words: &[&[u8]],
 ) -> Result<(), LineFault>
     requires { length words.now ≡ length kinds.now }
-    ensures { Gives result (are_arguments kinds.now (map (λ w. w.now) words.now)) }
+    ensures { AnswersAsWordsSay result (are_arguments kinds.now (map (λ w. w.now) words.now)) }
 {
     for (place, kind) in kinds.iter().enumerate() {
         kind.check(alloc, words[place])?;

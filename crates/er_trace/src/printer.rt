@@ -5,7 +5,7 @@ ghost use Rattle.std.specs.Fmt.{decimal};
 ghost use Rattle.er_base.specs.Hexadecimal.{hex_of};
 ghost use Rattle.er_base.specs.LineTexts.{line_text};
 ghost use Rattle.er_trace.specs.declared.event.Event.TheVariants as event;
-ghost use Rattle.er_trace.specs.Outcomes.{seen};
+ghost use Rattle.er_trace.specs.Outcomes.{outcome_of_lent};
 ghost use Rattle.er_trace.specs.Outcomes as outcomes;
 ghost use Rattle.er_trace.specs.Table.{event_word, outcome_word, refusal_word, releaser_word};
 ghost use Rattle.er_trace.specs.Texts.{header_words, event_words, entry_words, outcome_words};
@@ -280,7 +280,7 @@ fn put_released(conn: u64, release: &Release, out: &mut Vec<u8>) -> Result<(), N
 /// Appends the line of an outcome: `< CONN` and the words of the outcome; that of an empty take is `none`. After want of memory
 /// `out` is as it was.
 pub fn print_outcome(conn: u64, outcome: &Outcome<'_>, out: &mut Vec<u8>) -> Result<(), NoMemory>
-    ensures ok { OnOk result (out.new.items ≡ out.old.items ++ line_text (outcome_words conn (seen outcome.now))) }
+    ensures ok { OnOk result (out.new.items ≡ out.old.items ++ line_text (outcome_words conn (outcome_of_lent outcome.now))) }
     ensures err { OnErr result (out.new.items ≡ out.old.items) }
 {
     match outcome {

@@ -2,11 +2,11 @@
 
 ghost use Rattle.std.specs.Prelude.{◌≡◌, ◌≤◌, ◌+◌, length, map, IfOk};
 ghost use Rattle.er_base.specs.Lines.{lines_of, rows_of};
-ghost use Rattle.er_base.specs.Rows.{Gives};
-ghost use Rattle.er_trace.specs.Answers.{Answers};
-ghost use Rattle.er_trace.specs.Files.{event_line, refusal_line, outcome_line, line_says, entries_of, trace_from, trace_of};
-ghost use Rattle.er_trace.specs.Readings.{IsWellSaid, fault_at};
-ghost use Rattle.er_trace.specs.Texts.{AreReadable, CanBeRead};
+ghost use Rattle.er_base.specs.Rows.{AnswersAsWordsSay};
+ghost use Rattle.er_trace.specs.Answers.{AnswersAsTraceSays};
+ghost use Rattle.er_trace.specs.Files.{event_line, refusal_line, outcome_line_check, line_says, entries_of, trace_from, trace_of};
+ghost use Rattle.er_trace.specs.Readings.{IsWellSaid, trace_text_fault};
+ghost use Rattle.er_trace.specs.Texts.{AreReadableEntries, CanBeRead};
 
 use crate::arguments::{read_any_number, read_moment};
 use crate::entry::Entry;
@@ -27,7 +27,7 @@ use std::alloc::Global;
 const MOST_OCTETS: usize = 16_777_216;
 
 fn at(line: usize, fault: LineFault) -> TextFault
-    ensures { result ≡ fault_at line fault }
+    ensures { result ≡ trace_text_fault line fault }
 {
     match fault {
         LineFault::Refused(why) => TextFault::At { line, why },
@@ -38,7 +38,7 @@ fn at(line: usize, fault: LineFault) -> TextFault
 // The line of an event, from the words behind `>`.
 #[tactic(auto, unfolding(crate::specs::Files::event_line))]
 fn read_event_line(alloc: Global, words: &[&[u8]]) -> Result<Said, LineFault>
-    ensures said { Gives result (event_line (map (λ w. w.now) words.now)) }
+    ensures said { AnswersAsWordsSay result (event_line (map (λ w. w.now) words.now)) }
     ensures range { IfOk result (λ said. IsWellSaid said) }
 {
     let [moment, conn, name, arguments @ ..] = words else {
@@ -60,7 +60,7 @@ fn read_event_line(alloc: Global, words: &[&[u8]]) -> Result<Said, LineFault>
 // The line of a refusal, from its connection and the words behind `refused`.
 #[tactic(auto, unfolding(crate::specs::Files::refusal_line))]
 fn check_refusal_line(alloc: Global, conn: &[u8], words: &[&[u8]]) -> Result<(), LineFault>
-    ensures { Gives result (refusal_line conn.now (map (λ w. w.now) words.now)) }
+    ensures { AnswersAsWordsSay result (refusal_line conn.now (map (λ w. w.now) words.now)) }
 {
     let Some((name, arguments)) = words.split_first() else {
         return Err(LineFault::Refused(Why::Count));
@@ -76,9 +76,9 @@ fn check_refusal_line(alloc: Global, conn: &[u8], words: &[&[u8]]) -> Result<(),
 }
 
 // The line of an outcome, from the words behind `<`.
-#[tactic(auto, unfolding(crate::specs::Files::outcome_line))]
+#[tactic(auto, unfolding(crate::specs::Files::outcome_line_check))]
 fn check_outcome_line(alloc: Global, words: &[&[u8]]) -> Result<(), LineFault>
-    ensures { Gives result (outcome_line (map (λ w. w.now) words.now)) }
+    ensures { AnswersAsWordsSay result (outcome_line_check (map (λ w. w.now) words.now)) }
 {
     let Some((conn, behind)) = words.split_first() else {
         return Err(LineFault::Refused(Why::Count));
@@ -102,7 +102,7 @@ fn check_outcome_line(alloc: Global, words: &[&[u8]]) -> Result<(), LineFault>
 // What a line behind the header says, from its words.
 #[tactic(auto, unfolding(crate::specs::Files::line_says))]
 fn read_line(alloc: Global, words: &[&[u8]]) -> Result<Said, LineFault>
-    ensures said { Gives result (line_says (map (λ w. w.now) words.now)) }
+    ensures said { AnswersAsWordsSay result (line_says (map (λ w. w.now) words.now)) }
     ensures range { IfOk result (λ said. IsWellSaid said) }
 {
     let Some((mark, behind)) = words.split_first() else {
@@ -121,8 +121,8 @@ fn read_line(alloc: Global, words: &[&[u8]]) -> Result<Said, LineFault>
 // The events of the lines behind the header, whose number is `header`.
 fn read_entries(alloc: Global, header: usize, text: &[u8]) -> Result<EntryList, TextFault>
     requires { header + length text.now ≤ 16777216 }
-    ensures exact { Answers result (entries_of (rows_of header (lines_of text.now))) }
-    ensures range { IfOk result (λ entries. AreReadable entries) }
+    ensures exact { AnswersAsTraceSays result (entries_of (rows_of header (lines_of text.now))) }
+    ensures range { IfOk result (λ entries. AreReadableEntries entries) }
 {
     let mut entries = Vec::new(alloc);
     let mut number = header;
@@ -162,7 +162,7 @@ fn read_behind(
 ) -> Result<Trace, TextFault>
     requires room { header + length text.now ≤ 16777216 }
     requires modulo { settings.modulo ≡ 8 }
-    ensures exact { Answers result (trace_from settings (entries_of (rows_of header (lines_of text.now)))) }
+    ensures exact { AnswersAsTraceSays result (trace_from settings (entries_of (rows_of header (lines_of text.now)))) }
     ensures range { IfOk result (λ trace. CanBeRead trace) }
 {
     match read_entries(alloc, header, text) {
@@ -178,7 +178,7 @@ fn read_behind(
 /// of more than 16,777,216 octets is `Long` at line 0, and one without a line that isn't skipped is `Header` at line 1.
 #[tactic(auto, unfolding(crate::specs::Files::trace_of))]
 pub fn read(alloc: Global, bytes: &[u8]) -> Result<Trace, TextFault>
-    ensures exact { Answers result (trace_of bytes.now) }
+    ensures exact { AnswersAsTraceSays result (trace_of bytes.now) }
     ensures range { IfOk result (λ trace. CanBeRead trace) }
 {
     if bytes.len() > MOST_OCTETS {

@@ -7,23 +7,23 @@ use Rattle.std.proofs.lemmas.Fmt.{decimal_nonempty}
 use Rattle.std.proofs.lemmas.List.{take_more, take_more_set, map-set, get_or-map, get_or-take, length-map, length-take-le}
 use Rattle.std.proofs.lemmas.List.Elements.{All-append, All-get_or, All-cons, All-nil}
 use Rattle.er_base.specs.Stored.{Stored}
-use Rattle.er_users.specs.Saying.{Spoken, IsText, is_text, may_say, said_more, nothing}
+use Rattle.er_users.specs.Saying.{SpokenByUser, IsText, is_text, may_say, said_more, nothing}
 
 -- the text in a room
 abbrev pub text_in : Stored → List ℕ
 text_in room = room.items
 
 -- a text that fits is said
-pub sayable : (spoken : Spoken) (text : List ℕ) → length spoken.texts < 8 → 1 ≤ length text → length text ≤ 1023 → may_say spoken text ≡ true
+pub sayable : (spoken : SpokenByUser) (text : List ℕ) → length spoken.texts < 8 → 1 ≤ length text → length text ≤ 1023 → may_say spoken text ≡ true
 sayable spoken text free some most =
     rw (lt-ltb (length spoken.texts) 8 free, lt-ltb 0 (length text) (omega arith), lt-ltb (length text) 1024 (omega arith)) refl
 
-pub says_more : (spoken : Spoken) (text : List ℕ) → length spoken.texts < 8 → 1 ≤ length text → length text ≤ 1023
+pub says_more : (spoken : SpokenByUser) (text : List ℕ) → length spoken.texts < 8 → 1 ≤ length text → length text ≤ 1023
     → said_more spoken text ≡ record spoken { texts = spoken.texts ++ text ∷ [] }
 says_more spoken text free some most = rw (sayable spoken text free some most) refl
 
 -- a decimal number is said
-pub says_decimal : (spoken : Spoken) (n : ℕ) → spoken ≡ nothing → n < 2 ^ 64 → length (decimal n) ≤ 40
+pub says_decimal : (spoken : SpokenByUser) (n : ℕ) → spoken ≡ nothing → n < 2 ^ 64 → length (decimal n) ≤ 40
     → said_more spoken (decimal n) ≡ record nothing { texts = decimal n ∷ [] }
 says_decimal spoken n is fits short = rw (is) (says_more nothing (decimal n) (omega arith) (decimal_nonempty n fits) (omega arith))
 
@@ -72,7 +72,7 @@ abbrev pub items_of : {Y : Type 0} → Vec ℕ Y → List ℕ
 items_of text = text.items
 
 -- texts that are said in turn
-pub say_next : {Y : Type 0} (texts : List (Vec ℕ Y)) (i : ℕ) (text : Vec ℕ Y) (out : Spoken) → i < length texts → length texts ≤ 8 → All IsText (map items_of texts)
+pub say_next : {Y : Type 0} (texts : List (Vec ℕ Y)) (i : ℕ) (text : Vec ℕ Y) (out : SpokenByUser) → i < length texts → length texts ≤ 8 → All IsText (map items_of texts)
     → out ≡ record nothing { texts = take i (map items_of texts) } → text ≡ slice_index_or texts i text
     → said_more out text.items ≡ record nothing { texts = take (i + 1) (map items_of texts) }
 say_next texts i text out below most each said is =

@@ -3,15 +3,15 @@
 use Rattle.std.specs.Prelude.{◌≡◌, ℕ, ◌+◌, ◌-◌, ◌^◌, ◌==◌, Bool, List, [], ◌∷◌, ◌++◌, length, Option, None, Some, nat_lt, if◌then◌else◌}
 use Rattle.std.specs.Fmt.{decimal}
 use Rattle.er_end_model.specs.Outcomes.{SendRefusal}
-use Rattle.er_users.specs.Saying.{Spoken}
+use Rattle.er_users.specs.Saying.{SpokenByUser}
 
 -- the kinds of users; the last are those that a caller makes
-pub data Kind : Type 0 where
-  Echo : Kind
-  Tally : Kind
-  Lister : Kind
-  Silent : Kind
-  Callers : Kind
+pub data UserKind : Type 0 where
+  Echo : UserKind
+  Tally : UserKind
+  Lister : UserKind
+  Silent : UserKind
+  Callers : UserKind
 
 -- what a user hears: that the connection was made, with the peer's number; a message; that a text of its own was refused, and why; that it
 -- was released
@@ -23,13 +23,13 @@ pub data Heard : Type 0 where
 
 -- a user as plain data: its kind, a count, a list of texts, and what it tells that it heard, in order, where it tells that
 pub record Mind : Type 0 where
-  pub kind : Kind
+  pub kind : UserKind
   pub count : ℕ
   pub texts : List (List ℕ)
   pub told : Option (List Heard)
 
 -- the mind of a kind as it is made: the four kinds tell nothing
-abbrev pub mind_of : Kind → List (List ℕ) → Mind
+abbrev pub mind_of : UserKind → List (List ℕ) → Mind
 mind_of kind texts = record { kind = kind; count = 0; texts = texts; told = None }
 
 -- what is told behind something that was heard: a user that tells what it heard tells this behind it, and one that doesn't never begins to
@@ -101,7 +101,7 @@ abbrev pub telling : Mind → Heard → Said → Said
 telling mind heard a = record a { mind = record a.mind { told = tells_more mind.told heard } }
 
 -- what a user says to what it hears, by its kind
-unfoldable pub said : Kind → Mind → Heard → Said → Said
+unfoldable pub said : UserKind → Mind → Heard → Said → Said
 said Echo mind heard free = telling mind heard (echo mind heard)
 said Tally mind heard free = telling mind heard (tally mind heard)
 said Lister mind heard free = telling mind heard (lister mind heard)
@@ -109,7 +109,7 @@ said Silent mind heard free = telling mind heard (quiet mind)
 said Callers mind heard free = telling mind heard (callers mind heard free)
 
 -- a user of this mind that hears this has that mind then, and these are its replies
-abbrev pub Hears : Mind → Heard → Mind → Spoken → Type 0
+abbrev pub Hears : Mind → Heard → Mind → SpokenByUser → Type 0
 Hears mind heard now spoken =
     let free : Said = record { mind = now; texts = spoken.texts; leave = spoken.leave } in
     said mind.kind mind heard free ≡ free

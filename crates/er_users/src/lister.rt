@@ -1,7 +1,7 @@
 //! A user that says a list of texts.
 
 ghost use Rattle.std.specs.Prelude.{◌≡◌, ◌≤◌, ◌++◌, map, take, length, All, vec_len, None};
-ghost use Rattle.er_users.specs.Saying.{IsText, Spoken, nothing};
+ghost use Rattle.er_users.specs.Saying.{IsText, SpokenByUser, nothing};
 ghost use Rattle.er_users.specs.Users.{Lister as a_kind, mind_of};
 
 use crate::replies::Replies;

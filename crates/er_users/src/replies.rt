@@ -25,9 +25,9 @@ pub struct Replies {
 
 impl Model for Replies {
     ghost use Rattle.std.specs.Prelude.{◌≡◌, ◌≤◌, All, map, take, vec_len};
-    ghost use Rattle.er_users.specs.Saying.{Spoken, IsText};
+    ghost use Rattle.er_users.specs.Saying.{SpokenByUser, IsText};
 
-    ghost Value = { Spoken };
+    ghost Value = { SpokenByUser };
 
     ghost view = { λ r. record { texts = take r.count (map (λ room. room.items) r.rooms.items); leave = r.leaving } };
 

@@ -9,8 +9,8 @@ use Rattle.safety_automaton.specs.Keys.{key_at}
 use Rattle.safety_pair_laws.specs.Facts.{MarkedFact, SideFact, marked, marked_from}
 use Rattle.safety_pair_laws.specs.Marks.{MarksGrow}
 use Rattle.drill_model.specs.declared.totals.Totals.{Totals}
-use Rattle.drill_model.specs.Outcomes.{Outcome, UserReleased, Passed, NothingWaits, Occurrence, at_end, facts_in, frames_in}
-use Rattle.drill_model.specs.Ends.{End, EndEvent, end_step}
+use Rattle.drill_model.specs.Outcomes.{DrillOutcome, UserReleased, Passed, NothingWaits, Occurrence, at_end, facts_in, frames_in}
+use Rattle.drill_model.specs.Ends.{EndAtLevel, EndEvent, end_step}
 use Rattle.drill_model.specs.Ends as model
 use Rattle.drill_model.specs.Waiting.{change_first}
 use Rattle.drill_model.specs.Links.{Link, key_on, waiting_of, with_waiting, give, onto, Pass, Change, Release, Tick, pass, change_waiting, link_step}
@@ -24,12 +24,12 @@ use Rattle.er_world.specs.declared.link.Link.{Link as KeptLink}
 use Rattle.er_world.specs.declared.action.LineChange.{LineChange}
 use Rattle.er_world.specs.declared.waiting.Change.{Change as Changed}
 use Rattle.er_world.specs.declared.waiting.Change.TheVariants as result
-use Rattle.er_world.specs.Changes.{outcomes_of, change_of, change_line}
+use Rattle.er_world.specs.Changes.{outcomes_of_line_change, change_of, change_line}
 use Rattle.drill_ends.specs.KeptEnds.{StandsEnd}
 use Rattle.er_world.specs.Ledgers.{HoldsLedger}
 use Rattle.er_world.specs.Ports.{PortWent}
 use Rattle.er_world.specs.Counts.{counts_of, counted_told, counted_pass, counted_change}
-use Rattle.er_world.specs.KeptLinks.{waiting_at, with_waiting_at, StandsLink, LinkWent, LinkDoes, TakesFirst, ChangesFrames}
+use Rattle.er_world.specs.KeptLinks.{waiting_frames_of_side, with_waiting_at, StandsLink, LinkWent, LinkDoes, TakesFirstWaitingFrame, ChangesFrames}
 use Rattle.er_world.proofs.Counting.{quiet_counts, passed_counts, changed_counts, told_counts}
 
 -- ---- what came, and what came then
@@ -97,7 +97,7 @@ then_went grows show number history first m a mid new before between now one the
 
 abbrev pub Answers : Place → EndEvent → KeptLink → Port → Port → Ledger → Totals → List ℕ → List ℕ → Type 0
 Answers place event old port new ledger counts before now =
-    (end : End) (facts : List MarkedFact) → StandsEnd port.end end → HoldsLedger old.ledger facts
+    (end : EndAtLevel) (facts : List MarkedFact) → StandsEnd port.end end → HoldsLedger old.ledger facts
     → PortWent place facts event (end_step (key_at old.keys old.moment) old.moment end event) port.waiting new ledger old.totals counts before now
 
 gave_e : Grows → (number : ℕ) (show : Bool) (event : EndEvent) (old : KeptLink) (port : Port) (ledger : Ledger) (counts : Totals) (before now : List ℕ)
@@ -108,7 +108,7 @@ gave_e grows number show event old port ledger counts before now bound by =
     λ l history st.
     let place : Place = record { number = number; side = E; show = show } in
     let facts : List MarkedFact = marked (facts_in history) in
-    let a : End × List Outcome = end_step (key_on l.opening) l.moment l.e event in
+    let a : EndAtLevel × List DrillOutcome = end_step (key_on l.opening) l.moment l.e event in
     let K : (ℕ → ℕ → Option TripleKey) → Type 0 = λ k. PortWent place facts event (end_step k old.moment l.e event) old.e.waiting port ledger old.totals counts before now in
     let M : ℕ → Type 0 = λ m. PortWent place facts event (end_step (key_on l.opening) m l.e event) old.e.waiting port ledger old.totals counts before now in
     let w : PortWent place facts event a old.e.waiting port ledger old.totals counts before now =
@@ -135,7 +135,7 @@ gave_r grows number show event old port ledger counts before now bound by =
     λ l history st.
     let place : Place = record { number = number; side = R; show = show } in
     let facts : List MarkedFact = marked (facts_in history) in
-    let a : End × List Outcome = end_step (key_on l.opening) l.moment l.r event in
+    let a : EndAtLevel × List DrillOutcome = end_step (key_on l.opening) l.moment l.r event in
     let K : (ℕ → ℕ → Option TripleKey) → Type 0 = λ k. PortWent place facts event (end_step k old.moment l.r event) old.r.waiting port ledger old.totals counts before now in
     let M : ℕ → Type 0 = λ m. PortWent place facts event (end_step (key_on l.opening) m l.r event) old.r.waiting port ledger old.totals counts before now in
     let w : PortWent place facts event a old.r.waiting port ledger old.totals counts before now =
@@ -175,7 +175,7 @@ gives_r grows place event old port ledger counts before now is bound by =
 
 -- ---- the frames that wait
 
-pub waits_alike : (kept : KeptLink) (l : Link) (history : List Occurrence) (side : Side) → StandsLink kept l history → waiting_at kept side ≡ waiting_of l side
+pub waits_alike : (kept : KeptLink) (l : Link) (history : List Occurrence) (side : Side) → StandsLink kept l history → waiting_frames_of_side kept side ≡ waiting_of l side
 waits_alike kept l history E st = st.from_e
 waits_alike kept l history R st = st.from_r
 
@@ -204,7 +204,7 @@ stands_with kept l history R frames st = record {
 }
 
 -- what came of a change is printed, and nothing is kept of it
-quiet_facts : (side : Side) (c : Changed) → facts_in (map (at_end side) (outcomes_of c)) ≡ []
+quiet_facts : (side : Side) (c : Changed) → facts_in (map (at_end side) (outcomes_of_line_change c)) ≡ []
 quiet_facts side result.Empty = refl
 quiet_facts side (result.Short found) = refl
 quiet_facts side result.Lost = refl
@@ -214,7 +214,7 @@ quiet_facts side result.Inserted = refl
 quiet_facts side result.Unchanged = refl
 
 change_lines : (place : Place) (facts : List MarkedFact) (c : Changed)
-    → change_line place c ≡ link_lines place.show place.number (marks_behind facts (map (at_end place.side) (outcomes_of c)))
+    → change_line place c ≡ link_lines place.show place.number (marks_behind facts (map (at_end place.side) (outcomes_of_line_change c)))
 change_lines place facts result.Empty = sym (append-nil (change_line place result.Empty))
 change_lines place facts (result.Short found) = sym (append-nil (change_line place (result.Short found)))
 change_lines place facts result.Lost = refl
@@ -230,15 +230,15 @@ pub changes_so : Grows → (place : Place) (how : LineChange) (c : Changed) (old
 changes_so grows place how c old new counts before now ch count shows =
     λ l history st.
     let side : Side = place.side in
-    let came : List Occurrence = map (at_end side) (outcomes_of c) in
-    let a : change_first (change_of how) (waiting_of l side) ≡ (waiting_at new side, outcomes_of c) =
+    let came : List Occurrence = map (at_end side) (outcomes_of_line_change c) in
+    let a : change_first (change_of how) (waiting_of l side) ≡ (waiting_frames_of_side new side, outcomes_of_line_change c) =
     ap (change_first (change_of how)) (sym (waits_alike old l history side st)) ∙ ch.changed in
-    let with' : StandsLink new (with_waiting l side (waiting_at new side)) history =
-    subst (λ (k : KeptLink). StandsLink k (with_waiting l side (waiting_at new side)) history) (sym ch.others)
-    (stands_with old l history side (waiting_at new side) st) in
-    let P : List (List ℕ) × List Outcome → Type 0 = λ b. LinkWent (change_waiting l side b) place.show place.number history (record new { totals = counts }) before now in
+    let with' : StandsLink new (with_waiting l side (waiting_frames_of_side new side)) history =
+    subst (λ (k : KeptLink). StandsLink k (with_waiting l side (waiting_frames_of_side new side)) history) (sym ch.others)
+    (stands_with old l history side (waiting_frames_of_side new side) st) in
+    let P : List (List ℕ) × List DrillOutcome → Type 0 = λ b. LinkWent (change_waiting l side b) place.show place.number history (record new { totals = counts }) before now in
     subst P (sym a) (record {
-      stands = stands_counted grows new (with_waiting l side (waiting_at new side)) history came counts (quiet_facts side c)
+      stands = stands_counted grows new (with_waiting l side (waiting_frames_of_side new side)) history came counts (quiet_facts side c)
           (count ∙ ap (counted_change c) with'.totals ∙ sym (changed_counts history side c)) with';
       printed = shows ∙ ap (λ (xs : List ℕ). before ++ xs) (change_lines place (marked (facts_in history)) c);
     })
@@ -258,7 +258,7 @@ releases_so grows place sub old new before now by =
 
 -- no frame waits
 pub passes_none : Grows → (place : Place) (old new : KeptLink) (before now : List ℕ)
-    → TakesFirst old place.side None new → now ≡ before ++ empty_line place.number place.side
+    → TakesFirstWaitingFrame old place.side None new → now ≡ before ++ empty_line place.number place.side
     → LinkDoes (λ l. link_step l (Pass place.side)) place.show place.number old new before now
 passes_none grows place old new before now takes shows =
     λ l history st.
@@ -272,14 +272,14 @@ passes_none grows place old new before now takes shows =
 
 -- a frame was passed
 pub passes_some : Grows → (place there : Place) (old mid new : KeptLink) (frame : List ℕ) (counts : Totals) (before now : List ℕ)
-    → TakesFirst old place.side (Some frame) mid → there ≡ record place { side = other place.side }
+    → TakesFirstWaitingFrame old place.side (Some frame) mid → there ≡ record place { side = other place.side }
     → counts ≡ counted_pass mid.totals
     → LinkDoes (λ l. give l there.side (model.Receive frame)) there.show there.number (record mid { totals = counts }) new before now
     → LinkDoes (λ l. link_step l (Pass place.side)) place.show place.number old new before now
 passes_some grows place there old mid new frame counts before now takes far count by =
     λ l history st.
     let side : Side = place.side in
-    let frames : List (List ℕ) = waiting_at mid side in
+    let frames : List (List ℕ) = waiting_frames_of_side mid side in
     let waits : waiting_of l side ≡ frame ∷ frames = sym (waits_alike old l history side st) ∙ takes.0 in
     let first : List Occurrence = at_end side (Passed frame) ∷ [] in
     let m : Link = with_waiting l side frames in

@@ -8,7 +8,7 @@ use Rattle.drill_model.specs.declared.world_fault.WorldFault.{WorldFault}
 use Rattle.drill_model.specs.declared.world_fault.WorldFault.TheVariants.{Overfull}
 use Rattle.drill_model.specs.Outcomes.{Occurrence}
 use Rattle.drill_model.specs.Links.{Link, LinkOpening, LinkStep, opened_link, waiting_of}
-use Rattle.drill_model.specs.Worlds.{Plan, World, Came, is_link, link_at, history_on, went_on, open_link, at_link, drain_link, copy_frame, copy_between, world_step}
+use Rattle.drill_model.specs.Worlds.{DrillPlan, World, Came, is_link, link_at, history_on, went_on, open_link, at_link, drain_link, copy_frame, copy_between, world_step}
 use Rattle.drill_model.specs.Faults.{or_else, overfull_fault, overfull_at, first_overfull, overfull_of}
 use Rattle.er_world.specs.declared.link.Link.{Link as KeptLink}
 use Rattle.er_world.specs.Standing.{KeptWorld, kept_at, StandsPlace, StandsWorld}
@@ -23,7 +23,7 @@ opens_if : (b : Bool) (v : World) (m : ℕ) (a : Link × List Occurrence) (n : �
 opens_if true v m a n apart = at_other v m n a.0 apart
 opens_if false v m a n apart = refl
 
-opens_others : (plan : Plan) (v : World) (m : ℕ) (place : Option Link) (opening : Option LinkOpening) (n : ℕ) → (n ≡ m → ⊥)
+opens_others : (plan : DrillPlan) (v : World) (m : ℕ) (place : Option Link) (opening : Option LinkOpening) (n : ℕ) → (n ≡ m → ⊥)
     → link_at (open_link plan v m place opening).0 n ≡ link_at v n
 opens_others plan v m (Some l) opening n apart = refl
 opens_others plan v m None None n apart = refl
@@ -53,7 +53,7 @@ abbrev Leaves : World → World → Option ℕ → Type 0
 Leaves v next None = (n : ℕ) → ⊥ → Unit {0}
 Leaves v next (Some m) = (n : ℕ) → (n ≡ m → ⊥) → link_at next n ≡ link_at v n
 
-step_leaves : (plan : Plan) (v : World) (s : Step) → Leaves v (world_step plan v s).0 (touched s)
+step_leaves : (plan : DrillPlan) (v : World) (s : Step) → Leaves v (world_step plan v s).0 (touched s)
 step_leaves plan v (does.Fixed m engine rbc ke kr) = λ n apart. opens_others plan v m (link_at v m) _ n apart
 step_leaves plan v (does.Link m engine rbc ke kr ra rb) = λ n apart. opens_others plan v m (link_at v m) _ n apart
 step_leaves plan v (does.Wire m) = λ n apart. opens_others plan v m (link_at v m) _ n apart
@@ -189,7 +189,7 @@ found_by v next kept came (Some t) leaves none st =
     ∙ sym (of_touched v next t leaves st.within none)
 
 -- behind a step the code finds the overfull link of the world
-pub overfull_found : (plan : Plan) (v : World) (s : Step) (kept : KeptWorld) (came : List Came) → overfull_of v ≡ None
+pub overfull_found : (plan : DrillPlan) (v : World) (s : Step) (kept : KeptWorld) (came : List Came) → overfull_of v ≡ None
     → StandsWorld kept (world_step plan v s).0 came → fault_from (overfull_by kept (touched s)) ≡ overfull_of (world_step plan v s).0
 overfull_found plan v s kept came none st = found_by v (world_step plan v s).0 kept came (touched s) (step_leaves plan v s) none st
 

@@ -8,15 +8,15 @@ use Rattle.er_base.specs.declared.side.Side.TheVariants.{E, R}
 use Rattle.des_block.specs.declared.triple_key.TripleKey.{TripleKey}
 use Rattle.safety_pair_laws.specs.Facts.{Fact, Sent, Sealed, Verified, Connected, Accepted, SideFact, MarkedFact, Sealing, is_sealing, sealings_of, sealings, was_sealed, is_side, is_mistrust, mistrusts, marked_from}
 use Rattle.safety_pair_laws.specs.Marks.{MarksGrow}
-use Rattle.drill_model.specs.Outcomes.{Outcome, OfSafety, Handed, Arrived, Up, Took, NothingToTake, Refused, Released, Frame, Expired, at_end, facts_at, facts_in, frames_of, frames_in}
+use Rattle.drill_model.specs.Outcomes.{DrillOutcome, OfSafety, Handed, Arrived, Up, Took, NothingToTake, Refused, Released, Frame, Expired, at_end, facts_at, facts_in, frames_of_outcome, frames_in}
 use Rattle.drill_model.specs.Marks.{outcome_forged, marks_behind}
 use Rattle.drill_model.specs.Texts.{outcome_line, link_lines}
 use Rattle.er_world.specs.declared.place.Place.{Place}
 use Rattle.er_world.specs.declared.ledger.Ledger.{Ledger}
 use Rattle.drill_ends.specs.declared.told.Told.{Told}
-use Rattle.drill_ends.specs.Tellings.{IsTold, heard_in, EachTold}
-use Rattle.er_world.specs.ToldLines.{told_line, told_frames}
-use Rattle.er_world.specs.Ledgers.{HoldsLedger, mistrusts_of, forged_by, told_pairs, told_mark, Keeps, TellsOne, TellsAll, Telling}
+use Rattle.drill_ends.specs.Tellings.{IsTold, told_outcomes_in, EachTold}
+use Rattle.er_world.specs.ToldLines.{told_line, frame_octets_in_told}
+use Rattle.er_world.specs.Ledgers.{HoldsLedger, mistrusts_of, forged_by, told_pairs, told_mark, KeepsInLedger, TellsOne, TellsAll, Telling}
 
 or_false : (a : Bool) → (a || false) ≡ a
 or_false true = refl
@@ -31,10 +31,10 @@ mistrusts_held kept facts E h = h.of_e
 mistrusts_held kept facts R h = h.of_r
 
 -- what is told of an outcome, and what it is, are kept, queued and printed alike
-record IsRow (kept : Ledger) (before : List MarkedFact) (side : Side) (o : Outcome) (t : Told) : Type 0 where
+record IsRow (kept : Ledger) (before : List MarkedFact) (side : Side) (o : DrillOutcome) (t : Told) : Type 0 where
   pub pairs : sealings (marked_from before (facts_at side o)) ≡ told_pairs t
   pub marks : (mine : Side) → list_any (is_mistrust mine) (marked_from before (facts_at side o)) ≡ (is_side mine side && told_mark t (forged_by kept side t))
-  pub frames : frames_of o ≡ told_frames t
+  pub frames : frames_of_outcome o ≡ frame_octets_in_told t
   pub line : (show : Bool) (number : ℕ)
       → outcome_line show number side o (outcome_forged before side o) ≡ told_line (record { number = number; side = side; show = show }) t (forged_by kept side t)
 
@@ -76,7 +76,7 @@ row_of_fact kept before side (Accepted heard user key text) t h is = rw is recor
   line = λ show number. rw (h.same key text) refl;
 }
 
-row_of : (kept : Ledger) (before : List MarkedFact) (side : Side) (o : Outcome) (t : Told) → HoldsLedger kept before → IsTold o t → IsRow kept before side o t
+row_of : (kept : Ledger) (before : List MarkedFact) (side : Side) (o : DrillOutcome) (t : Told) → HoldsLedger kept before → IsTold o t → IsRow kept before side o t
 row_of kept before side (OfSafety fact) t h is = row_of_fact kept before side fact t h is
 row_of kept before side (Refused refusal) t h is = rw (is.told_is, is.is) record {
   pairs = refl;
@@ -130,8 +130,8 @@ was_sealed_more key text before more =
     ∙ list_any-append (is_sealing key text) (sealings before) (sealings more)
 
 -- what is kept behind one outcome
-holds_more : (kept new : Ledger) (before : List MarkedFact) (side : Side) (o : Outcome) (t : Told) → HoldsLedger kept before
-    → IsRow kept before side o t → Keeps side t (forged_by kept side t) kept new
+holds_more : (kept new : Ledger) (before : List MarkedFact) (side : Side) (o : DrillOutcome) (t : Told) → HoldsLedger kept before
+    → IsRow kept before side o t → KeepsInLedger side t (forged_by kept side t) kept new
     → HoldsLedger new (before ++ marked_from before (facts_at side o))
 holds_more kept new before side o t h row keeps =
     let more : List MarkedFact = marked_from before (facts_at side o) in
@@ -152,7 +152,7 @@ holds_more kept new before side o t h row keeps =
     }
 
 -- at the beginning
-pub telling_begins : (place : Place) (facts : List MarkedFact) (outcomes : List Outcome) (list : List Told) (kept : Ledger) (waited : List (List ℕ)) (before : List ℕ)
+pub telling_begins : (place : Place) (facts : List MarkedFact) (outcomes : List DrillOutcome) (list : List Told) (kept : Ledger) (waited : List (List ℕ)) (before : List ℕ)
     → EachTold outcomes list → HoldsLedger kept facts → Telling place facts outcomes list kept waited waited before before
 telling_begins place facts outcomes list kept waited before are h = record {
   seen = facts;
@@ -164,8 +164,8 @@ telling_begins place facts outcomes list kept waited before are h = record {
   printed = refl;
 }
 
-goes_on : MarksGrow → (place : Place) (facts : List MarkedFact) (outcomes : List Outcome) (t : Told) (list : List Told) (kept new : Ledger)
-    (waited waits more : List (List ℕ)) (before between now : List ℕ) (seen : List MarkedFact) (left : List Outcome)
+goes_on : MarksGrow → (place : Place) (facts : List MarkedFact) (outcomes : List DrillOutcome) (t : Told) (list : List Told) (kept new : Ledger)
+    (waited waits more : List (List ℕ)) (before between now : List ℕ) (seen : List MarkedFact) (left : List DrillOutcome)
     → EachTold left (t ∷ list) → HoldsLedger kept seen
     → seen ++ marked_from seen (facts_in (map (at_end place.side) left)) ≡ facts ++ marked_from facts (facts_in (map (at_end place.side) outcomes))
     → waits ++ frames_in left ≡ waited ++ frames_in outcomes
@@ -188,7 +188,7 @@ goes_on grow place facts outcomes t list kept new waited waits more before betwe
           ∙ ap (λ (xs : List MarkedFact). seen ++ xs) (sym (grow seen (facts_at place.side o) rest))
           ∙ marks;
       queued = ap (λ (xs : List (List ℕ)). xs ++ frames_in left) (tells.queued ∙ ap (λ (xs : List (List ℕ)). waits ++ xs) (sym row.frames))
-          ∙ append_assoc waits (frames_of o) (frames_in left)
+          ∙ append_assoc waits (frames_of_outcome o) (frames_in left)
           ∙ queued;
       printed = ap (λ (xs : List ℕ). xs ++ lines) (tells.printed ∙ ap (λ (xs : List ℕ). between ++ xs) (sym (row.line place.show place.number)))
           ∙ append_assoc between (outcome_line place.show place.number place.side o (outcome_forged seen place.side o)) lines
@@ -196,7 +196,7 @@ goes_on grow place facts outcomes t list kept new waited waits more before betwe
     }
 
 -- one thing more
-pub telling_goes_on : MarksGrow → (place : Place) (facts : List MarkedFact) (outcomes : List Outcome) (t : Told) (all list : List Told) (kept new : Ledger)
+pub telling_goes_on : MarksGrow → (place : Place) (facts : List MarkedFact) (outcomes : List DrillOutcome) (t : Told) (all list : List Told) (kept new : Ledger)
     (waited waits more : List (List ℕ)) (before between now : List ℕ)
     → all ≡ t ∷ list → Telling place facts outcomes all kept waited waits before between
     → TellsOne place t kept new waits more between now
@@ -205,61 +205,61 @@ telling_goes_on grow place facts outcomes t all list kept new waited waits more 
     let are : EachTold d.left (t ∷ list) = subst (EachTold d.left) is d.told in
     goes_on grow place facts outcomes t list kept new waited waits more before between now d.seen d.left are d.holds d.marks d.queued d.printed tells
 
-none_left : (left : List Outcome) → EachTold left [] → left ≡ []
+none_left : (left : List DrillOutcome) → EachTold left [] → left ≡ []
 none_left [] are = refl
 none_left (o ∷ left) are = absurd are
 
 -- the end
-each_ends : (place : Place) (facts : List MarkedFact) (outcomes : List Outcome) (all : List Told) (kept : Ledger)
+each_ends : (place : Place) (facts : List MarkedFact) (outcomes : List DrillOutcome) (all : List Told) (kept : Ledger)
     (waited waits : List (List ℕ)) (before now : List ℕ)
     → all ≡ [] → Telling place facts outcomes all kept waited waits before now
     → TellsAll place facts outcomes kept waited waits before now
 each_ends place facts outcomes all kept waited waits before now is d =
     let none : d.left ≡ [] = none_left d.left (subst (EachTold d.left) is d.told) in
     let marks : d.seen ≡ facts ++ marked_from facts (facts_in (map (at_end place.side) outcomes)) =
-    sym (append-nil d.seen) ∙ ap (λ (os : List Outcome). d.seen ++ marked_from d.seen (facts_in (map (at_end place.side) os))) (sym none) ∙ d.marks in
+    sym (append-nil d.seen) ∙ ap (λ (os : List DrillOutcome). d.seen ++ marked_from d.seen (facts_in (map (at_end place.side) os))) (sym none) ∙ d.marks in
     record {
       holds = subst (HoldsLedger kept) marks d.holds;
-      queued = sym (append-nil waits) ∙ ap (λ (os : List Outcome). waits ++ frames_in os) (sym none) ∙ d.queued;
+      queued = sym (append-nil waits) ∙ ap (λ (os : List DrillOutcome). waits ++ frames_in os) (sym none) ∙ d.queued;
       printed = sym (append-nil now)
-          ∙ ap (λ (os : List Outcome). now ++ link_lines place.show place.number (marks_behind d.seen (map (at_end place.side) os))) (sym none)
+          ∙ ap (λ (os : List DrillOutcome). now ++ link_lines place.show place.number (marks_behind d.seen (map (at_end place.side) os))) (sym none)
           ∙ d.printed;
     }
 
 -- ---- what nothing is told of
 
 -- it is no fact, no frame, and it has no line
-heard_facts : (side : Side) (os : List Outcome) → facts_in (map (at_end side) (heard_in os)) ≡ facts_in (map (at_end side) os)
+heard_facts : (side : Side) (os : List DrillOutcome) → facts_in (map (at_end side) (told_outcomes_in os)) ≡ facts_in (map (at_end side) os)
 heard_facts side [] = refl
 heard_facts side (Handed payload ∷ os) = heard_facts side os
 heard_facts side (Expired ∷ os) = heard_facts side os
 heard_facts side (o ∷ os) = ap (λ (xs : List SideFact). facts_at side o ++ xs) (heard_facts side os)
 
-heard_frames : (os : List Outcome) → frames_in (heard_in os) ≡ frames_in os
+heard_frames : (os : List DrillOutcome) → frames_in (told_outcomes_in os) ≡ frames_in os
 heard_frames [] = refl
 heard_frames (Handed payload ∷ os) = heard_frames os
 heard_frames (Expired ∷ os) = heard_frames os
-heard_frames (o ∷ os) = ap (λ (xs : List (List ℕ)). frames_of o ++ xs) (heard_frames os)
+heard_frames (o ∷ os) = ap (λ (xs : List (List ℕ)). frames_of_outcome o ++ xs) (heard_frames os)
 
-heard_lines : (show : Bool) (number : ℕ) (side : Side) (facts : List MarkedFact) (os : List Outcome)
-    → link_lines show number (marks_behind facts (map (at_end side) (heard_in os))) ≡ link_lines show number (marks_behind facts (map (at_end side) os))
+heard_lines : (show : Bool) (number : ℕ) (side : Side) (facts : List MarkedFact) (os : List DrillOutcome)
+    → link_lines show number (marks_behind facts (map (at_end side) (told_outcomes_in os))) ≡ link_lines show number (marks_behind facts (map (at_end side) os))
 heard_lines show number side facts [] = refl
 heard_lines show number side facts (Handed payload ∷ os) =
-    ap (λ (fs : List MarkedFact). link_lines show number (marks_behind fs (map (at_end side) (heard_in os)))) (sym (append-nil facts))
+    ap (λ (fs : List MarkedFact). link_lines show number (marks_behind fs (map (at_end side) (told_outcomes_in os)))) (sym (append-nil facts))
     ∙ heard_lines show number side (facts ++ []) os
 heard_lines show number side facts (Expired ∷ os) =
-    ap (λ (fs : List MarkedFact). link_lines show number (marks_behind fs (map (at_end side) (heard_in os)))) (sym (append-nil facts))
+    ap (λ (fs : List MarkedFact). link_lines show number (marks_behind fs (map (at_end side) (told_outcomes_in os)))) (sym (append-nil facts))
     ∙ heard_lines show number side (facts ++ []) os
 heard_lines show number side facts (o ∷ os) =
     ap (λ (xs : List ℕ). outcome_line show number side o (outcome_forged facts side o) ++ xs) (heard_lines show number side (facts ++ marked_from facts (facts_at side o)) os)
 
 -- the end, of all outcomes
-pub telling_ends : (place : Place) (facts : List MarkedFact) (outcomes : List Outcome) (all : List Told) (kept : Ledger)
+pub telling_ends : (place : Place) (facts : List MarkedFact) (outcomes : List DrillOutcome) (all : List Told) (kept : Ledger)
     (waited waits : List (List ℕ)) (before now : List ℕ)
-    → all ≡ [] → Telling place facts (heard_in outcomes) all kept waited waits before now
+    → all ≡ [] → Telling place facts (told_outcomes_in outcomes) all kept waited waits before now
     → TellsAll place facts outcomes kept waited waits before now
 telling_ends place facts outcomes all kept waited waits before now is d =
-    let e : TellsAll place facts (heard_in outcomes) kept waited waits before now = each_ends place facts (heard_in outcomes) all kept waited waits before now is d in
+    let e : TellsAll place facts (told_outcomes_in outcomes) kept waited waits before now = each_ends place facts (told_outcomes_in outcomes) all kept waited waits before now is d in
     record {
       holds = subst (λ (fs : List SideFact). HoldsLedger kept (facts ++ marked_from facts fs)) (heard_facts place.side outcomes) e.holds;
       queued = e.queued ∙ ap (λ (xs : List (List ℕ)). waited ++ xs) (heard_frames outcomes);

@@ -11,7 +11,7 @@ use Rattle.drill_model.specs.Marks.{marks_from}
 use Rattle.drill_model.specs.Texts.{lines}
 use Rattle.er_world.specs.declared.link.Link.{Link as KeptLink}
 use Rattle.er_world.specs.KeptLinks.{LinkDoes}
-use Rattle.er_world.specs.Standing.{KeptWorld, place_of, kept_at, StandsWorld}
+use Rattle.er_world.specs.Standing.{KeptWorld, kept_link_if_any, kept_at, StandsWorld}
 use Rattle.er_world.specs.WorldSteps.{WorldWent, WorldDoes, Done, RefusedFor, Ticking}
 use Rattle.er_world.proofs.Places.{WorldGrows, set_again, read_there, nothing_there, stays, lines-append}
 use Rattle.er_world.proofs.WorldRows.{at_does}
@@ -27,7 +27,7 @@ pub ticks_none : WorldGrows → (w old : KeptWorld) (n moment : ℕ) (place : Op
 ticks_none grows w old n moment place before whole size few read is =
     let inside : n < length w.links = omega (arith, size, few) in
     let at : slice_get w.links n ≡ Some place = read_there w.links n place inside read in
-    let none : kept_at w n ≡ None = ap place_of at ∙ is in
+    let none : kept_at w n ≡ None = ap kept_link_if_any at ∙ is in
     let same : record w { links = slice_set w.links n place } ≡ w =
     ap (λ (links : List (Option KeptLink)). record w { links = links }) (set_again w.links n place at) in
     let Q : KeptWorld → Type 0 = λ o. TicksLink o n moment (record w { links = slice_set w.links n place }) before before in

@@ -8,20 +8,20 @@ use Rattle.drill_model.specs.declared.world_fault.WorldFault.{WorldFault}
 use Rattle.drill_model.specs.declared.world_fault.WorldFault.TheVariants.{NoLink, LinkTwice, MomentBack, Overfull, NoMemory}
 use Rattle.drill_model.specs.Outcomes.{Occurrence}
 use Rattle.drill_model.specs.Links.{Link}
-use Rattle.drill_model.specs.Worlds.{Plan, World, Came, link_at, history_on, new_world, world_step, world_run}
+use Rattle.drill_model.specs.Worlds.{DrillPlan, World, Came, link_at, history_on, new_world, world_step, world_run}
 use Rattle.drill_model.specs.Kinds.{deliveries}
-use Rattle.drill_model.specs.Faults.{or_else, first_overfull, overfull_of, refusal, fault_behind}
-use Rattle.drill_model.specs.Texts.{closing_line, closing_at, closing_from, last_lines, step_lines}
+use Rattle.drill_model.specs.Faults.{or_else, first_overfull, overfull_of, refusal_of_step, fault_behind}
+use Rattle.drill_model.specs.Texts.{closing_line, closing_text_at, closing_from, last_lines, step_lines}
 use Rattle.drill_model.specs.Growth.{RunGrows}
 use Rattle.er_world.specs.declared.link.Link.{Link as KeptLink}
 use Rattle.er_world.specs.KeptLinks.{StandsLink, closing_kept}
-use Rattle.er_world.specs.Standing.{KeptWorld, place_of, kept_at, StandsPlace, StandsWorld, RanSo, Ran, Applied, IsFaultBehind, LeavesIt}
-use Rattle.er_world.specs.WorldSteps.{WorldWent, Done, RefusedFor, Does, touched, overfull_by, EndsWell, Ends, left_by, place_closing, closing_lines}
+use Rattle.er_world.specs.Standing.{KeptWorld, kept_link_if_any, kept_at, StandsPlace, StandsWorld, RanSo, Ran, Applied, IsFaultBehind, LeavesIt}
+use Rattle.er_world.specs.WorldSteps.{WorldWent, Done, RefusedFor, DoesWorldStep, touched, overfull_by, EndsWell, EndsWorldStep, world_left_by_fault, place_closing, closing_lines}
 use Rattle.er_world.proofs.Overfull.{fault_from, overfull_found}
 
 -- ---- the beginning
 
-empty_place : (k n : ℕ) → place_of (slice_get (replicate {A = Option KeptLink} k None) n) ≡ None
+empty_place : (k n : ℕ) → kept_link_if_any (slice_get (replicate {A = Option KeptLink} k None) n) ≡ None
 empty_place zero n = refl
 empty_place (suc k) zero = refl
 empty_place (suc k) (suc n) = empty_place k n
@@ -31,13 +31,13 @@ unfolding first_overfull
 none_first n zero = refl
 none_first n (suc count) = none_first (n + 1) count
 
-pub ran_new : (w : KeptWorld) (plan : Plan) (k : ℕ) → w.plan ≡ plan → w.links ≡ replicate k None → w.moment ≡ 0 → Ran w plan []
+pub ran_new : (w : KeptWorld) (plan : DrillPlan) (k : ℕ) → w.plan ≡ plan → w.links ≡ replicate k None → w.moment ≡ 0 → Ran w plan []
 unfolding Ran
 ran_new w plan k plan_is links moment = record {
   plan_is = plan_is;
   stands = record {
     places = λ n.
-        let none : kept_at w n ≡ None = ap (λ (ls : List (Option KeptLink)). place_of (slice_get ls n)) links ∙ empty_place k n in
+        let none : kept_at w n ≡ None = ap (λ (ls : List (Option KeptLink)). kept_link_if_any (slice_get ls n)) links ∙ empty_place k n in
         let nothing : StandsPlace None None [] = refl in
         subst (λ (p : Option KeptLink). StandsPlace p None []) (sym none) nothing;
     moment = moment;
@@ -49,15 +49,15 @@ ran_new w plan k plan_is links moment = record {
 -- ---- a step that was done
 
 abbrev pub Steps : KeptWorld → Step → KeptWorld → List ℕ → Type 0
-Steps old s mid text = Done (λ w. refusal w s) (λ w. world_step old.plan w s) old mid [] text
+Steps old s mid text = Done (λ w. refusal_of_step w s) (λ w. world_step old.plan w s) old mid [] text
 
 -- where it leads, by the model
-went_so : (plan : Plan) (s : Step) (old mid : KeptWorld) (text : List ℕ) (w : World) (came : List Came) → old.plan ≡ plan → StandsWorld old w came
+went_so : (plan : DrillPlan) (s : Step) (old mid : KeptWorld) (text : List ℕ) (w : World) (came : List Came) → old.plan ≡ plan → StandsWorld old w came
     → Steps old s mid text → WorldWent (world_step plan w s) plan.show came mid [] text
 went_so plan s old mid text w came is st done =
-    subst (λ (p : Plan). WorldWent (world_step p w s) p.show came mid [] text) is (done.went w came st)
+    subst (λ (p : DrillPlan). WorldWent (world_step p w s) p.show came mid [] text) is (done.went w came st)
 
-applied_so : RunGrows → (plan : Plan) (before : List Step) (s : Step) (old mid new : KeptWorld) (text out now : List ℕ)
+applied_so : RunGrows → (plan : DrillPlan) (before : List Step) (s : Step) (old mid new : KeptWorld) (text out now : List ℕ)
     → RanSo old plan (world_run plan before) → Steps old s mid text → mid.plan ≡ old.plan
     → EndsWell (overfull_by mid (touched s)) text mid new out now
     → RanSo new plan (world_run plan (before ++ s ∷ [])) × (fault_behind plan before s ≡ None) × (now ≡ out ++ step_lines plan before s)
@@ -77,7 +77,7 @@ applied_so grows plan before s old mid new text out now ran done same end =
       end.printed ∙ ap (λ (xs : List ℕ). out ++ xs) went.printed,
     )
 
-applied : RunGrows → (plan : Plan) (before : List Step) (s : Step) (old mid new : KeptWorld) (text out now : List ℕ)
+applied : RunGrows → (plan : DrillPlan) (before : List Step) (s : Step) (old mid new : KeptWorld) (text out now : List ℕ)
     → Ran old plan before → Steps old s mid text → mid.plan ≡ old.plan
     → EndsWell (overfull_by mid (touched s)) text mid new out now
     → Applied plan before s new out now
@@ -87,7 +87,7 @@ applied grows plan before s old mid new text out now ran done same end =
     record { ran = all.0; none = all.1; printed = all.2 }
 
 -- too many frames wait behind it
-overfull_so : (plan : Plan) (before : List Step) (s : Step) (old mid : KeptWorld) (text : List ℕ) (n : ℕ) (side : Side) (most : ℕ)
+overfull_so : (plan : DrillPlan) (before : List Step) (s : Step) (old mid : KeptWorld) (text : List ℕ) (n : ℕ) (side : Side) (most : ℕ)
     → Ran old plan before → Steps old s mid text → overfull_by mid (touched s) ≡ Some (n, side) → most ≡ 4096
     → fault_behind plan before s ≡ Some (Overfull n side most)
 unfolding Ran
@@ -102,15 +102,15 @@ overfull_so plan before s old mid text n side most ran done found most_is =
 
 module _ (s : Step) (old mid new : KeptWorld) (text out now : List ℕ) where
   abbrev pub EndsStep : Result (Unit {0}) WorldFault → Type 0
-  EndsStep result = Ends (overfull_by mid (touched s)) text mid new out now result
+  EndsStep result = EndsWorldStep (overfull_by mid (touched s)) text mid new out now result
 
   pub step_ok : RunGrows → (result : Result (Unit {0}) WorldFault) → Steps old s mid text → mid.plan ≡ old.plan → EndsStep result
-      → OnOk result ((plan : Plan) (before : List Step) → Ran old plan before → Applied plan before s new out now)
+      → OnOk result ((plan : DrillPlan) (before : List Step) → Ran old plan before → Applied plan before s new out now)
   step_ok grows (Ok done') done same end = λ plan before ran. applied grows plan before s old mid new text out now ran done same end
   step_ok grows (Err fault) done same end = tt
 
   pub step_fault : (result : Result (Unit {0}) WorldFault) → Steps old s mid text → EndsStep result
-      → IfErr result (λ fault. (plan : Plan) (before : List Step) → Ran old plan before → IsFaultBehind plan before s fault)
+      → IfErr result (λ fault. (plan : DrillPlan) (before : List Step) → Ran old plan before → IsFaultBehind plan before s fault)
   step_fault (Ok done') done end = tt
   step_fault (Err (NoMemory want)) done end = λ plan before ran. tt
   step_fault (Err (Overfull n side most)) done end = λ plan before ran. overfull_so plan before s old mid text n side most ran done end.0 end.1
@@ -148,8 +148,8 @@ module _ (s : Step) (old mid new : KeptWorld) (text out now : List ℕ) where
 
 -- ---- a step that wasn't done
 
-refused_so : (fault : WorldFault) (plan : Plan) (before : List Step) (s : Step) (old new : KeptWorld)
-    → Ran old plan before → RefusedFor (λ w. refusal w s) fault old new → fault_behind plan before s ≡ Some fault
+refused_so : (fault : WorldFault) (plan : DrillPlan) (before : List Step) (s : Step) (old new : KeptWorld)
+    → Ran old plan before → RefusedFor (λ w. refusal_of_step w s) fault old new → fault_behind plan before s ≡ Some fault
 unfolding Ran
 refused_so fault plan before s old new ran refused =
     let a : World × List Came = world_run plan before in
@@ -157,23 +157,23 @@ refused_so fault plan before s old new ran refused =
 
 module _ (s : Step) (old mid new : KeptWorld) (start text : List ℕ) where
   abbrev pub Fails : WorldFault → Type 0
-  Fails fault = Does (λ w. refusal w s) (λ w. world_step old.plan w s) old mid start text (Err fault)
+  Fails fault = DoesWorldStep (λ w. refusal_of_step w s) (λ w. world_step old.plan w s) old mid start text (Err fault)
 
-  pub fails_fault : (fault : WorldFault) → Fails fault → (plan : Plan) (before : List Step) → Ran old plan before → IsFaultBehind plan before s fault
+  pub fails_fault : (fault : WorldFault) → Fails fault → (plan : DrillPlan) (before : List Step) → Ran old plan before → IsFaultBehind plan before s fault
   fails_fault (NoMemory want) does plan before ran = tt
   fails_fault (Overfull n side most) does plan before ran = absurd does
   fails_fault (NoLink n) does plan before ran = refused_so (NoLink n) plan before s old mid ran does
   fails_fault (LinkTwice n) does plan before ran = refused_so (LinkTwice n) plan before s old mid ran does
   fails_fault (MomentBack was moment) does plan before ran = refused_so (MomentBack was moment) plan before s old mid ran does
 
-  pub fails_left : (fault : WorldFault) → Fails fault → new ≡ left_by fault mid → LeavesIt fault old new
+  pub fails_left : (fault : WorldFault) → Fails fault → new ≡ world_left_by_fault fault mid → LeavesIt fault old new
   fails_left (NoMemory want) does is = ap (λ (k : KeptWorld). k.spent) is
   fails_left (Overfull n side most) does is = absurd does
   fails_left (NoLink n) does is = is ∙ does.same
   fails_left (LinkTwice n) does is = is ∙ does.same
   fails_left (MomentBack was moment) does is = is ∙ does.same
 
-  pub fails_plan : (fault : WorldFault) → mid.plan ≡ old.plan → new ≡ left_by fault mid → new.plan ≡ old.plan
+  pub fails_plan : (fault : WorldFault) → mid.plan ≡ old.plan → new ≡ world_left_by_fault fault mid → new.plan ≡ old.plan
   fails_plan (NoMemory want) same is = ap (λ (k : KeptWorld). k.plan) is ∙ same
   fails_plan (Overfull n side most) same is = ap (λ (k : KeptWorld). k.plan) is ∙ same
   fails_plan (NoLink n) same is = ap (λ (k : KeptWorld). k.plan) is ∙ same
@@ -188,7 +188,7 @@ unfolding closing_kept closing_line
 closed_link n kept l history st = rw (st.totals, st.from_e, st.from_r) refl
 
 closed_place : (n : ℕ) (place : Option KeptLink) (o : Option Link) (came : List Came) → StandsPlace place o (history_on n came)
-    → place_closing n place ≡ closing_at n o came
+    → place_closing n place ≡ closing_text_at n o came
 closed_place n None None came st = refl
 closed_place n None (Some l) came st = absurd st
 closed_place n (Some kept) None came st = absurd st
@@ -208,9 +208,9 @@ closed kept a st n zero = closing_zero kept n
 closed kept a st n (suc count) =
     closing_suc kept n count
     ∙ ap (λ (xs : List ℕ). xs ++ closing_lines kept (n + 1) count) (closed_place n (kept_at kept n) (link_at a.0 n) a.1 (st.places n))
-    ∙ ap (λ (xs : List ℕ). closing_at n (link_at a.0 n) a.1 ++ xs) (closed kept a st (n + 1) count)
+    ∙ ap (λ (xs : List ℕ). closing_text_at n (link_at a.0 n) a.1 ++ xs) (closed kept a st (n + 1) count)
 
-pub summed_up : (kept : KeptWorld) (plan : Plan) (steps : List Step) → Ran kept plan steps → closing_lines kept 1 64 ≡ last_lines plan steps
+pub summed_up : (kept : KeptWorld) (plan : DrillPlan) (steps : List Step) → Ran kept plan steps → closing_lines kept 1 64 ≡ last_lines plan steps
 unfolding Ran
 summed_up kept plan steps ran = closed kept (world_run plan steps) ran.stands 1 64
 

@@ -11,16 +11,16 @@ use Rattle.drill_model.specs.declared.world_fault.WorldFault.TheVariants.{NoLink
 use Rattle.drill_model.specs.Outcomes.{NothingWaits, Occurrence, at_end}
 use Rattle.drill_model.specs.Waiting.{Put}
 use Rattle.drill_model.specs.Links.{Link, LinkOpening, LinkStep, Change, opened_link, waiting_of, link_step}
-use Rattle.drill_model.specs.Worlds.{Plan, World, Came, On, Drained, Drain, drain, is_link, link_at, with_link, history_on, went_on, open_link, at_link, with_drain, drain_link, copy_frame, copy_between}
+use Rattle.drill_model.specs.Worlds.{DrillPlan, World, Came, On, Drained, Drain, drain, is_link, link_at, with_link, history_on, went_on, open_link, at_link, with_drain, drain_link, copy_frame, copy_between}
 use Rattle.drill_model.specs.Links.{OfStations}
 use Rattle.drill_ends.specs.EitherStations.{StationsPlan}
 use Rattle.drill_model.specs.Faults.{wants, wants_closed, or_else}
 use Rattle.drill_model.specs.Marks.{marks_from}
 use Rattle.drill_model.specs.Texts.{lines, empty_line, passes_line}
 use Rattle.er_world.specs.declared.link.Link.{Link as KeptLink}
-use Rattle.er_world.specs.KeptLinks.{StandsLink, LinkWent, LinkDoes, Drains, waiting_at}
-use Rattle.er_world.specs.Standing.{KeptWorld, place_of, kept_at, StandsPlace, StandsWorld}
-use Rattle.er_world.specs.WorldSteps.{WorldWent, WorldDoes, Done, RefusedFor, Does}
+use Rattle.er_world.specs.KeptLinks.{StandsLink, LinkWent, LinkDoes, Drains, waiting_frames_of_side}
+use Rattle.er_world.specs.Standing.{KeptWorld, kept_link_if_any, kept_at, StandsPlace, StandsWorld}
+use Rattle.er_world.specs.WorldSteps.{WorldWent, WorldDoes, Done, RefusedFor, DoesWorldStep}
 use Rattle.er_world.proofs.Counting.{quiet_counts}
 use Rattle.er_world.proofs.LinkRows.{stands_more, waits_alike}
 use Rattle.er_world.proofs.Places.{WorldGrows, set_again, read_there, there, nothing_there, is_link_there, at_same, at_other, stands_went, went_world, stays, lines-append}
@@ -37,7 +37,7 @@ pub no_link_there : (w old : KeptWorld) (n : ℕ) (place : Option KeptLink) → 
 no_link_there w old n place whole size few read is =
     let inside : n < length w.links = omega (arith, size, few) in
     let at : slice_get w.links n ≡ Some place = read_there w.links n place inside read in
-    let none : kept_at w n ≡ None = ap place_of at ∙ is in
+    let none : kept_at w n ≡ None = ap kept_link_if_any at ∙ is in
     record {
       same = ap (λ (links : List (Option KeptLink)). record w { links = links }) (set_again w.links n place at) ∙ whole;
       reason = λ v came st.
@@ -102,7 +102,7 @@ pub at_does : WorldGrows → (w old : KeptWorld) (n : ℕ) (s : LinkStep) (place
     → AtDone old n s (record w { links = slice_set w.links n (Some after) }) before now
 at_does grows w old n s place kept after before now whole size few read is does =
     let inside : n < length w.links = omega (arith, size, few) in
-    let at : kept_at w n ≡ Some kept = ap place_of (read_there w.links n place inside read) ∙ is in
+    let at : kept_at w n ≡ Some kept = ap kept_link_if_any (read_there w.links n place inside read) ∙ is in
     let Q : KeptWorld → Type 0 = λ o. AtDone o n s (record w { links = slice_set w.links n (Some after) }) before now in
     let here : LinkDoes (λ l. link_step l s) w.plan.show n kept after before now =
     subst (λ (o : KeptWorld). LinkDoes (λ l. link_step l s) o.plan.show n kept after before now) (sym whole) does in
@@ -142,7 +142,7 @@ pub drain_does : WorldGrows → (w old : KeptWorld) (n most passes : ℕ) (place
     → DrainDone old n most (record w { links = slice_set w.links n (Some after) }) before now
 drain_does grows w old n most passes place kept after before between now whole size few read is does shows =
     let inside : n < length w.links = omega (arith, size, few) in
-    let at : kept_at w n ≡ Some kept = ap place_of (read_there w.links n place inside read) ∙ is in
+    let at : kept_at w n ≡ Some kept = ap kept_link_if_any (read_there w.links n place inside read) ∙ is in
     let Q : KeptWorld → Type 0 = λ o. DrainDone o n most (record w { links = slice_set w.links n (Some after) }) before now in
     let here : (l : Link) (history : List Occurrence) → StandsLink kept l history → Drains (drain most l) w.plan.show n passes history after before between =
     subst (λ (o : KeptWorld). (l : Link) (history : List Occurrence) → StandsLink kept l history → Drains (drain most l) o.plan.show n passes history after before between) (sym whole) does in
@@ -158,7 +158,7 @@ drain_does grows w old n most passes place kept after before between now whole s
 
 -- ---- opening
 
-abbrev pub OpenDone : Plan → KeptWorld → ℕ → Option LinkOpening → KeptWorld → List ℕ → List ℕ → Type 0
+abbrev pub OpenDone : DrillPlan → KeptWorld → ℕ → Option LinkOpening → KeptWorld → List ℕ → List ℕ → Type 0
 OpenDone plan old n opening new before now =
     Done (λ v. wants_closed n (link_at v n)) (λ v. open_link plan v n (link_at v n) opening) old new before now
 
@@ -211,7 +211,7 @@ some_stations plan found opening some is = sym is ∙ ap (option_map (λ (p : St
 -- the same step in other words
 pub does_same : (refused other : World → Option WorldFault) (moves others : World → World × List Came) (old new : KeptWorld) (before now : List ℕ) (result : Result (Unit {0}) WorldFault)
     → ((v : World) (came : List Came) → StandsWorld old v came → (other v ≡ refused v) × (others v ≡ moves v))
-    → Does refused moves old new before now result → Does other others old new before now result
+    → DoesWorldStep refused moves old new before now result → DoesWorldStep other others old new before now result
 does_same refused other moves others old new before now (Ok done) same does = record {
   none = λ v came st. (same v came st).0 ∙ does.none v came st;
   went = λ v came st.
@@ -258,7 +258,7 @@ copies_to_none f found w n m kept source none is = record {
       ∙ ap (wants m) (closed_none f found w m none is v came st);
 }
 
-place_is : (place : Option (Option KeptLink)) (kept : KeptLink) → place_of place ≡ Some kept → place ≡ Some (Some kept)
+place_is : (place : Option (Option KeptLink)) (kept : KeptLink) → kept_link_if_any place ≡ Some kept → place ≡ Some (Some kept)
 place_is None kept is = absurd (cc)
 place_is (Some place) kept is = ap (λ (p : Option KeptLink). Some p) is
 
@@ -282,7 +282,7 @@ put_between v n s l frame others m t (Some k) waits = ap (λ (fs : List (List �
 -- nothing waits of the end whose frame was to be copied
 pub copies_nothing : {A : Type 0} → (f : A → KeptLink) (found : Option A) → WorldGrows → (w : KeptWorld) (n m : ℕ) (s t : Side) (kept : KeptLink) (before now : List ℕ)
     → Some kept ≡ kept_at w n → is_some found ≡ true → option_map f found ≡ kept_at w m
-    → None ≡ slice_get (waiting_at kept s) 0 → now ≡ before ++ empty_line n s
+    → None ≡ slice_get (waiting_frames_of_side kept s) 0 → now ≡ before ++ empty_line n s
     → Done (λ v. or_else (wants n (link_at v n)) (wants m (link_at v m))) (λ v. copy_between v n s (link_at v n) m t (link_at v m)) w w before now
 copies_nothing f found grows w n m s t kept before now source some is none shows =
     let inside : n < length w.links = slice_get_within w.links n (Some kept) (place_is (slice_get w.links n) kept (sym source)) in
@@ -296,7 +296,7 @@ copies_nothing f found grows w n m s t kept before now source some is none shows
           let b = there w v came m goal.kept goal.is st in
           let first : List Occurrence = at_end s NothingWaits ∷ [] in
           let empty : waiting_of a.link s ≡ [] =
-          sym (waits_alike kept a.link (history_on n came) s a.stands) ∙ empty_frames (waiting_at kept s) none in
+          sym (waits_alike kept a.link (history_on n came) s a.stands) ∙ empty_frames (waiting_frames_of_side kept s) none in
           let more : StandsLink kept a.link (history_on n came ++ first) =
           stands_more grows.links kept a.link (history_on n came) first refl (quiet_counts (history_on n came) s NothingWaits refl refl refl refl refl) a.stands in
           let went' : LinkWent (a.link, first) w.plan.show n (history_on n came) kept before now =
@@ -316,12 +316,12 @@ copies_nothing f found grows w n m s t kept before now source some is none shows
 
 -- a copy is a put at the other link
 pub copies_put : (w : KeptWorld) (n m : ℕ) (s t : Side) (kept : KeptLink) (frame : List ℕ) (new : KeptWorld) (before now : List ℕ) (result : Result (Unit {0}) WorldFault)
-    → Some kept ≡ kept_at w n → Some frame ≡ slice_get (waiting_at kept s) 0
-    → Does (λ v. wants m (link_at v m)) (λ v. at_link v m (link_at v m) (Change t (Put frame))) w new before now result
-    → Does (λ v. or_else (wants n (link_at v n)) (wants m (link_at v m))) (λ v. copy_between v n s (link_at v n) m t (link_at v m)) w new before now result
+    → Some kept ≡ kept_at w n → Some frame ≡ slice_get (waiting_frames_of_side kept s) 0
+    → DoesWorldStep (λ v. wants m (link_at v m)) (λ v. at_link v m (link_at v m) (Change t (Put frame))) w new before now result
+    → DoesWorldStep (λ v. or_else (wants n (link_at v n)) (wants m (link_at v m))) (λ v. copy_between v n s (link_at v n) m t (link_at v m)) w new before now result
 copies_put w n m s t kept frame new before now result source some does =
     let at : kept_at w n ≡ Some kept = sym source in
-    let first = first_frame (waiting_at kept s) frame some in
+    let first = first_frame (waiting_frames_of_side kept s) frame some in
     does_same (λ v. wants m (link_at v m)) (λ v. or_else (wants n (link_at v n)) (wants m (link_at v m)))
     (λ v. at_link v m (link_at v m) (Change t (Put frame))) (λ v. copy_between v n s (link_at v n) m t (link_at v m)) w new before now result
     (λ v came st.

@@ -4,9 +4,9 @@ use Rattle.er_scenario.specs.declared.step.Step.{Step}
 use Rattle.drill_model.specs.declared.totals.Totals.{Totals}
 use Rattle.drill_model.specs.Outcomes.{Occurrence}
 use Rattle.drill_model.specs.Links.{Link}
-use Rattle.drill_model.specs.Worlds.{Plan, World, Came, link_at, history_on, world_run}
+use Rattle.drill_model.specs.Worlds.{DrillPlan, World, Came, link_at, history_on, world_run}
 use Rattle.drill_model.specs.Kinds.{deliveries}
-use Rattle.drill_model.specs.Totals.{sends, acceptances, losses, repeats, sum_from, totals_of}
+use Rattle.drill_model.specs.Totals.{count_of_sends, acceptances, losses, repeats, sum_from, totals_of}
 use Rattle.er_world.specs.declared.link.Link.{Link as KeptLink}
 use Rattle.er_world.specs.Counts.{saturated, no_totals, sum, counts_of}
 use Rattle.er_world.specs.Standing.{KeptWorld, StandsPlace, StandsWorld, Ran, kept_at}
@@ -29,16 +29,16 @@ both_capped n m = omega arith
 
 more_capped : (a b c d e : ℕ) (history : List Occurrence)
     → sum (capped a b c d e) (counts_of history)
-    ≡ capped (a + sends history) (b + acceptances history) (c + deliveries history) (d + losses history) (e + repeats history)
+    ≡ capped (a + count_of_sends history) (b + acceptances history) (c + deliveries history) (d + losses history) (e + repeats history)
 more_capped a b c d e history =
-    alike _ _ _ _ _ _ _ _ _ _ (both_capped a (sends history)) (both_capped b (acceptances history)) (both_capped c (deliveries history))
+    alike _ _ _ _ _ _ _ _ _ _ (both_capped a (count_of_sends history)) (both_capped b (acceptances history)) (both_capped c (deliveries history))
     (both_capped d (losses history)) (both_capped e (repeats history))
 
 module _ (kept : KeptWorld) (w : World) (came : List Came) (st : StandsWorld kept w came) where
   abbrev summed_so : ℕ → ℕ → Type 0
   summed_so n count =
       (a b c d e : ℕ) → summed kept n count (capped a b c d e)
-      ≡ capped (a + sum_from sends came n count) (b + sum_from acceptances came n count) (c + sum_from deliveries came n count)
+      ≡ capped (a + sum_from count_of_sends came n count) (b + sum_from acceptances came n count) (c + sum_from deliveries came n count)
       (d + sum_from losses came n count) (e + sum_from repeats came n count)
 
   alike_capped : (a b c d e f g h i j : ℕ) → a ≡ f → b ≡ g → c ≡ h → d ≡ i → e ≡ j → capped a b c d e ≡ capped f g h i j
@@ -53,12 +53,12 @@ module _ (kept : KeptWorld) (w : World) (came : List Came) (st : StandsWorld kep
       nothing a = omega arith
   summed_is n (suc count) = λ a b c d e.
       let h : List Occurrence = history_on n came in
-      let first : sum (capped a b c d e) (place_totals (kept_at kept n)) ≡ capped (a + sends h) (b + acceptances h) (c + deliveries h) (d + losses h) (e + repeats h) =
+      let first : sum (capped a b c d e) (place_totals (kept_at kept n)) ≡ capped (a + count_of_sends h) (b + acceptances h) (c + deliveries h) (d + losses h) (e + repeats h) =
       ap (sum (capped a b c d e)) (place_counts (kept_at kept n) (link_at w n) h (st.places n)) ∙ more_capped a b c d e h in
       ap (summed kept (n + 1) count) first
-      ∙ summed_is (n + 1) count (a + sends h) (b + acceptances h) (c + deliveries h) (d + losses h) (e + repeats h)
+      ∙ summed_is (n + 1) count (a + count_of_sends h) (b + acceptances h) (c + deliveries h) (d + losses h) (e + repeats h)
       ∙ alike_capped _ _ _ _ _ _ _ _ _ _
-      (apart a (sends h) (sum_from sends came (n + 1) count)) (apart b (acceptances h) (sum_from acceptances came (n + 1) count))
+      (apart a (count_of_sends h) (sum_from count_of_sends came (n + 1) count)) (apart b (acceptances h) (sum_from acceptances came (n + 1) count))
       (apart c (deliveries h) (sum_from deliveries came (n + 1) count)) (apart d (losses h) (sum_from losses came (n + 1) count))
       (apart e (repeats h) (sum_from repeats came (n + 1) count))
     where
@@ -68,14 +68,14 @@ module _ (kept : KeptWorld) (w : World) (came : List Came) (st : StandsWorld kep
   all_summed : summed kept 1 64 no_totals ≡ totals_of came
   all_summed =
       summed_is 1 64 0 0 0 0 0
-      ∙ alike_capped _ _ _ _ _ _ _ _ _ _ (from_none (sum_from sends came 1 64)) (from_none (sum_from acceptances came 1 64))
+      ∙ alike_capped _ _ _ _ _ _ _ _ _ _ (from_none (sum_from count_of_sends came 1 64)) (from_none (sum_from acceptances came 1 64))
       (from_none (sum_from deliveries came 1 64)) (from_none (sum_from losses came 1 64)) (from_none (sum_from repeats came 1 64))
     where
       from_none : (n : ℕ) → 0 + n ≡ n
       from_none n = omega arith
 
 -- the totals of a run
-pub totals_ran : (kept : KeptWorld) (plan : Plan) (steps : List Step) → Ran kept plan steps → summed kept 1 64 no_totals ≡ totals_of (world_run plan steps).1
+pub totals_ran : (kept : KeptWorld) (plan : DrillPlan) (steps : List Step) → Ran kept plan steps → summed kept 1 64 no_totals ≡ totals_of (world_run plan steps).1
 unfolding Ran
 totals_ran kept plan steps ran = let a : World × List Came = world_run plan steps in all_summed kept a.0 a.1 ran.stands
 

@@ -1,7 +1,7 @@
 -- Representation: what the code does to the frames that wait in one direction, and what comes of it; no claim rests on it.
 use Rattle.std.specs.Prelude.{ℕ, ◌≡◌, List, [], ◌∷◌, Option, Some, None}
 use Rattle.er_base.specs.declared.side.Side.{Side}
-use Rattle.drill_model.specs.Outcomes.{Outcome, Lost, Repeated, Altered, Inserted, NothingWaits, IsShort}
+use Rattle.drill_model.specs.Outcomes.{DrillOutcome, Lost, Repeated, Altered, Inserted, NothingWaits, IsShort}
 use Rattle.drill_model.specs.Waiting.{LineChange, Lose, Repeat, Alter, Put}
 use Rattle.drill_model.specs.Links.{LinkStep, Send, Pass, Change, Take, Release}
 use Rattle.drill_model.specs.Texts.{empty_line, short_line}
@@ -14,14 +14,14 @@ use Rattle.er_world.specs.declared.action.Action.TheVariants as does
 use Rattle.er_world.specs.declared.place.Place.{Place}
 
 -- what came of it
-abbrev pub outcomes_of : CodeResult → List Outcome
-outcomes_of result.Empty = NothingWaits ∷ []
-outcomes_of (result.Short found) = IsShort found ∷ []
-outcomes_of result.Lost = Lost ∷ []
-outcomes_of result.Repeated = Repeated ∷ []
-outcomes_of result.Altered = Altered ∷ []
-outcomes_of result.Inserted = Inserted ∷ []
-outcomes_of result.Unchanged = []
+abbrev pub outcomes_of_line_change : CodeResult → List DrillOutcome
+outcomes_of_line_change result.Empty = NothingWaits ∷ []
+outcomes_of_line_change (result.Short found) = IsShort found ∷ []
+outcomes_of_line_change result.Lost = Lost ∷ []
+outcomes_of_line_change result.Repeated = Repeated ∷ []
+outcomes_of_line_change result.Altered = Altered ∷ []
+outcomes_of_line_change result.Inserted = Inserted ∷ []
+outcomes_of_line_change result.Unchanged = []
 
 -- its line
 abbrev pub change_line : Place → CodeResult → List ℕ
@@ -34,9 +34,9 @@ change_line place result.Inserted = []
 change_line place result.Unchanged = []
 
 -- the first frame and the others
-abbrev pub IsFirst : List (List ℕ) → Option (List ℕ) → List (List ℕ) → Type 0
-IsFirst old None new = (old ≡ []) × (new ≡ [])
-IsFirst old (Some frame) new = old ≡ frame ∷ new
+abbrev pub IsFirstWaitingFrame : List (List ℕ) → Option (List ℕ) → List (List ℕ) → Type 0
+IsFirstWaitingFrame old None new = (old ≡ []) × (new ≡ [])
+IsFirstWaitingFrame old (Some frame) new = old ≡ frame ∷ new
 
 -- a change, as the model has it
 abbrev pub change_of : CodeChange → LineChange

@@ -5,7 +5,7 @@ use Rattle.drill_model.specs.declared.totals.Totals.{Totals}
 use Rattle.drill_model.specs.Outcomes.{Occurrence}
 use Rattle.drill_model.specs.Ends.{EndEvent}
 use Rattle.drill_model.specs.Kinds.{deliveries}
-use Rattle.drill_model.specs.Totals.{sends, acceptances, losses, repeats}
+use Rattle.drill_model.specs.Totals.{count_of_sends, acceptances, losses, repeats}
 use Rattle.drill_ends.specs.declared.told.Told.{Told}
 use Rattle.drill_ends.specs.declared.told.Told.TheVariants as told
 use Rattle.drill_ends.specs.SendCounts.{sent_at}
@@ -32,7 +32,7 @@ sum a b = record {
 -- of all that came at a link
 abbrev pub counts_of : List Occurrence → Totals
 counts_of history = record {
-  sent = min (sends history) (2 ^ 64 - 1);
+  sent = min (count_of_sends history) (2 ^ 64 - 1);
   accepted = min (acceptances history) (2 ^ 64 - 1);
   passes = min (deliveries history) (2 ^ 64 - 1);
   lost = min (losses history) (2 ^ 64 - 1);
@@ -42,23 +42,23 @@ counts_of history = record {
 -- ---- what an end told of an event
 
 -- a message was accepted
-abbrev pub is_message : Told → Bool
-is_message (told.Sealed key text) = false
-is_message (told.Verified key text) = false
-is_message (told.Connected peer key text) = false
-is_message (told.Accepted user key text) = true
-is_message told.Up = false
-is_message (told.Arrived payload) = true
-is_message (told.Took message) = false
-is_message told.NothingToTake = false
-is_message (told.Refused refused) = false
-is_message (told.Released release) = false
-is_message (told.Frame octets) = false
+abbrev pub is_message_accepted : Told → Bool
+is_message_accepted (told.Sealed key text) = false
+is_message_accepted (told.Verified key text) = false
+is_message_accepted (told.Connected peer key text) = false
+is_message_accepted (told.Accepted user key text) = true
+is_message_accepted told.Up = false
+is_message_accepted (told.Arrived payload) = true
+is_message_accepted (told.Took message) = false
+is_message_accepted told.NothingToTake = false
+is_message_accepted (told.Refused refused) = false
+is_message_accepted (told.Released release) = false
+is_message_accepted (told.Frame octets) = false
 
 abbrev pub counted_told : EndEvent → List Told → Totals → Totals
 counted_told event list t = record t {
   sent = saturated t.sent (sent_at event list);
-  accepted = saturated t.accepted (count_by is_message list);
+  accepted = saturated t.accepted (count_by is_message_accepted list);
 }
 
 -- ---- what the line did

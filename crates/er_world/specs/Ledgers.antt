@@ -5,7 +5,7 @@ use Rattle.er_base.specs.declared.side.Side.{Side}
 use Rattle.er_base.specs.declared.side.Side.TheVariants.{E, R}
 use Rattle.des_block.specs.declared.triple_key.TripleKey.{TripleKey}
 use Rattle.safety_pair_laws.specs.Facts.{MarkedFact, Sealing, is_sealing, was_sealed, mistrusts, is_side, marked_from}
-use Rattle.drill_model.specs.Outcomes.{Outcome, at_end, facts_in, frames_in}
+use Rattle.drill_model.specs.Outcomes.{DrillOutcome, at_end, facts_in, frames_in}
 use Rattle.drill_model.specs.Marks.{marks_behind}
 use Rattle.drill_model.specs.Texts.{link_lines}
 use Rattle.er_world.specs.declared.place.Place.{Place}
@@ -14,7 +14,7 @@ use Rattle.drill_ends.specs.declared.told.Told.{Told}
 use Rattle.drill_ends.specs.declared.told.Told.TheVariants as told
 use Rattle.er_world.specs.Pairs.{Gains}
 use Rattle.drill_ends.specs.Tellings.{EachTold}
-use Rattle.er_world.specs.ToldLines.{told_line, told_frames}
+use Rattle.er_world.specs.ToldLines.{told_line, frame_octets_in_told}
 
 -- what is kept is what came
 pub record HoldsLedger (kept : Ledger) (facts : List MarkedFact) : Type 0 where
@@ -76,29 +76,29 @@ pub record Marks (side : Side) (forged : Bool) (old new : Ledger) : Type 0 where
   pub of_r : new.r_mistrusts ≡ (old.r_mistrusts || (is_side R side && forged))
 
 -- what an end did is kept
-pub record Keeps (side : Side) (t : Told) (forged : Bool) (old new : Ledger) : Type 0 where
+pub record KeepsInLedger (side : Side) (t : Told) (forged : Bool) (old new : Ledger) : Type 0 where
   pub gains : Gains (told_pairs t) old.pairs new.pairs
   pub of_e : new.e_mistrusts ≡ (old.e_mistrusts || (is_side E side && told_mark t forged))
   pub of_r : new.r_mistrusts ≡ (old.r_mistrusts || (is_side R side && told_mark t forged))
 
 -- one thing that an end did was kept, queued and printed
 pub record TellsOne (place : Place) (t : Told) (old new : Ledger) (waited waits : List (List ℕ)) (before now : List ℕ) : Type 0 where
-  pub keeps : Keeps place.side t (forged_by old place.side t) old new
-  pub queued : waits ≡ waited ++ told_frames t
+  pub keeps : KeepsInLedger place.side t (forged_by old place.side t) old new
+  pub queued : waits ≡ waited ++ frame_octets_in_told t
   pub printed : now ≡ before ++ told_line place t (forged_by old place.side t)
 
 -- outcomes of an end, behind these facts of its link, were kept, queued and printed
-pub record TellsAll (place : Place) (facts : List MarkedFact) (outcomes : List Outcome) (new : Ledger) (waited waits : List (List ℕ)) (before now : List ℕ)
+pub record TellsAll (place : Place) (facts : List MarkedFact) (outcomes : List DrillOutcome) (new : Ledger) (waited waits : List (List ℕ)) (before now : List ℕ)
     : Type 0 where
   pub holds : HoldsLedger new (facts ++ marked_from facts (facts_in (map (at_end place.side) outcomes)))
   pub queued : waits ≡ waited ++ frames_in outcomes
   pub printed : now ≡ before ++ link_lines place.show place.number (marks_behind facts (map (at_end place.side) outcomes))
 
 -- in the midst of it: what is left leads from here to where all lead from the beginning
-pub record Telling (place : Place) (facts : List MarkedFact) (outcomes : List Outcome) (list : List Told) (kept : Ledger)
+pub record Telling (place : Place) (facts : List MarkedFact) (outcomes : List DrillOutcome) (list : List Told) (kept : Ledger)
     (waited waits : List (List ℕ)) (before now : List ℕ) : Type 0 where
   pub seen : List MarkedFact
-  pub left : List Outcome
+  pub left : List DrillOutcome
   pub told : EachTold left list
   pub holds : HoldsLedger kept seen
   pub marks : seen ++ marked_from seen (facts_in (map (at_end place.side) left))

@@ -3,8 +3,8 @@ use Rattle.std.specs.Prelude.{ℕ, ◌≡◌, List, length}
 use Rattle.std.specs.List.{flat_map}
 use Rattle.safety_pair_laws.specs.Facts.{MarkedFact}
 use Rattle.drill_model.specs.declared.totals.Totals.{Totals}
-use Rattle.drill_model.specs.Outcomes.{Outcome}
-use Rattle.drill_model.specs.Ends.{End, EndEvent}
+use Rattle.drill_model.specs.Outcomes.{DrillOutcome}
+use Rattle.drill_model.specs.Ends.{EndAtLevel, EndEvent}
 use Rattle.drill_model.specs.Kinds.{sent_in}
 use Rattle.er_world.specs.declared.place.Place.{Place}
 use Rattle.er_world.specs.declared.port.Port.{Port}
@@ -17,7 +17,7 @@ use Rattle.drill_ends.specs.SendCounts.{sent_at}
 use Rattle.er_world.specs.Counts.{counted_told}
 
 -- an end went on so at an event, behind these facts of its link
-pub record PortWent (place : Place) (facts : List MarkedFact) (event : EndEvent) (a : End × List Outcome) (waited : List (List ℕ)) (new : Port)
+pub record PortWent (place : Place) (facts : List MarkedFact) (event : EndEvent) (a : EndAtLevel × List DrillOutcome) (waited : List (List ℕ)) (new : Port)
     (ledger : Ledger) (counted counts : Totals) (before now : List ℕ) : Type 0 where
   pub stands : StandsEnd new.end a.0
   pub list : List Told

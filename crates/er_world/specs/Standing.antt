@@ -5,7 +5,7 @@ use Rattle.drill_model.specs.declared.world_fault.WorldFault.{WorldFault}
 use Rattle.drill_model.specs.declared.world_fault.WorldFault.TheVariants.{NoLink, LinkTwice, MomentBack, Overfull, NoMemory}
 use Rattle.drill_model.specs.Outcomes.{Occurrence}
 use Rattle.drill_model.specs.Links.{Link}
-use Rattle.drill_model.specs.Worlds.{Plan, World, Came, is_link, link_at, history_on, world_run}
+use Rattle.drill_model.specs.Worlds.{DrillPlan, World, Came, is_link, link_at, history_on, world_run}
 use Rattle.drill_model.specs.Faults.{overfull_of, fault_behind}
 use Rattle.drill_model.specs.Texts.{step_lines}
 use Rattle.er_world.specs.declared.link.Link.{Link as KeptLink}
@@ -13,18 +13,18 @@ use Rattle.er_world.specs.KeptLinks.{StandsLink}
 
 -- what a caller sees of a world, and what the code keeps of it
 pub record KeptWorld : Type 0 where
-  pub plan : Plan
+  pub plan : DrillPlan
   pub spent : Bool
   -- link n at place n
   pub links : List (Option KeptLink)
   pub moment : ℕ
 
-abbrev pub place_of : Option (Option KeptLink) → Option KeptLink
-place_of None = None
-place_of (Some place) = place
+abbrev pub kept_link_if_any : Option (Option KeptLink) → Option KeptLink
+kept_link_if_any None = None
+kept_link_if_any (Some place) = place
 
 abbrev pub kept_at : KeptWorld → ℕ → Option KeptLink
-kept_at kept n = place_of (slice_get kept.links n)
+kept_at kept n = kept_link_if_any (slice_get kept.links n)
 
 -- a place stands where a link of the model does, at which this came; nothing came where none was opened
 abbrev pub StandsPlace : Option KeptLink → Option Link → List Occurrence → Type 0
@@ -39,24 +39,24 @@ pub record StandsWorld (kept : KeptWorld) (w : World) (came : List Came) : Type 
   pub moment : kept.moment ≡ w.moment
   pub within : (n : ℕ) → is_link n ≡ false → link_at w n ≡ None
 
-pub record RanSo (kept : KeptWorld) (plan : Plan) (a : World × List Came) : Type 0 where
+pub record RanSo (kept : KeptWorld) (plan : DrillPlan) (a : World × List Came) : Type 0 where
   pub plan_is : kept.plan ≡ plan
   pub stands : StandsWorld kept a.0 a.1
   -- no link is overfull
   pub room : overfull_of a.0 ≡ None
 
 -- this world stands where these steps lead
-unfoldable pub Ran : KeptWorld → Plan → List Step → Type 0
+unfoldable pub Ran : KeptWorld → DrillPlan → List Step → Type 0
 Ran kept plan steps = RanSo kept plan (world_run plan steps)
 
 -- a step was done behind these steps: where the world stands then, and the lines that were printed
-pub record Applied (plan : Plan) (before : List Step) (s : Step) (new : KeptWorld) (old_text new_text : List ℕ) : Type 0 where
+pub record Applied (plan : DrillPlan) (before : List Step) (s : Step) (new : KeptWorld) (old_text new_text : List ℕ) : Type 0 where
   pub ran : Ran new plan (before ++ s ∷ [])
   pub none : fault_behind plan before s ≡ None
   pub printed : new_text ≡ old_text ++ step_lines plan before s
 
 -- why a step wasn't done behind these steps: its fault there, or want of memory
-abbrev pub IsFaultBehind : Plan → List Step → Step → WorldFault → Type 0
+abbrev pub IsFaultBehind : DrillPlan → List Step → Step → WorldFault → Type 0
 IsFaultBehind plan before s (NoLink n) = fault_behind plan before s ≡ Some (NoLink n)
 IsFaultBehind plan before s (LinkTwice n) = fault_behind plan before s ≡ Some (LinkTwice n)
 IsFaultBehind plan before s (MomentBack was now) = fault_behind plan before s ≡ Some (MomentBack was now)

@@ -26,15 +26,15 @@ told_line place (told.Released release) forged = released_line place.number plac
 told_line place (told.Frame octets) forged = if place.show then frame_line place.number place.side octets else []
 
 -- its frame
-abbrev pub told_frames : Told → List (List ℕ)
-told_frames (told.Sealed key text) = []
-told_frames (told.Verified key text) = []
-told_frames (told.Connected peer key text) = []
-told_frames (told.Accepted user key text) = []
-told_frames told.Up = []
-told_frames (told.Arrived payload) = []
-told_frames (told.Took message) = []
-told_frames told.NothingToTake = []
-told_frames (told.Refused refused) = []
-told_frames (told.Released release) = []
-told_frames (told.Frame octets) = octets ∷ []
+abbrev pub frame_octets_in_told : Told → List (List ℕ)
+frame_octets_in_told (told.Sealed key text) = []
+frame_octets_in_told (told.Verified key text) = []
+frame_octets_in_told (told.Connected peer key text) = []
+frame_octets_in_told (told.Accepted user key text) = []
+frame_octets_in_told told.Up = []
+frame_octets_in_told (told.Arrived payload) = []
+frame_octets_in_told (told.Took message) = []
+frame_octets_in_told told.NothingToTake = []
+frame_octets_in_told (told.Refused refused) = []
+frame_octets_in_told (told.Released release) = []
+frame_octets_in_told (told.Frame octets) = octets ∷ []

@@ -10,7 +10,7 @@ use Rattle.drill_model.specs.Worlds.{World, Came, tick_each_link, then_world}
 use Rattle.drill_model.specs.Marks.{marks_from}
 use Rattle.drill_model.specs.Texts.{lines}
 use Rattle.er_world.specs.declared.link.Link.{Link as KeptLink}
-use Rattle.er_world.specs.KeptLinks.{overfull_at, closing_kept}
+use Rattle.er_world.specs.KeptLinks.{overfull_side_of_kept, closing_kept}
 use Rattle.er_world.specs.Counts.{no_totals, sum}
 use Rattle.er_world.specs.Standing.{KeptWorld, StandsWorld, kept_at}
 
@@ -35,22 +35,22 @@ pub record RefusedFor (refused : World → Option WorldFault) (fault : WorldFaul
   pub reason : (w : World) (came : List Came) → StandsWorld old w came → refused w ≡ Some fault
 
 -- a step was done, or refused for this reason, or memory ran out
-abbrev pub Does : (World → Option WorldFault) → (World → World × List Came) → KeptWorld → KeptWorld → List ℕ → List ℕ
+abbrev pub DoesWorldStep : (World → Option WorldFault) → (World → World × List Came) → KeptWorld → KeptWorld → List ℕ → List ℕ
     → Result (Unit {0}) WorldFault → Type 0
-Does refused moves old new before now (Ok done) = Done refused moves old new before now
-Does refused moves old new before now (Err (NoMemory want)) = Unit {0}
-Does refused moves old new before now (Err (Overfull n side most)) = ⊥
-Does refused moves old new before now (Err (NoLink n)) = RefusedFor refused (NoLink n) old new
-Does refused moves old new before now (Err (LinkTwice n)) = RefusedFor refused (LinkTwice n) old new
-Does refused moves old new before now (Err (MomentBack was moment)) = RefusedFor refused (MomentBack was moment) old new
+DoesWorldStep refused moves old new before now (Ok done) = Done refused moves old new before now
+DoesWorldStep refused moves old new before now (Err (NoMemory want)) = Unit {0}
+DoesWorldStep refused moves old new before now (Err (Overfull n side most)) = ⊥
+DoesWorldStep refused moves old new before now (Err (NoLink n)) = RefusedFor refused (NoLink n) old new
+DoesWorldStep refused moves old new before now (Err (LinkTwice n)) = RefusedFor refused (LinkTwice n) old new
+DoesWorldStep refused moves old new before now (Err (MomentBack was moment)) = RefusedFor refused (MomentBack was moment) old new
 
 -- a world after a step that wasn't done
-abbrev pub left_by : WorldFault → KeptWorld → KeptWorld
-left_by (NoLink n) old = old
-left_by (LinkTwice n) old = old
-left_by (MomentBack was moment) old = old
-left_by (Overfull n side most) old = record old { spent = true }
-left_by (NoMemory want) old = record old { spent = true }
+abbrev pub world_left_by_fault : WorldFault → KeptWorld → KeptWorld
+world_left_by_fault (NoLink n) old = old
+world_left_by_fault (LinkTwice n) old = old
+world_left_by_fault (MomentBack was moment) old = old
+world_left_by_fault (Overfull n side most) old = record old { spent = true }
+world_left_by_fault (NoMemory want) old = record old { spent = true }
 
 -- in the midst of a tick: the links before this number have been ticked
 pub record Ticking (moment : ℕ) (w : World) (show : Bool) (came : List Came) (number : ℕ) (kept : KeptWorld) (before now : List ℕ) : Type 0 where
@@ -64,7 +64,7 @@ pub record Ticking (moment : ℕ) (w : World) (show : Bool) (came : List Came) (
 -- the side of a place of which too many frames wait
 abbrev pub overfull_in : Option KeptLink → Option Side
 overfull_in None = None
-overfull_in (Some kept) = overfull_at kept
+overfull_in (Some kept) = overfull_side_of_kept kept
 
 -- the first link from this number on, of so many, that is overfull, and its side
 abbrev pub overfull_or : ℕ → Option Side → Option (ℕ × Side) → Option (ℕ × Side)
@@ -107,14 +107,14 @@ pub record BreaksOff (old new : KeptWorld) (before now : List ℕ) : Type 0 wher
   pub spent : new ≡ record old { spent = true }
   pub left : now ≡ before
 
-abbrev pub Ends : Option (ℕ × Side) → List ℕ → KeptWorld → KeptWorld → List ℕ → List ℕ → Result (Unit {0}) WorldFault → Type 0
-Ends found text old new before now (Ok done) = EndsWell found text old new before now
-Ends found text old new before now (Err (NoMemory want)) = BreaksOff old new before now
-Ends found text old new before now (Err (Overfull n side most)) =
+abbrev pub EndsWorldStep : Option (ℕ × Side) → List ℕ → KeptWorld → KeptWorld → List ℕ → List ℕ → Result (Unit {0}) WorldFault → Type 0
+EndsWorldStep found text old new before now (Ok done) = EndsWell found text old new before now
+EndsWorldStep found text old new before now (Err (NoMemory want)) = BreaksOff old new before now
+EndsWorldStep found text old new before now (Err (Overfull n side most)) =
     (found ≡ Some (n, side)) × (most ≡ 4096) × BreaksOff old new before now
-Ends found text old new before now (Err (NoLink n)) = ⊥
-Ends found text old new before now (Err (LinkTwice n)) = ⊥
-Ends found text old new before now (Err (MomentBack was moment)) = ⊥
+EndsWorldStep found text old new before now (Err (NoLink n)) = ⊥
+EndsWorldStep found text old new before now (Err (LinkTwice n)) = ⊥
+EndsWorldStep found text old new before now (Err (MomentBack was moment)) = ⊥
 
 -- the closing lines of the links from this number on, so many
 abbrev pub place_closing : ℕ → Option KeptLink → List ℕ

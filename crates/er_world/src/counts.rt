@@ -3,7 +3,7 @@
 ghost use Rattle.std.specs.Prelude.{◌≡◌};
 ghost use Rattle.std.specs.List.{count_by};
 ghost use Rattle.drill_ends.specs.Events.{event_of};
-ghost use Rattle.er_world.specs.Counts.{counted_change, counted_pass, counted_told, is_message, no_totals, sum};
+ghost use Rattle.er_world.specs.Counts.{counted_change, counted_pass, counted_told, is_message_accepted, no_totals, sum};
 
 use crate::waiting::Change;
 use drill_ends::{EndEvent, Told, sent_at};
@@ -38,7 +38,7 @@ pub fn sum(a: Totals, b: Totals) -> Totals
 
 /// Whether what an end did is that it accepted a message.
 fn is_message(told: &Told) -> bool
-    ensures { result ≡ is_message told.now }
+    ensures { result ≡ is_message_accepted told.now }
 {
     match told {
         Told::Sealed { .. } => false,
@@ -57,7 +57,7 @@ fn is_message(told: &Told) -> bool
 
 /// How many messages an end accepted.
 fn messages(told: &VecDeque<Told>) -> usize
-    ensures { result ≡ count_by is_message told.now.items }
+    ensures { result ≡ count_by is_message_accepted told.now.items }
 {
     told.iter().filter(|one| is_message(one)).count()
 }

@@ -2,9 +2,9 @@
 
 ghost use Rattle.std.specs.Prelude.{◌≡◌, [], false, List, IfOk, OnOk};
 ghost use Rattle.safety_pair_laws.specs.Facts.{MarkedFact};
-ghost use Rattle.drill_model.specs.Outcomes.{Outcome};
+ghost use Rattle.drill_model.specs.Outcomes.{DrillOutcome};
 ghost use Rattle.drill_ends.specs.Tellings.{AreTold};
-ghost use Rattle.er_world.specs.Ledgers.{HoldsLedger, Keeps, Marks, TellsOne, TellsAll, forged_by, mistrusts_of};
+ghost use Rattle.er_world.specs.Ledgers.{HoldsLedger, KeepsInLedger, Marks, TellsOne, TellsAll, forged_by, mistrusts_of};
 
 use crate::place::Place;
 use crate::sealed_pairs::SealedPairs;
@@ -86,7 +86,7 @@ impl Ledger {
 
     /// Keeps what later marks need of what an end did.
     fn keep(&mut self, alloc: Global, side: Side, told: &Told, forged: bool) -> Result<(), NoMemory>
-        ensures { OnOk result (Keeps side told.now forged self.old self.new) }
+        ensures { OnOk result (KeepsInLedger side told.now forged self.old self.new) }
     {
         match told {
             Told::Sealed { key, text } => {
@@ -135,7 +135,7 @@ impl Ledger {
         waiting: &mut Waiting,
         out: &mut Vec<u8>,
     ) -> Result<(), NoMemory>
-        ensures { OnOk result ((outcomes : List Outcome) (before : List MarkedFact) → AreTold outcomes told.items → HoldsLedger self.old before
+        ensures { OnOk result ((outcomes : List DrillOutcome) (before : List MarkedFact) → AreTold outcomes told.items → HoldsLedger self.old before
             → TellsAll place before outcomes self.new waiting.old waiting.new out.old.items out.new.items) }
     {
         safety_pair_laws::laws::marks_grow();

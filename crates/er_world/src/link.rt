@@ -11,7 +11,7 @@ ghost use Rattle.drill_model.specs.Links as steps;
 ghost use Rattle.drill_model.specs.Worlds.{drain};
 ghost use Rattle.drill_ends.specs.Events.{event_of};
 ghost use Rattle.er_world.specs.Changes.{action_step, change_of};
-ghost use Rattle.er_world.specs.KeptLinks.{LinkDoes, TakesFirst, ChangesFrames, StandsLink, Drains, waiting_at, new_link, next_at, overfull_at, goes_on, closing_kept};
+ghost use Rattle.er_world.specs.KeptLinks.{LinkDoes, TakesFirstWaitingFrame, ChangesFrames, StandsLink, Drains, waiting_frames_of_side, new_link, next_at, overfull_side_of_kept, next_drained_side, closing_kept};
 
 use crate::action::{Action, LineChange};
 use crate::counts::{count_change, count_pass, no_totals};
@@ -102,7 +102,7 @@ impl Link {
 
     /// Takes the first waiting frame of an end.
     fn take_first(&mut self, side: Side) -> Option<Octets>
-        ensures { TakesFirst self.old side result self.new }
+        ensures { TakesFirstWaitingFrame self.old side result self.new }
     {
         match side {
             Side::E => self.e.take_first(),
@@ -218,7 +218,7 @@ impl Link {
 
     /// The octets of the first waiting frame of an end.
     pub fn first(&self, side: Side) -> Option<&[u8]>
-        ensures { option_map (λ f. f.now) result ≡ slice_get (waiting_at self.now side) 0 }
+        ensures { option_map (λ f. f.now) result ≡ slice_get (waiting_frames_of_side self.now side) 0 }
     {
         match side {
             Side::E => self.e.waiting().first(),
@@ -228,7 +228,7 @@ impl Link {
 
     /// The end of which more than 4,096 frames wait, if there is one.
     pub fn overfull(&self) -> Option<Side>
-        ensures { result ≡ overfull_at self.now }
+        ensures { result ≡ overfull_side_of_kept self.now }
     {
         if self.e.waiting().len() > MOST_WAITING {
             return Some(Side::E);
@@ -254,7 +254,7 @@ impl Link {
 
     /// The end whose frame a drain passes next, none where too many frames wait.
     fn next_pass(&self) -> Option<Side>
-        ensures { result ≡ goes_on (next_at self.now) (overfull_at self.now) }
+        ensures { result ≡ next_drained_side (next_at self.now) (overfull_side_of_kept self.now) }
     {
         let side = self.next_side()?;
         match self.overfull() {

@@ -3,9 +3,9 @@
 ghost use Rattle.std.specs.Prelude.{◌≡◌, ◌<◌, ◌^◌, List, [], IfOk, OnOk};
 ghost use Rattle.safety_automaton.specs.Keys.{key_at};
 ghost use Rattle.safety_pair_laws.specs.Facts.{MarkedFact};
-ghost use Rattle.drill_model.specs.Ends.{End, end_step};
+ghost use Rattle.drill_model.specs.Ends.{EndAtLevel, end_step};
 ghost use Rattle.drill_model.specs.Waiting.{change_first};
-ghost use Rattle.er_world.specs.Changes.{IsFirst, change_of, outcomes_of};
+ghost use Rattle.er_world.specs.Changes.{IsFirstWaitingFrame, change_of, outcomes_of_line_change};
 ghost use Rattle.drill_ends.specs.Events.{event_of};
 ghost use Rattle.drill_ends.specs.KeptEnds.{StandsEnd};
 ghost use Rattle.er_world.specs.Ledgers.{HoldsLedger};
@@ -49,7 +49,7 @@ impl Port {
     /// Takes the first frame that waits.
     pub fn take_first(&mut self) -> Option<Octets>
         ensures end { self.new.end ≡ self.old.end }
-        ensures waiting { IsFirst self.old.waiting result self.new.waiting }
+        ensures waiting { IsFirstWaitingFrame self.old.waiting result self.new.waiting }
     {
         self.waiting.take_first()
     }
@@ -57,7 +57,7 @@ impl Port {
     /// The line changes what waits of this end.
     pub fn change(&mut self, alloc: Global, how: &LineChange) -> Result<Change, NoMemory>
         ensures end { self.new.end ≡ self.old.end }
-        ensures waiting { IfOk result (λ change. change_first (change_of how.now) self.old.waiting ≡ (self.new.waiting, outcomes_of change)) }
+        ensures waiting { IfOk result (λ change. change_first (change_of how.now) self.old.waiting ≡ (self.new.waiting, outcomes_of_line_change change)) }
     {
         self.waiting.change(alloc, how)
     }
@@ -75,7 +75,7 @@ impl Port {
         out: &mut Vec<u8>,
     ) -> Result<(), NoMemory>
         ensures bound { now < 2 ^ 64 }
-        ensures went { OnOk result ((end : End) (facts : List MarkedFact) → StandsEnd self.old.end end → HoldsLedger ledger.old facts
+        ensures went { OnOk result ((end : EndAtLevel) (facts : List MarkedFact) → StandsEnd self.old.end end → HoldsLedger ledger.old facts
             → PortWent place facts (event_of event.now) (end_step (key_at keys.now now) now end (event_of event.now)) self.old.waiting self.new ledger.new
             totals.old totals.new out.old.items out.new.items) }
     {

@@ -1,7 +1,7 @@
 //! What an end told, as it is printed and queued.
 
 ghost use Rattle.std.specs.Prelude.{◌≡◌, ◌++◌, OnOk};
-ghost use Rattle.er_world.specs.ToldLines.{IsNext, told_line, told_frames};
+ghost use Rattle.er_world.specs.ToldLines.{IsNext, told_line, frame_octets_in_told};
 
 use crate::lines::{
     print_accepted, print_connected, print_frame, print_none, print_refused, print_released,
@@ -48,7 +48,7 @@ pub fn print_told(
 
 /// A frame joins those of its end that wait.
 pub fn queue(told: Told, waiting: &mut Waiting) -> Result<(), NoMemory>
-    ensures { OnOk result (waiting.new ≡ waiting.old ++ told_frames told) }
+    ensures { OnOk result (waiting.new ≡ waiting.old ++ frame_octets_in_told told) }
 {
     match told {
         Told::Sealed { .. } => Ok(()),

@@ -2,7 +2,7 @@
 
 ghost use Rattle.std.specs.Prelude.{◌≡◌, ◌++◌, ◌∷◌, ◌==◌, [], length, slice_get, option_map, IfOk, OnOk};
 ghost use Rattle.drill_model.specs.Waiting.{lose_first, repeat_first, alter_first, put_first, change_first};
-ghost use Rattle.er_world.specs.Changes.{IsFirst, outcomes_of, change_of};
+ghost use Rattle.er_world.specs.Changes.{IsFirstWaitingFrame, outcomes_of_line_change, change_of};
 
 use crate::action::LineChange;
 use er_base::{NoMemory, Octets};
@@ -79,7 +79,7 @@ impl Waiting {
 
     /// Takes the first frame.
     pub fn take_first(&mut self) -> Option<Octets>
-        ensures { IsFirst self.old result self.new }
+        ensures { IsFirstWaitingFrame self.old result self.new }
     {
         self.frames.pop_front()
     }
@@ -94,7 +94,7 @@ impl Waiting {
 
     /// The first frame is removed.
     fn lose(&mut self) -> Change
-        ensures { lose_first self.old ≡ (self.new, outcomes_of result) }
+        ensures { lose_first self.old ≡ (self.new, outcomes_of_line_change result) }
     {
         match self.frames.pop_front() {
             Some(_) => Change::Lost,
@@ -104,7 +104,7 @@ impl Waiting {
 
     /// A copy of the first frame is put right behind it.
     fn repeat(&mut self, alloc: Global) -> Result<Change, NoMemory>
-        ensures { IfOk result (λ change. repeat_first self.old ≡ (self.new, outcomes_of change)) }
+        ensures { IfOk result (λ change. repeat_first self.old ≡ (self.new, outcomes_of_line_change change)) }
     {
         let Some(frame) = self.frames.pop_front() else {
             return Ok(Change::Empty);
@@ -117,7 +117,7 @@ impl Waiting {
 
     /// The octet of the first frame at a place, from 0, is changed by exclusive or.
     fn alter(&mut self, alloc: Global, place: u64, mask: u8) -> Result<Change, NoMemory>
-        ensures { IfOk result (λ change. alter_first place mask self.old ≡ (self.new, outcomes_of change)) }
+        ensures { IfOk result (λ change. alter_first place mask self.old ≡ (self.new, outcomes_of_line_change change)) }
     {
         let Some(frame) = self.frames.pop_front() else {
             return Ok(Change::Empty);
@@ -139,7 +139,7 @@ impl Waiting {
 
     /// Octets become the first frame.
     fn put(&mut self, alloc: Global, frame: &[u8]) -> Result<Change, NoMemory>
-        ensures { IfOk result (λ change. put_first frame.now self.old ≡ (self.new, outcomes_of change)) }
+        ensures { IfOk result (λ change. put_first frame.now self.old ≡ (self.new, outcomes_of_line_change change)) }
     {
         let frame = copied(alloc, frame)?;
         self.frames.push_front(frame)?;
@@ -148,7 +148,7 @@ impl Waiting {
 
     /// The line changes what waits.
     pub fn change(&mut self, alloc: Global, how: &LineChange) -> Result<Change, NoMemory>
-        ensures { IfOk result (λ change. change_first (change_of how.now) self.old ≡ (self.new, outcomes_of change)) }
+        ensures { IfOk result (λ change. change_first (change_of how.now) self.old ≡ (self.new, outcomes_of_line_change change)) }
     {
         match how {
             LineChange::Lose => Ok(self.lose()),

@@ -7,14 +7,14 @@ ghost use Rattle.safety_pair_laws.specs.Marks.{MarksGrow};
 ghost use Rattle.drill_model.specs.Growth.{FactsGrow, HistoryGrows, HistoryOfOwn, HistoryOfOther, LinkMarksGrow, WorldMarksGrow, LinkText};
 ghost use Rattle.drill_model.specs.Steps.{IsOfLevel, HasEtcsNumbers, HasMoment};
 ghost use Rattle.drill_model.specs.Links.{OfStations, Tick};
-ghost use Rattle.drill_model.specs.Worlds.{Plan, link_at, is_link, fixed_opening, link_opening, wire_opening, open_link, at_link, drain_link, copy_between, tick_each_link, tick_world, world_run, world_step};
-ghost use Rattle.drill_model.specs.Faults.{wants, wants_closed, wants_moment, or_else, refusal};
+ghost use Rattle.drill_model.specs.Worlds.{DrillPlan, link_at, is_link, fixed_opening, link_opening, wire_opening, open_link, at_link, drain_link, copy_between, tick_each_link, tick_world, world_run, world_step};
+ghost use Rattle.drill_model.specs.Faults.{wants, wants_closed, wants_moment, or_else, refusal_of_step};
 ghost use Rattle.drill_model.specs.Texts.{last_lines};
 ghost use Rattle.drill_model.specs.Totals.{totals_of};
 ghost use Rattle.er_world.specs.Changes.{action_step};
-ghost use Rattle.er_world.specs.KeptLinks.{waiting_at};
+ghost use Rattle.er_world.specs.KeptLinks.{waiting_frames_of_side};
 ghost use Rattle.er_world.specs.Standing.{Ran, Applied, IsFaultBehind, LeavesIt, kept_at};
-ghost use Rattle.er_world.specs.WorldSteps.{Does, WorldDoes, Ends, left_by, touched, overfull_in, overfull_from, overfull_by, place_closing, place_totals, closing_lines};
+ghost use Rattle.er_world.specs.WorldSteps.{DoesWorldStep, WorldDoes, EndsWorldStep, world_left_by_fault, touched, overfull_in, overfull_from, overfull_by, place_closing, place_totals, closing_lines};
 
 use crate::action::{Action, LineChange};
 use crate::counts::{no_totals, sum};
@@ -93,7 +93,7 @@ fn touched(step: &Step) -> Option<u8>
 
 /// A copy of the first waiting frame of an end.
 fn first_copy(alloc: Global, link: &Link, side: Side) -> Result<Option<Octets>, NoMemory>
-    ensures { IfOk result (λ frame. frame ≡ slice_get (waiting_at link.now side) 0) }
+    ensures { IfOk result (λ frame. frame ≡ slice_get (waiting_frames_of_side link.now side) 0) }
 {
     match link.first(side) {
         Some(frame) => Ok(Some(Octets::new(Vec::from_slice(alloc, frame)?))),
@@ -155,7 +155,7 @@ impl World {
     /// The totals of the run so far, over all links and both ends. Each stays at 2^64 - 1.
     pub fn totals(&self) -> Totals
         requires { self.now.spent ≡ false }
-        ensures { (plan : Plan) (steps : List AnyStep) → Ran self.now plan steps → result ≡ totals_of (world_run plan steps).1 }
+        ensures { (plan : DrillPlan) (steps : List AnyStep) → Ran self.now plan steps → result ≡ totals_of (world_run plan steps).1 }
     {
         let mut totals = no_totals();
         let mut number = 1;
@@ -179,7 +179,7 @@ impl World {
     /// Prints the closing lines, one for each link that was opened, their numbers rising. After want of memory nothing was printed.
     pub fn summary(&self, alloc: Global, out: &mut Vec<u8>) -> Result<(), NoMemory>
         requires { self.now.spent ≡ false }
-        ensures ok { OnOk result ((plan : Plan) (steps : List AnyStep) → Ran self.now plan steps
+        ensures ok { OnOk result ((plan : DrillPlan) (steps : List AnyStep) → Ran self.now plan steps
             → out.new.items ≡ out.old.items ++ last_lines plan steps) }
         ensures err { OnErr result (out.new.items ≡ out.old.items) }
     {
@@ -289,7 +289,7 @@ impl World {
         kr: TripleKey,
         out: &mut Vec<u8>,
     ) -> Result<(), WorldFault>
-        ensures does { Does (λ w. wants_closed number (link_at w number))
+        ensures does { DoesWorldStep (λ w. wants_closed number (link_at w number))
             (λ w. open_link self.old.plan w number (link_at w number) (fixed_opening self.old.plan.level engine rbc ke kr))
             self.old self.new out.old.items out.new.items result }
         ensures plan { self.new.plan ≡ self.old.plan }
@@ -327,7 +327,7 @@ impl World {
         rb: u64,
         out: &mut Vec<u8>,
     ) -> Result<(), WorldFault>
-        ensures does { Does (λ w. wants_closed number (link_at w number))
+        ensures does { DoesWorldStep (λ w. wants_closed number (link_at w number))
             (λ w. open_link self.old.plan w number (link_at w number) (link_opening self.old.plan.level engine rbc ke kr ra rb))
             self.old self.new out.old.items out.new.items result }
         ensures plan { self.new.plan ≡ self.old.plan }
@@ -394,7 +394,7 @@ impl World {
 
     /// Opens link N with two stations, of which the calling one begins the set-up. Only levels link and link-sr have such links.
     fn open_wire(&mut self, alloc: Global, number: u8, out: &mut Vec<u8>) -> Result<(), WorldFault>
-        ensures does { Does (λ w. wants_closed number (link_at w number))
+        ensures does { DoesWorldStep (λ w. wants_closed number (link_at w number))
             (λ w. open_link self.old.plan w number (link_at w number) (wire_opening self.old.plan.level))
             self.old self.new out.old.items out.new.items result }
         ensures plan { self.new.plan ≡ self.old.plan }
@@ -425,7 +425,7 @@ impl World {
         action: &Action,
         out: &mut Vec<u8>,
     ) -> Result<(), WorldFault>
-        ensures does { Does (λ w. wants number (link_at w number))
+        ensures does { DoesWorldStep (λ w. wants number (link_at w number))
             (λ w. at_link w number (link_at w number) (action_step side action.now))
             self.old self.new out.old.items out.new.items result }
         ensures plan { self.new.plan ≡ self.old.plan }
@@ -451,7 +451,7 @@ impl World {
         most: u32,
         out: &mut Vec<u8>,
     ) -> Result<(), WorldFault>
-        ensures does { Does (λ w. wants number (link_at w number)) (λ w. drain_link w number most (link_at w number))
+        ensures does { DoesWorldStep (λ w. wants number (link_at w number)) (λ w. drain_link w number most (link_at w number))
             self.old self.new out.old.items out.new.items result }
         ensures plan { self.new.plan ≡ self.old.plan }
         ensures spent { self.new.spent ≡ self.old.spent }
@@ -477,7 +477,7 @@ impl World {
         to: Place,
         out: &mut Vec<u8>,
     ) -> Result<(), WorldFault>
-        ensures does { Does (λ w. or_else (wants from.number (link_at w from.number)) (wants to.number (link_at w to.number)))
+        ensures does { DoesWorldStep (λ w. or_else (wants from.number (link_at w from.number)) (wants to.number (link_at w to.number)))
             (λ w. copy_between w from.number from.side (link_at w from.number) to.number to.side (link_at w to.number))
             self.old self.new out.old.items out.new.items result }
         ensures plan { self.new.plan ≡ self.old.plan }
@@ -543,7 +543,7 @@ impl World {
 
     /// The moment is set, and every end is ticked.
     fn tick(&mut self, alloc: Global, moment: Moment, out: &mut Vec<u8>) -> Result<(), WorldFault>
-        ensures does { Does (λ w. wants_moment w moment) (λ w. tick_world w moment) self.old self.new out.old.items out.new.items result }
+        ensures does { DoesWorldStep (λ w. wants_moment w moment) (λ w. tick_world w moment) self.old self.new out.old.items out.new.items result }
         ensures plan { self.new.plan ≡ self.old.plan }
         ensures spent { self.new.spent ≡ self.old.spent }
     {
@@ -562,7 +562,7 @@ impl World {
     fn go(&mut self, alloc: Global, step: &Step, out: &mut Vec<u8>) -> Result<(), WorldFault>
         requires numbers { HasEtcsNumbers step.now }
         requires moment { HasMoment step.now }
-        ensures does { Does (λ w. refusal w step.now) (λ w. world_step self.old.plan w step.now)
+        ensures does { DoesWorldStep (λ w. refusal_of_step w step.now) (λ w. world_step self.old.plan w step.now)
             self.old self.new out.old.items out.new.items result }
         ensures plan { self.new.plan ≡ self.old.plan }
         ensures spent { self.new.spent ≡ self.old.spent }
@@ -642,7 +642,7 @@ impl World {
 
     /// After a step that wasn't done: a refused one leaves the world as it was, and after the others it is spent.
     fn leave(&mut self, fault: WorldFault)
-        ensures { self.new ≡ left_by fault self.old }
+        ensures { self.new ≡ world_left_by_fault fault self.old }
     {
         match fault {
             WorldFault::NoLink(_) => {}
@@ -659,7 +659,7 @@ impl World {
 
     /// Ends a step: tests that not too many frames wait, and prints what came of it.
     fn end(&mut self, touched: Option<u8>, text: &[u8], out: &mut Vec<u8>) -> Result<(), WorldFault>
-        ensures { Ends (overfull_by self.old touched) text.now self.old self.new out.old.items out.new.items result }
+        ensures { EndsWorldStep (overfull_by self.old touched) text.now self.old self.new out.old.items out.new.items result }
     {
         if let Some((link, side)) = self.overfull_by(touched) {
             self.spent = true;
@@ -687,9 +687,9 @@ impl World {
         requires numbers { HasEtcsNumbers step.now }
         requires moment { HasMoment step.now }
         requires unspent { self.old.spent ≡ false }
-        ensures ok { OnOk result ((plan : Plan) (before : List AnyStep) → Ran self.old plan before
+        ensures ok { OnOk result ((plan : DrillPlan) (before : List AnyStep) → Ran self.old plan before
             → Applied plan before step.now self.new out.old.items out.new.items) }
-        ensures fault { IfErr result (λ fault. (plan : Plan) (before : List AnyStep) → Ran self.old plan before
+        ensures fault { IfErr result (λ fault. (plan : DrillPlan) (before : List AnyStep) → Ran self.old plan before
             → IsFaultBehind plan before step.now fault) }
         ensures left { IfErr result (λ fault. LeavesIt fault self.old self.new) }
         ensures out { OnErr result (out.new.items ≡ out.old.items) }

@@ -19,11 +19,11 @@ use Rattle.hdlc_station_model.specs.declared.phase.Phase.{Phase}
 use Rattle.hdlc_station_model.specs.declared.phase.Phase.TheVariants.{Idle, Setting, Up, Down}
 use Rattle.hdlc_station_model.specs.Frames.{Frame, Rr, Rej, SetUp, Disc, Dm, Ua, modulo, address_of, table_octets, sent_octets}
 use Rattle.hdlc_station_model.specs.Stations.{Station, Deed, no_deed, is_up, is_down, sees, puts}
-use Rattle.hdlc_station_model.specs.Sending.{info_at, started, can_send, waiting, sends_next, sends_up_to, sends_waiting, frames_again, sends_again_some, sends_again, starts_timer, settles, gives_up, counts_expiry, expires_at, expires, expires_if_due, is_due, refuses_frame, releases}
-use Rattle.hdlc_station_model.specs.Receiving.{strays, is_known_address, is_addressed, is_error, errs, named, acknowledges, acknowledging, by_number, accepts, rejects, takes, marks_busy, repeats_rejected, comes_up, agrees, sets_up_again, row, hears, hears_control}
+use Rattle.hdlc_station_model.specs.Sending.{info_at, started, can_send, waiting, sends_next, sends_up_to, sends_waiting, frames_again, sends_again_some, sends_again, starts_timer, settles, gives_up, counts_expiry, expires_at, expires, expires_if_due, is_due, refuses_frame, station_down_for_cause}
+use Rattle.hdlc_station_model.specs.Receiving.{strays, is_known_address, is_addressed, is_error, errs, number_shown_as, acknowledges, acknowledging, by_number, accepts, rejects, takes, marks_busy, repeats_rejected, comes_up, agrees, sets_up_again, row_of_phase, hears, hears_control}
 use Rattle.hdlc_station_model.specs.Calls.{starts_at, starts, receives, hands, ticks, closes_at, closes}
-use Rattle.hdlc_balanced.specs.Kept.{Kept, kept_of, texts, Follows, Tells, Shown}
-use Rattle.hdlc_balanced.specs.Alike.{model_of, Sound, Alike, StepsAlike, KeptIsModelled, Ranged, Does}
+use Rattle.hdlc_balanced.specs.Kept.{KeptStation, kept_of, octets_of_sent_frames, Follows, Tells, Shown}
+use Rattle.hdlc_balanced.specs.Alike.{model_of, Sound, Alike, KeepsStationsAlike, KeptIsModelled, Ranged, DoesStationCall}
 
 -- ---- tests that are the same on both sides
 
@@ -34,7 +34,7 @@ alike_if false true x y x' y' e h g = absurd cc
 alike_if false false x y x' y' e h g = g refl
 
 phase_same : (s t : Station) → Alike s t → s.phase ≡ t.phase
-phase_same s t h = ap (λ (k : Kept). k.phase) h.0
+phase_same s t h = ap (λ (k : KeptStation). k.phase) h.0
 
 -- a step by the phase
 alike_by : (step : Phase → Station → Station) (s t : Station) → Alike s t → ((p : Phase) → Alike (step p s) (step p t)) → Alike (step s.phase s) (step t.phase t)
@@ -55,13 +55,13 @@ puts_alike f g s t e h = (
 
 -- a frame that shows neither V(S) nor V(R)
 same_frame : (f : Frame) (s t : Station) → Alike s t → sent_octets s.calling s.extended f ≡ sent_octets t.calling t.extended f
-same_frame f s t h = ap (λ (k : Kept). sent_octets k.calling k.extended f) h.0
+same_frame f s t h = ap (λ (k : KeptStation). sent_octets k.calling k.extended f) h.0
 
 puts_same : (f : Frame) (s t : Station) → Alike s t → Alike (puts f s) (puts f t)
 puts_same f s t h = puts_alike f f s t (same_frame f s t h) h
 
 -- RR and REJ by what is kept
-abbrev shown_text : (ℕ → Control) → Kept → List ℕ
+abbrev shown_text : (ℕ → Control) → KeptStation → List ℕ
 shown_text c k = spelling (address_of k.calling) (table_octets (control_octets (modulo k.extended) (c k.vr) false) ++ [])
 
 ready_same : (s t : Station) → Alike s t → Alike (puts (Rr (length s.taken)) s) (puts (Rr (length t.taken)) t)
@@ -71,7 +71,7 @@ reject_same : (s t : Station) → Alike s t → Alike (puts (Rej (length s.taken
 reject_same s t h = puts_alike (Rej (length s.taken)) (Rej (length t.taken)) s t (ap (shown_text (λ n. control.Rej n)) h.0) h
 
 -- the I frame that is i places behind V(A), by what is kept
-abbrev info_text : ℕ → Kept → List ℕ
+abbrev info_text : ℕ → KeptStation → List ℕ
 info_text i k =
     spelling (address_of (not k.calling))
     (table_octets (control_octets (modulo k.extended) (control.Info ((k.va + i) % modulo k.extended) k.vr) false) ++ slice_index_or k.ring i [])
@@ -97,12 +97,12 @@ next_alike : (s t : Station) → s.sent < length s.handed → t.sent < length t.
 next_alike s t some_s some_t h =
     let i : ℕ = s.sent - s.acked in
     let at_s : s.acked + i ≡ s.sent = omega (arith, h.1.0) in
-    let ahead : s.sent - s.acked ≡ t.sent - t.acked = ap (λ (k : Kept). k.ahead) h.0 in
+    let ahead : s.sent - s.acked ≡ t.sent - t.acked = ap (λ (k : KeptStation). k.ahead) h.0 in
     let at_t : t.acked + i ≡ t.sent = omega (arith, h.2.0) in
     let octets = ap (λ (n : ℕ). sent_octets s.calling s.extended (info_at s n)) (sym at_s) ∙ info_same i s t h ∙ ap (λ (n : ℕ). sent_octets t.calling t.extended (info_at t n)) at_t in
     let said = puts_alike (info_at s s.sent) (info_at t t.sent) s t octets h in (
       next_kept s h.1.0
-          ∙ ap (λ (k : Kept). record k { ahead = k.ahead + 1; owed = false; timer = started k.timer (k.moment + k.t1) }) h.0
+          ∙ ap (λ (k : KeptStation). record k { ahead = k.ahead + 1; owed = false; timer = started k.timer (k.moment + k.t1) }) h.0
           ∙ sym (next_kept t h.2.0),
       (omega (arith, h.1.0), omega arith),
       (omega (arith, h.2.0), omega arith),
@@ -111,7 +111,7 @@ next_alike s t some_s some_t h =
     )
 
 can_same : (s t : Station) → Alike s t → can_send s ≡ can_send t
-can_same s t h = ap (λ (k : Kept). is_up k.phase && not k.busy && nat_lt k.ahead k.window && (k.calling || k.begun)) h.0
+can_same s t h = ap (λ (k : KeptStation). is_up k.phase && not k.busy && nat_lt k.ahead k.window && (k.calling || k.begun)) h.0
 
 up_to_alike : (n : ℕ) (s t : Station) → s.sent + n ≤ length s.handed → t.sent + n ≤ length t.handed → Alike s t → Alike (sends_up_to n s) (sends_up_to n t)
 up_to_alike zero s t a b h = h
@@ -123,7 +123,7 @@ waiting_is : (s : Station) → Sound s → waiting s ≡ length (drop s.acked s.
 waiting_is s h = let l = length-drop s.acked s.handed in omega (arith, h.0, h.1)
 
 waiting_same : (s t : Station) → Alike s t → waiting s ≡ waiting t
-waiting_same s t h = waiting_is s h.1 ∙ ap (λ (k : Kept). length k.ring - k.ahead) h.0 ∙ sym (waiting_is t h.2)
+waiting_same s t h = waiting_is s h.1 ∙ ap (λ (k : KeptStation). length k.ring - k.ahead) h.0 ∙ sym (waiting_is t h.2)
 
 waiting_alike : (s t : Station) → Alike s t → Alike (sends_waiting s) (sends_waiting t)
 waiting_alike s t h =
@@ -133,7 +133,7 @@ waiting_alike s t h =
 
 -- ---- frames that are sent again
 
-again_texts : (n : ℕ) (s t : Station) → Alike s t → texts s.calling s.extended (frames_again n s) ≡ texts t.calling t.extended (frames_again n t)
+again_texts : (n : ℕ) (s t : Station) → Alike s t → octets_of_sent_frames s.calling s.extended (frames_again n s) ≡ octets_of_sent_frames t.calling t.extended (frames_again n t)
 again_texts zero s t h = refl
 again_texts (suc n) s t h =
     flat_map-append (sent_octets s.calling s.extended) (frames_again n s) (info_at s (s.acked + n) ∷ [])
@@ -142,7 +142,7 @@ again_texts (suc n) s t h =
 
 some_alike : (n : ℕ) (s t : Station) → Alike s t → Alike (sends_again_some n s) (sends_again_some n t)
 some_alike n s t h = (
-  ap (λ (k : Kept). record k { owed = if n == 0 then k.owed else false }) h.0,
+  ap (λ (k : KeptStation). record k { owed = if n == 0 then k.owed else false }) h.0,
   h.1,
   h.2,
   h.3,
@@ -153,27 +153,27 @@ some_alike n s t h = (
 
 again_alike : (s t : Station) → Alike s t → Alike (sends_again s) (sends_again t)
 again_alike s t h =
-    subst (λ (n : ℕ). Alike (sends_again_some (s.sent - s.acked) s) (sends_again_some n t)) (ap (λ (k : Kept). k.ahead) h.0) (some_alike (s.sent - s.acked) s t h)
+    subst (λ (n : ℕ). Alike (sends_again_some (s.sent - s.acked) s) (sends_again_some n t)) (ap (λ (k : KeptStation). k.ahead) h.0) (some_alike (s.sent - s.acked) s t h)
 
 timer_alike : (s t : Station) → Alike s t → Alike (starts_timer s) (starts_timer t)
-timer_alike s t h = (ap (λ (k : Kept). record k { timer = Some (k.moment + k.t1) }) h.0, h.1, h.2, h.3, h.4)
+timer_alike s t h = (ap (λ (k : KeptStation). record k { timer = Some (k.moment + k.t1) }) h.0, h.1, h.2, h.3, h.4)
 
 settles_alike : (s t : Station) → Alike s t → Alike (settles s) (settles t)
 settles_alike s t h =
     let r = ready_same s t h in
-    alike_if s.owed t.owed (record (puts (Rr (length s.taken)) s) { owed = false }) s (record (puts (Rr (length t.taken)) t) { owed = false }) t (ap (λ (k : Kept). k.owed) h.0)
-    (λ e. (ap (λ (k : Kept). record k { owed = false }) r.0, r.1, r.2, r.3, r.4)) (λ e. h)
+    alike_if s.owed t.owed (record (puts (Rr (length s.taken)) s) { owed = false }) s (record (puts (Rr (length t.taken)) t) { owed = false }) t (ap (λ (k : KeptStation). k.owed) h.0)
+    (λ e. (ap (λ (k : KeptStation). record k { owed = false }) r.0, r.1, r.2, r.3, r.4)) (λ e. h)
 
 -- ---- releases
 
-releases_alike : (c : Cause) (s t : Station) → Alike s t → Alike (releases c s) (releases c t)
-releases_alike c s t h = (ap (λ (k : Kept). record k { phase = Down; timer = None }) h.0, h.1, h.2, refl, h.4)
+releases_alike : (c : Cause) (s t : Station) → Alike s t → Alike (station_down_for_cause c s) (station_down_for_cause c t)
+releases_alike c s t h = (ap (λ (k : KeptStation). record k { phase = Down; timer = None }) h.0, h.1, h.2, refl, h.4)
 
 refuses_alike : (s t : Station) → Alike s t → Alike (refuses_frame s) (refuses_frame t)
 refuses_alike s t h = releases_alike FrameError (puts Dm s) (puts Dm t) (puts_same Dm s t h)
 
 strays_alike : (s t : Station) → Alike s t → Alike (strays s) (strays t)
-strays_alike s t h = (ap (λ (k : Kept). record k { counts = (strays (record s { counts = k.counts })).counts }) h.0, h.1, h.2, h.3, h.4)
+strays_alike s t h = (ap (λ (k : KeptStation). record k { counts = (strays (record s { counts = k.counts })).counts }) h.0, h.1, h.2, h.3, h.4)
 
 -- ---- N(R)
 
@@ -186,7 +186,7 @@ from_one_more : (a : ℕ) (o : Option ℕ) → option_map (λ u. a + 1 + u) o �
 from_one_more a None = refl
 from_one_more a (Some u) = ap Some (omega arith)
 
-named_is : (e : Bool) (n a r : ℕ) → named e a n r ≡ option_map (λ u. a + u) (offset e a n r)
+named_is : (e : Bool) (n a r : ℕ) → number_shown_as e a n r ≡ option_map (λ u. a + u) (offset e a n r)
 named_is e zero a r = elim (cases_Bool (a % modulo e == r)) [
   | inl y ↦ rw y (ap Some (omega arith))
   | inr y ↦ rw y refl
@@ -215,7 +215,7 @@ offset_within e zero a r = elim (cases_Bool (a % modulo e == r)) [ inl y ↦ rw 
 offset_within e (suc n) a r = elim (cases_Bool (a % modulo e == r)) [ inl y ↦ rw y (omega arith) | inr y ↦ rw y (within_more n (offset e (a + 1) n r) (offset_within e n (a + 1) r)) ]
 
 -- what is kept behind an acknowledgement
-abbrev acked_kept : ℕ → Kept → Kept
+abbrev acked_kept : ℕ → KeptStation → KeptStation
 acked_kept u k = record k {
   va = (k.va + u) % modulo k.extended;
   ring = drop u k.ring;
@@ -240,7 +240,7 @@ acked_is u s order =
 
 acked_alike : (u : ℕ) (s t : Station) → u ≤ s.sent - s.acked → Alike s t → Alike (acknowledges (s.acked + u) s) (acknowledges (t.acked + u) t)
 acked_alike u s t near h =
-    let ahead : s.sent - s.acked ≡ t.sent - t.acked = ap (λ (k : Kept). k.ahead) h.0 in
+    let ahead : s.sent - s.acked ≡ t.sent - t.acked = ap (λ (k : KeptStation). k.ahead) h.0 in
     (acked_is u s h.1.0 ∙ ap (acked_kept u) h.0 ∙ sym (acked_is u t h.2.0), (omega (arith, h.1.0), h.1.1), (omega (arith, h.2.0), h.2.1), h.3, h.4)
 
 number_alike : (r : ℕ) (rest : Station → Station) (s t : Station) → ((x y : Station) → Alike x y → Alike (rest x) (rest y)) → Alike s t
@@ -248,10 +248,10 @@ number_alike : (r : ℕ) (rest : Station → Station) (s t : Station) → ((x y 
 number_alike r rest s t keeps h =
     let n : ℕ = s.sent - s.acked in
     let o : Option ℕ = offset s.extended s.acked n r in
-    let same_e : s.extended ≡ t.extended = ap (λ (k : Kept). k.extended) h.0 in
-    let acked : s.acked % modulo s.extended ≡ t.acked % modulo s.extended = ap (λ (k : Kept). k.va) h.0 ∙ ap (λ (e : Bool). t.acked % modulo e) (sym same_e) in
-    let in_t : named t.extended t.acked (t.sent - t.acked) r ≡ option_map (λ u. t.acked + u) o =
-    ap₂ (λ (e : Bool) (m : ℕ). named e t.acked m r) (sym same_e) (sym (ap (λ (k : Kept). k.ahead) h.0))
+    let same_e : s.extended ≡ t.extended = ap (λ (k : KeptStation). k.extended) h.0 in
+    let acked : s.acked % modulo s.extended ≡ t.acked % modulo s.extended = ap (λ (k : KeptStation). k.va) h.0 ∙ ap (λ (e : Bool). t.acked % modulo e) (sym same_e) in
+    let in_t : number_shown_as t.extended t.acked (t.sent - t.acked) r ≡ option_map (λ u. t.acked + u) o =
+    ap₂ (λ (e : Bool) (m : ℕ). number_shown_as e t.acked m r) (sym same_e) (sym (ap (λ (k : KeptStation). k.ahead) h.0))
     ∙ named_is s.extended n t.acked r ∙ ap (option_map (λ u. t.acked + u)) (offset_same s.extended n t.acked s.acked r (sym acked)) in
     subst (λ (p : Option ℕ). Alike (acknowledging p rest s) (by_number r rest t)) (sym (named_is s.extended n s.acked r))
     (subst (λ (p : Option ℕ). Alike (acknowledging (option_map (λ u. s.acked + u) o) rest s) (acknowledging p rest t)) (sym in_t)
@@ -271,7 +271,7 @@ accepted_kept p s =
 
 accepts_alike : (p : List ℕ) (s t : Station) → Alike s t → Alike (accepts p s) (accepts p t)
 accepts_alike p s t h = (
-  accepted_kept p s ∙ ap (λ (k : Kept). record k { vr = (k.vr + 1) % modulo k.extended; begun = true; gap = false; owed = true }) h.0 ∙ sym (accepted_kept p t),
+  accepted_kept p s ∙ ap (λ (k : KeptStation). record k { vr = (k.vr + 1) % modulo k.extended; begun = true; gap = false; owed = true }) h.0 ∙ sym (accepted_kept p t),
   h.1,
   h.2,
   refl,
@@ -279,23 +279,23 @@ accepts_alike p s t h = (
 )
 
 gap_alike : (b : Bool) (s t : Station) → Alike s t → Alike (record s { gap = b }) (record t { gap = b })
-gap_alike b s t h = (ap (λ (k : Kept). record k { gap = b }) h.0, h.1, h.2, h.3, h.4)
+gap_alike b s t h = (ap (λ (k : KeptStation). record k { gap = b }) h.0, h.1, h.2, h.3, h.4)
 
 rejects_alike : (s t : Station) → Alike s t → Alike (rejects s) (rejects t)
 rejects_alike s t h =
     alike_if s.gap t.gap (puts (Rr (length s.taken)) s) (puts (Rej (length s.taken)) (record s { gap = true }))
-    (puts (Rr (length t.taken)) t) (puts (Rej (length t.taken)) (record t { gap = true })) (ap (λ (k : Kept). k.gap) h.0)
+    (puts (Rr (length t.taken)) t) (puts (Rej (length t.taken)) (record t { gap = true })) (ap (λ (k : KeptStation). k.gap) h.0)
     (λ e. ready_same s t h) (λ e. reject_same (record s { gap = true }) (record t { gap = true }) (gap_alike true s t h))
 
 takes_alike : (ns : ℕ) (p : List ℕ) (s t : Station) → Alike s t → Alike (takes ns p s) (takes ns p t)
 takes_alike ns p s t h =
     alike_if (length s.taken % modulo s.extended == ns) (length t.taken % modulo t.extended == ns) (accepts p s) (rejects s) (accepts p t) (rejects t)
-    (ap (λ (k : Kept). k.vr == ns) h.0) (λ e. accepts_alike p s t h) (λ e. rejects_alike s t h)
+    (ap (λ (k : KeptStation). k.vr == ns) h.0) (λ e. accepts_alike p s t h) (λ e. rejects_alike s t h)
 
 -- ---- rows
 
 busy_alike : (b : Bool) (s t : Station) → Alike s t → Alike (marks_busy b s) (marks_busy b t)
-busy_alike b s t h = (ap (λ (k : Kept). record k { busy = b }) h.0, h.1, h.2, h.3, h.4)
+busy_alike b s t h = (ap (λ (k : KeptStation). record k { busy = b }) h.0, h.1, h.2, h.3, h.4)
 
 ahead_is : (s : Station) → nat_lt s.acked s.sent ≡ nat_lt 0 (s.sent - s.acked)
 ahead_is s = elim (cases_lt s.acked s.sent) [ inl y ↦ lt-ltb s.acked s.sent y ∙ sym (lt-ltb 0 (s.sent - s.acked) (omega arith)) | inr y ↦ le-ltb s.acked s.sent y ∙ sym (le-ltb 0 (s.sent - s.acked) (omega arith)) ]
@@ -303,14 +303,14 @@ ahead_is s = elim (cases_lt s.acked s.sent) [ inl y ↦ lt-ltb s.acked s.sent y 
 repeats_alike : (s t : Station) → Alike s t → Alike (repeats_rejected s) (repeats_rejected t)
 repeats_alike s t h =
     alike_if (nat_lt s.acked s.sent) (nat_lt t.acked t.sent) (starts_timer (sends_again s)) s (starts_timer (sends_again t)) t
-    (ahead_is s ∙ ap (λ (k : Kept). nat_lt 0 k.ahead) h.0 ∙ sym (ahead_is t))
+    (ahead_is s ∙ ap (λ (k : KeptStation). nat_lt 0 k.ahead) h.0 ∙ sym (ahead_is t))
     (λ e. timer_alike (sends_again s) (sends_again t) (again_alike s t h)) (λ e. h)
 
 up_alike : (s t : Station) → Alike s t → Alike (comes_up s) (comes_up t)
-up_alike s t h = (ap (λ (k : Kept). record k { phase = Up }) h.0, h.1, h.2, refl, h.4)
+up_alike s t h = (ap (λ (k : KeptStation). record k { phase = Up }) h.0, h.1, h.2, refl, h.4)
 
 stopped_alike : (s t : Station) → Alike s t → Alike (comes_up (record s { timer = None; expiries = 0 })) (comes_up (record t { timer = None; expiries = 0 }))
-stopped_alike s t h = (ap (λ (k : Kept). record k { phase = Up; timer = None; expiries = 0 }) h.0, h.1, h.2, refl, h.4)
+stopped_alike s t h = (ap (λ (k : KeptStation). record k { phase = Up; timer = None; expiries = 0 }) h.0, h.1, h.2, refl, h.4)
 
 none_is : (s : Station) → (length s.taken == 0) ≡ not (nat_lt 0 (length s.taken))
 none_is s = elim (cases_lt 0 (length s.taken)) [
@@ -322,13 +322,13 @@ none_is s = elim (cases_lt 0 (length s.taken)) [
 set_up_alike : (poll : Bool) (s t : Station) → Alike s t → Alike (sets_up_again poll s) (sets_up_again poll t)
 set_up_alike poll s t h =
     alike_if (length s.taken == 0) (length t.taken == 0) (agrees poll (record s { gap = false })) (refuses_frame s) (agrees poll (record t { gap = false })) (refuses_frame t)
-    (none_is s ∙ ap (λ (k : Kept). not k.begun) h.0 ∙ sym (none_is t))
+    (none_is s ∙ ap (λ (k : KeptStation). not k.begun) h.0 ∙ sym (none_is t))
     (λ e. puts_same (Ua poll) (record s { gap = false }) (record t { gap = false }) (gap_alike false s t h)) (λ e. refuses_alike s t h)
 
-leaves_alike : (poll : Bool) (s t : Station) → Alike s t → Alike (releases PeerDisconnected (agrees poll s)) (releases PeerDisconnected (agrees poll t))
+leaves_alike : (poll : Bool) (s t : Station) → Alike s t → Alike (station_down_for_cause PeerDisconnected (agrees poll s)) (station_down_for_cause PeerDisconnected (agrees poll t))
 leaves_alike poll s t h = releases_alike PeerDisconnected (agrees poll s) (agrees poll t) (puts_same (Ua poll) s t h)
 
-row_alike : (p : Phase) (c : Control) (i : List ℕ) (s t : Station) → Alike s t → Alike (row p s c i) (row p t c i)
+row_alike : (p : Phase) (c : Control) (i : List ℕ) (s t : Station) → Alike s t → Alike (row_of_phase p s c i) (row_of_phase p t c i)
 row_alike Idle (control.Info ns nr) i s t h = strays_alike s t h
 row_alike Idle (control.Rr nr) i s t h = strays_alike s t h
 row_alike Idle (control.Rnr nr) i s t h = strays_alike s t h
@@ -367,7 +367,7 @@ row_alike Down c i s t h = h
 
 errs_alike : (p : Phase) (s t : Station) → Alike s t → Alike (errs p s) (errs p t)
 errs_alike Idle s t h =
-    alike_if s.calling t.calling (refuses_frame s) (strays s) (refuses_frame t) (strays t) (ap (λ (k : Kept). k.calling) h.0) (λ e. refuses_alike s t h) (λ e. strays_alike s t h)
+    alike_if s.calling t.calling (refuses_frame s) (strays s) (refuses_frame t) (strays t) (ap (λ (k : KeptStation). k.calling) h.0) (λ e. refuses_alike s t h) (λ e. strays_alike s t h)
 errs_alike Setting s t h = refuses_alike s t h
 errs_alike Up s t h = refuses_alike s t h
 errs_alike Down s t h = h
@@ -375,32 +375,32 @@ errs_alike Down s t h = h
 control_alike : (a : ℕ) (o : Option (Control × List ℕ)) (s t : Station) → Alike s t → Alike (hears_control a o s) (hears_control a o t)
 control_alike a None s t h = alike_by errs s t h (λ p. errs_alike p s t h)
 control_alike a (Some r) s t h =
-    alike_if (is_addressed s.calling a r.0) (is_addressed t.calling a r.0) (if is_error s.calling r.0 r.1 then errs s.phase s else row s.phase s r.0 r.1) (strays s)
-    (if is_error t.calling r.0 r.1 then errs t.phase t else row t.phase t r.0 r.1) (strays t) (ap (λ (k : Kept). is_addressed k.calling a r.0) h.0)
-    (λ e. alike_if (is_error s.calling r.0 r.1) (is_error t.calling r.0 r.1) (errs s.phase s) (row s.phase s r.0 r.1) (errs t.phase t) (row t.phase t r.0 r.1)
-    (ap (λ (k : Kept). is_error k.calling r.0 r.1) h.0) (λ e. alike_by errs s t h (λ p. errs_alike p s t h))
-    (λ e. alike_by (λ p x. row p x r.0 r.1) s t h (λ p. row_alike p r.0 r.1 s t h)))
+    alike_if (is_addressed s.calling a r.0) (is_addressed t.calling a r.0) (if is_error s.calling r.0 r.1 then errs s.phase s else row_of_phase s.phase s r.0 r.1) (strays s)
+    (if is_error t.calling r.0 r.1 then errs t.phase t else row_of_phase t.phase t r.0 r.1) (strays t) (ap (λ (k : KeptStation). is_addressed k.calling a r.0) h.0)
+    (λ e. alike_if (is_error s.calling r.0 r.1) (is_error t.calling r.0 r.1) (errs s.phase s) (row_of_phase s.phase s r.0 r.1) (errs t.phase t) (row_of_phase t.phase t r.0 r.1)
+    (ap (λ (k : KeptStation). is_error k.calling r.0 r.1) h.0) (λ e. alike_by errs s t h (λ p. errs_alike p s t h))
+    (λ e. alike_by (λ p x. row_of_phase p x r.0 r.1) s t h (λ p. row_alike p r.0 r.1 s t h)))
     (λ e. strays_alike s t h)
 
 hears_alike : (v : Verdict) (s t : Station) → Alike s t → Alike (hears v s) (hears v t)
 hears_alike (Frame_found a body) s t h =
     alike_if (is_known_address a) (is_known_address a) (hears_control a (control_of (modulo s.extended) body) s) (strays s) (hears_control a (control_of (modulo t.extended) body) t) (strays t) refl
-    (λ e. subst (λ (o : Option (Control × List ℕ)). Alike (hears_control a (control_of (modulo s.extended) body) s) (hears_control a o t)) (ap (λ (k : Kept). control_of (modulo k.extended) body) h.0)
+    (λ e. subst (λ (o : Option (Control × List ℕ)). Alike (hears_control a (control_of (modulo s.extended) body) s) (hears_control a o t)) (ap (λ (k : KeptStation). control_of (modulo k.extended) body) h.0)
     (control_alike a (control_of (modulo s.extended) body) s t h))
     (λ e. strays_alike s t h)
-hears_alike BadFcs s t h = (ap (λ (k : Kept). record k { counts = (hears BadFcs (record s { counts = k.counts })).counts }) h.0, h.1, h.2, h.3, h.4)
-hears_alike TooShort s t h = (ap (λ (k : Kept). record k { counts = (hears TooShort (record s { counts = k.counts })).counts }) h.0, h.1, h.2, h.3, h.4)
-hears_alike TooLong s t h = (ap (λ (k : Kept). record k { counts = (hears TooLong (record s { counts = k.counts })).counts }) h.0, h.1, h.2, h.3, h.4)
-hears_alike Aborted s t h = (ap (λ (k : Kept). record k { counts = (hears Aborted (record s { counts = k.counts })).counts }) h.0, h.1, h.2, h.3, h.4)
+hears_alike BadFcs s t h = (ap (λ (k : KeptStation). record k { counts = (hears BadFcs (record s { counts = k.counts })).counts }) h.0, h.1, h.2, h.3, h.4)
+hears_alike TooShort s t h = (ap (λ (k : KeptStation). record k { counts = (hears TooShort (record s { counts = k.counts })).counts }) h.0, h.1, h.2, h.3, h.4)
+hears_alike TooLong s t h = (ap (λ (k : KeptStation). record k { counts = (hears TooLong (record s { counts = k.counts })).counts }) h.0, h.1, h.2, h.3, h.4)
+hears_alike Aborted s t h = (ap (λ (k : KeptStation). record k { counts = (hears Aborted (record s { counts = k.counts })).counts }) h.0, h.1, h.2, h.3, h.4)
 
 -- ---- calls
 
 sees_alike : (now : ℕ) (s t : Station) → Alike s t → Alike (sees now s) (sees now t)
-sees_alike now s t h = (ap (λ (k : Kept). record k { moment = max k.moment now }) h.0, h.1, h.2, h.3, h.4)
+sees_alike now s t h = (ap (λ (k : KeptStation). record k { moment = max k.moment now }) h.0, h.1, h.2, h.3, h.4)
 
 -- a call that does nothing after a release
 live_alike : (s t x y : Station) → Alike s t → Alike x y → Alike (if is_down s.phase then s else x) (if is_down t.phase then t else y)
-live_alike s t x y h g = alike_if (is_down s.phase) (is_down t.phase) s x t y (ap (λ (k : Kept). is_down k.phase) h.0) (λ e. h) (λ e. g)
+live_alike s t x y h g = alike_if (is_down s.phase) (is_down t.phase) s x t y (ap (λ (k : KeptStation). is_down k.phase) h.0) (λ e. h) (λ e. g)
 
 receives_alike : (now : ℕ) (v : Verdict) (s t : Station) → Alike s t → Alike (receives now v s) (receives now v t)
 receives_alike now v s t h =
@@ -414,7 +414,7 @@ handed_alike : (p : List ℕ) (s t : Station) → Alike s t → Alike (record s 
 handed_alike p s t h =
     let ls = length-append s.handed (p ∷ []) in
     let lt = length-append t.handed (p ∷ []) in (
-      ap (λ (r : List (List ℕ)). record (kept_of s) { ring = r }) (kept_push p s h.1) ∙ ap (λ (k : Kept). record k { ring = k.ring ++ p ∷ [] }) h.0
+      ap (λ (r : List (List ℕ)). record (kept_of s) { ring = r }) (kept_push p s h.1) ∙ ap (λ (k : KeptStation). record k { ring = k.ring ++ p ∷ [] }) h.0
           ∙ sym (ap (λ (r : List (List ℕ)). record (kept_of t) { ring = r }) (kept_push p t h.2)),
       (h.1.0, omega (arith, h.1.1)),
       (h.2.0, omega (arith, h.2.1)),
@@ -432,21 +432,21 @@ expires_alike : (p : Phase) (s t : Station) → Alike s t → Alike (expires_at 
 expires_alike Idle s t h = h
 expires_alike Setting s t h =
     alike_if (nat_lt s.n2 (s.expiries + 1)) (nat_lt t.n2 (t.expiries + 1)) (gives_up SetUpUnanswered s) (starts_timer (puts SetUp (counts_expiry s)))
-    (gives_up SetUpUnanswered t) (starts_timer (puts SetUp (counts_expiry t))) (ap (λ (k : Kept). nat_lt k.n2 (k.expiries + 1)) h.0)
+    (gives_up SetUpUnanswered t) (starts_timer (puts SetUp (counts_expiry t))) (ap (λ (k : KeptStation). nat_lt k.n2 (k.expiries + 1)) h.0)
     (λ e. releases_alike SetUpUnanswered (puts Disc s) (puts Disc t) (puts_same Disc s t h))
     (λ e. timer_alike (puts SetUp (counts_expiry s)) (puts SetUp (counts_expiry t)) (puts_same SetUp (counts_expiry s) (counts_expiry t)
-    (ap (λ (k : Kept). record k { expiries = k.expiries + 1 }) h.0, h.1, h.2, h.3, h.4)))
+    (ap (λ (k : KeptStation). record k { expiries = k.expiries + 1 }) h.0, h.1, h.2, h.3, h.4)))
 expires_alike Up s t h =
     alike_if (nat_lt s.n2 (s.expiries + 1)) (nat_lt t.n2 (t.expiries + 1)) (gives_up NoProgress s) (starts_timer (sends_again (counts_expiry s)))
-    (gives_up NoProgress t) (starts_timer (sends_again (counts_expiry t))) (ap (λ (k : Kept). nat_lt k.n2 (k.expiries + 1)) h.0)
+    (gives_up NoProgress t) (starts_timer (sends_again (counts_expiry t))) (ap (λ (k : KeptStation). nat_lt k.n2 (k.expiries + 1)) h.0)
     (λ e. releases_alike NoProgress (puts Disc s) (puts Disc t) (puts_same Disc s t h))
     (λ e. timer_alike (sends_again (counts_expiry s)) (sends_again (counts_expiry t)) (again_alike (counts_expiry s) (counts_expiry t)
-    (ap (λ (k : Kept). record k { expiries = k.expiries + 1 }) h.0, h.1, h.2, h.3, h.4)))
+    (ap (λ (k : KeptStation). record k { expiries = k.expiries + 1 }) h.0, h.1, h.2, h.3, h.4)))
 expires_alike Down s t h = h
 
 due_alike : (s t : Station) → Alike s t → Alike (expires_if_due s) (expires_if_due t)
 due_alike s t h =
-    alike_if (is_due s.timer s.moment) (is_due t.timer t.moment) (expires s) s (expires t) t (ap (λ (k : Kept). is_due k.timer k.moment) h.0)
+    alike_if (is_due s.timer s.moment) (is_due t.timer t.moment) (expires s) s (expires t) t (ap (λ (k : KeptStation). is_due k.timer k.moment) h.0)
     (λ e. alike_by expires_at s t h (λ p. expires_alike p s t h)) (λ e. h)
 
 ticks_alike : (now : ℕ) (s t : Station) → Alike s t → Alike (ticks now s) (ticks now t)
@@ -456,9 +456,9 @@ ticks_alike now s t h =
 
 starts_at_alike : (p : Phase) (s t : Station) → Alike s t → Alike (starts_at p s) (starts_at p t)
 starts_at_alike Idle s t h =
-    alike_if s.calling t.calling (starts_timer (puts SetUp (record s { phase = Setting }))) s (starts_timer (puts SetUp (record t { phase = Setting }))) t (ap (λ (k : Kept). k.calling) h.0)
+    alike_if s.calling t.calling (starts_timer (puts SetUp (record s { phase = Setting }))) s (starts_timer (puts SetUp (record t { phase = Setting }))) t (ap (λ (k : KeptStation). k.calling) h.0)
     (λ e. timer_alike (puts SetUp (record s { phase = Setting })) (puts SetUp (record t { phase = Setting })) (puts_same SetUp (record s { phase = Setting }) (record t { phase = Setting })
-    (ap (λ (k : Kept). record k { phase = Setting }) h.0, h.1, h.2, h.3, h.4))) (λ e. h)
+    (ap (λ (k : KeptStation). record k { phase = Setting }) h.0, h.1, h.2, h.3, h.4))) (λ e. h)
 starts_at_alike Setting s t h = h
 starts_at_alike Up s t h = h
 starts_at_alike Down s t h = h
@@ -478,9 +478,9 @@ closes_alike : (s t : Station) → Alike s t → Alike (closes s) (closes t)
 closes_alike s t h =
     let g = alike_by closes_at s t h (λ p. closes_at_alike p s t h) in
     live_alike s t (record (closes_at s.phase s) { phase = Down; timer = None }) (record (closes_at t.phase t) { phase = Down; timer = None }) h
-    (ap (λ (k : Kept). record k { phase = Down; timer = None }) g.0, g.1, g.2, g.3, g.4)
+    (ap (λ (k : KeptStation). record k { phase = Down; timer = None }) g.0, g.1, g.2, g.3, g.4)
 
-pub steps_alike : StepsAlike
+pub steps_alike : KeepsStationsAlike
 steps_alike = record {
   starts = starts_alike;
   receives = receives_alike;
@@ -516,7 +516,7 @@ made_taken false true g small none = elim (cases_Bool (g == 0)) [
   | inr n ↦ rw n (ap (λ (m : ℕ). m % 8) (length-replicate g no_payload) ∙ mod-eq_of_lt small, ap (λ (m : ℕ). nat_lt 0 m) (length-replicate g no_payload) ∙ lt-ltb 0 g (above_none g n))
 ]
 
-pub whole : (k : Kept) → Ranged k → k ≡ kept_of (model_of k)
+pub whole : (k : KeptStation) → Ranged k → k ≡ kept_of (model_of k)
 whole k r =
     let m = made_taken k.extended k.begun k.vr r.small_vr r.none_vr in
     let len = length-replicate k.va no_payload in
@@ -527,7 +527,7 @@ whole k r =
     ∙ ap₂ (λ (h g : ℕ). record (kept_of (model_of k)) { ahead = h; vr = g; begun = k.begun }) (sym ahead) (sym m.0)
     ∙ ap (λ (b : Bool). record (kept_of (model_of k)) { begun = b }) (sym m.1)
 
-sound_made : (k : Kept) → k.ahead ≤ length k.ring → Sound (model_of k)
+sound_made : (k : KeptStation) → k.ahead ≤ length k.ring → Sound (model_of k)
 sound_made k h =
     let len = length-replicate k.va no_payload in
     let all = length-append (replicate k.va no_payload) k.ring in
@@ -546,21 +546,21 @@ ranged_of s h =
 pub kept_is_modelled : KeptIsModelled
 kept_is_modelled s h said deed =
     let r = ranged_of s h in
-    (sym (whole (kept_of s) r), sound_made (kept_of s) r.all_sent, h, sym deed, sym (ap (texts s.calling s.extended) said))
+    (sym (whole (kept_of s) r), sound_made (kept_of s) r.all_sent, h, sym deed, sym (ap (octets_of_sent_frames s.calling s.extended) said))
 
 -- what holds of each station that is kept so holds of that one
-pub shown_made : (k : Kept) (P : Station → Type 0) → Ranged k → Shown k P → P (model_of k)
+pub shown_made : (k : KeptStation) (P : Station → Type 0) → Ranged k → Shown k P → P (model_of k)
 shown_made k P r shown = let o = sound_made k r.all_sent in shown (model_of k) (whole k r) o.0 o.1
 
 -- ---- a call of the code, as what it does to that station
 
-pub does_told : (k : Kept) (out : Stored) (new : Kept) (out' : Stored) (told : Deed) (step : Station → Station) → Ranged k → Tells k out new out' told step
-    → Does new out out' told (step (model_of k))
+pub does_told : (k : KeptStation) (out : Stored) (new : KeptStation) (out' : Stored) (told : Deed) (step : Station → Station) → Ranged k → Tells k out new out' told step
+    → DoesStationCall new out out' told (step (model_of k))
 does_told k out new out' told step r tells =
     let o = sound_made k r.all_sent in
     let h = tells (model_of k) out.items (record { is = whole k r; order = o.0; given = o.1; deed = refl; text = sym (append-nil out.items) }) in
     record { kept = h.is; text = h.text; tells = sym h.deed }
 
-pub does_followed : (k : Kept) (out : Stored) (new : Kept) (out' : Stored) (step : Station → Station) → Ranged k → Follows k out new out' step
-    → Does new out out' no_deed (step (model_of k))
+pub does_followed : (k : KeptStation) (out : Stored) (new : KeptStation) (out' : Stored) (step : Station → Station) → Ranged k → Follows k out new out' step
+    → DoesStationCall new out out' no_deed (step (model_of k))
 does_followed k out new out' step r follows = does_told k out new out' no_deed step r (λ s before h. follows s before no_deed h)

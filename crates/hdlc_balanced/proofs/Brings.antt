@@ -1,14 +1,14 @@
 -- What a rule did with a frame, as what the frame brought.
 use Rattle.std.proofs.Common.{◌≡◌, ◌++◌, sym, ap, ◌∙◌, subst}
 use Rattle.hdlc_station_model.specs.Stations.{Station, Deed, no_deed}
-use Rattle.hdlc_station_core.specs.Kept.{Kept, Stands, Follows}
+use Rattle.hdlc_station_core.specs.Kept.{KeptStation, Stands, Follows}
 use Rattle.hdlc_station_core.specs.declared.deeds.Reply.{Reply}
 use Rattle.hdlc_station_core.specs.declared.deeds.Reply.TheVariants.{Nothing}
 use Rattle.hdlc_station_core.specs.Replies.{reply_text, TellsSo}
 use Rattle.hdlc_station_core.specs.Saying.{silent}
 use Rattle.er_base.specs.Stored.{Stored}
 
-module _ (old new : Kept) (step : Station → Station) where
+module _ (old new : KeptStation) (step : Station → Station) where
   -- the same told and answered
   pub brings : (r r' : Reply) (told deed : Deed) → TellsSo old new r told step → deed ≡ told → r' ≡ r → TellsSo old new r' deed step
   brings r r' told deed tells same_deed same_reply = λ out out' e s before h.

@@ -6,15 +6,15 @@ use Rattle.hdlc_frames.specs.Framing.{Verdict}
 use Rattle.hdlc_station_model.specs.Frames.{modulo}
 use Rattle.hdlc_station_model.specs.Stations.{Station, Deed, no_deed}
 use Rattle.hdlc_station_model.specs.Calls.{starts, receives, hands, finishes, ticks, closes}
-use Rattle.hdlc_balanced.specs.Kept.{Kept, kept_of, texts}
+use Rattle.hdlc_balanced.specs.Kept.{KeptStation, kept_of, octets_of_sent_frames}
 pub use Rattle.hdlc_station_core.specs.Kept.{Ranged}
 
 -- a number of payloads taken that shows V(R)
-abbrev pub taken_number : Kept → ℕ
+abbrev pub taken_number : KeptStation → ℕ
 taken_number k = if k.begun then (if k.vr == 0 then modulo k.extended else k.vr) else 0
 
 -- a station of the model that the code keeps so, between two calls: the payloads that are gone are empty ones
-abbrev pub model_of : Kept → Station
+abbrev pub model_of : KeptStation → Station
 model_of k = record {
   calling = k.calling;
   extended = k.extended;
@@ -51,10 +51,10 @@ Alike s t =
     × Sound s
     × Sound t
     × (s.deed ≡ t.deed)
-    × (texts s.calling s.extended s.said ≡ texts t.calling t.extended t.said)
+    × (octets_of_sent_frames s.calling s.extended s.said ≡ octets_of_sent_frames t.calling t.extended t.said)
 
 -- each call keeps that
-pub record StepsAlike : Type 0 where
+pub record KeepsStationsAlike : Type 0 where
   pub starts : (now : ℕ) (s t : Station) → Alike s t → Alike (starts now s) (starts now t)
   pub receives : (now : ℕ) (verdict : Verdict) (s t : Station) → Alike s t → Alike (receives now verdict s) (receives now verdict t)
   pub hands : (now : ℕ) (payload : List ℕ) (s t : Station) → Alike s t → Alike (hands now payload s) (hands now payload t)
@@ -67,7 +67,7 @@ abbrev pub KeptIsModelled : Type 0
 KeptIsModelled = (s : Station) → Sound s → s.said ≡ [] → s.deed ≡ no_deed → Alike (model_of (kept_of s)) s
 
 -- a call did this to the station that `model_of` makes, and told this
-pub record Does (new : Kept) (out out' : Stored) (told : Deed) (t : Station) : Type 0 where
+pub record DoesStationCall (new : KeptStation) (out out' : Stored) (told : Deed) (t : Station) : Type 0 where
   pub kept : new ≡ kept_of t
-  pub text : out'.items ≡ out.items ++ texts new.calling new.extended t.said
+  pub text : out'.items ≡ out.items ++ octets_of_sent_frames new.calling new.extended t.said
   pub tells : told ≡ t.deed

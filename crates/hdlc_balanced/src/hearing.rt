@@ -2,10 +2,10 @@
 
 ghost use Rattle.std.specs.Prelude.{◌≡◌, Some, true, false};
 ghost use Rattle.er_base.specs.Stored.{Stored};
-ghost use Rattle.hdlc_frames.specs.Shown.{shown};
+ghost use Rattle.hdlc_frames.specs.Shown.{verdict_of_octets_found};
 ghost use Rattle.hdlc_station_model.specs.Stations.{no_deed};
-ghost use Rattle.hdlc_station_model.specs.Receiving.{is_error, by_number, rejects, takes, marks_busy, repeats_rejected, sets_up_again, row_up, row, hears_control, hears_frame, hears};
-ghost use Rattle.hdlc_station_core.specs.Replies.{Answers, TellsSo, Hears};
+ghost use Rattle.hdlc_station_model.specs.Receiving.{is_error, by_number, rejects, takes, marks_busy, repeats_rejected, sets_up_again, row_up, row_of_phase, hears_control, hears_frame, hears};
+ghost use Rattle.hdlc_station_core.specs.Replies.{FollowsWithReply, TellsSo, FollowsWithInformation};
 ghost use Rattle.hdlc_balanced.specs.Told.{deed_of, told_as};
 
 use crate::deeds::{Brought, LinkDeed};
@@ -34,7 +34,7 @@ fn is_error(calling: bool, control: Control, information: &[u8]) -> bool
 
 // The frame isn't the next one.
 fn reject(station: &mut StationCore) -> Reply
-    ensures answers { Answers station.old station.new result rejects }
+    ensures answers { FollowsWithReply station.old station.new result rejects }
     ensures window { station.new.window ≡ station.old.window }
 {
     if station.has_gap() {
@@ -45,7 +45,7 @@ fn reject(station: &mut StationCore) -> Reply
 }
 
 fn take(station: &mut StationCore, ns: u8) -> Heard
-    ensures hears { Hears station.old station.new result (λ payload. takes ns payload) }
+    ensures hears { FollowsWithInformation station.old station.new result (λ payload. takes ns payload) }
     ensures window { station.new.window ≡ station.old.window }
 {
     if station.vr() == ns {
@@ -64,7 +64,7 @@ fn take(station: &mut StationCore, ns: u8) -> Heard
 // ---- the rows of a station that is up
 
 fn hear_info(station: &mut StationCore, ns: u8, nr: u8) -> Heard
-    ensures hears { Hears station.old station.new result (λ payload. by_number nr (takes ns payload)) }
+    ensures hears { FollowsWithInformation station.old station.new result (λ payload. by_number nr (takes ns payload)) }
     ensures window { station.new.window ≡ station.old.window }
 {
     let Some(up) = station.named(nr) else {
@@ -76,7 +76,7 @@ fn hear_info(station: &mut StationCore, ns: u8, nr: u8) -> Heard
 
 // Frames are sent again at a REJ.
 fn repeat_rejected(station: &mut StationCore) -> Reply
-    ensures answers { Answers station.old station.new result repeats_rejected }
+    ensures answers { FollowsWithReply station.old station.new result repeats_rejected }
     ensures window { station.new.window ≡ station.old.window }
 {
     if station.ahead() == 0 {
@@ -88,7 +88,7 @@ fn repeat_rejected(station: &mut StationCore) -> Reply
 }
 
 fn hear_reject(station: &mut StationCore, nr: u8) -> Heard
-    ensures hears { Hears station.old station.new result (λ information. by_number nr (λ t. repeats_rejected (marks_busy false t))) }
+    ensures hears { FollowsWithInformation station.old station.new result (λ information. by_number nr (λ t. repeats_rejected (marks_busy false t))) }
     ensures window { station.new.window ≡ station.old.window }
 {
     let Some(up) = station.named(nr) else {
@@ -104,7 +104,7 @@ fn hear_reject(station: &mut StationCore, nr: u8) -> Heard
 
 // The set-up frame at a station that is up.
 fn set_up_again(station: &mut StationCore, poll: bool) -> Heard
-    ensures hears { Hears station.old station.new result (λ information. sets_up_again poll) }
+    ensures hears { FollowsWithInformation station.old station.new result (λ information. sets_up_again poll) }
     ensures window { station.new.window ≡ station.old.window }
 {
     if station.has_begun() {
@@ -118,7 +118,7 @@ fn set_up_again(station: &mut StationCore, poll: bool) -> Heard
 }
 
 fn hear_up(station: &mut StationCore, control: Control) -> Heard
-    ensures hears { Hears station.old station.new result (λ information s. row_up s control information) }
+    ensures hears { FollowsWithInformation station.old station.new result (λ information s. row_up s control information) }
     ensures window { station.new.window ≡ station.old.window }
 {
     match control {
@@ -140,7 +140,7 @@ fn hear_up(station: &mut StationCore, control: Control) -> Heard
 
 // The row of a control, by the phase.
 fn row(station: &mut StationCore, control: Control) -> Heard
-    ensures hears { Hears station.old station.new result (λ information s. row s.phase s control information) }
+    ensures hears { FollowsWithInformation station.old station.new result (λ information s. row_of_phase s.phase s control information) }
     ensures window { station.new.window ≡ station.old.window }
 {
     match station.phase() {
@@ -187,7 +187,7 @@ fn hear_frame<'f>(station: &mut StationCore, address: u8, body: &'f [u8]) -> Bro
 
 // What a deframer found.
 pub(crate) fn hear<'f>(station: &mut StationCore, found: &Found<'f>) -> Brought<'f>
-    ensures tells { TellsSo station.old station.new result.reply (deed_of result.deed) (hears (shown found.now)) }
+    ensures tells { TellsSo station.old station.new result.reply (deed_of result.deed) (hears (verdict_of_octets_found found.now)) }
     ensures window { station.new.window ≡ station.old.window }
 {
     match found {

@@ -2,7 +2,7 @@
 
 ghost use Rattle.std.specs.Prelude.{◌≡◌, ◌+◌, ◌-◌, ◌*◌, ◌<◌, ◌≤◌, ◌==◌, [], ◌∷◌, ◌++◌, length, IfOk, IfErr, true, false};
 ghost use Rattle.er_base.specs.Stored.{Stored, HasRoom};
-ghost use Rattle.hdlc_frames.specs.Shown.{shown};
+ghost use Rattle.hdlc_frames.specs.Shown.{verdict_of_octets_found};
 ghost use Rattle.hdlc_station_model.specs.Stations.{made, no_deed};
 ghost use Rattle.hdlc_station_model.specs.Sending.{waiting};
 ghost use Rattle.hdlc_station_model.specs.Calls.{starts, receives, hands, finishes, ticks, closes, may_send, deadline};
@@ -24,17 +24,17 @@ pub struct Station {
 }
 
 impl Model for Station {
-    ghost use Rattle.hdlc_balanced.specs.Kept.{Kept};
+    ghost use Rattle.hdlc_balanced.specs.Kept.{KeptStation};
 
-    ghost Value = { Kept };
+    ghost Value = { KeptStation };
 
     ghost view = { λ s. s.core };
 }
 
 impl Station {
-    ghost use Rattle.hdlc_balanced.specs.Kept.{kept_of, Follows, Tells, Shown, Within};
+    ghost use Rattle.hdlc_balanced.specs.Kept.{kept_of, Follows, Tells, Shown, WritesFramesAtMost};
     ghost use Rattle.hdlc_balanced.specs.Told.{deed_of, released_as};
-    ghost use Rattle.hdlc_balanced.specs.Alike.{model_of, Does};
+    ghost use Rattle.hdlc_balanced.specs.Alike.{model_of, DoesStationCall};
 
     /// The calling station of a link.
     pub fn calling(alloc: Global, settings: &Settings) -> Result<Station, NoMemory>
@@ -59,8 +59,8 @@ impl Station {
         requires moment { now ≤ 1000000000000000 }
         requires room { HasRoom out.old 2064 }
         ensures follows { Follows self.old out.old self.new out.new (starts now) }
-        ensures does { Does self.new out.old out.new no_deed (starts now (model_of self.old)) }
-        ensures within { Within self.old out.old self.new out.new 1 }
+        ensures does { DoesStationCall self.new out.old out.new no_deed (starts now (model_of self.old)) }
+        ensures within { WritesFramesAtMost self.old out.old self.new out.new 1 }
     {
         self.core.bounds();
         let reply = self.core.start(Moment::new(now));
@@ -71,9 +71,9 @@ impl Station {
     pub fn receive<'f>(&mut self, now: u64, found: &Found<'f>, out: &mut Room) -> LinkDeed<'f>
         requires moment { now ≤ 1000000000000000 }
         requires room { HasRoom out.old ((self.old.window + 1) * 2064) }
-        ensures tells { Tells self.old out.old self.new out.new (deed_of result) (receives now (shown found.now)) }
-        ensures does { Does self.new out.old out.new (deed_of result) (receives now (shown found.now) (model_of self.old)) }
-        ensures within { Within self.old out.old self.new out.new (self.old.window + 1) }
+        ensures tells { Tells self.old out.old self.new out.new (deed_of result) (receives now (verdict_of_octets_found found.now)) }
+        ensures does { DoesStationCall self.new out.old out.new (deed_of result) (receives now (verdict_of_octets_found found.now) (model_of self.old)) }
+        ensures within { WritesFramesAtMost self.old out.old self.new out.new (self.old.window + 1) }
     {
         self.core.bounds();
         if self.core.is_down() {
@@ -95,12 +95,12 @@ impl Station {
         requires fits { length payload.now ≤ 1026 }
         requires room { HasRoom out.old (self.old.window * 2064) }
         ensures handed { IfOk result (λ _. Follows self.old out.old self.new out.new (hands now payload.now)) }
-        ensures does { IfOk result (λ _. Does self.new out.old out.new no_deed (hands now payload.now (model_of self.old))) }
+        ensures does { IfOk result (λ _. DoesStationCall self.new out.old out.new no_deed (hands now payload.now (model_of self.old))) }
         ensures not_full { IfOk result (λ _. Shown self.old (λ s. waiting s < 16)) }
         ensures full { IfErr result (λ full. Shown self.old (λ s. (waiting s ≡ 16) × (full.waiting ≡ 16))) }
         ensures unchanged { IfErr result (λ full. self.new ≡ self.old) }
         ensures unwritten { IfErr result (λ full. out.new ≡ out.old) }
-        ensures within { Within self.old out.old self.new out.new self.old.window }
+        ensures within { WritesFramesAtMost self.old out.old self.new out.new self.old.window }
         ensures waited { IfErr result (λ full. length self.old.ring ≡ self.old.ahead + 16) }
         ensures grows { self.old.ahead ≤ self.new.ahead }
         ensures sent { length out.new.items + self.old.ahead * 2064 ≤ length out.old.items + self.new.ahead * 2064 }
@@ -114,8 +114,8 @@ impl Station {
     pub fn finish(&mut self, out: &mut Room)
         requires { HasRoom out.old 2064 }
         ensures follows { Follows self.old out.old self.new out.new finishes }
-        ensures does { Does self.new out.old out.new no_deed (finishes (model_of self.old)) }
-        ensures within { Within self.old out.old self.new out.new 1 }
+        ensures does { DoesStationCall self.new out.old out.new no_deed (finishes (model_of self.old)) }
+        ensures within { WritesFramesAtMost self.old out.old self.new out.new 1 }
     {
         self.core.bounds();
         let reply = self.core.finish();
@@ -127,8 +127,8 @@ impl Station {
         requires moment { now ≤ 1000000000000000 }
         requires room { HasRoom out.old ((self.old.window + 1) * 2064) }
         ensures tells { Tells self.old out.old self.new out.new (released_as result) (ticks now) }
-        ensures does { Does self.new out.old out.new (released_as result) (ticks now (model_of self.old)) }
-        ensures within { Within self.old out.old self.new out.new (self.old.window + 1) }
+        ensures does { DoesStationCall self.new out.old out.new (released_as result) (ticks now (model_of self.old)) }
+        ensures within { WritesFramesAtMost self.old out.old self.new out.new (self.old.window + 1) }
     {
         self.core.bounds();
         self.core.tick(Moment::new(now), out)
@@ -139,8 +139,8 @@ impl Station {
     pub fn close(&mut self, out: &mut Room)
         requires { HasRoom out.old 2064 }
         ensures follows { Follows self.old out.old self.new out.new closes }
-        ensures does { Does self.new out.old out.new no_deed (closes (model_of self.old)) }
-        ensures within { Within self.old out.old self.new out.new 1 }
+        ensures does { DoesStationCall self.new out.old out.new no_deed (closes (model_of self.old)) }
+        ensures within { WritesFramesAtMost self.old out.old self.new out.new 1 }
     {
         self.core.bounds();
         let reply = self.core.close();

@@ -11,7 +11,7 @@ use Rattle.std.proofs.lemmas.List.{take_at, drop_at, drop-append-le, drop-drop, 
 use Rattle.bit_lists.specs.LowestFirst.{low_bits}
 use Rattle.bit_lists.proofs.LowestFirstLaws.{length-low_bits, low_number-low_bits, low_bits-zeros}
 use Rattle.hdlc_fcs.specs.FrameCheck.{sent_bits}
-use Rattle.hdlc_bits.specs.Framing.{octets_from, octets_of}
+use Rattle.hdlc_bits.specs.Framing.{octets_from, octets_of_bits}
 use Rattle.hdlc_bits.specs.Buffers.{HasOnes}
 use Rattle.hdlc_bits.specs.Pieces.{bits_between}
 
@@ -78,8 +78,8 @@ octets_back [] h = octets_none (sent_bits [])
 octets_back (o ∷ os) h =
     rw (sent_bits-cons o os) (octets_more (length os) o (sent_bits os) (h 0) ∙ ap (λ xs. o ∷ xs) (octets_back os (λ i. h (suc i))))
 
-pub octets_of_sent : (os : List ℕ) → ((i : ℕ) → slice_index os i < 256) → octets_of (sent_bits os) ≡ os
-unfolding octets_of
+pub octets_of_sent : (os : List ℕ) → ((i : ℕ) → slice_index os i < 256) → octets_of_bits (sent_bits os) ≡ os
+unfolding octets_of_bits
 octets_of_sent os h =
     let size : length (sent_bits os) / 8 ≡ length os = omega (arith, length-sent_bits os) in
     rw size (octets_back os h)

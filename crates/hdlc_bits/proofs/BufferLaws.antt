@@ -12,7 +12,7 @@ use Rattle.bit_lists.specs.LowestFirst.{low_bits}
 use Rattle.bit_lists.proofs.LowestFirstLaws.{length-low_bits}
 use Rattle.hdlc_fcs.specs.FrameCheck.{fcs_of, sent_bits}
 use Rattle.hdlc_fcs.specs.Contents.{checked_part, check_number, IsIntact}
-use Rattle.hdlc_bits.specs.Framing.{Verdict, Frame, Ragged, BadFcs, TooShort, TooLong, Aborted, octets_of, verdict_on_content, verdict_on_bits, verdict_at_end, has_bits}
+use Rattle.hdlc_bits.specs.Framing.{Verdict, Frame, Ragged, BadFcs, TooShort, TooLong, Aborted, octets_of_bits, verdict_by_frame_check_sequence, verdict_on_bits, verdict_at_end, has_bits}
 use Rattle.hdlc_bits.specs.Keeping.{added}
 use Rattle.hdlc_bits.specs.Buffers.{buffer_bits}
 use Rattle.hdlc_bits.proofs.KeptLaws.{take_kept, too_long, verdict_on_kept}
@@ -55,20 +55,20 @@ below_take (suc n) (o ∷ os) h zero = h 0
 below_take (suc n) (o ∷ os) h (suc i) = below_take n os (λ j. h (suc j)) i
 
 content_is : (len last : ℕ) (os : List ℕ) → len / 8 ≤ length os → ((i : ℕ) → slice_index os i < 256) → len ≤ 8256 → len % 8 ≤ 0 → 32 ≤ len
-    → verdict_on_bits (buffer_bits len last os) ≡ verdict_on_content (take (len / 8) os)
+    → verdict_on_bits (buffer_bits len last os) ≡ verdict_by_frame_check_sequence (take (len / 8) os)
 unfolding verdict_on_bits
 content_is len last os fits below short whole long =
-    let same : octets_of (buffer_bits len last os) ≡ take (len / 8) os =
-    ap octets_of (buffer_bits-whole len last os (omega arith)) ∙ octets_of_sent (take (len / 8) os) (below_take (len / 8) os below) in
-    rw (length-buffer_bits len last os fits, le-ltb 8256 len short, le-ltb 0 (len % 8) whole, le-ltb len 32 long) (ap verdict_on_content same)
+    let same : octets_of_bits (buffer_bits len last os) ≡ take (len / 8) os =
+    ap octets_of_bits (buffer_bits-whole len last os (omega arith)) ∙ octets_of_sent (take (len / 8) os) (below_take (len / 8) os below) in
+    rw (length-buffer_bits len last os fits, le-ltb 8256 len short, le-ltb 0 (len % 8) whole, le-ltb len 32 long) (ap verdict_by_frame_check_sequence same)
 
 drop_take_one : (n : ℕ) (xs : List ℕ) → drop 1 (take n xs) ≡ take (n - 1) (drop 1 xs)
 drop_take_one zero xs = refl
 drop_take_one (suc n) [] = let e : suc n - 1 ≡ n = omega arith in rw e (sym (take_all n [] (omega arith)))
 drop_take_one (suc n) (x ∷ xs) = let e : suc n - 1 ≡ n = omega arith in rw e refl
 
-judged_content : (c : List ℕ) → IsIntact c → Frame (slice_index c 0) (drop 1 (take (length c - 2) c)) ≡ verdict_on_content c
-unfolding verdict_on_content checked_part
+judged_content : (c : List ℕ) → IsIntact c → Frame (slice_index c 0) (drop 1 (take (length c - 2) c)) ≡ verdict_by_frame_check_sequence c
+unfolding verdict_by_frame_check_sequence checked_part
 judged_content c intact = rw (eq-eqb (fcs_of (take (length c - 2) c)) (check_number c) intact.1) refl
 
 pub judged_frame : (len last : ℕ) (os : List ℕ) → len / 8 ≤ length os → ((i : ℕ) → slice_index os i < 256) → len ≤ 8256 → len % 8 ≤ 0 → 32 ≤ len → IsIntact (take (len / 8) os)
@@ -83,8 +83,8 @@ judged_frame len last os fits below short whole long intact =
     (content_is len last os fits below short whole long ∙ sym (judged_content (take n os) intact)
     ∙ ap (λ a. Frame a (drop 1 (take (length (take n os) - 2) (take n os)))) first ∙ ap (λ b. Frame (get_or os 0 0) b) body)
 
-judged_spoilt : (c : List ℕ) → 2 ≤ length c → (IsIntact c → ⊥) → BadFcs ≡ verdict_on_content c
-unfolding verdict_on_content
+judged_spoilt : (c : List ℕ) → 2 ≤ length c → (IsIntact c → ⊥) → BadFcs ≡ verdict_by_frame_check_sequence c
+unfolding verdict_by_frame_check_sequence
 judged_spoilt c long spoilt = rw (ne_eqb (fcs_of (checked_part c)) (check_number c) (λ e. spoilt (long, e))) refl
 
 pub judged_bad : (len last : ℕ) (os : List ℕ) → len / 8 ≤ length os → ((i : ℕ) → slice_index os i < 256) → len ≤ 8256 → len % 8 ≤ 0 → 32 ≤ len → (IsIntact (take (len / 8) os) → ⊥)

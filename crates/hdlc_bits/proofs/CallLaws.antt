@@ -6,21 +6,21 @@ use Rattle.std.proofs.lemmas.List.{append_cancel_left, take-take}
 use Rattle.hdlc_fcs.specs.FrameCheck.{sent_bits}
 use Rattle.hdlc_bits.specs.Pieces.{bits_between}
 use Rattle.hdlc_bits.specs.Framing.{frames_of_bits}
-use Rattle.hdlc_bits.specs.Keeping.{Kept, kept_of, kept_after}
-use Rattle.hdlc_bits.specs.Laws.{Call, used_by, AreAnswered, used_of, verdicts_of, VerdictsAreFrames, VerdictsFromTheFirst, SameBitsSameVerdicts, KeptGoesOn, ReadingGoesOn, NothingIsRead, FramesGrow}
+use Rattle.hdlc_bits.specs.Keeping.{KeptBitDeframer, kept_of, kept_after}
+use Rattle.hdlc_bits.specs.Laws.{FeedCall, bits_used_by_call, AreFeedCalls, bits_used_by_calls, verdicts_of, VerdictsAreFrames, VerdictsFromTheFirst, SameBitsSameVerdicts, KeptGoesOn, ReadingGoesOn, NothingIsRead, FramesGrow}
 use Rattle.hdlc_bits.proofs.RunLaws.{at_first, frames_from, after, frames_of_bits-append, frames_of_bits-nothing}
 use Rattle.hdlc_bits.proofs.KeptLaws.{kept_of-append}
 
 pub kept_goes_on : KeptGoesOn
 kept_goes_on line bits = kept_of-append line bits
 
-goes_on : (calls : List Call) (line : List ℕ) (before behind : Kept) → before ≡ kept_of line → AreAnswered before calls behind
-    → (frames_of_bits (line ++ used_of calls) ≡ frames_of_bits line ++ verdicts_of calls) × (behind ≡ kept_of (line ++ used_of calls))
+goes_on : (calls : List FeedCall) (line : List ℕ) (before behind : KeptBitDeframer) → before ≡ kept_of line → AreFeedCalls before calls behind
+    → (frames_of_bits (line ++ bits_used_by_calls calls) ≡ frames_of_bits line ++ verdicts_of calls) × (behind ≡ kept_of (line ++ bits_used_by_calls calls))
 goes_on [] line before behind is a = (ap frames_of_bits (append-nil line) ∙ sym (append-nil (frames_of_bits line)), a ∙ is ∙ ap kept_of (sym (append-nil line)))
 goes_on (call ∷ calls) line before behind is (next, (answer, rest)) =
-    let used : List ℕ = used_by call in
-    let others : List ℕ = used_of calls in
-    let kept : next ≡ kept_of (line ++ used) = answer.kept ∙ ap (λ (k : Kept). kept_after k used) is ∙ sym (kept_of-append line used) in
+    let used : List ℕ = bits_used_by_call call in
+    let others : List ℕ = bits_used_by_calls calls in
+    let kept : next ≡ kept_of (line ++ used) = answer.kept ∙ ap (λ (k : KeptBitDeframer). kept_after k used) is ∙ sym (kept_of-append line used) in
     let more = goes_on calls (line ++ used) next behind kept rest in
     let joined : (line ++ used) ++ others ≡ line ++ (used ++ others) = append_assoc line used others in (
       ap frames_of_bits (sym joined) ∙ more.0 ∙ ap (λ vs. vs ++ verdicts_of calls) (answer.frames line is)
@@ -54,7 +54,7 @@ reading_goes_on octets at end used before behind verdict is within adds kept =
     let more : List ℕ = take used (bits_between octets at end) in
     let whole = used_part octets at end used within in (
       ap frames_of_bits (sym whole) ∙ adds line is,
-      kept ∙ ap (λ (k : Kept). kept_after k more) is ∙ sym (kept_of-append line more) ∙ ap kept_of whole,
+      kept ∙ ap (λ (k : KeptBitDeframer). kept_after k more) is ∙ sym (kept_of-append line more) ∙ ap kept_of whole,
     )
 
 pub nothing_is_read : NothingIsRead

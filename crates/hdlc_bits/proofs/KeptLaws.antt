@@ -4,8 +4,8 @@ use Rattle.std.specs.Prelude.{flat_map}
 use Rattle.std.specs.Option.{option_to_list}
 use Rattle.std.proofs.lemmas.Bool.{cases_Bool, cases_lt, lt-ltb, le-ltb, ne_eqb}
 use Rattle.std.proofs.lemmas.List.{take_all, take-append-le, length-take-le}
-use Rattle.hdlc_bits.specs.Framing.{TooLong, is_flag, is_abort, is_bound, has_zero, zero_if, segment_bits, has_bits, verdict_on_bits, verdict_at_end, verdict_on}
-use Rattle.hdlc_bits.specs.Keeping.{Kept, kept_of_nothing, added, after_zero, after_ones, after_bit, kept_after, kept_of, closing_verdict, verdict_at}
+use Rattle.hdlc_bits.specs.Framing.{TooLong, is_flag, is_abort, is_bound, has_zero, zero_if, segment_bits, has_bits, verdict_on_bits, verdict_at_end, verdict_on_segment}
+use Rattle.hdlc_bits.specs.Keeping.{KeptBitDeframer, kept_of_nothing, added, after_zero, after_ones, after_bit, kept_after, kept_of, closing_verdict, verdict_at}
 use Rattle.hdlc_bits.proofs.RunLaws.{At, at_first, ended, opened, told, next, brought, after, after-cons, after-nil}
 
 -- ---- one element more
@@ -104,11 +104,11 @@ flag_small n f =
 -- ---- what is kept
 
 -- what is kept where the line stands
-abbrev pub kept_at : ℕ → Option (List ℕ) → Kept
+abbrev pub kept_at : ℕ → Option (List ℕ) → KeptBitDeframer
 kept_at n None = record { ones = min n 7; begun = false; gap = false; content = [] }
 kept_at n (Some es) = record { ones = min n 7; begun = true; gap = gap_of es; content = take 8257 (segment_bits es) }
 
-unfoldable pub kept_since : At → Kept
+unfoldable pub kept_since : At → KeptBitDeframer
 kept_since a = kept_at a.ones a.elements
 
 kept_one : (n : ℕ) (s : Option (List ℕ)) → after_ones (kept_at n s) 1 ≡ kept_at (n + 1) s
@@ -164,7 +164,7 @@ kept_since-bit a b =
 kept_after_is : (bits : List ℕ) (a : At) → kept_after (kept_since a) bits ≡ kept_since (after a bits)
 unfolding kept_after
 kept_after_is [] a = ap kept_since (sym (after-nil a))
-kept_after_is (b ∷ bits) a = ap (λ (k : Kept). kept_after k bits) (kept_since-bit a b) ∙ kept_after_is bits (next a b) ∙ ap kept_since (sym (after-cons a b bits))
+kept_after_is (b ∷ bits) a = ap (λ (k : KeptBitDeframer). kept_after k bits) (kept_since-bit a b) ∙ kept_after_is bits (next a b) ∙ ap kept_since (sym (after-cons a b bits))
 
 nothing_is : kept_of_nothing ≡ kept_since at_first
 unfolding kept_since
@@ -172,13 +172,13 @@ nothing_is = refl
 
 pub kept_of-is : (line : List ℕ) → kept_of line ≡ kept_since (after at_first line)
 unfolding kept_of
-kept_of-is line = ap (λ (k : Kept). kept_after k line) nothing_is ∙ kept_after_is line at_first
+kept_of-is line = ap (λ (k : KeptBitDeframer). kept_after k line) nothing_is ∙ kept_after_is line at_first
 
 pub kept_of-nothing : kept_of [] ≡ kept_of_nothing
 unfolding kept_of kept_after
 kept_of-nothing = refl
 
-pub kept_after-append : (xs : List ℕ) (k : Kept) (ys : List ℕ) → kept_after k (xs ++ ys) ≡ kept_after (kept_after k xs) ys
+pub kept_after-append : (xs : List ℕ) (k : KeptBitDeframer) (ys : List ℕ) → kept_after k (xs ++ ys) ≡ kept_after (kept_after k xs) ys
 unfolding kept_after
 kept_after-append [] k ys = refl
 kept_after-append (x ∷ xs) k ys = kept_after-append xs (after_bit k x) ys
@@ -189,8 +189,8 @@ kept_of-append line bits = kept_after-append line kept_of_nothing bits
 
 -- ---- the verdict that one bit brings
 
-end_kept : (n : ℕ) (es : List ℕ) → verdict_at_end (min n 7) (take 8257 (segment_bits es)) ≡ verdict_on (record { elements = es; right = n })
-unfolding verdict_on
+end_kept : (n : ℕ) (es : List ℕ) → verdict_at_end (min n 7) (take 8257 (segment_bits es)) ≡ verdict_on_segment (record { elements = es; right = n })
+unfolding verdict_on_segment
 end_kept n es = rw (has_bits-take (segment_bits es), abort_min n, verdict_on_kept (segment_bits es)) refl
 
 closing_at : (n : ℕ) (s : Option (List ℕ)) → option_to_list (closing_verdict (kept_at n s)) ≡ flat_map told (ended s n)

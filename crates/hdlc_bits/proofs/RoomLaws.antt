@@ -9,7 +9,7 @@ use mir.Val.{bool_byte}
 use Rattle.bit_lists.specs.LowestFirst.{low_bits, low_number}
 use Rattle.bit_lists.proofs.LowestFirstLaws.{length-low_bits, low_number-low_bits}
 use Rattle.hdlc_fcs.specs.FrameCheck.{sent_bits}
-use Rattle.hdlc_bits.specs.Rooms.{StoredBits, HasRoom, Appends, bit_of, filled_up, IsFilledUp}
+use Rattle.hdlc_bits.specs.Rooms.{StoredBits, HasRoomForBits, AppendsBits, bit_of, filled_up, IsFilledUp}
 use Rattle.hdlc_bits.proofs.BitLaws.{low_bits_joined, low_bits_from, length-sent_bits, sent_bits-append, sent_bits-cons, sent_bits-nil, narrower}
 use Rattle.hdlc_bits.proofs.BufferLaws.{set_octet}
 
@@ -240,10 +240,10 @@ seen_capacity r len capacity os is = ap (λ (v : StoredBits). v.capacity) (sym i
 pub seen_filled : (r : StoredBits) (len capacity : ℕ) (os : List ℕ) → IsFilledUp len os → seen len capacity os ≡ r → sent_bits os ≡ filled_up r.bits
 seen_filled r len capacity os f is = room_filled len os f ∙ ap (λ (v : StoredBits). filled_up v.bits) is
 
-pub room_left : (r : StoredBits) (len capacity : ℕ) (os : List ℕ) → IsFilledUp len os → seen len capacity os ≡ r → HasRoom r 1 → len + 1 ≤ capacity
+pub room_left : (r : StoredBits) (len capacity : ℕ) (os : List ℕ) → IsFilledUp len os → seen len capacity os ≡ r → HasRoomForBits r 1 → len + 1 ≤ capacity
 room_left r len capacity os f is h = omega (arith, seen_length r len capacity os f is, seen_capacity r len capacity os is)
 
-pub appended : (r : StoredBits) (len capacity : ℕ) (os more : List ℕ) (one : Bool) → seen len capacity os ≡ r → HasBit len os more one → Appends r (seen (len + 1) capacity more) (bit_of one ∷ [])
+pub appended : (r : StoredBits) (len capacity : ℕ) (os more : List ℕ) (one : Bool) → seen len capacity os ≡ r → HasBit len os more one → AppendsBits r (seen (len + 1) capacity more) (bit_of one ∷ [])
 appended r len capacity os more one is h = record {
   bits_are = h.bits ∙ ap (λ (v : StoredBits). v.bits ++ bit_of one ∷ []) is;
   capacity = sym (seen_capacity r len capacity os is);

@@ -7,7 +7,7 @@ use Rattle.std.proofs.lemmas.Bool.{cases_Bool}
 use Rattle.std.proofs.lemmas.List.Splits.{length-slice_split, slice_split-cons_yes, slice_split-cons_no}
 use Rattle.std.proofs.lemmas.Grind.{flat_map-append}
 use Rattle.std.specs.List.{slice_split}
-use Rattle.hdlc_bits.specs.Framing.{Verdict, Segment, all_but_last, lengths, runs, is_flag, is_bound, with_first, first_segment, segments, verdict_on, frames_of_bits}
+use Rattle.hdlc_bits.specs.Framing.{Verdict, BitLineSegment, all_but_last, lengths, runs, is_flag, is_bound, with_first, first_segment, segments_between_flags, verdict_on_segment, frames_of_bits}
 
 -- ---- runs from the left
 
@@ -79,7 +79,7 @@ runs_is bs = ap all_but_last (sym (add_none (lengths bs))) ∙ runs_from bs 0
 -- ---- segments from the left
 
 -- the segment that an element ends behind these
-abbrev pub ended : Option (List ℕ) → ℕ → List Segment
+abbrev pub ended : Option (List ℕ) → ℕ → List BitLineSegment
 ended None c = []
 ended (Some es) c = if is_bound c then (record { elements = es; right = c }) ∷ [] else []
 
@@ -87,20 +87,20 @@ ended (Some es) c = if is_bound c then (record { elements = es; right = c }) ∷
 abbrev pub opened : Option (List ℕ) → ℕ → Option (List ℕ)
 opened s c = if is_flag c then Some [] else if is_bound c then None else option_map (λ es. es ++ c ∷ []) s
 
-unfoldable pub segments_from : Option (List ℕ) → List ℕ → List Segment
+unfoldable pub segments_from : Option (List ℕ) → List ℕ → List BitLineSegment
 segments_from s [] = []
 segments_from s (c ∷ cs) = ended s c ++ segments_from (opened s c) cs
 
 -- elements put before a segment
-abbrev with_before : List ℕ → Option Segment → List Segment
+abbrev with_before : List ℕ → Option BitLineSegment → List BitLineSegment
 with_before es None = []
 with_before es (Some s) = (record s { elements = es ++ s.elements }) ∷ []
 
-with_none : (x : Option Segment) → with_before [] x ≡ option_to_list x
+with_none : (x : Option BitLineSegment) → with_before [] x ≡ option_to_list x
 with_none None = refl
 with_none (Some s) = refl
 
-with_one_more : (es : List ℕ) (c : ℕ) (x : Option Segment) → with_before (es ++ c ∷ []) x ≡ with_before es (option_map (with_first c) x)
+with_one_more : (es : List ℕ) (c : ℕ) (x : Option BitLineSegment) → with_before (es ++ c ∷ []) x ≡ with_before es (option_map (with_first c) x)
 with_one_more es c None = refl
 with_one_more es c (Some s) = ap (λ cs. (record s { elements = cs }) ∷ []) (append_assoc es (c ∷ []) s.elements)
 
@@ -109,19 +109,19 @@ flag_is_bound zero h = cc
 flag_is_bound (suc c) h = grind (arith, h)
 
 pub record Cut (cs : List ℕ) : Type 0 where
-  pub shut : segments_from None cs ≡ segments cs
-  pub open_at : (es : List ℕ) → segments_from (Some es) cs ≡ with_before es (first_segment cs) ++ segments cs
+  pub shut : segments_from None cs ≡ segments_between_flags cs
+  pub open_at : (es : List ℕ) → segments_from (Some es) cs ≡ with_before es (first_segment cs) ++ segments_between_flags cs
 
 cut : (cs : List ℕ) → Cut cs
-unfolding segments_from segments first_segment
+unfolding segments_from segments_between_flags first_segment
 cut [] = record { shut = refl; open_at = λ es. refl }
 cut (c ∷ cs) =
     let rest : Cut cs = cut cs in
     elim (cases_Bool (is_flag c)) [
       | inl t ↦
           let bound : is_bound c ≡ true = flag_is_bound c t in
-          let behind : segments_from (Some []) cs ≡ option_to_list (first_segment cs) ++ segments cs =
-          rest.open_at [] ∙ ap (λ s. s ++ segments cs) (with_none (first_segment cs)) in
+          let behind : segments_from (Some []) cs ≡ option_to_list (first_segment cs) ++ segments_between_flags cs =
+          rest.open_at [] ∙ ap (λ s. s ++ segments_between_flags cs) (with_none (first_segment cs)) in
           record {
             shut = rw t behind;
             open_at = λ es. rw (t, bound) (rw (append-nil es) (ap (λ s. (record { elements = es; right = c }) ∷ s) behind));
@@ -134,7 +134,7 @@ cut (c ∷ cs) =
             }
             | inr n ↦ record {
               shut = rw (f, n) rest.shut;
-              open_at = λ es. rw (f, n) (rest.open_at (es ++ c ∷ []) ∙ ap (λ s. s ++ segments cs) (with_one_more es c (first_segment cs)));
+              open_at = λ es. rw (f, n) (rest.open_at (es ++ c ∷ []) ∙ ap (λ s. s ++ segments_between_flags cs) (with_one_more es c (first_segment cs)));
             }
           ]
     ]
@@ -152,8 +152,8 @@ abbrev pub at_first : At
 at_first = record { ones = 0; elements = None }
 
 -- the verdict on a segment, as a list
-abbrev pub told : Segment → List Verdict
-told s = option_to_list (verdict_on s)
+abbrev pub told : BitLineSegment → List Verdict
+told s = option_to_list (verdict_on_segment s)
 
 -- where the line stands after one bit more
 unfoldable pub next : At → ℕ → At
@@ -202,7 +202,7 @@ frames_of_runs (b ∷ bs) a =
 pub frames_of_bits-from : (bs : List ℕ) → frames_of_bits bs ≡ frames_from at_first bs
 unfolding frames_of_bits
 frames_of_bits-from bs =
-    ap (λ cs. flat_map told (segments cs)) (runs_is bs) ∙ ap (λ ss. flat_map told ss) (sym (cut (runs_behind 0 bs)).shut) ∙ frames_of_runs bs at_first
+    ap (λ cs. flat_map told (segments_between_flags cs)) (runs_is bs) ∙ ap (λ ss. flat_map told ss) (sym (cut (runs_behind 0 bs)).shut) ∙ frames_of_runs bs at_first
 
 -- ---- lines joined
 

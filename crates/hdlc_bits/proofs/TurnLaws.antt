@@ -7,7 +7,7 @@ use Rattle.std.specs.Prelude.{option_map}
 use Rattle.hdlc_bits.specs.Framing.{Verdict}
 use Rattle.hdlc_bits.specs.Judgements.{verdict_of}
 use Rattle.hdlc_bits.specs.declared.judgement.Judgement.{Judgement}
-use Rattle.hdlc_bits.specs.Keeping.{Kept, after_zero, after_ones, closing_verdict}
+use Rattle.hdlc_bits.specs.Keeping.{KeptBitDeframer, after_zero, after_ones, closing_verdict}
 use Rattle.hdlc_bits.specs.Buffers.{HasOnes}
 use Rattle.hdlc_bits.specs.Pieces.{bits_between}
 use Rattle.hdlc_bits.specs.Advancing.{Advances}
@@ -19,7 +19,7 @@ abbrev pub OnesAt : List ℕ → ℕ → ℕ → Type 0
 OnesAt os at t = HasOnes (drop (at % 8) (low_bits 8 (slice_index os (at / 8)))) t
 
 -- the ones, as far as the octet and the bits go
-pub turn_ones : (k next : Kept) (os : List ℕ) (first at end t m : ℕ) → first ≤ at → at < end → end ≤ 8 * length os → Advances k (bits_between os first end) (at - first) next → next.ones ≤ 7 → OnesAt os at t → m ≤ t → m ≤ end - at
+pub turn_ones : (k next : KeptBitDeframer) (os : List ℕ) (first at end t m : ℕ) → first ≤ at → at < end → end ≤ 8 * length os → Advances k (bits_between os first end) (at - first) next → next.ones ≤ 7 → OnesAt os at t → m ≤ t → m ≤ end - at
     → Advances k (bits_between os first end) (at + m - first) (after_ones next m)
 turn_ones k next os first at end t m order lt within a small h few fits =
     let sum : at - first + m ≡ at + m - first = omega arith in
@@ -38,7 +38,7 @@ bit_behind os first at end t order lt within h short fits =
     rw sum at here
 
 -- the ones and a 0 that brings no verdict
-pub turn_zero : (k next : Kept) (os : List ℕ) (first at end o t : ℕ) → o ≡ t → first ≤ at → at < end → end ≤ 8 * length os → Advances k (bits_between os first end) (at + t - first) next → OnesAt os at o → t < 8 - at % 8 → t < end - at
+pub turn_zero : (k next : KeptBitDeframer) (os : List ℕ) (first at end o t : ℕ) → o ≡ t → first ≤ at → at < end → end ≤ 8 * length os → Advances k (bits_between os first end) (at + t - first) next → OnesAt os at o → t < 8 - at % 8 → t < end - at
     → None ≡ closing_verdict next → Advances k (bits_between os first end) (at + t + 1 - first) (after_zero next)
 turn_zero k next os first at end o t same order lt within a h short fits none =
     let there : OnesAt os at t = rw same at h in
@@ -47,7 +47,7 @@ turn_zero k next os first at end o t same order lt within a h short fits none =
     rw sum at (by_zero k (bits_between os first end) (at + t - first) next a (omega arith) (bit_behind os first at end t order lt within there short fits) none)
 
 -- the ones and a 0 that brings one
-pub turn_gives : (k next : Kept) (os : List ℕ) (first at end o t : ℕ) (v : Verdict) → o ≡ t → first ≤ at → at < end → end ≤ 8 * length os → Advances k (bits_between os first end) (at + t - first) next → OnesAt os at o → t < 8 - at % 8 → t < end - at
+pub turn_gives : (k next : KeptBitDeframer) (os : List ℕ) (first at end o t : ℕ) (v : Verdict) → o ≡ t → first ≤ at → at < end → end ≤ 8 * length os → Advances k (bits_between os first end) (at + t - first) next → OnesAt os at o → t < 8 - at % 8 → t < end - at
     → Some v ≡ closing_verdict next → Gives k (bits_between os first end) (at + t - first) next v
 turn_gives k next os first at end o t v same order lt within a h short fits some =
     let there : OnesAt os at t = rw same at h in
@@ -55,7 +55,7 @@ turn_gives k next os first at end o t v same order lt within a h short fits some
     gives k (bits_between os first end) (at + t - first) next v a (omega arith) (bit_behind os first at end t order lt within there short fits) some
 
 -- all bits are used
-pub turn_ends : (k next : Kept) (os : List ℕ) (first at end : ℕ) → first ≤ at → at ≤ end → end ≤ at → end ≤ 8 * length os → Advances k (bits_between os first end) (at - first) next → Ends k (bits_between os first end) (at - first) next
+pub turn_ends : (k next : KeptBitDeframer) (os : List ℕ) (first at end : ℕ) → first ≤ at → at ≤ end → end ≤ at → end ≤ 8 * length os → Advances k (bits_between os first end) (at - first) next → Ends k (bits_between os first end) (at - first) next
 turn_ends k next os first at end order before over within a =
     let size : length (bits_between os first end) ≡ end - first = length-bits_between os first end (omega arith) within in
     ends k (bits_between os first end) (at - first) next a (omega arith)

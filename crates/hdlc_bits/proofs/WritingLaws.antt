@@ -9,7 +9,7 @@ use Rattle.bit_lists.specs.LowestFirst.{low_bits}
 use Rattle.bit_lists.proofs.LowestFirstLaws.{length-low_bits}
 use Rattle.hdlc_fcs.specs.FrameCheck.{sent_bits}
 use Rattle.hdlc_fcs.specs.Contents.{content_of}
-use Rattle.hdlc_bits.specs.Rooms.{StoredBits, HasRoom, Appends, bit_of}
+use Rattle.hdlc_bits.specs.Rooms.{StoredBits, HasRoomForBits, AppendsBits, bit_of}
 use Rattle.hdlc_bits.specs.Stuffing.{flag_bits, stuffed_behind, ones_left, spelling_in_bits}
 use Rattle.hdlc_bits.proofs.BitLaws.{sent_bits-append, sent_bits-cons, sent_bits-nil}
 
@@ -67,20 +67,20 @@ left_none n = refl
 
 -- ---- rooms
 
-pub appends_none : (r : StoredBits) → Appends r r []
+pub appends_none : (r : StoredBits) → AppendsBits r r []
 appends_none r = record { bits_are = sym (append-nil r.bits); capacity = refl }
 
-pub appends_more : (r s t : StoredBits) (xs ys : List ℕ) → Appends r s xs → Appends s t ys → Appends r t (xs ++ ys)
+pub appends_more : (r s t : StoredBits) (xs ys : List ℕ) → AppendsBits r s xs → AppendsBits s t ys → AppendsBits r t (xs ++ ys)
 appends_more r s t xs ys a b = record {
   bits_are = b.bits_are ∙ ap (λ bs. bs ++ ys) a.bits_are ∙ append_assoc r.bits xs ys;
   capacity = b.capacity ∙ a.capacity;
 }
 
-pub appends_same : (r s : StoredBits) (xs ys : List ℕ) → xs ≡ ys → Appends r s xs → Appends r s ys
+pub appends_same : (r s : StoredBits) (xs ys : List ℕ) → xs ≡ ys → AppendsBits r s xs → AppendsBits r s ys
 appends_same r s xs ys e a = record { bits_are = a.bits_are ∙ ap (λ bs. r.bits ++ bs) e; capacity = a.capacity }
 
 -- room for what follows what was appended
-pub room_behind : (r s : StoredBits) (xs ys : List ℕ) (n : ℕ) → Appends r s xs → n ≤ length ys → HasRoom r (length (xs ++ ys)) → HasRoom s n
+pub room_behind : (r s : StoredBits) (xs ys : List ℕ) (n : ℕ) → AppendsBits r s xs → n ≤ length ys → HasRoomForBits r (length (xs ++ ys)) → HasRoomForBits s n
 room_behind r s xs ys n a few h =
     omega (arith, h, a.capacity, ap length a.bits_are, length-append r.bits xs, length-append xs ys)
 
@@ -88,14 +88,14 @@ room_behind r s xs ys n a few h =
 
 -- what is written of the first i items, and what is left: `bits` gives the bits of one item
 pub record Writes (old now : StoredBits) (n : ℕ) (bits : List ℕ) (ones : ℕ) : Type 0 where
-  pub appends : Appends old now (stuffed_behind n bits)
+  pub appends : AppendsBits old now (stuffed_behind n bits)
   pub left : ones ≡ ones_left n bits
   pub few : ones < 5
 
 pub writes_none : (r : StoredBits) (n : ℕ) → n < 5 → Writes r r n [] n
 writes_none r n h = record { appends = appends_same r r [] (stuffed_behind n []) (sym (stuffed_none n)) (appends_none r); left = sym (left_none n); few = h }
 
-pub writes_more : (r s t : StoredBits) (n m o : ℕ) (xs ys zs : List ℕ) → Writes r s n xs m → Appends s t (stuffed_behind m ys) → o ≡ ones_left m ys → o < 5 → xs ++ ys ≡ zs → Writes r t n zs o
+pub writes_more : (r s t : StoredBits) (n m o : ℕ) (xs ys zs : List ℕ) → Writes r s n xs m → AppendsBits s t (stuffed_behind m ys) → o ≡ ones_left m ys → o < 5 → xs ++ ys ≡ zs → Writes r t n zs o
 writes_more r s t n m o xs ys zs w a left few is =
     let all : stuffed_behind n xs ++ stuffed_behind m ys ≡ stuffed_behind n zs =
     ap (λ k. stuffed_behind n xs ++ stuffed_behind k ys) w.left ∙ sym (stuffed-append xs n ys) ∙ ap (λ bs. stuffed_behind n bs) is in
@@ -106,12 +106,12 @@ writes_more r s t n m o xs ys zs w a left few is =
     }
 
 -- room for the next part
-pub room_for : (r s : StoredBits) (n m : ℕ) (xs ys rest all : List ℕ) → Writes r s n xs m → HasRoom r (length (stuffed_behind n all)) → all ≡ xs ++ (ys ++ rest) → HasRoom s (length (stuffed_behind m ys))
+pub room_for : (r s : StoredBits) (n m : ℕ) (xs ys rest all : List ℕ) → Writes r s n xs m → HasRoomForBits r (length (stuffed_behind n all)) → all ≡ xs ++ (ys ++ rest) → HasRoomForBits s (length (stuffed_behind m ys))
 room_for r s n m xs ys rest all w h is =
     let parts : stuffed_behind n all ≡ stuffed_behind n xs ++ (stuffed_behind m ys ++ stuffed_behind (ones_left m ys) rest) =
     ap (λ bs. stuffed_behind n bs) is ∙ stuffed-append xs n (ys ++ rest) ∙ ap (λ k. stuffed_behind n xs ++ stuffed_behind k (ys ++ rest)) (sym w.left)
     ∙ ap (λ bs. stuffed_behind n xs ++ bs) (stuffed-append ys m rest) in
-    let room : HasRoom r (length (stuffed_behind n xs ++ (stuffed_behind m ys ++ stuffed_behind (ones_left m ys) rest))) = rw parts at h in
+    let room : HasRoomForBits r (length (stuffed_behind n xs ++ (stuffed_behind m ys ++ stuffed_behind (ones_left m ys) rest))) = rw parts at h in
     room_behind r s (stuffed_behind n xs) (stuffed_behind m ys ++ stuffed_behind (ones_left m ys) rest) (length (stuffed_behind m ys)) w.appends
     (omega (arith, length-append (stuffed_behind m ys) (stuffed_behind (ones_left m ys) rest))) room
 
@@ -175,35 +175,35 @@ content_parts address body check content is =
     ap sent_bits (sym is) ∙ sent_bits-append (address ∷ []) (body ++ check) ∙ ap (λ bs. sent_bits (address ∷ []) ++ bs) (sent_bits-append body check)
 
 -- the address, and the body behind it, put behind a first flag
-pub one_put : (r s : StoredBits) (o : ℕ) (xs : List ℕ) → Appends r s (stuffed_behind 0 xs) → o ≡ ones_left 0 xs → o < 5 → Writes r s 0 xs o
+pub one_put : (r s : StoredBits) (o : ℕ) (xs : List ℕ) → AppendsBits r s (stuffed_behind 0 xs) → o ≡ ones_left 0 xs → o < 5 → Writes r s 0 xs o
 one_put r s o xs a left few = record { appends = a; left = left; few = few }
 
-pub two_put : (r s t : StoredBits) (o p : ℕ) (xs ys : List ℕ) → Writes r s 0 xs o → Appends s t (stuffed_behind o ys) → p ≡ ones_left o ys → p < 5 → Writes r t 0 (xs ++ ys) p
+pub two_put : (r s t : StoredBits) (o p : ℕ) (xs ys : List ℕ) → Writes r s 0 xs o → AppendsBits s t (stuffed_behind o ys) → p ≡ ones_left o ys → p < 5 → Writes r t 0 (xs ++ ys) p
 two_put r s t o p xs ys w a left few = writes_more r s t 0 o p xs ys (xs ++ ys) w a left few refl
 
-pub room_for_flag : (r : StoredBits) (address : ℕ) (body : List ℕ) → HasRoom r (length (spelling_in_bits address body)) → HasRoom r 8
+pub room_for_flag : (r : StoredBits) (address : ℕ) (body : List ℕ) → HasRoomForBits r (length (spelling_in_bits address body)) → HasRoomForBits r 8
 unfolding spelling_in_bits
 room_for_flag r address body h =
     let bits : List ℕ = stuffed_behind 0 (sent_bits (content_of address body)) in
     omega (arith, h, length-append (flag_bits ++ bits) flag_bits, length-append flag_bits bits)
 
 -- behind the first flag there is room for the content
-pub room_for_content : (r s : StoredBits) (address : ℕ) (body : List ℕ) → Appends r s flag_bits → HasRoom r (length (spelling_in_bits address body)) → HasRoom s (length (stuffed_behind 0 (sent_bits (content_of address body))))
+pub room_for_content : (r s : StoredBits) (address : ℕ) (body : List ℕ) → AppendsBits r s flag_bits → HasRoomForBits r (length (spelling_in_bits address body)) → HasRoomForBits s (length (stuffed_behind 0 (sent_bits (content_of address body))))
 unfolding spelling_in_bits
 room_for_content r s address body a h =
     let bits : List ℕ = stuffed_behind 0 (sent_bits (content_of address body)) in
     let parts : spelling_in_bits address body ≡ flag_bits ++ (bits ++ flag_bits) = append_assoc flag_bits bits flag_bits in
-    let room : HasRoom r (length (flag_bits ++ (bits ++ flag_bits))) = subst (λ (bs : List ℕ). HasRoom r (length bs)) parts h in
+    let room : HasRoomForBits r (length (flag_bits ++ (bits ++ flag_bits))) = subst (λ (bs : List ℕ). HasRoomForBits r (length bs)) parts h in
     room_behind r s flag_bits (bits ++ flag_bits) (length bits) a (omega (arith, length-append bits flag_bits)) room
 
 -- and behind the content for the last flag
-pub room_for_last : (r s t : StoredBits) (address : ℕ) (body : List ℕ) → Appends r s flag_bits → Appends s t (stuffed_behind 0 (sent_bits (content_of address body))) → HasRoom r (length (spelling_in_bits address body)) → HasRoom t 8
+pub room_for_last : (r s t : StoredBits) (address : ℕ) (body : List ℕ) → AppendsBits r s flag_bits → AppendsBits s t (stuffed_behind 0 (sent_bits (content_of address body))) → HasRoomForBits r (length (spelling_in_bits address body)) → HasRoomForBits t 8
 unfolding spelling_in_bits
 room_for_last r s t address body a b h =
     let bits : List ℕ = stuffed_behind 0 (sent_bits (content_of address body)) in
     room_behind r t (flag_bits ++ bits) flag_bits 8 (appends_more r s t flag_bits bits a b) (omega arith) h
 
-pub frame_appended : (r s t u : StoredBits) (address : ℕ) (body : List ℕ) → Appends r s flag_bits → Appends s t (stuffed_behind 0 (sent_bits (content_of address body))) → Appends t u flag_bits → Appends r u (spelling_in_bits address body)
+pub frame_appended : (r s t u : StoredBits) (address : ℕ) (body : List ℕ) → AppendsBits r s flag_bits → AppendsBits s t (stuffed_behind 0 (sent_bits (content_of address body))) → AppendsBits t u flag_bits → AppendsBits r u (spelling_in_bits address body)
 unfolding spelling_in_bits
 frame_appended r s t u address body a b c =
     let bits : List ℕ = stuffed_behind 0 (sent_bits (content_of address body)) in

@@ -5,12 +5,12 @@ use Rattle.std.proofs.lemmas.Bool.{cases_Bool, cases_lt, le-ltb, ne_eqb, eqb-tru
 use Rattle.std.proofs.lemmas.List.{replicate_more, get_or_append_left, get_or-append_right}
 use Rattle.bit_lists.specs.LowestFirst.{low_bits}
 use Rattle.hdlc_fcs.specs.FrameCheck.{fcs_of, sent_bits}
-use Rattle.hdlc_fcs.specs.Contents.{content_of, address_of, body_of, checked_part, check_number, IsIntact}
+use Rattle.hdlc_fcs.specs.Contents.{content_of, address_in_content, body_of, checked_part, check_number, IsIntact}
 use Rattle.hdlc_fcs.specs.Laws.{ContentReadsBack, FcsIsSmall}
-use Rattle.hdlc_bits.specs.Framing.{Verdict, Frame, zero_if, segment_bits, has_bits, verdict_on_content, verdict_on_bits, verdict_on}
+use Rattle.hdlc_bits.specs.Framing.{Verdict, Frame, zero_if, segment_bits, has_bits, verdict_by_frame_check_sequence, verdict_on_bits, verdict_on_segment}
 use Rattle.hdlc_bits.specs.Keeping.{added}
 use Rattle.hdlc_bits.specs.Stuffing.{flag_bits, stuffed_behind, spelling_in_bits}
-use Rattle.hdlc_bits.specs.Laws.{IsWritable, AreWritable, WrittenAreRead, FrameAlone, FrameLength}
+use Rattle.hdlc_bits.specs.Laws.{IsWritableFrame, AreWritable, WrittenAreRead, FrameAlone, FrameLength}
 use Rattle.hdlc_bits.proofs.RunLaws.{At, at_first, told, next, brought, frames_from, after, frames_from-append, after-append, frames_of_bits-from, frames_from-nil, after-nil, frames_from-cons, after-cons}
 use Rattle.hdlc_bits.proofs.KeptLaws.{gap_of, gap_of-push, segment_bits-push}
 use Rattle.hdlc_bits.proofs.BitLaws.{length-sent_bits, octets_of_sent}
@@ -207,7 +207,7 @@ unfolding after next
 first_stands = refl
 
 again_frames : frames_from (at 0 []) flag_bits ≡ []
-unfolding frames_from brought next verdict_on segment_bits
+unfolding frames_from brought next verdict_on_segment segment_bits
 again_frames = refl
 
 again_stands : after (at 0 []) flag_bits ≡ at 0 []
@@ -224,19 +224,19 @@ nonempty : (bs : List ℕ) → 0 < length bs → has_bits bs ≡ true
 nonempty [] h = absurd (omega arith)
 nonempty (b ∷ bs) h = refl
 
-on_content : (c : List ℕ) → IsIntact c → verdict_on_content c ≡ Frame (address_of c) (body_of c)
-unfolding verdict_on_content
+on_content : (c : List ℕ) → IsIntact c → verdict_by_frame_check_sequence c ≡ Frame (address_in_content c) (body_of c)
+unfolding verdict_by_frame_check_sequence
 on_content c intact = rw (eq-eqb (fcs_of (checked_part c)) (check_number c) intact.1) refl
 
-on_bits : (c : List ℕ) → ((i : ℕ) → slice_index c i < 256) → 4 ≤ length c → length c ≤ 1032 → IsIntact c → verdict_on_bits (sent_bits c) ≡ Frame (address_of c) (body_of c)
+on_bits : (c : List ℕ) → ((i : ℕ) → slice_index c i < 256) → 4 ≤ length c → length c ≤ 1032 → IsIntact c → verdict_on_bits (sent_bits c) ≡ Frame (address_in_content c) (body_of c)
 unfolding verdict_on_bits
 on_bits c below long short intact =
     let size = length-sent_bits c in
     rw (size, le-ltb 8256 (8 * length c) (omega arith), le-ltb 0 (8 * length c % 8) (omega arith), le-ltb (8 * length c) 32 (omega arith))
-    (ap verdict_on_content (octets_of_sent c below) ∙ on_content c intact)
+    (ap verdict_by_frame_check_sequence (octets_of_sent c below) ∙ on_content c intact)
 
-on_segment : (es c : List ℕ) → segment_bits es ≡ sent_bits c → ((i : ℕ) → slice_index c i < 256) → 4 ≤ length c → length c ≤ 1032 → IsIntact c → ended_by_flag es ≡ Frame (address_of c) (body_of c) ∷ []
-unfolding ended_by_flag verdict_on
+on_segment : (es c : List ℕ) → segment_bits es ≡ sent_bits c → ((i : ℕ) → slice_index c i < 256) → 4 ≤ length c → length c ≤ 1032 → IsIntact c → ended_by_flag es ≡ Frame (address_in_content c) (body_of c) ∷ []
+unfolding ended_by_flag verdict_on_segment
 on_segment es c is below long short intact =
     rw (is, nonempty (sent_bits c) (omega (arith, length-sent_bits c)), on_bits c below long short intact) refl
 
@@ -245,7 +245,7 @@ two_below x y zero h k = h
 two_below x y (suc zero) h k = k
 two_below x y (suc (suc i)) h k = omega arith
 
-check_below : FcsIsSmall → (address : ℕ) (body : List ℕ) → IsWritable (address, body) → (i : ℕ) → slice_index (content_of address body) i < 256
+check_below : FcsIsSmall → (address : ℕ) (body : List ℕ) → IsWritableFrame (address, body) → (i : ℕ) → slice_index (content_of address body) i < 256
 unfolding content_of
 check_below small address body w zero = w.0
 check_below small address body w (suc i) =
@@ -257,7 +257,7 @@ check_below small address body w (suc i) =
     ]
 
 -- what a frame is read as behind a flag, up to its last flag
-content_read : ContentReadsBack → FcsIsSmall → (address : ℕ) (body : List ℕ) → IsWritable (address, body)
+content_read : ContentReadsBack → FcsIsSmall → (address : ℕ) (body : List ℕ) → IsWritableFrame (address, body)
     → (frames_from (at 0 []) (stuffed_behind 0 (sent_bits (content_of address body)) ++ flag_bits) ≡ Frame address body ∷ [])
     × (after (at 0 []) (stuffed_behind 0 (sent_bits (content_of address body)) ++ flag_bits) ≡ at 0 [])
 content_read back small address body w =
@@ -267,9 +267,9 @@ content_read back small address body w =
     let facts = back address body in
     let size : length c ≡ length body + 3 = facts.1.1 in
     let writes : segment_bits (reads.elements ++ reads.ones ∷ []) ≡ sent_bits c = reads.writes ∙ ap (λ bs. bs ++ sent_bits c) none_before in
-    let ended : ended_by_flag (reads.elements ++ reads.ones ∷ []) ≡ Frame (address_of c) (body_of c) ∷ [] =
+    let ended : ended_by_flag (reads.elements ++ reads.ones ∷ []) ≡ Frame (address_in_content c) (body_of c) ∷ [] =
     on_segment (reads.elements ++ reads.ones ∷ []) c writes (check_below small address body w) (omega (arith, w.1.1.0)) (omega (arith, w.1.1.1)) facts.0.0 in
-    let named : Frame (address_of c) (body_of c) ≡ Frame address body = ap (λ a. Frame a (body_of c)) facts.0.1 ∙ ap (λ b. Frame address b) facts.1.0 in
+    let named : Frame (address_in_content c) (body_of c) ≡ Frame address body = ap (λ a. Frame a (body_of c)) facts.0.1 ∙ ap (λ b. Frame address b) facts.1.0 in
     let few : reads.ones < 6 = omega (arith, reads.few) in (
       frames_from-append bits (at 0 []) flag_bits
           ∙ ap (λ vs. vs ++ frames_from (after (at 0 []) bits) flag_bits) reads.nothing
@@ -279,7 +279,7 @@ content_read back small address body w =
     )
 
 -- where a first flag brings nothing, a frame is read as itself
-frame_read : ContentReadsBack → FcsIsSmall → (a : At) (address : ℕ) (body : List ℕ) → frames_from a flag_bits ≡ [] → after a flag_bits ≡ at 0 [] → IsWritable (address, body)
+frame_read : ContentReadsBack → FcsIsSmall → (a : At) (address : ℕ) (body : List ℕ) → frames_from a flag_bits ≡ [] → after a flag_bits ≡ at 0 [] → IsWritableFrame (address, body)
     → (frames_from a (spelling_in_bits address body) ≡ Frame address body ∷ []) × (after a (spelling_in_bits address body) ≡ at 0 [])
 unfolding spelling_in_bits
 frame_read back small a address body none is w =

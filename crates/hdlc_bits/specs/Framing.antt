@@ -7,7 +7,7 @@ use Rattle.std.specs.List.{slice_split}
 use Rattle.std.specs.Option.{option_to_list}
 use Rattle.bit_lists.specs.LowestFirst.{low_number}
 use Rattle.hdlc_fcs.specs.FrameCheck.{fcs_of}
-use Rattle.hdlc_fcs.specs.Contents.{shortest, longest, address_of, body_of, checked_part, check_number}
+use Rattle.hdlc_fcs.specs.Contents.{shortest, longest, address_in_content, body_of, checked_part, check_number}
 
 -- ---- runs of ones
 
@@ -38,25 +38,25 @@ is_bound c = nat_lt 5 c
 -- ---- segments
 
 -- what stands between a flag and the next flag or abort
-pub record Segment : Type 0 where
+pub record BitLineSegment : Type 0 where
   -- the numbers of ones of what stands between them
   pub elements : List ℕ
   -- the flag or abort that ends it
   pub right : ℕ
 
 -- one element put before a segment
-abbrev pub with_first : ℕ → Segment → Segment
+abbrev pub with_first : ℕ → BitLineSegment → BitLineSegment
 with_first c s = record s { elements = c ∷ s.elements }
 
 -- the segment up to the next flag or abort, if one follows
-unfoldable pub first_segment : List ℕ → Option Segment
+unfoldable pub first_segment : List ℕ → Option BitLineSegment
 first_segment [] = None
 first_segment (c ∷ cs) = if is_bound c then Some (record { elements = []; right = c }) else option_map (with_first c) (first_segment cs)
 
 -- a segment for each flag that another flag or an abort follows
-unfoldable pub segments : List ℕ → List Segment
-segments [] = []
-segments (c ∷ cs) = if is_flag c then option_to_list (first_segment cs) ++ segments cs else segments cs
+unfoldable pub segments_between_flags : List ℕ → List BitLineSegment
+segments_between_flags [] = []
+segments_between_flags (c ∷ cs) = if is_flag c then option_to_list (first_segment cs) ++ segments_between_flags cs else segments_between_flags cs
 
 -- whether the 0 behind an element is a bit of the content: behind five ones it was inserted and is deleted
 abbrev pub has_zero : ℕ → Bool
@@ -86,14 +86,14 @@ octets_from zero bits = []
 octets_from (suc n) bits = low_number (take 8 bits) ∷ octets_from n (drop 8 bits)
 
 -- the octets of which these are the bits
-unfoldable pub octets_of : List ℕ → List ℕ
-octets_of bits = octets_from (length bits / 8) bits
+unfoldable pub octets_of_bits : List ℕ → List ℕ
+octets_of_bits bits = octets_from (length bits / 8) bits
 
 -- the verdict on a content of whole octets
-unfoldable pub verdict_on_content : List ℕ → Verdict
-verdict_on_content content =
+unfoldable pub verdict_by_frame_check_sequence : List ℕ → Verdict
+verdict_by_frame_check_sequence content =
     if fcs_of (checked_part content) == check_number content
-    then Frame (address_of content) (body_of content)
+    then Frame (address_in_content content) (body_of content)
     else BadFcs
 
 -- the verdict on the bits between two flags: the first of these that fits
@@ -102,7 +102,7 @@ verdict_on_bits bits =
     if nat_lt (8 * longest) (length bits) then TooLong else
     if nat_lt 0 (length bits % 8) then Ragged (length bits) else
     if nat_lt (length bits) (8 * shortest) then TooShort else
-    verdict_on_content (octets_of bits)
+    verdict_by_frame_check_sequence (octets_of_bits bits)
 
 -- whether there are bits
 abbrev pub has_bits : List ℕ → Bool
@@ -114,9 +114,9 @@ abbrev pub verdict_at_end : ℕ → List ℕ → Option Verdict
 verdict_at_end right bits = if has_bits bits then Some (if is_abort right then Aborted else verdict_on_bits bits) else None
 
 -- the verdict on a segment, if it has bits
-unfoldable pub verdict_on : Segment → Option Verdict
-verdict_on s = verdict_at_end s.right (segment_bits s.elements)
+unfoldable pub verdict_on_segment : BitLineSegment → Option Verdict
+verdict_on_segment s = verdict_at_end s.right (segment_bits s.elements)
 
 -- what a line is read as: the verdicts on its segments
 unfoldable pub frames_of_bits : List ℕ → List Verdict
-frames_of_bits bits = flat_map (λ s. option_to_list (verdict_on s)) (segments (runs bits))
+frames_of_bits bits = flat_map (λ s. option_to_list (verdict_on_segment s)) (segments_between_flags (runs bits))

@@ -11,11 +11,11 @@ unfoldable pub filled_up : List ℕ → List ℕ
 filled_up bits = bits ++ replicate ((8 - length bits % 8) % 8) 1
 
 -- there is room for so many bits more
-abbrev pub HasRoom : StoredBits → ℕ → Type 0
-HasRoom out n = length out.bits + n ≤ out.capacity
+abbrev pub HasRoomForBits : StoredBits → ℕ → Type 0
+HasRoomForBits out n = length out.bits + n ≤ out.capacity
 
 -- these bits were appended, and the room is as large as before
-pub record Appends (old new : StoredBits) (bits : List ℕ) : Type 0 where
+pub record AppendsBits (old new : StoredBits) (bits : List ℕ) : Type 0 where
   pub bits_are : new.bits ≡ old.bits ++ bits
   pub capacity : new.capacity ≡ old.capacity
 

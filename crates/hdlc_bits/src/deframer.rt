@@ -2,10 +2,10 @@
 
 ghost use Rattle.std.specs.Prelude.{◌≡◌, ◌≤◌, ◌<◌, ◌+◌, ◌-◌, ◌*◌, [], length, take, option_map, IsNone};
 ghost use Rattle.std.specs.Borrow.{sem};
-ghost use Rattle.hdlc_bits.specs.Keeping.{IsKept, kept_of, kept_after, scan_of};
+ghost use Rattle.hdlc_bits.specs.Keeping.{IsKeptOfLine, kept_of, kept_after, scan_of};
 ghost use Rattle.hdlc_bits.specs.Pieces.{bits_between, AddsToFrames, FewerAddNothing};
-ghost use Rattle.hdlc_bits.specs.Shown.{shown};
-ghost use Rattle.hdlc_bits.specs.Resting.{Rests};
+ghost use Rattle.hdlc_bits.specs.Shown.{verdict_of_bits_found};
+ghost use Rattle.hdlc_bits.specs.Resting.{LeavesBitDeframerAs};
 
 use crate::found::BitFound;
 use crate::judgement::Judgement;
@@ -20,14 +20,14 @@ pub struct BitDeframer {
 }
 
 impl Model for BitDeframer {
-    ghost use Rattle.hdlc_bits.specs.Keeping.{Kept, IsKept};
+    ghost use Rattle.hdlc_bits.specs.Keeping.{KeptBitDeframer, IsKeptOfLine};
     ghost use Rattle.hdlc_bits.specs.SegmentViews.{kept_in};
 
-    ghost Value = { Kept };
+    ghost Value = { KeptBitDeframer };
 
     ghost view = { λ d. kept_in d.segment };
 
-    ghost invariant = { λ d. IsKept (kept_in d.segment) };
+    ghost invariant = { λ d. IsKeptOfLine (kept_in d.segment) };
 }
 
 impl BitDeframer {
@@ -51,9 +51,9 @@ impl BitDeframer {
     ) -> (u64, Option<BitFound<'a>>)
         requires order { first ≤ end }
         requires within { end ≤ 8 * length octets.now }
-        ensures* after { sem 𝓛 (Rests self.entry (kept_after self.old (take result.0 (bits_between octets.now first end)))) }
-        ensures stands { IsKept self.old }
-        ensures frames { AddsToFrames self.old (bits_between octets.now first end) result.0 (option_map shown result.1) }
+        ensures* after { sem 𝓛 (LeavesBitDeframerAs self.entry (kept_after self.old (take result.0 (bits_between octets.now first end)))) }
+        ensures stands { IsKeptOfLine self.old }
+        ensures frames { AddsToFrames self.old (bits_between octets.now first end) result.0 (option_map verdict_of_bits_found result.1) }
         ensures first { FewerAddNothing self.old (bits_between octets.now first end) result.0 }
         ensures whole { IsNone result.1 → result.0 ≡ end - first }
         ensures most { first + result.0 ≤ end }
@@ -66,10 +66,10 @@ impl BitDeframer {
     fn read<'a>(&'a mut self, octets: &[u8], first: u64, end: u64) -> (u64, Option<BitFound<'a>>)
         requires order { first ≤ end }
         requires within { end ≤ 8 * length octets.now }
-        ensures* after { sem 𝓛 (Rests self.entry (scan_of self.old (bits_between octets.now first end)).kept) }
-        ensures stands { IsKept self.old }
+        ensures* after { sem 𝓛 (LeavesBitDeframerAs self.entry (scan_of self.old (bits_between octets.now first end)).kept) }
+        ensures stands { IsKeptOfLine self.old }
         ensures used { result.0 ≡ (scan_of self.old (bits_between octets.now first end)).used }
-        ensures found { option_map shown result.1 ≡ (scan_of self.old (bits_between octets.now first end)).verdict }
+        ensures found { option_map verdict_of_bits_found result.1 ≡ (scan_of self.old (bits_between octets.now first end)).verdict }
     {
         let (used, judgement) = self.segment.scan(octets, first, end);
         let segment: &Segment = &self.segment;

@@ -1,6 +1,6 @@
 ghost use Rattle.std.specs.Prelude.{◌≡◌, ◌+◌, [], ◌∷◌, length, IfOk};
 ghost use Rattle.hdlc_fcs.specs.FrameCheck.{sent_bits};
-ghost use Rattle.hdlc_bits.specs.Rooms.{HasRoom, Appends, filled_up, bit_of};
+ghost use Rattle.hdlc_bits.specs.Rooms.{HasRoomForBits, AppendsBits, filled_up, bit_of};
 
 use er_base::NoMemory;
 use std::alloc::Global;
@@ -72,8 +72,8 @@ impl BitRoom {
 
     /// Appends a bit for which there is room, 1 where `one` says so.
     pub(crate) fn put(&mut self, one: bool)
-        requires { HasRoom self.old 1 }
-        ensures { Appends self.old self.new (bit_of one ∷ []) }
+        requires { HasRoomForBits self.old 1 }
+        ensures { AppendsBits self.old self.new (bit_of one ∷ []) }
     {
         let place = (self.len % 8) as u32;
         self.len += 1;

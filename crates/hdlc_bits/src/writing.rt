@@ -3,7 +3,7 @@
 ghost use Rattle.std.specs.Prelude.{◌≡◌, ◌≤◌, ◌<◌, [], ◌∷◌, length};
 ghost use Rattle.bit_lists.specs.LowestFirst.{low_bits};
 ghost use Rattle.hdlc_fcs.specs.FrameCheck.{sent_bits};
-ghost use Rattle.hdlc_bits.specs.Rooms.{HasRoom, Appends, bit_of};
+ghost use Rattle.hdlc_bits.specs.Rooms.{HasRoomForBits, AppendsBits, bit_of};
 ghost use Rattle.hdlc_bits.specs.Stuffing.{flag_bits, stuffed_behind, ones_left, spelling_in_bits};
 
 use crate::room::BitRoom;
@@ -20,8 +20,8 @@ const ONES_BEFORE_THE_FIFTH: u32 = 4;
 pub fn put_bits(address: u8, body: &[u8], out: &mut BitRoom)
     requires some { 1 ≤ length body.now }
     requires fits { length body.now ≤ 1028 }
-    requires room { HasRoom out.old (length (spelling_in_bits address body.now)) }
-    ensures { Appends out.old out.new (spelling_in_bits address body.now) }
+    requires room { HasRoomForBits out.old (length (spelling_in_bits address body.now)) }
+    ensures { AppendsBits out.old out.new (spelling_in_bits address body.now) }
 {
     let check = check_octets(address, body);
     put_flag(out);
@@ -33,8 +33,8 @@ pub fn put_bits(address: u8, body: &[u8], out: &mut BitRoom)
 
 // Appends a flag.
 fn put_flag(out: &mut BitRoom)
-    requires { HasRoom out.old 8 }
-    ensures { Appends out.old out.new flag_bits }
+    requires { HasRoomForBits out.old 8 }
+    ensures { AppendsBits out.old out.new flag_bits }
 {
     for place in 0..8u32 {
         out.put(FLAG >> place & 1 == 1);
@@ -44,8 +44,8 @@ fn put_flag(out: &mut BitRoom)
 // Appends the bits of octets behind so many ones, stuffed, and answers how many ones stand at their end.
 fn put_stuffed(content: &[u8], ones: u32, out: &mut BitRoom) -> u32
     requires few { ones < 5 }
-    requires room { HasRoom out.old (length (stuffed_behind ones (sent_bits content.now))) }
-    ensures appends { Appends out.old out.new (stuffed_behind ones (sent_bits content.now)) }
+    requires room { HasRoomForBits out.old (length (stuffed_behind ones (sent_bits content.now))) }
+    ensures appends { AppendsBits out.old out.new (stuffed_behind ones (sent_bits content.now)) }
     ensures left { result ≡ ones_left ones (sent_bits content.now) }
     ensures few { result < 5 }
 {
@@ -59,8 +59,8 @@ fn put_stuffed(content: &[u8], ones: u32, out: &mut BitRoom) -> u32
 // The same of one octet.
 fn put_stuffed_octet(octet: u8, ones: u32, out: &mut BitRoom) -> u32
     requires few { ones < 5 }
-    requires room { HasRoom out.old (length (stuffed_behind ones (low_bits 8 octet))) }
-    ensures appends { Appends out.old out.new (stuffed_behind ones (low_bits 8 octet)) }
+    requires room { HasRoomForBits out.old (length (stuffed_behind ones (low_bits 8 octet))) }
+    ensures appends { AppendsBits out.old out.new (stuffed_behind ones (low_bits 8 octet)) }
     ensures left { result ≡ ones_left ones (low_bits 8 octet) }
     ensures few { result < 5 }
 {
@@ -74,8 +74,8 @@ fn put_stuffed_octet(octet: u8, ones: u32, out: &mut BitRoom) -> u32
 // The same of one bit.
 fn put_stuffed_bit(one: bool, ones: u32, out: &mut BitRoom) -> u32
     requires few { ones < 5 }
-    requires room { HasRoom out.old (length (stuffed_behind ones (bit_of one ∷ []))) }
-    ensures appends { Appends out.old out.new (stuffed_behind ones (bit_of one ∷ [])) }
+    requires room { HasRoomForBits out.old (length (stuffed_behind ones (bit_of one ∷ []))) }
+    ensures appends { AppendsBits out.old out.new (stuffed_behind ones (bit_of one ∷ [])) }
     ensures left { result ≡ ones_left ones (bit_of one ∷ []) }
     ensures few { result < 5 }
 {

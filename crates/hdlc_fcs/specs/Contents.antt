@@ -21,8 +21,8 @@ content_of address body =
 -- ---- read
 
 -- the first octet
-abbrev pub address_of : List ℕ → ℕ
-address_of content = slice_index content 0
+abbrev pub address_in_content : List ℕ → ℕ
+address_in_content content = slice_index content 0
 
 -- the content without its last two octets
 unfoldable pub checked_part : List ℕ → List ℕ

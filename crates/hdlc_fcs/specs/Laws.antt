@@ -1,7 +1,7 @@
 -- The public laws on the check sequence and on contents. Each is proved as a function of the module `laws`.
 use Rattle.std.specs.Prelude.{◌≡◌, ◌↔◌, ℕ, ◌+◌, ◌^◌, ◌<◌, ◌≤◌, List, length, slice_index}
 use Rattle.hdlc_fcs.specs.FrameCheck.{fcs_of}
-use Rattle.hdlc_fcs.specs.Contents.{content_of, address_of, body_of, IsIntact}
+use Rattle.hdlc_fcs.specs.Contents.{content_of, address_in_content, body_of, IsIntact}
 
 -- a check sequence has sixteen bits
 abbrev pub FcsIsSmall : Type 0
@@ -17,5 +17,5 @@ ResidueTellsIntact =
 abbrev pub ContentReadsBack : Type 0
 ContentReadsBack =
     (address : ℕ) (body : List ℕ)
-    → (IsIntact (content_of address body) × (address_of (content_of address body) ≡ address))
+    → (IsIntact (content_of address body) × (address_in_content (content_of address body) ≡ address))
     × ((body_of (content_of address body) ≡ body) × (length (content_of address body) ≡ length body + 3))

@@ -6,7 +6,7 @@ use Rattle.std.proofs.lemmas.Bool.Decides.{nat_tests}
 use Rattle.std.proofs.lemmas.Nat.{and_mask}
 use Rattle.hdlc_frames.specs.declared.controls.Control.{Control}
 use Rattle.hdlc_frames.specs.declared.controls.Control.TheVariants.{Info, Rr, Rnr, Rej, Srej, Sabm, Sabme, Disc, Ua, Dm, Frmr}
-use Rattle.hdlc_frames.specs.Controls.{octets_modulo_8, octets_modulo_128, control_octets, bit_of, extended_bit_of, IsBelow, HasControl, HasNoControl}
+use Rattle.hdlc_frames.specs.Controls.{octets_modulo_8, octets_modulo_128, control_octets, poll_final_value, extended_bit_of, IsBelow, HasControl, HasNoControl}
 use Rattle.hdlc_frames.specs.ControlOctets.{control_at, control_modulo_8, extended_unnumbered_at, extended_numbered_at, extended_numbered_of, control_modulo_128, control_of}
 use Rattle.hdlc_frames.specs.Laws.{ControlIsTable, ControlReadsBack}
 
@@ -24,7 +24,7 @@ info_at ns nr bit hs hr o e h =
 low_at : (low nr bit : ℕ) → low < 16 → nr < 8 → (o : ℕ) → o ≡ low + nr * 0x20 + bit → (bit ≡ 0) ⊎ (bit ≡ 0x10) → (bit_and o 0x01 ≡ low % 2) × (bit_and o 0x0f ≡ low) × (o / 32 ≡ nr)
 low_at low nr bit hl hr o e h = (and_mask o 1 ∙ omega arith, and_mask o 4 ∙ omega arith, omega arith)
 
-bit_either : (bit : Bool) → (bit_of bit ≡ 0) ⊎ (bit_of bit ≡ 0x10)
+bit_either : (bit : Bool) → (poll_final_value bit ≡ 0) ⊎ (poll_final_value bit ≡ 0x10)
 bit_either true = inr refl
 bit_either false = inl refl
 
@@ -40,11 +40,11 @@ read_8 : (o : ℕ) (octets information : List ℕ) (c : Control) → Some (o ∷
 read_8 o octets information c e h = rw (← same_octets (o ∷ []) octets e, h) refl
 
 read_back_8 : (c : Control) (bit : Bool) (octets information : List ℕ) → IsBelow 8 c → octets_modulo_8 c bit ≡ Some octets → control_modulo_8 (octets ++ information) ≡ Some (c, information)
-read_back_8 (Info ns nr) bit octets i h e = read_8 (ns * 0x02 + nr * 0x20 + bit_of bit) octets i (Info ns nr) e (info_at ns nr (bit_of bit) h.0 h.1 (ns * 0x02 + nr * 0x20 + bit_of bit) refl (bit_either bit))
-read_back_8 (Rr nr) bit octets i h e = let t = low_at 0x01 nr (bit_of bit) (omega arith) h (0x01 + nr * 0x20 + bit_of bit) refl (bit_either bit) in read_8 (0x01 + nr * 0x20 + bit_of bit) octets i (Rr nr) e (rw (t.0, t.1, t.2) refl)
-read_back_8 (Rnr nr) bit octets i h e = let t = low_at 0x05 nr (bit_of bit) (omega arith) h (0x05 + nr * 0x20 + bit_of bit) refl (bit_either bit) in read_8 (0x05 + nr * 0x20 + bit_of bit) octets i (Rnr nr) e (rw (t.0, t.1, t.2) refl)
-read_back_8 (Rej nr) bit octets i h e = let t = low_at 0x09 nr (bit_of bit) (omega arith) h (0x09 + nr * 0x20 + bit_of bit) refl (bit_either bit) in read_8 (0x09 + nr * 0x20 + bit_of bit) octets i (Rej nr) e (rw (t.0, t.1, t.2) refl)
-read_back_8 (Srej nr) bit octets i h e = let t = low_at 0x0d nr (bit_of bit) (omega arith) h (0x0d + nr * 0x20 + bit_of bit) refl (bit_either bit) in read_8 (0x0d + nr * 0x20 + bit_of bit) octets i (Srej nr) e (rw (t.0, t.1, t.2) refl)
+read_back_8 (Info ns nr) bit octets i h e = read_8 (ns * 0x02 + nr * 0x20 + poll_final_value bit) octets i (Info ns nr) e (info_at ns nr (poll_final_value bit) h.0 h.1 (ns * 0x02 + nr * 0x20 + poll_final_value bit) refl (bit_either bit))
+read_back_8 (Rr nr) bit octets i h e = let t = low_at 0x01 nr (poll_final_value bit) (omega arith) h (0x01 + nr * 0x20 + poll_final_value bit) refl (bit_either bit) in read_8 (0x01 + nr * 0x20 + poll_final_value bit) octets i (Rr nr) e (rw (t.0, t.1, t.2) refl)
+read_back_8 (Rnr nr) bit octets i h e = let t = low_at 0x05 nr (poll_final_value bit) (omega arith) h (0x05 + nr * 0x20 + poll_final_value bit) refl (bit_either bit) in read_8 (0x05 + nr * 0x20 + poll_final_value bit) octets i (Rnr nr) e (rw (t.0, t.1, t.2) refl)
+read_back_8 (Rej nr) bit octets i h e = let t = low_at 0x09 nr (poll_final_value bit) (omega arith) h (0x09 + nr * 0x20 + poll_final_value bit) refl (bit_either bit) in read_8 (0x09 + nr * 0x20 + poll_final_value bit) octets i (Rej nr) e (rw (t.0, t.1, t.2) refl)
+read_back_8 (Srej nr) bit octets i h e = let t = low_at 0x0d nr (poll_final_value bit) (omega arith) h (0x0d + nr * 0x20 + poll_final_value bit) refl (bit_either bit) in read_8 (0x0d + nr * 0x20 + poll_final_value bit) octets i (Srej nr) e (rw (t.0, t.1, t.2) refl)
 read_back_8 (Sabm true) bit octets i h e = read_8 0x3f octets i (Sabm true) e refl
 read_back_8 (Sabm false) bit octets i h e = read_8 0x2f octets i (Sabm false) e refl
 read_back_8 (Sabme poll) bit octets i h e = cc
@@ -106,17 +106,17 @@ set_bit o = not (bit_and o 0x10 == 0)
 -- whether the table at modulo 8 has the octet for this control
 abbrev says : ℕ → Option Control → Bool
 says o None = true
-says o (Some (Info ns nr)) = nat_lt ns 8 && (nat_lt nr 8 && (o == ns * 0x02 + nr * 0x20 + bit_of (set_bit o)))
-says o (Some (Rr nr)) = nat_lt nr 8 && (o == 0x01 + nr * 0x20 + bit_of (set_bit o))
-says o (Some (Rnr nr)) = nat_lt nr 8 && (o == 0x05 + nr * 0x20 + bit_of (set_bit o))
-says o (Some (Rej nr)) = nat_lt nr 8 && (o == 0x09 + nr * 0x20 + bit_of (set_bit o))
-says o (Some (Srej nr)) = nat_lt nr 8 && (o == 0x0d + nr * 0x20 + bit_of (set_bit o))
-says o (Some (Sabm poll)) = o == 0x2f + bit_of poll
+says o (Some (Info ns nr)) = nat_lt ns 8 && (nat_lt nr 8 && (o == ns * 0x02 + nr * 0x20 + poll_final_value (set_bit o)))
+says o (Some (Rr nr)) = nat_lt nr 8 && (o == 0x01 + nr * 0x20 + poll_final_value (set_bit o))
+says o (Some (Rnr nr)) = nat_lt nr 8 && (o == 0x05 + nr * 0x20 + poll_final_value (set_bit o))
+says o (Some (Rej nr)) = nat_lt nr 8 && (o == 0x09 + nr * 0x20 + poll_final_value (set_bit o))
+says o (Some (Srej nr)) = nat_lt nr 8 && (o == 0x0d + nr * 0x20 + poll_final_value (set_bit o))
+says o (Some (Sabm poll)) = o == 0x2f + poll_final_value poll
 says o (Some (Sabme poll)) = false
-says o (Some (Disc poll)) = o == 0x43 + bit_of poll
-says o (Some Ua) = o == 0x63 + bit_of (set_bit o)
-says o (Some Dm) = o == 0x0f + bit_of (set_bit o)
-says o (Some Frmr) = o == 0x87 + bit_of (set_bit o)
+says o (Some (Disc poll)) = o == 0x43 + poll_final_value poll
+says o (Some Ua) = o == 0x63 + poll_final_value (set_bit o)
+says o (Some Dm) = o == 0x0f + poll_final_value (set_bit o)
+says o (Some Frmr) = o == 0x87 + poll_final_value (set_bit o)
 
 says_all : (o : ℕ) → o < 256 → says o (control_at o) ≡ true
 says_all o h = agree_below_at (λ n. says n (control_at n)) (λ _. true) 256 o refl h
@@ -132,19 +132,19 @@ one m n e = ap (λ x. x ∷ []) (eqb-true m n e)
 
 sound_8 : (o : ℕ) (c : Control) (i : List ℕ) → says o (Some c) ≡ true → HasControl 8 (o ∷ i) c i
 sound_8 o (Info ns nr) i h =
-    let a = and_parts (nat_lt ns 8) (nat_lt nr 8 && (o == ns * 0x02 + nr * 0x20 + bit_of (set_bit o))) h in
-    let b = and_parts (nat_lt nr 8) (o == ns * 0x02 + nr * 0x20 + bit_of (set_bit o)) a.1 in
-    has 8 (o ∷ []) (Info ns nr) (set_bit o) ((ns * 0x02 + nr * 0x20 + bit_of (set_bit o)) ∷ []) i (ltb-true ns 8 a.0, ltb-true nr 8 b.0) refl (one o _ b.1)
-sound_8 o (Rr nr) i h = let b = and_parts (nat_lt nr 8) (o == 0x01 + nr * 0x20 + bit_of (set_bit o)) h in has 8 (o ∷ []) (Rr nr) (set_bit o) ((0x01 + nr * 0x20 + bit_of (set_bit o)) ∷ []) i (ltb-true nr 8 b.0) refl (one o _ b.1)
-sound_8 o (Rnr nr) i h = let b = and_parts (nat_lt nr 8) (o == 0x05 + nr * 0x20 + bit_of (set_bit o)) h in has 8 (o ∷ []) (Rnr nr) (set_bit o) ((0x05 + nr * 0x20 + bit_of (set_bit o)) ∷ []) i (ltb-true nr 8 b.0) refl (one o _ b.1)
-sound_8 o (Rej nr) i h = let b = and_parts (nat_lt nr 8) (o == 0x09 + nr * 0x20 + bit_of (set_bit o)) h in has 8 (o ∷ []) (Rej nr) (set_bit o) ((0x09 + nr * 0x20 + bit_of (set_bit o)) ∷ []) i (ltb-true nr 8 b.0) refl (one o _ b.1)
-sound_8 o (Srej nr) i h = let b = and_parts (nat_lt nr 8) (o == 0x0d + nr * 0x20 + bit_of (set_bit o)) h in has 8 (o ∷ []) (Srej nr) (set_bit o) ((0x0d + nr * 0x20 + bit_of (set_bit o)) ∷ []) i (ltb-true nr 8 b.0) refl (one o _ b.1)
-sound_8 o (Sabm poll) i h = has 8 (o ∷ []) (Sabm poll) poll ((0x2f + bit_of poll) ∷ []) i tt refl (one o _ h)
+    let a = and_parts (nat_lt ns 8) (nat_lt nr 8 && (o == ns * 0x02 + nr * 0x20 + poll_final_value (set_bit o))) h in
+    let b = and_parts (nat_lt nr 8) (o == ns * 0x02 + nr * 0x20 + poll_final_value (set_bit o)) a.1 in
+    has 8 (o ∷ []) (Info ns nr) (set_bit o) ((ns * 0x02 + nr * 0x20 + poll_final_value (set_bit o)) ∷ []) i (ltb-true ns 8 a.0, ltb-true nr 8 b.0) refl (one o _ b.1)
+sound_8 o (Rr nr) i h = let b = and_parts (nat_lt nr 8) (o == 0x01 + nr * 0x20 + poll_final_value (set_bit o)) h in has 8 (o ∷ []) (Rr nr) (set_bit o) ((0x01 + nr * 0x20 + poll_final_value (set_bit o)) ∷ []) i (ltb-true nr 8 b.0) refl (one o _ b.1)
+sound_8 o (Rnr nr) i h = let b = and_parts (nat_lt nr 8) (o == 0x05 + nr * 0x20 + poll_final_value (set_bit o)) h in has 8 (o ∷ []) (Rnr nr) (set_bit o) ((0x05 + nr * 0x20 + poll_final_value (set_bit o)) ∷ []) i (ltb-true nr 8 b.0) refl (one o _ b.1)
+sound_8 o (Rej nr) i h = let b = and_parts (nat_lt nr 8) (o == 0x09 + nr * 0x20 + poll_final_value (set_bit o)) h in has 8 (o ∷ []) (Rej nr) (set_bit o) ((0x09 + nr * 0x20 + poll_final_value (set_bit o)) ∷ []) i (ltb-true nr 8 b.0) refl (one o _ b.1)
+sound_8 o (Srej nr) i h = let b = and_parts (nat_lt nr 8) (o == 0x0d + nr * 0x20 + poll_final_value (set_bit o)) h in has 8 (o ∷ []) (Srej nr) (set_bit o) ((0x0d + nr * 0x20 + poll_final_value (set_bit o)) ∷ []) i (ltb-true nr 8 b.0) refl (one o _ b.1)
+sound_8 o (Sabm poll) i h = has 8 (o ∷ []) (Sabm poll) poll ((0x2f + poll_final_value poll) ∷ []) i tt refl (one o _ h)
 sound_8 o (Sabme poll) i h = cc
-sound_8 o (Disc poll) i h = has 8 (o ∷ []) (Disc poll) poll ((0x43 + bit_of poll) ∷ []) i tt refl (one o _ h)
-sound_8 o Ua i h = has 8 (o ∷ []) Ua (set_bit o) ((0x63 + bit_of (set_bit o)) ∷ []) i tt refl (one o _ h)
-sound_8 o Dm i h = has 8 (o ∷ []) Dm (set_bit o) ((0x0f + bit_of (set_bit o)) ∷ []) i tt refl (one o _ h)
-sound_8 o Frmr i h = has 8 (o ∷ []) Frmr (set_bit o) ((0x87 + bit_of (set_bit o)) ∷ []) i tt refl (one o _ h)
+sound_8 o (Disc poll) i h = has 8 (o ∷ []) (Disc poll) poll ((0x43 + poll_final_value poll) ∷ []) i tt refl (one o _ h)
+sound_8 o Ua i h = has 8 (o ∷ []) Ua (set_bit o) ((0x63 + poll_final_value (set_bit o)) ∷ []) i tt refl (one o _ h)
+sound_8 o Dm i h = has 8 (o ∷ []) Dm (set_bit o) ((0x0f + poll_final_value (set_bit o)) ∷ []) i tt refl (one o _ h)
+sound_8 o Frmr i h = has 8 (o ∷ []) Frmr (set_bit o) ((0x87 + poll_final_value (set_bit o)) ∷ []) i tt refl (one o _ h)
 
 same_pair : {A : Type 0} (p q : A × List ℕ) → Some p ≡ Some q → p ≡ q
 same_pair p q e = cc
@@ -178,11 +178,11 @@ says_one o (Some (Rnr nr)) = false
 says_one o (Some (Rej nr)) = false
 says_one o (Some (Srej nr)) = false
 says_one o (Some (Sabm poll)) = false
-says_one o (Some (Sabme poll)) = o == 0x6f + bit_of poll
-says_one o (Some (Disc poll)) = o == 0x43 + bit_of poll
-says_one o (Some Ua) = o == 0x63 + bit_of (set_bit o)
-says_one o (Some Dm) = o == 0x0f + bit_of (set_bit o)
-says_one o (Some Frmr) = o == 0x87 + bit_of (set_bit o)
+says_one o (Some (Sabme poll)) = o == 0x6f + poll_final_value poll
+says_one o (Some (Disc poll)) = o == 0x43 + poll_final_value poll
+says_one o (Some Ua) = o == 0x63 + poll_final_value (set_bit o)
+says_one o (Some Dm) = o == 0x0f + poll_final_value (set_bit o)
+says_one o (Some Frmr) = o == 0x87 + poll_final_value (set_bit o)
 
 says_one_all : (o : ℕ) → o < 256 → says_one o (unnumbered o) ≡ true
 says_one_all o h = agree_below_at (λ n. says_one n (unnumbered n)) (λ _. true) 256 o refl h
@@ -194,11 +194,11 @@ sound_one o (Rnr nr) i h = cc
 sound_one o (Rej nr) i h = cc
 sound_one o (Srej nr) i h = cc
 sound_one o (Sabm poll) i h = cc
-sound_one o (Sabme poll) i h = has 128 (o ∷ []) (Sabme poll) poll ((0x6f + bit_of poll) ∷ []) i tt refl (one o _ h)
-sound_one o (Disc poll) i h = has 128 (o ∷ []) (Disc poll) poll ((0x43 + bit_of poll) ∷ []) i tt refl (one o _ h)
-sound_one o Ua i h = has 128 (o ∷ []) Ua (set_bit o) ((0x63 + bit_of (set_bit o)) ∷ []) i tt refl (one o _ h)
-sound_one o Dm i h = has 128 (o ∷ []) Dm (set_bit o) ((0x0f + bit_of (set_bit o)) ∷ []) i tt refl (one o _ h)
-sound_one o Frmr i h = has 128 (o ∷ []) Frmr (set_bit o) ((0x87 + bit_of (set_bit o)) ∷ []) i tt refl (one o _ h)
+sound_one o (Sabme poll) i h = has 128 (o ∷ []) (Sabme poll) poll ((0x6f + poll_final_value poll) ∷ []) i tt refl (one o _ h)
+sound_one o (Disc poll) i h = has 128 (o ∷ []) (Disc poll) poll ((0x43 + poll_final_value poll) ∷ []) i tt refl (one o _ h)
+sound_one o Ua i h = has 128 (o ∷ []) Ua (set_bit o) ((0x63 + poll_final_value (set_bit o)) ∷ []) i tt refl (one o _ h)
+sound_one o Dm i h = has 128 (o ∷ []) Dm (set_bit o) ((0x0f + poll_final_value (set_bit o)) ∷ []) i tt refl (one o _ h)
+sound_one o Frmr i h = has 128 (o ∷ []) Frmr (set_bit o) ((0x87 + poll_final_value (set_bit o)) ∷ []) i tt refl (one o _ h)
 
 same_control : (c d : Control) → Some c ≡ Some d → c ≡ d
 same_control c d e = cc

@@ -2,18 +2,18 @@
 use Rattle.std.proofs.Common.{◌≡◌, ℕ, zero, suc, ◌<◌, ◌≤◌, Bool, true, false, ◌==◌, List, [], ◌∷◌, ◌++◌, length, take, Option, None, Some, refl, sym, ◌∙◌, ap, arith, inl, inr, append-nil, bit_xor, if◌then◌else◌, add-one}
 use Rattle.std.specs.Option.{option_to_list}
 use Rattle.std.specs.Prelude.{option_map, IsNone}
-use Rattle.hdlc_frames.specs.Shown.{shown}
+use Rattle.hdlc_frames.specs.Shown.{verdict_of_octets_found}
 use Rattle.hdlc_frames.specs.declared.found.Found.{Found}
 use Rattle.std.proofs.lemmas.Bool.{cases_Bool}
 use Rattle.hdlc_frames.specs.Framing.{flag, escape, Verdict, unescaped, ends_in_escape, verdict_on, has_octets, frames_of, cut}
-use Rattle.hdlc_frames.specs.Deframing.{Kept, after_flag, Feeding, open_piece, kept_since, kept_of}
+use Rattle.hdlc_frames.specs.Deframing.{KeptDeframer, after_flag, Feeding, open_piece, kept_since, kept_of}
 use Rattle.hdlc_frames.specs.Scanning.{after_inner, after_octet, closing_verdict, verdict_at, octet_scan, scan_of}
 use Rattle.hdlc_frames.proofs.StreamLaws.{behind, verdicts_on, closed_by, frames_from, piece_from, closed_by-flag, closed_by-other, behind-flag, behind-other, behind-before, frames_from-cons, piece_from-cons, frames_from-nil, piece_from-nil, frames_of-append, open_piece-append, closed_by-none}
 use Rattle.hdlc_frames.proofs.PieceLaws.{added, opens, ends_in_escape-push, unescaped-push, has_content, take-push, verdict_on_kept, has_octets-take}
 
 -- ---- what is kept after one octet
 
-abbrev kept_with : Bool → List ℕ → Kept
+abbrev kept_with : Bool → List ℕ → KeptDeframer
 kept_with escaping content = record { begun = true; escaping = escaping; content = take 1033 content }
 
 kept_since-some : (p : List ℕ) → kept_since (Some p) ≡ kept_with (ends_in_escape p false) (unescaped p false)
@@ -39,15 +39,15 @@ inner_at false c x =
 
 inner : (p : List ℕ) (x : ℕ) → after_inner (kept_since (Some p)) x ≡ kept_since (Some (p ++ x ∷ []))
 inner p x =
-    ap (λ (k : Kept). after_inner k x) (kept_since-some p) ∙ inner_at (ends_in_escape p false) (unescaped p false) x
+    ap (λ (k : KeptDeframer). after_inner k x) (kept_since-some p) ∙ inner_at (ends_in_escape p false) (unescaped p false) x
     ∙ ap (λ b. kept_with b (unescaped p false ++ added (ends_in_escape p false) x)) (sym (ends_in_escape-push p false x))
     ∙ ap (λ c. kept_with (ends_in_escape (p ++ x ∷ []) false) c) (sym (unescaped-push p false x))
     ∙ sym (kept_since-some (p ++ x ∷ []))
 
-after_octet-flag : (k : Kept) (x : ℕ) → (x == flag) ≡ true → after_octet k x ≡ after_flag
+after_octet-flag : (k : KeptDeframer) (x : ℕ) → (x == flag) ≡ true → after_octet k x ≡ after_flag
 after_octet-flag k x t = rw t refl
 
-after_octet-other : (k : Kept) (x : ℕ) → (x == flag) ≡ false → after_octet k x ≡ (if k.begun then after_inner k x else k)
+after_octet-other : (k : KeptDeframer) (x : ℕ) → (x == flag) ≡ false → after_octet k x ≡ (if k.begun then after_inner k x else k)
 after_octet-other k x f = rw f refl
 
 kept_since-begun : (p : List ℕ) → (kept_since (Some p)).begun ≡ true
@@ -85,8 +85,8 @@ closing_piece [] = closing_empty
 closing_piece (x ∷ p) = closing_some x p (ends_in_escape (x ∷ p) false) refl
 
 closing_of : (s : Option (List ℕ)) (x : ℕ) → (x == flag) ≡ true → option_to_list (closing_verdict (kept_since s)) ≡ closed_by s x
-closing_of None x t = ap (λ (k : Kept). option_to_list (closing_verdict k)) kept_since-none ∙ sym (closed_by-none x)
-closing_of (Some p) x t = ap (λ (k : Kept). option_to_list (closing_verdict k)) (kept_since-some p) ∙ closing_piece p ∙ sym (closed_by-flag p x t)
+closing_of None x t = ap (λ (k : KeptDeframer). option_to_list (closing_verdict k)) kept_since-none ∙ sym (closed_by-none x)
+closing_of (Some p) x t = ap (λ (k : KeptDeframer). option_to_list (closing_verdict k)) (kept_since-some p) ∙ closing_piece p ∙ sym (closed_by-flag p x t)
 
 pub verdict_of_octet : (s : Option (List ℕ)) (x : ℕ) → option_to_list (verdict_at (kept_since s) x) ≡ closed_by s x
 verdict_of_octet s x =
@@ -168,51 +168,51 @@ pub scan_first : (stream piece : List ℕ) (k : ℕ) → k < (scan_of (kept_of s
 scan_first stream piece k lt =
     frames_of-append stream (take k piece) ∙ ap (λ v. frames_of stream ++ v) ((scan_answers stream piece).first k lt) ∙ append-nil (frames_of stream)
 
-scan_whole_more : (v : Option Verdict) (k : Kept) (rest : Feeding) (n : ℕ) → (rest.verdict ≡ None → rest.used ≡ n) → (octet_scan k v rest).verdict ≡ None → (octet_scan k v rest).used ≡ suc n
+scan_whole_more : (v : Option Verdict) (k : KeptDeframer) (rest : Feeding) (n : ℕ) → (rest.verdict ≡ None → rest.used ≡ n) → (octet_scan k v rest).verdict ≡ None → (octet_scan k v rest).used ≡ suc n
 scan_whole_more None k rest n h e = omega (arith, h e)
 scan_whole_more (Some v) k rest n h e = cc
 
 -- whatever is kept, a piece that closes nothing is used whole
-pub scan_whole : (piece : List ℕ) (k : Kept) → (scan_of k piece).verdict ≡ None → (scan_of k piece).used ≡ length piece
+pub scan_whole : (piece : List ℕ) (k : KeptDeframer) → (scan_of k piece).verdict ≡ None → (scan_of k piece).used ≡ length piece
 scan_whole [] k n = refl
 scan_whole (x ∷ xs) k n = scan_whole_more (verdict_at k x) (after_octet k x) (scan_of (after_octet k x) xs) (length xs) (scan_whole xs (after_octet k x)) n
 
-scan_within_more : (v : Option Verdict) (k : Kept) (rest : Feeding) (n : ℕ) → rest.used ≤ n → (octet_scan k v rest).used ≤ suc n
+scan_within_more : (v : Option Verdict) (k : KeptDeframer) (rest : Feeding) (n : ℕ) → rest.used ≤ n → (octet_scan k v rest).used ≤ suc n
 scan_within_more None k rest n h = omega arith
 scan_within_more (Some v) k rest n h = omega arith
 
-scan_within_any : (piece : List ℕ) (k : Kept) → (scan_of k piece).used ≤ length piece
+scan_within_any : (piece : List ℕ) (k : KeptDeframer) → (scan_of k piece).used ≤ length piece
 scan_within_any [] k = omega arith
 scan_within_any (x ∷ xs) k = scan_within_more (verdict_at k x) (after_octet k x) (scan_of (after_octet k x) xs) (length xs) (scan_within_any xs (after_octet k x))
 
 -- ---- the same of a call's results
 
-pub feed_frames : (k : Kept) (stream piece : List ℕ) (n : ℕ) (v : Option Verdict) → n ≡ (scan_of k piece).used → v ≡ (scan_of k piece).verdict → k ≡ kept_of stream
+pub feed_frames : (k : KeptDeframer) (stream piece : List ℕ) (n : ℕ) (v : Option Verdict) → n ≡ (scan_of k piece).used → v ≡ (scan_of k piece).verdict → k ≡ kept_of stream
     → frames_of (stream ++ take n piece) ≡ frames_of stream ++ option_to_list v
 feed_frames k stream piece n v used verdict e =
     let whole : k ≡ kept_of stream → frames_of (stream ++ take (scan_of k piece).used piece) ≡ frames_of stream ++ option_to_list (scan_of k piece).verdict = λ h. rw h (scan_frames stream piece) in
     rw (used, verdict) (whole e)
 
-pub feed_first : (k : Kept) (stream piece : List ℕ) (n : ℕ) → n ≡ (scan_of k piece).used → k ≡ kept_of stream → (j : ℕ) → j < n → frames_of (stream ++ take j piece) ≡ frames_of stream
+pub feed_first : (k : KeptDeframer) (stream piece : List ℕ) (n : ℕ) → n ≡ (scan_of k piece).used → k ≡ kept_of stream → (j : ℕ) → j < n → frames_of (stream ++ take j piece) ≡ frames_of stream
 feed_first k stream piece n used e j lt =
-    let same : n ≡ (scan_of (kept_of stream) piece).used = used ∙ ap (λ (h : Kept). (scan_of h piece).used) e in
+    let same : n ≡ (scan_of (kept_of stream) piece).used = used ∙ ap (λ (h : KeptDeframer). (scan_of h piece).used) e in
     scan_first stream piece j (rw same at lt)
 
-pub feed_whole : (k : Kept) (piece : List ℕ) (n : ℕ) (found : Option Found) → n ≡ (scan_of k piece).used → option_map shown found ≡ (scan_of k piece).verdict → IsNone found → n ≡ length piece
+pub feed_whole : (k : KeptDeframer) (piece : List ℕ) (n : ℕ) (found : Option Found) → n ≡ (scan_of k piece).used → option_map verdict_of_octets_found found ≡ (scan_of k piece).verdict → IsNone found → n ≡ length piece
 feed_whole k piece n None used verdict h = used ∙ scan_whole piece k (sym verdict)
 feed_whole k piece n (Some f) used verdict h = cc
 
-pub feed_within : (k : Kept) (piece : List ℕ) (n : ℕ) → n ≡ (scan_of k piece).used → n ≤ length piece
+pub feed_within : (k : KeptDeframer) (piece : List ℕ) (n : ℕ) → n ≡ (scan_of k piece).used → n ≤ length piece
 feed_within k piece n used = rw used (scan_within_any piece k)
 
-octet_used : (v : Option Verdict) (k : Kept) (rest : Feeding) → 0 < (octet_scan k v rest).used
+octet_used : (v : Option Verdict) (k : KeptDeframer) (rest : Feeding) → 0 < (octet_scan k v rest).used
 octet_used None k rest = omega arith
 octet_used (Some v) k rest = omega arith
 
 -- a piece with octets is used by one octet at least
-pub scan_moves : (piece : List ℕ) (k : Kept) → 0 < length piece → 0 < (scan_of k piece).used
+pub scan_moves : (piece : List ℕ) (k : KeptDeframer) → 0 < length piece → 0 < (scan_of k piece).used
 scan_moves [] k h = absurd (omega arith)
 scan_moves (x ∷ xs) k h = octet_used (verdict_at k x) (after_octet k x) (scan_of (after_octet k x) xs)
 
-pub feed_moves : (k : Kept) (piece : List ℕ) (n : ℕ) → n ≡ (scan_of k piece).used → 0 < length piece → 0 < n
+pub feed_moves : (k : KeptDeframer) (piece : List ℕ) (n : ℕ) → n ≡ (scan_of k piece).used → 0 < length piece → 0 < n
 feed_moves k piece n used h = rw used (scan_moves piece k h)

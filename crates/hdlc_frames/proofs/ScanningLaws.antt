@@ -3,14 +3,14 @@ use Rattle.std.proofs.Common.{◌≡◌, ◌≢◌, ℕ, zero, suc, ◌+◌, ◌
 use Rattle.std.proofs.lemmas.Bool.{ne_eqb, cases_lt}
 use Rattle.std.proofs.lemmas.List.{take_all, take-append-le, length-take-le, length-take, length-drop, drop-drop}
 use Rattle.hdlc_frames.specs.Framing.{flag, escape}
-use Rattle.hdlc_frames.specs.Deframing.{Kept, Feeding}
+use Rattle.hdlc_frames.specs.Deframing.{KeptDeframer, Feeding}
 use Rattle.hdlc_frames.specs.Scanning.{kept_content, after_octet, verdict_at, octet_scan, scan_of, Advances, NoFlagBefore, PlainBefore}
 
-pub goes_nowhere : (k : Kept) (piece : List ℕ) → Advances k piece 0 k
+pub goes_nowhere : (k : KeptDeframer) (piece : List ℕ) → Advances k piece 0 k
 goes_nowhere k piece = record { within = omega arith; used = omega arith; verdict = refl; kept = refl }
 
 -- a part and then another
-pub goes_further : (k next last : Kept) (piece : List ℕ) (m n : ℕ) → Advances k piece m next → Advances next (drop m piece) n last → Advances k piece (m + n) last
+pub goes_further : (k next last : KeptDeframer) (piece : List ℕ) (m n : ℕ) → Advances k piece m next → Advances next (drop m piece) n last → Advances k piece (m + n) last
 goes_further k next last piece m n g h =
     let same : drop n (drop m piece) ≡ drop (m + n) piece = drop-drop n m piece in
     record {
@@ -20,7 +20,7 @@ goes_further k next last piece m n g h =
       kept = ap (λ (xs : List ℕ). (scan_of last xs).kept) (sym same) ∙ h.kept ∙ g.kept;
     }
 
-goes_by : (k : Kept) (x : ℕ) (xs : List ℕ) → verdict_at k x ≡ None → Advances k (x ∷ xs) 1 (after_octet k x)
+goes_by : (k : KeptDeframer) (x : ℕ) (xs : List ℕ) → verdict_at k x ≡ None → Advances k (x ∷ xs) 1 (after_octet k x)
 goes_by k x xs none =
     let rest : Feeding = scan_of (after_octet k x) xs in
     record {
@@ -31,10 +31,10 @@ goes_by k x xs none =
     }
 
 -- one octet that is no flag
-goes_octet : (k next : Kept) (x : ℕ) (xs : List ℕ) → (x == flag) ≡ false → after_octet k x ≡ next → Advances k (x ∷ xs) 1 next
+goes_octet : (k next : KeptDeframer) (x : ℕ) (xs : List ℕ) → (x == flag) ≡ false → after_octet k x ≡ next → Advances k (x ∷ xs) 1 next
 goes_octet k next x xs f e = rw (← e) (goes_by k x xs (rw f refl))
 
-pub goes_one : (k next : Kept) (piece : List ℕ) → 0 < length piece → get_or piece 0 0 ≢ flag → after_octet k (get_or piece 0 0) ≡ next → Advances k piece 1 next
+pub goes_one : (k next : KeptDeframer) (piece : List ℕ) → 0 < length piece → get_or piece 0 0 ≢ flag → after_octet k (get_or piece 0 0) ≡ next → Advances k piece 1 next
 goes_one k next [] some other e = absurd (omega arith)
 goes_one k next (x ∷ xs) some other e = goes_octet k next x xs (ne_eqb x flag other) e
 
@@ -44,7 +44,7 @@ pub goes_before : (escaping : Bool) (content : List ℕ) (n : ℕ) (piece : List
 goes_before escaping content zero piece inside none = goes_nowhere (record { begun = false; escaping = escaping; content = content }) piece
 goes_before escaping content (suc n) [] inside none = absurd (omega arith)
 goes_before escaping content (suc n) (x ∷ xs) inside none =
-    let k : Kept = record { begun = false; escaping = escaping; content = content } in
+    let k : KeptDeframer = record { begun = false; escaping = escaping; content = content } in
     let f : (x == flag) ≡ false = ne_eqb x flag (none 0 (omega arith)) in
     let first : Advances k (x ∷ xs) 1 k = goes_octet k k x xs f (rw f refl) in
     let rest : Advances k xs n k = goes_before escaping content n xs (omega arith) (λ j lt. none (suc j) (omega arith)) in
@@ -68,7 +68,7 @@ take-front n c ys =
     ]
 
 -- what is kept where content comes and no escape is open
-abbrev pub with_content : List ℕ → Kept
+abbrev pub with_content : List ℕ → KeptDeframer
 with_content content = record { begun = true; escaping = false; content = content }
 
 -- one octet that stands for itself
@@ -79,8 +79,8 @@ goes_plain content x xs f e = goes_octet (with_content content) (with_content (k
 pub goes_escaped : (content : List ℕ) (x y : ℕ) (xs : List ℕ) → (x == flag) ≡ false → (x == escape) ≡ true → (y == flag) ≡ false
     → Advances (with_content content) (x ∷ y ∷ xs) 2 (with_content (kept_content content (bit_xor y 0x20)))
 goes_escaped content x y xs f e g =
-    let opened : Kept = record { begun = true; escaping = true; content = content } in
-    let last : Kept = with_content (kept_content content (bit_xor y 0x20)) in
+    let opened : KeptDeframer = record { begun = true; escaping = true; content = content } in
+    let last : KeptDeframer = with_content (kept_content content (bit_xor y 0x20)) in
     goes_further (with_content content) opened last (x ∷ y ∷ xs) 1 1
     (goes_octet (with_content content) opened x (y ∷ xs) f (rw (f, e) refl))
     (goes_octet opened last y xs g (rw g refl))

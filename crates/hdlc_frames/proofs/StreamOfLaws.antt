@@ -5,7 +5,7 @@ use Rattle.std.specs.Option.{option_to_list}
 use Rattle.std.proofs.lemmas.List.{take_all, length-take}
 use Rattle.hdlc_frames.specs.Framing.{flag, escape, Verdict, unescaped, ends_in_escape, frames_of}
 use Rattle.hdlc_frames.specs.Spelling.{escaped_octet, escaped}
-use Rattle.hdlc_frames.specs.Deframing.{Kept, Feeding, open_piece, kept_since, kept_of, stream_of, IsKept, used_behind, feeding_of}
+use Rattle.hdlc_frames.specs.Deframing.{KeptDeframer, Feeding, open_piece, kept_since, kept_of, stream_behind_kept, IsKeptOfStream, used_behind, feeding_of}
 use Rattle.hdlc_frames.specs.Scanning.{after_octet, verdict_at, octet_scan, scan_of}
 use Rattle.hdlc_frames.proofs.StreamLaws.{behind, closed_by, frames_from, piece_from, frames_from-cons, frames_from-nil, piece_from-cons, piece_from-nil, frames_of-append, frames_of-nothing, open_piece-append, none_open, behind-flag}
 use Rattle.hdlc_frames.proofs.SpellingLaws.{no_flag, octet_back, plain_frames, plain_piece, behind_one_flag}
@@ -14,7 +14,7 @@ use Rattle.hdlc_frames.proofs.DeframingLaws.{kept_since-octet, verdict_of_octet,
 -- ---- what a deframer keeps of any stream
 
 -- what can be kept: nothing before the first flag, and at most 1,033 octets
-pub record CanBeKept (k : Kept) : Type 0 where
+pub record CanBeKept (k : KeptDeframer) : Type 0 where
   pub before : k.begun ≡ false → (k.escaping ≡ false) × (k.content ≡ [])
   pub short : length k.content ≤ 1033
 
@@ -47,12 +47,12 @@ content_tail (x ∷ c) b =
     let same = append_assoc (escaped_octet x) (flat_map escaped_octet c) (tail b) in
     rw same (one.0, one.1 ∙ rest.1, one.2 ∙ ap (λ d. x ∷ d) rest.2)
 
-begun_stream : (escaping : Bool) (content : List ℕ) → stream_of (record { begun = true; escaping = escaping; content = content }) ≡ flag ∷ (escaped content ++ tail escaping)
-unfolding stream_of
+begun_stream : (escaping : Bool) (content : List ℕ) → stream_behind_kept (record { begun = true; escaping = escaping; content = content }) ≡ flag ∷ (escaped content ++ tail escaping)
+unfolding stream_behind_kept
 begun_stream escaping content = refl
 
-fresh_stream : (escaping : Bool) (content : List ℕ) → stream_of (record { begun = false; escaping = escaping; content = content }) ≡ []
-unfolding stream_of
+fresh_stream : (escaping : Bool) (content : List ℕ) → stream_behind_kept (record { begun = false; escaping = escaping; content = content }) ≡ []
+unfolding stream_behind_kept
 fresh_stream escaping content = refl
 
 -- the octets behind a flag, none of which is one
@@ -66,10 +66,10 @@ since_some : (piece : List ℕ) (escaping : Bool) (content : List ℕ) → ends_
 unfolding kept_since
 since_some piece escaping content e f short = rw (e, f, take_all 1033 content short) refl
 
-is_kept : (begun escaping : Bool) (content : List ℕ) → CanBeKept (record { begun = begun; escaping = escaping; content = content }) → IsKept (record { begun = begun; escaping = escaping; content = content })
+is_kept : (begun escaping : Bool) (content : List ℕ) → CanBeKept (record { begun = begun; escaping = escaping; content = content }) → IsKeptOfStream (record { begun = begun; escaping = escaping; content = content })
 is_kept true escaping content can =
     let back = content_tail content escaping in
-    kept_of-is (stream_of (record { begun = true; escaping = escaping; content = content }))
+    kept_of-is (stream_behind_kept (record { begun = true; escaping = escaping; content = content }))
     ∙ ap (λ xs. kept_since (open_piece xs)) (begun_stream escaping content)
     ∙ ap kept_since (open_behind (escaped content ++ tail escaping) back.0)
     ∙ since_some (escaped content ++ tail escaping) escaping content back.1 back.2 can.short
@@ -78,24 +78,24 @@ is_kept false escaping content can =
     ap kept_of (fresh_stream escaping content) ∙ kept_of-nothing
     ∙ ap (λ b. record { begun = false; escaping = b; content = [] }) (sym parts.0) ∙ ap (λ (c : List ℕ). record { begun = false; escaping = escaping; content = c }) (sym parts.1)
 
-pub kept_again : (k : Kept) → CanBeKept k → IsKept k
+pub kept_again : (k : KeptDeframer) → CanBeKept k → IsKeptOfStream k
 kept_again k can = is_kept k.begun k.escaping k.content can
 
 -- what the buffer keeps
-pub buffer_is_kept : (begun escaping : Bool) (len : ℕ) (octets : List ℕ) → len ≤ 1033 → (begun ≡ false → (escaping ≡ false) × (len ≡ 0)) → IsKept (record { begun = begun; escaping = escaping; content = take len octets })
+pub buffer_is_kept : (begun escaping : Bool) (len : ℕ) (octets : List ℕ) → len ≤ 1033 → (begun ≡ false → (escaping ≡ false) × (len ≡ 0)) → IsKeptOfStream (record { begun = begun; escaping = escaping; content = take len octets })
 buffer_is_kept begun escaping len octets fits fresh =
     kept_again (record { begun = begun; escaping = escaping; content = take len octets })
     (record { before = λ e. ((fresh e).0, ap (λ n. take n octets) (fresh e).1); short = omega (arith, length-take len octets) })
 
 -- ---- no frame is in it
 
-no_frames_in : (begun escaping : Bool) (content : List ℕ) → frames_of (stream_of (record { begun = begun; escaping = escaping; content = content })) ≡ []
+no_frames_in : (begun escaping : Bool) (content : List ℕ) → frames_of (stream_behind_kept (record { begun = begun; escaping = escaping; content = content })) ≡ []
 no_frames_in true escaping content =
     let xs : List ℕ = escaped content ++ tail escaping in
     ap frames_of (begun_stream escaping content) ∙ behind_one_flag xs ∙ plain_frames xs [] (content_tail content escaping).0
 no_frames_in false escaping content = ap frames_of (fresh_stream escaping content) ∙ frames_of-nothing
 
-pub no_frames : (k : Kept) → frames_of (stream_of k) ≡ []
+pub no_frames : (k : KeptDeframer) → frames_of (stream_behind_kept k) ≡ []
 no_frames k = no_frames_in k.begun k.escaping k.content
 
 -- ---- feeding, by the machine that goes octet by octet
@@ -105,15 +105,15 @@ one_closes : (stream : List ℕ) (x : ℕ) → frames_of stream ≡ [] → frame
 one_closes stream x none =
     frames_of-append stream (x ∷ []) ∙ ap (λ v. v ++ frames_from (open_piece stream) (x ∷ [])) none
     ∙ frames_from-cons (open_piece stream) x [] ∙ ap (λ v. closed_by (open_piece stream) x ++ v) (frames_from-nil (behind (open_piece stream) x)) ∙ append-nil (closed_by (open_piece stream) x)
-    ∙ sym (ap (λ (k : Kept). option_to_list (verdict_at k x)) (kept_of-is stream) ∙ verdict_of_octet (open_piece stream) x)
+    ∙ sym (ap (λ (k : KeptDeframer). option_to_list (verdict_at k x)) (kept_of-is stream) ∙ verdict_of_octet (open_piece stream) x)
 
 one_kept : (stream : List ℕ) (x : ℕ) → after_octet (kept_of stream) x ≡ kept_of (stream ++ x ∷ [])
 one_kept stream x =
-    ap (λ (k : Kept). after_octet k x) (kept_of-is stream) ∙ kept_since-octet (open_piece stream) x
+    ap (λ (k : KeptDeframer). after_octet k x) (kept_of-is stream) ∙ kept_since-octet (open_piece stream) x
     ∙ ap kept_since (sym (open_piece-append stream (x ∷ []) ∙ piece_from-cons (open_piece stream) x [] ∙ piece_from-nil (behind (open_piece stream) x)))
     ∙ sym (kept_of-is (stream ++ x ∷ []))
 
-used_more : (stream : List ℕ) (x : ℕ) (xs : List ℕ) (v : Option Verdict) (k : Kept) (rest : Feeding) → frames_of (stream ++ x ∷ []) ≡ option_to_list v
+used_more : (stream : List ℕ) (x : ℕ) (xs : List ℕ) (v : Option Verdict) (k : KeptDeframer) (rest : Feeding) → frames_of (stream ++ x ∷ []) ≡ option_to_list v
     → (frames_of (stream ++ x ∷ []) ≡ [] → used_behind (stream ++ x ∷ []) xs ≡ rest.used) → used_behind stream (x ∷ xs) ≡ (octet_scan k v rest).used
 unfolding used_behind
 used_more stream x xs None k rest e onward = rw e (ap (λ n. n + 1) (onward e))
@@ -124,7 +124,7 @@ unfolding used_behind
 used_is [] stream none = refl
 used_is (x ∷ xs) stream none =
     used_more stream x xs (verdict_at (kept_of stream) x) (after_octet (kept_of stream) x) (scan_of (after_octet (kept_of stream) x) xs) (one_closes stream x none)
-    (λ e. used_is xs (stream ++ x ∷ []) e ∙ ap (λ (k : Kept). (scan_of k xs).used) (sym (one_kept stream x)))
+    (λ e. used_is xs (stream ++ x ∷ []) e ∙ ap (λ (k : KeptDeframer). (scan_of k xs).used) (sym (one_kept stream x)))
 
 -- the first verdict on a piece is the one that is given
 pub first_verdict : (stream piece : List ℕ) (v : Option Verdict) (n : ℕ) → frames_of stream ≡ [] → frames_of (stream ++ take n piece) ≡ option_to_list v → (v ≡ None → n ≡ length piece)
@@ -141,17 +141,17 @@ feeding_by : (s piece : List ℕ) (f : Feeding) → frames_of s ≡ [] → used_
 feeding_by s piece f none used frames whole kept = rw (used, first_verdict s piece f.verdict f.used none frames whole, kept) refl
 
 -- feeding is what the machine does
-pub feeding_is : (k : Kept) (piece : List ℕ) → IsKept k → feeding_of k piece ≡ scan_of k piece
+pub feeding_is : (k : KeptDeframer) (piece : List ℕ) → IsKeptOfStream k → feeding_of k piece ≡ scan_of k piece
 unfolding feeding_of
 feeding_is k piece is =
-    let s : List ℕ = stream_of k in
+    let s : List ℕ = stream_behind_kept k in
     let none : frames_of s ≡ [] = no_frames k in
     let f : Feeding = scan_of (kept_of s) piece in
     feeding_by s piece f none (used_is piece s none)
     (scan_frames s piece ∙ ap (λ vs. vs ++ option_to_list f.verdict) none)
     (scan_answers s piece).whole
     (scan_kept s piece)
-    ∙ ap (λ (j : Kept). scan_of j piece) is
+    ∙ ap (λ (j : KeptDeframer). scan_of j piece) is
 
 pub feeding_scans : (stream piece : List ℕ) → feeding_of (kept_of stream) piece ≡ scan_of (kept_of stream) piece
 feeding_scans stream piece = feeding_is (kept_of stream) piece (kept_again (kept_of stream) (can_be_kept stream))

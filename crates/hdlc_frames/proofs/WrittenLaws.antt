@@ -6,7 +6,7 @@ use Rattle.hdlc_fcs.specs.Contents.{content_of}
 use Rattle.hdlc_fcs.specs.Laws.{ContentReadsBack}
 use Rattle.hdlc_frames.specs.Framing.{flag, Verdict, Frame, verdict_on, has_octets, frames_of}
 use Rattle.hdlc_frames.specs.Spelling.{escaped, spelling}
-use Rattle.hdlc_frames.specs.Deframing.{Kept, after_flag, open_piece, kept_since, kept_of, stream_of, used_behind, feeding_of}
+use Rattle.hdlc_frames.specs.Deframing.{KeptDeframer, after_flag, open_piece, kept_since, kept_of, stream_behind_kept, used_behind, feeding_of}
 use Rattle.hdlc_frames.specs.Laws.{AreWritable, WrittenAreRead, WrittenIsFirst, WrittenIsFed}
 use Rattle.hdlc_frames.proofs.StreamLaws.{verdicts_on, frames_from, piece_from, frames_from-nil, frames_from-cons, frames_from-append, frames_of-append, frames_of-nothing, open_piece-append, none_open, from_flag, closed_by-none, behind-flag, piece_from-cons, piece_from-nil, behind}
 use Rattle.hdlc_frames.proofs.SpellingLaws.{no_flag, no_flag_head, no_flag_tail, content_back, content_nonempty, verdict_on_escaped, plain_frames, plain_piece, behind_one_flag, closed_frame, spelling-is, frame_reads_as_itself, flag_parts}
@@ -133,14 +133,14 @@ used_first (x ∷ xs) stream (suc (suc m)) v none inside before here =
 kept_flag : kept_of (flag ∷ []) ≡ after_flag
 kept_flag = kept_of-is (flag ∷ []) ∙ ap kept_since open_flag ∙ kept_since-flag
 
-feeding_by_first : (k : Kept) (piece : List ℕ) (n : ℕ) (v : Verdict) (next : Kept) → n ≤ length piece → ((j : ℕ) → j < n → frames_of (stream_of k ++ take j piece) ≡ []) → frames_of (stream_of k ++ take n piece) ≡ v ∷ []
-    → kept_of (stream_of k ++ take n piece) ≡ next → feeding_of k piece ≡ record { used = n; verdict = Some v; kept = next }
+feeding_by_first : (k : KeptDeframer) (piece : List ℕ) (n : ℕ) (v : Verdict) (next : KeptDeframer) → n ≤ length piece → ((j : ℕ) → j < n → frames_of (stream_behind_kept k ++ take j piece) ≡ []) → frames_of (stream_behind_kept k ++ take n piece) ≡ v ∷ []
+    → kept_of (stream_behind_kept k ++ take n piece) ≡ next → feeding_of k piece ≡ record { used = n; verdict = Some v; kept = next }
 unfolding feeding_of
 feeding_by_first k piece n v next inside before here kept =
     let none = no_frames k in
-    rw (used_first piece (stream_of k) n v none inside before here, first_verdict (stream_of k) piece (Some v) n none here (λ e. cc), kept) refl
+    rw (used_first piece (stream_behind_kept k) n v none inside before here, first_verdict (stream_behind_kept k) piece (Some v) n none here (λ e. cc), kept) refl
 
-feeding_written : ContentReadsBack → (k : Kept) (stream : List ℕ) → stream_of k ≡ stream → Quiet stream → (a : ℕ) (body rest : List ℕ) → 1 ≤ length body → length body ≤ 1029
+feeding_written : ContentReadsBack → (k : KeptDeframer) (stream : List ℕ) → stream_behind_kept k ≡ stream → Quiet stream → (a : ℕ) (body rest : List ℕ) → 1 ≤ length body → length body ≤ 1029
     → feeding_of k (spelling a body ++ rest) ≡ record { used = length (spelling a body); verdict = Some (Frame a body); kept = after_flag }
 feeding_written reads k stream is quiet a body rest some fits =
     let e : List ℕ = escaped (content_of a body) in
@@ -158,13 +158,13 @@ feeding_written reads k stream is quiet a body rest some fits =
     (ap (λ xs. frames_of (xs ++ take (length e + 2) (flag ∷ (e ++ flag ∷ rest)))) is ∙ whole)
     (ap (λ xs. kept_of (xs ++ take (length e + 2) (flag ∷ (e ++ flag ∷ rest)))) is ∙ kept))
 
-stream_after_flag : stream_of after_flag ≡ flag ∷ []
-unfolding stream_of escaped
+stream_after_flag : stream_behind_kept after_flag ≡ flag ∷ []
+unfolding stream_behind_kept escaped
 stream_after_flag = refl
 
-stream_fresh : stream_of (kept_of []) ≡ []
-unfolding stream_of
-stream_fresh = ap stream_of kept_of-nothing
+stream_fresh : stream_behind_kept (kept_of []) ≡ []
+unfolding stream_behind_kept
+stream_fresh = ap stream_behind_kept kept_of-nothing
 
 pub written_is_fed : ContentReadsBack → WrittenIsFed
 written_is_fed reads a body rest some fits = (

@@ -9,7 +9,7 @@ use Rattle.hdlc_frames.specs.Spelling.{escaped}
 -- ---- what is kept
 
 -- what a deframer keeps of the octets since the newest flag
-pub record Kept : Type 0 where
+pub record KeptDeframer : Type 0 where
   -- whether a flag came
   pub begun : Bool
   -- whether the newest octet is an escape that no earlier one escapes
@@ -22,25 +22,25 @@ unfoldable pub open_piece : List ℕ → Option (List ℕ)
 open_piece stream = last_or None (drop 1 (cut stream))
 
 -- what is kept of the octets behind the newest flag
-unfoldable pub kept_since : Option (List ℕ) → Kept
+unfoldable pub kept_since : Option (List ℕ) → KeptDeframer
 kept_since None = record { begun = false; escaping = false; content = [] }
 kept_since (Some piece) = record { begun = true; escaping = ends_in_escape piece false; content = take 1033 (unescaped piece false) }
 
 -- what is kept of a stream
-unfoldable pub kept_of : List ℕ → Kept
+unfoldable pub kept_of : List ℕ → KeptDeframer
 kept_of stream = kept_since (open_piece stream)
 
 -- what is kept of a stream that ends in a flag
-abbrev pub after_flag : Kept
+abbrev pub after_flag : KeptDeframer
 after_flag = record { begun = true; escaping = false; content = [] }
 
 -- a stream of which this is kept, with no frame in it
-unfoldable pub stream_of : Kept → List ℕ
-stream_of k = if k.begun then flag ∷ escaped k.content ++ (if k.escaping then escape ∷ [] else []) else []
+unfoldable pub stream_behind_kept : KeptDeframer → List ℕ
+stream_behind_kept k = if k.begun then flag ∷ escaped k.content ++ (if k.escaping then escape ∷ [] else []) else []
 
 -- this is kept of some stream: a deframer never keeps anything else
-abbrev pub IsKept : Kept → Type 0
-IsKept k = kept_of (stream_of k) ≡ k
+abbrev pub IsKeptOfStream : KeptDeframer → Type 0
+IsKeptOfStream k = kept_of (stream_behind_kept k) ≡ k
 
 -- ---- one call
 
@@ -49,7 +49,7 @@ IsKept k = kept_of (stream_of k) ≡ k
 pub record Feeding : Type 0 where
   pub used : ℕ
   pub verdict : Option Verdict
-  pub kept : Kept
+  pub kept : KeptDeframer
 
 -- whether there is a verdict
 abbrev pub has_verdicts : List Verdict → Bool
@@ -64,21 +64,21 @@ used_behind stream (x ∷ xs) =
     if has_verdicts (frames_of (stream ++ x ∷ [])) then 1 else used_behind (stream ++ x ∷ []) xs + 1
 
 -- feeding a piece to a deframer that keeps k
-unfoldable pub feeding_of : Kept → List ℕ → Feeding
+unfoldable pub feeding_of : KeptDeframer → List ℕ → Feeding
 feeding_of k piece = record {
-  used = used_behind (stream_of k) piece;
-  verdict = slice_get (frames_of (stream_of k ++ piece)) 0;
-  kept = kept_of (stream_of k ++ take (used_behind (stream_of k) piece) piece);
+  used = used_behind (stream_behind_kept k) piece;
+  verdict = slice_get (frames_of (stream_behind_kept k ++ piece)) 0;
+  kept = kept_of (stream_behind_kept k ++ take (used_behind (stream_behind_kept k) piece) piece);
 }
 
 -- ---- one call behind any stream
 
 -- the octets that a call uses add its verdict, or nothing, to the frames of each stream of which this is kept
-abbrev pub AddsToFrames : Kept → List ℕ → ℕ → Option Verdict → Type 0
+abbrev pub AddsToFrames : KeptDeframer → List ℕ → ℕ → Option Verdict → Type 0
 AddsToFrames kept piece used verdict =
     (stream : List ℕ) → kept ≡ kept_of stream → frames_of (stream ++ take used piece) ≡ frames_of stream ++ option_to_list verdict
 
 -- fewer octets add nothing
-abbrev pub FewerAddNothing : Kept → List ℕ → ℕ → Type 0
+abbrev pub FewerAddNothing : KeptDeframer → List ℕ → ℕ → Type 0
 FewerAddNothing kept piece used =
     (stream : List ℕ) → kept ≡ kept_of stream → (k : ℕ) → k < used → frames_of (stream ++ take k piece) ≡ frames_of stream

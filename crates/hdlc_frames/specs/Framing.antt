@@ -5,7 +5,7 @@ use Rattle.std.specs.Prelude.{ℕ, ◌-◌, Bool, true, false, nat_lt, ◌==◌,
 use Rattle.std.specs.List.{slice_split}
 use Rattle.hdlc_fcs.specs.FrameCheck.{fcs_of}
 pub use Rattle.hdlc_fcs.specs.Contents.{longest, checked_part, check_number}
-use Rattle.hdlc_fcs.specs.Contents.{shortest, address_of, body_of}
+use Rattle.hdlc_fcs.specs.Contents.{shortest, address_in_content, body_of}
 
 -- the octet that bounds frames
 abbrev pub flag : ℕ
@@ -40,7 +40,7 @@ verdict_on_content content =
     if nat_lt longest (length content) then TooLong else
     if nat_lt (length content) shortest then TooShort else
     if fcs_of (checked_part content) == check_number content
-    then Frame (address_of content) (body_of content)
+    then Frame (address_in_content content) (body_of content)
     else BadFcs
 
 -- the verdict on a piece between two flags

@@ -8,7 +8,7 @@ use Rattle.hdlc_frames.specs.declared.controls.Control.{Control}
 use Rattle.hdlc_frames.specs.Framing.{flag, Verdict, Frame, frames_of}
 use Rattle.hdlc_frames.specs.Spelling.{spelling}
 use Rattle.hdlc_frames.specs.FirstClose.{ClosesFirst}
-use Rattle.hdlc_frames.specs.Deframing.{Kept, after_flag, stream_of, IsKept, feeding_of, kept_of}
+use Rattle.hdlc_frames.specs.Deframing.{KeptDeframer, after_flag, stream_behind_kept, IsKeptOfStream, feeding_of, kept_of}
 
 -- ---- what is kept stands for the stream
 
@@ -17,47 +17,47 @@ use Rattle.hdlc_frames.specs.Deframing.{Kept, after_flag, stream_of, IsKept, fee
 abbrev pub KeptStandsForStream : Type 0
 KeptStandsForStream =
     (stream octets : List ℕ)
-    → (IsKept (kept_of stream) × (frames_of (stream_of (kept_of stream)) ≡ []))
-    × ((frames_of (stream ++ octets) ≡ frames_of stream ++ frames_of (stream_of (kept_of stream) ++ octets))
-    × (kept_of (stream ++ octets) ≡ kept_of (stream_of (kept_of stream) ++ octets)))
+    → (IsKeptOfStream (kept_of stream) × (frames_of (stream_behind_kept (kept_of stream)) ≡ []))
+    × ((frames_of (stream ++ octets) ≡ frames_of stream ++ frames_of (stream_behind_kept (kept_of stream) ++ octets))
+    × (kept_of (stream ++ octets) ≡ kept_of (stream_behind_kept (kept_of stream) ++ octets)))
 
 -- ---- pieces fed one after another, each once
 
 -- the octets that are used of them
-abbrev pub used_of : Kept → List (List ℕ) → List ℕ
-used_of k [] = []
-used_of k (piece ∷ pieces) = take (feeding_of k piece).used piece ++ used_of (feeding_of k piece).kept pieces
+abbrev pub octets_used_of_pieces : KeptDeframer → List (List ℕ) → List ℕ
+octets_used_of_pieces k [] = []
+octets_used_of_pieces k (piece ∷ pieces) = take (feeding_of k piece).used piece ++ octets_used_of_pieces (feeding_of k piece).kept pieces
 
 -- the verdicts that are given
-abbrev pub verdicts_of : Kept → List (List ℕ) → List Verdict
+abbrev pub verdicts_of : KeptDeframer → List (List ℕ) → List Verdict
 verdicts_of k [] = []
 verdicts_of k (piece ∷ pieces) = option_to_list (feeding_of k piece).verdict ++ verdicts_of (feeding_of k piece).kept pieces
 
 -- what is kept then
-abbrev pub kept_behind : Kept → List (List ℕ) → Kept
-kept_behind k [] = k
-kept_behind k (piece ∷ pieces) = kept_behind (feeding_of k piece).kept pieces
+abbrev pub kept_behind_pieces : KeptDeframer → List (List ℕ) → KeptDeframer
+kept_behind_pieces k [] = k
+kept_behind_pieces k (piece ∷ pieces) = kept_behind_pieces (feeding_of k piece).kept pieces
 
 -- the verdicts over any list of pieces are the frames of the octets used
 abbrev pub VerdictsAreFrames : Type 0
-VerdictsAreFrames = (pieces : List (List ℕ)) → verdicts_of (kept_of []) pieces ≡ frames_of (used_of (kept_of []) pieces)
+VerdictsAreFrames = (pieces : List (List ℕ)) → verdicts_of (kept_of []) pieces ≡ frames_of (octets_used_of_pieces (kept_of []) pieces)
 
 -- two lists of pieces of which the same octets are used give the same verdicts
 abbrev pub SameOctetsSameVerdicts : Type 0
 SameOctetsSameVerdicts =
-    (pieces others : List (List ℕ)) → used_of (kept_of []) pieces ≡ used_of (kept_of []) others
+    (pieces others : List (List ℕ)) → octets_used_of_pieces (kept_of []) pieces ≡ octets_used_of_pieces (kept_of []) others
     → verdicts_of (kept_of []) pieces ≡ verdicts_of (kept_of []) others
 
 -- the same behind any stream: the frames go on by the verdicts, and what is kept goes on by the octets used
 abbrev pub FeedingGoesOn : Type 0
 FeedingGoesOn =
     (stream : List ℕ) (pieces : List (List ℕ))
-    → (frames_of (stream ++ used_of (kept_of stream) pieces) ≡ frames_of stream ++ verdicts_of (kept_of stream) pieces)
-    × (kept_of (stream ++ used_of (kept_of stream) pieces) ≡ kept_behind (kept_of stream) pieces)
+    → (frames_of (stream ++ octets_used_of_pieces (kept_of stream) pieces) ≡ frames_of stream ++ verdicts_of (kept_of stream) pieces)
+    × (kept_of (stream ++ octets_used_of_pieces (kept_of stream) pieces) ≡ kept_behind_pieces (kept_of stream) pieces)
 
 -- behind a stream too: what is given and kept of one piece more
-abbrev pub GoesOn : Type 0
-GoesOn =
+abbrev pub StreamGoesOn : Type 0
+StreamGoesOn =
     (stream piece : List ℕ)
     → (frames_of (stream ++ take (feeding_of (kept_of stream) piece).used piece) ≡ frames_of stream ++ option_to_list (feeding_of (kept_of stream) piece).verdict)
     × (kept_of (stream ++ take (feeding_of (kept_of stream) piece).used piece) ≡ (feeding_of (kept_of stream) piece).kept)
@@ -65,26 +65,26 @@ GoesOn =
 -- ---- a stream cut into pieces, each fed again from where the deframer stopped until it is used whole
 
 -- feeding octets and then what is left of them, n times over
-abbrev pub rounds : ℕ → Kept → List ℕ → List (List ℕ)
-rounds zero k octets = []
-rounds (suc n) k octets = octets ∷ rounds n (feeding_of k octets).kept (drop (feeding_of k octets).used octets)
+abbrev pub pieces_fed_again : ℕ → KeptDeframer → List ℕ → List (List ℕ)
+pieces_fed_again zero k octets = []
+pieces_fed_again (suc n) k octets = octets ∷ pieces_fed_again n (feeding_of k octets).kept (drop (feeding_of k octets).used octets)
 
 -- what is kept after such rounds
-abbrev pub kept_after : ℕ → Kept → List ℕ → Kept
-kept_after zero k octets = k
-kept_after (suc n) k octets = kept_after n (feeding_of k octets).kept (drop (feeding_of k octets).used octets)
+abbrev pub kept_after_feedings : ℕ → KeptDeframer → List ℕ → KeptDeframer
+kept_after_feedings zero k octets = k
+kept_after_feedings (suc n) k octets = kept_after_feedings n (feeding_of k octets).kept (drop (feeding_of k octets).used octets)
 
 -- the verdicts on pieces that are each used whole; a call uses an octet at least, so as many rounds as a
 -- piece has octets are enough
-unfoldable pub verdicts_on_cut : Kept → List (List ℕ) → List Verdict
+unfoldable pub verdicts_on_cut : KeptDeframer → List (List ℕ) → List Verdict
 verdicts_on_cut k [] = []
 verdicts_on_cut k (piece ∷ pieces) =
-    verdicts_of k (rounds (length piece) k piece) ++ verdicts_on_cut (kept_after (length piece) k piece) pieces
+    verdicts_of k (pieces_fed_again (length piece) k piece) ++ verdicts_on_cut (kept_after_feedings (length piece) k piece) pieces
 
 -- what is kept behind such pieces
-unfoldable pub kept_on_cut : Kept → List (List ℕ) → Kept
+unfoldable pub kept_on_cut : KeptDeframer → List (List ℕ) → KeptDeframer
 kept_on_cut k [] = k
-kept_on_cut k (piece ∷ pieces) = kept_on_cut (kept_after (length piece) k piece) pieces
+kept_on_cut k (piece ∷ pieces) = kept_on_cut (kept_after_feedings (length piece) k piece) pieces
 
 -- any cut of a stream into pieces gives the frames of the stream
 abbrev pub AnyCutIsWhole : Type 0
@@ -101,7 +101,7 @@ CutGoesOn =
 -- from whatever a deframer keeps, two cuts of the same octets give the same verdicts and leave the same
 abbrev pub SameOctetsSameCut : Type 0
 SameOctetsSameCut =
-    (k : Kept) → IsKept k → (pieces others : List (List ℕ))
+    (k : KeptDeframer) → IsKeptOfStream k → (pieces others : List (List ℕ))
     → flat_map (λ piece. piece) pieces ≡ flat_map (λ piece. piece) others
     → (verdicts_on_cut k pieces ≡ verdicts_on_cut k others) × (kept_on_cut k pieces ≡ kept_on_cut k others)
 

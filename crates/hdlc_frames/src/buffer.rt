@@ -31,7 +31,7 @@ pub(crate) struct Buffer {
 }
 
 impl Buffer {
-    ghost use Rattle.hdlc_frames.specs.Deframing.{after_flag, IsKept};
+    ghost use Rattle.hdlc_frames.specs.Deframing.{after_flag, IsKeptOfStream};
     ghost use Rattle.hdlc_frames.specs.Scanning.{after_inner, closing_verdict, scan_of, Advances};
     ghost use Rattle.hdlc_frames.specs.Buffers.{kept_by};
 
@@ -48,7 +48,7 @@ impl Buffer {
 
     // Goes through a piece up to and with the first flag that closes a frame.
     pub(crate) fn scan(&mut self, piece: &[u8]) -> (usize, Option<Judgement>)
-        ensures stands { IsKept (kept_by self.old) }
+        ensures stands { IsKeptOfStream (kept_by self.old) }
         ensures used { result.0 ≡ (scan_of (kept_by self.old) piece.now).used }
         ensures kept { kept_by self.new ≡ (scan_of (kept_by self.old) piece.now).kept }
         ensures verdict { option_map (verdict_of self.new.octets) result.1 ≡ (scan_of (kept_by self.old) piece.now).verdict }

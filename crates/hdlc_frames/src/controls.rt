@@ -2,7 +2,7 @@
 
 ghost use Rattle.std.specs.Prelude.{◌≡◌, ◌+◌, ◌*◌, ◌<◌, Some, [], ◌∷◌};
 ghost use Rattle.std.specs.Option.{IsSome};
-ghost use Rattle.hdlc_frames.specs.Controls.{bit_of, extended_bit_of};
+ghost use Rattle.hdlc_frames.specs.Controls.{poll_final_value, extended_bit_of};
 
 use arrayvec::ArrayVec;
 
@@ -106,7 +106,7 @@ impl Control {
 
 // What the P/F bit adds to the one octet of a control.
 fn bit(set: bool) -> u8
-    ensures { result ≡ bit_of set }
+    ensures { result ≡ poll_final_value set }
 {
     if set { 0x10 } else { 0 }
 }

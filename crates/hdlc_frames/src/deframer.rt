@@ -2,10 +2,10 @@
 
 ghost use Rattle.std.specs.Prelude.{◌≡◌, ◌<◌, ◌≤◌, [], length, option_map, IsNone};
 ghost use Rattle.std.specs.Borrow.{sem};
-ghost use Rattle.hdlc_frames.specs.Deframing.{kept_of, feeding_of, IsKept, AddsToFrames, FewerAddNothing};
+ghost use Rattle.hdlc_frames.specs.Deframing.{kept_of, feeding_of, IsKeptOfStream, AddsToFrames, FewerAddNothing};
 ghost use Rattle.hdlc_frames.specs.Scanning.{scan_of};
-ghost use Rattle.hdlc_frames.specs.Shown.{shown};
-ghost use Rattle.hdlc_frames.specs.Resting.{Rests};
+ghost use Rattle.hdlc_frames.specs.Shown.{verdict_of_octets_found};
+ghost use Rattle.hdlc_frames.specs.Resting.{LeavesDeframerAs};
 
 use crate::buffer::Buffer;
 use crate::found::{Found, Frame};
@@ -20,10 +20,10 @@ pub struct Deframer {
 }
 
 impl Model for Deframer {
-    ghost use Rattle.hdlc_frames.specs.Deframing.{Kept};
+    ghost use Rattle.hdlc_frames.specs.Deframing.{KeptDeframer};
     ghost use Rattle.hdlc_frames.specs.Buffers.{kept_by};
 
-    ghost Value = { Kept };
+    ghost Value = { KeptDeframer };
 
     ghost view = { λ d. kept_by d.buffer };
 }
@@ -41,11 +41,11 @@ impl Deframer {
     /// Reads a piece up to and with the first flag that closes a frame, and answers how many octets it used
     /// and what it found. Where the piece closes no frame, it uses it whole and answers None.
     pub fn feed<'a>(&'a mut self, piece: &[u8]) -> (usize, Option<Found<'a>>)
-        ensures* after { sem 𝓛 (Rests self.entry (feeding_of self.old piece.now).kept) }
-        ensures stands { IsKept self.old }
+        ensures* after { sem 𝓛 (LeavesDeframerAs self.entry (feeding_of self.old piece.now).kept) }
+        ensures stands { IsKeptOfStream self.old }
         ensures used { result.0 ≡ (feeding_of self.old piece.now).used }
-        ensures found { option_map shown result.1 ≡ (feeding_of self.old piece.now).verdict }
-        ensures frames { AddsToFrames self.old piece.now result.0 (option_map shown result.1) }
+        ensures found { option_map verdict_of_octets_found result.1 ≡ (feeding_of self.old piece.now).verdict }
+        ensures frames { AddsToFrames self.old piece.now result.0 (option_map verdict_of_octets_found result.1) }
         ensures first { FewerAddNothing self.old piece.now result.0 }
         ensures whole { IsNone result.1 → result.0 ≡ length piece.now }
         ensures within { result.0 ≤ length piece.now }
@@ -56,10 +56,10 @@ impl Deframer {
 
     // Reads on, and lends the frame out of the buffer.
     fn read<'a>(&'a mut self, piece: &[u8]) -> (usize, Option<Found<'a>>)
-        ensures* after { sem 𝓛 (Rests self.entry (scan_of self.old piece.now).kept) }
-        ensures stands { IsKept self.old }
+        ensures* after { sem 𝓛 (LeavesDeframerAs self.entry (scan_of self.old piece.now).kept) }
+        ensures stands { IsKeptOfStream self.old }
         ensures used { result.0 ≡ (scan_of self.old piece.now).used }
-        ensures found { option_map shown result.1 ≡ (scan_of self.old piece.now).verdict }
+        ensures found { option_map verdict_of_octets_found result.1 ≡ (scan_of self.old piece.now).verdict }
     {
         let (used, judgement) = self.buffer.scan(piece);
         let buffer: &Buffer = &self.buffer;

@@ -1,25 +1,6 @@
 //! The laws of frames, each as a function of which its contract is the statement: they run nothing.
 
-ghost use Rattle.hdlc_frames.specs.Laws.{
-  KeptStandsForStream,
-  VerdictsAreFrames,
-  FeedingGoesOn,
-  SameOctetsSameVerdicts,
-  GoesOn,
-  AnyCutIsWhole,
-  CutGoesOn,
-  SameOctetsSameCut,
-  FrameReadsAsItself,
-  FrameAlone,
-  WrittenAreRead,
-  WrittenIsFirst,
-  WrittenIsFed,
-  FrameLength,
-  FlagParts,
-  ControlIsTable,
-  ControlReadsBack,
-  ControlLength,
-};
+ghost use Rattle.hdlc_frames.specs.Laws.{KeptStandsForStream, VerdictsAreFrames, FeedingGoesOn, SameOctetsSameVerdicts, StreamGoesOn, AnyCutIsWhole, CutGoesOn, SameOctetsSameCut, FrameReadsAsItself, FrameAlone, WrittenAreRead, WrittenIsFirst, WrittenIsFed, FrameLength, FlagParts, ControlIsTable, ControlReadsBack, ControlLength};
 
 use hdlc_fcs::laws::content_reads_back;
 
@@ -45,7 +26,7 @@ pub fn same_octets_same_verdicts()
 
 /// What one piece more adds behind any stream: its verdict to the frames, its used octets to what is kept.
 pub fn goes_on()
-    ensures { GoesOn }
+    ensures { StreamGoesOn }
 {}
 
 /// However a stream is cut into pieces, each fed until it is used whole, the verdicts are its frames.

@@ -10,12 +10,12 @@ use Rattle.hdlc_station_model.specs.declared.phase.Phase.TheVariants.{Up}
 use Rattle.hdlc_station_model.specs.Frames.{modulo, Frame, Info, Rr, Rej, Srej, SetUp, Disc, Dm, Ua, shown, information}
 use Rattle.hdlc_station_model.specs.Stations.{Station, is_down, sees, puts, settled}
 use Rattle.hdlc_station_model.specs.Sending.{can_send, waiting, sends_next, sends_up_to, sends_waiting, settles}
-use Rattle.hdlc_station_model.specs.Receiving.{strays, named, acknowledges, marks_busy}
+use Rattle.hdlc_station_model.specs.Receiving.{strays, number_shown_as, acknowledges, marks_busy}
 use Rattle.hdlc_station_model.specs.Selective.{held_for, is_found, is_one_of, numbers_from, without_gap, takes_run, holds, says_next, files_at, files, repeats_at, receives_as}
 use Rattle.hdlc_station_model.specs.Calls.{finishes}
-use Rattle.hdlc_pair_laws.specs.Invariant.{Pair, Both, infos, marks}
+use Rattle.hdlc_pair_laws.specs.Invariant.{IsStationPair, Both, infos, marks}
 use Rattle.hdlc_pair_laws.specs.Keeping.{found}
-use Rattle.hdlc_pair_laws.specs.Mending.{Comes, Mends}
+use Rattle.hdlc_pair_laws.specs.Mending.{HasAllSentComing, Mends}
 use Rattle.hdlc_pair_laws.proofs.Rows.{no_foreign}
 use Rattle.hdlc_pair_laws.proofs.Hearing.{row_as}
 use Rattle.hdlc_pair_laws.proofs.SelectiveRows.{named_at, named_none_or}
@@ -74,17 +74,17 @@ module _ (v least : ℕ) (w : List Frame) where
       (λ e. cond_both (is_found (held_for n x.held)) (says_next x) (holds n q x) (Noted v least w)
       (λ e. (is, more_asks x.held x.asked x.said _ h)) (λ e. (is, inr (holds_asks n q x is far h))))
 
-noted_row : (k : ℕ) (w : List Frame) (y : Station) (f : Frame) (fs : List Frame) (x : Station) → Pair true k (w ++ y.said) y (f ∷ fs) x → (g : HeldGap (f ∷ fs) x (w ++ y.said) y)
+noted_row : (k : ℕ) (w : List Frame) (y : Station) (f : Frame) (fs : List Frame) (x : Station) → IsStationPair true k (w ++ y.said) y (f ∷ fs) x → (g : HeldGap (f ∷ fs) x (w ++ y.said) y)
     → Noted (length y.taken) g.least w (row_as true Up y (shown y.extended f) (information f)) × Lacks (length y.taken) (infos fs)
 noted_row k w y (Info n r q) fs x p g =
     let v : ℕ = length y.taken in
-    let o : Option ℕ = named y.extended v (y.window - 1) (n % modulo y.extended) in (
+    let o : Option ℕ = number_shown_as y.extended v (y.window - 1) (n % modulo y.extended) in (
       numbered true k r (w ++ y.said) (Info n r q) fs y x (files (n % modulo y.extended) q) (Noted v g.least w) refl p
           (files_noted v g.least w o q (acknowledges r y) refl (far o refl (named_none_or k (w ++ y.said) y n r q fs x p o refl)) g.asks),
       g.out.2.1,
     )
   where
-    far : (o : Option ℕ) → named y.extended (length y.taken) (y.window - 1) (n % modulo y.extended) ≡ o → (o ≡ None) ⊎ (o ≡ Some n) → (m : ℕ) → o ≡ Some m → length y.taken < m
+    far : (o : Option ℕ) → number_shown_as y.extended (length y.taken) (y.window - 1) (n % modulo y.extended) ≡ o → (o ≡ None) ⊎ (o ≡ Some n) → (m : ℕ) → o ≡ Some m → length y.taken < m
     far o is (inl none) m e = absurd (let u : None ≡ Some m = sym none ∙ e in let z : ⊥ = cc in z)
     far o is (inr some) m e =
         let same : n ≡ m = (let u : Some n ≡ Some m = sym some ∙ e in cc) in
@@ -97,7 +97,7 @@ noted_row k w y (Rr r) fs x p g =
     (numbered true k r (w ++ y.said) (Rr r) fs y x (marks_busy false) (Noted (length y.taken) g.least w) refl p (refl, g.asks), g.out.2)
 noted_row k w y (Rej r) fs x p g = absurd (no_foreign x.calling y.taken x.sent (marks true fs) p.1.1)
 noted_row k w y (Srej r) fs x p g =
-    let o : Option ℕ = named y.extended y.acked (y.sent - y.acked - 1) (r % modulo y.extended) in (
+    let o : Option ℕ = number_shown_as y.extended y.acked (y.sent - y.acked - 1) (r % modulo y.extended) in (
       cond_both (nat_lt y.acked y.sent) (repeats_at o y) (strays y) (Noted (length y.taken) g.least w) (λ some. again_noted (length y.taken) g.least w o y (refl, g.asks)) (λ none. (refl, g.asks)),
       g.out.2,
     )
@@ -117,7 +117,7 @@ shows_now Disc nr = nr
 shows_now Dm nr = nr
 shows_now (Ua final) nr = nr
 
-turn_waits : (next sent : ℕ) (a b : ℕ × List ℕ) (held fs : List (ℕ × List ℕ)) → Comes true next held (a ∷ b ∷ fs) sent → Comes true next held (b ∷ a ∷ fs) sent
+turn_waits : (next sent : ℕ) (a b : ℕ × List ℕ) (held fs : List (ℕ × List ℕ)) → HasAllSentComing true next held (a ∷ b ∷ fs) sent → HasAllSentComing true next held (b ∷ a ∷ fs) sent
 turn_waits next sent a b held fs h = λ m low high. elim (h m low high) [
   | inl is ↦ inl is
   | inr (inl first) ↦ inr (inr (inl first))

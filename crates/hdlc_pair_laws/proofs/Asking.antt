@@ -10,13 +10,13 @@ use Rattle.hdlc_station_model.specs.declared.phase.Phase.TheVariants.{Up}
 use Rattle.hdlc_station_model.specs.Frames.{modulo, Frame, Info, Rr, Rej, Srej, SetUp, Disc, Dm, Ua, shown, information}
 use Rattle.hdlc_station_model.specs.Stations.{Station, is_down, sees, puts}
 use Rattle.hdlc_station_model.specs.Sending.{info_at, sends_waiting}
-use Rattle.hdlc_station_model.specs.Receiving.{strays, named, acknowledges, marks_busy}
+use Rattle.hdlc_station_model.specs.Receiving.{strays, number_shown_as, acknowledges, marks_busy}
 use Rattle.hdlc_station_model.specs.Selective.{held_for, is_found, without_gap, numbers_from, takes_run, missing_below, holds, says_next, files_at, files, repeats_at, receives_as}
 use Rattle.hdlc_station_model.specs.Calls.{finishes}
-use Rattle.hdlc_pair_laws.specs.Invariant.{Pair, Both, infos, numbers, marks, info_of, number_of}
+use Rattle.hdlc_pair_laws.specs.Invariant.{IsStationPair, Both, infos, receive_numbers_in_frames, marks, info_of, receive_numbers_in_frame}
 use Rattle.hdlc_pair_laws.specs.Keeping.{found}
-use Rattle.hdlc_pair_laws.specs.Flowing.{Ends}
-use Rattle.hdlc_pair_laws.specs.Mending.{Comes, Mends, Waits}
+use Rattle.hdlc_pair_laws.specs.Flowing.{EndsAtNumber}
+use Rattle.hdlc_pair_laws.specs.Mending.{HasAllSentComing, Mends, Waits}
 use Rattle.hdlc_pair_laws.proofs.Ways.{climbs_le}
 use Rattle.hdlc_pair_laws.proofs.Keeps.{more}
 use Rattle.hdlc_pair_laws.proofs.Rows.{found as named_found, no_foreign, span_below}
@@ -138,7 +138,7 @@ module _ (w l : List Frame) (y : Station) where
 
 -- ---- a frame comes to the station that lost one
 
-comes_behind : (v sent : ℕ) (p : List ℕ) (held waits : List (ℕ × List ℕ)) → Comes true v held ((v, p) ∷ waits) sent → Waits v waits → Comes true v held waits sent
+comes_behind : (v sent : ℕ) (p : List ℕ) (held waits : List (ℕ × List ℕ)) → HasAllSentComing true v held ((v, p) ∷ waits) sent → Waits v waits → HasAllSentComing true v held waits sent
 comes_behind v sent p held waits h is = λ m low high. elim (h m low high) [
   | inl held_is ↦ inl held_is
   | inr (inl same) ↦ inr (subst (λ (j : ℕ). Waits j waits) same is)
@@ -152,7 +152,7 @@ sent_again w x fs y nr p v is m =
     let q : List ℕ = slice_index_or x.handed v [] in
     let f : Frame = info_at x v in
     let e : infos (w ++ (x.said ++ f ∷ [])) ≡ infos (w ++ x.said) ++ (v, q) ∷ [] = ap infos (sym (append_assoc w x.said (f ∷ []))) ∙ more info_of (w ++ x.said) f in
-    let en : numbers (w ++ (x.said ++ f ∷ [])) ≡ numbers (w ++ x.said) ++ length x.taken ∷ [] = ap numbers (sym (append_assoc w x.said (f ∷ []))) ∙ more number_of (w ++ x.said) f in
+    let en : receive_numbers_in_frames (w ++ (x.said ++ f ∷ [])) ≡ receive_numbers_in_frames (w ++ x.said) ++ length x.taken ∷ [] = ap receive_numbers_in_frames (sym (append_assoc w x.said (f ∷ []))) ∙ more receive_numbers_in_frame (w ++ x.said) f in
     let is_there : Waits (length y.taken) (infos (w ++ (x.said ++ f ∷ []))) =
     subst (λ (j : ℕ). Waits j (infos (w ++ (x.said ++ f ∷ [])))) (sym is) (subst (Waits v) (sym e) (waits_last v (infos (w ++ x.said)) q)) in (
       (
@@ -166,27 +166,27 @@ sent_again w x fs y nr p v is m =
         m.0.4,
         m.0.5,
       ),
-      λ owes none. subst (λ ns. Ends y.acked ns (length x.taken)) (sym en) (ends_push y.acked (length x.taken) (numbers (w ++ x.said))),
+      λ owes none. subst (λ ns. EndsAtNumber y.acked ns (length x.taken)) (sym en) (ends_push y.acked (length x.taken) (receive_numbers_in_frames (w ++ x.said))),
     )
 
 some_is : (a b : ℕ) → Some a ≡ Some b → a ≡ b
 some_is a b e = cc
 
-srej_row : (k : ℕ) (w : List Frame) (x : Station) (r : ℕ) (fs : List Frame) (y : Station) → Pair true k (w ++ x.said) x (Srej r ∷ fs) y → (g : HeldGap (w ++ x.said) x (Srej r ∷ fs) y)
-    → (o : Option ℕ) → named x.extended x.acked (x.sent - x.acked - 1) (r % modulo x.extended) ≡ o
+srej_row : (k : ℕ) (w : List Frame) (x : Station) (r : ℕ) (fs : List Frame) (y : Station) → IsStationPair true k (w ++ x.said) x (Srej r ∷ fs) y → (g : HeldGap (w ++ x.said) x (Srej r ∷ fs) y)
+    → (o : Option ℕ) → number_shown_as x.extended x.acked (x.sent - x.acked - 1) (r % modulo x.extended) ≡ o
     → MendsIn true (Info (length y.taken) g.nr g.payload ∷ w) (repeats_at o x) fs y → HeldFilledIn w (repeats_at o x) fs y
 srej_row k w x r fs y p g o named_as m =
     let v : ℕ = length y.taken in
-    let low = climbs_le x.acked v (numbers fs) p.0.0.climb in
+    let low = climbs_le x.acked v (receive_numbers_in_frames fs) p.0.0.climb in
     let high = g.out.0 in
     let small = span_below true x.extended k p.4 in
     let window = p.0.0.window in
-    let is : named x.extended x.acked (x.sent - x.acked - 1) (v % modulo x.extended) ≡ Some v =
+    let is : number_shown_as x.extended x.acked (x.sent - x.acked - 1) (v % modulo x.extended) ≡ Some v =
     named_found x.extended (x.sent - x.acked - 1) x.acked v low (omega (arith, low, high)) (omega (arith, small, window, low, high)) in
     at o named_as is m
   where
-    at : (o : Option ℕ) → named x.extended x.acked (x.sent - x.acked - 1) (r % modulo x.extended) ≡ o
-        → named x.extended x.acked (x.sent - x.acked - 1) (length y.taken % modulo x.extended) ≡ Some (length y.taken)
+    at : (o : Option ℕ) → number_shown_as x.extended x.acked (x.sent - x.acked - 1) (r % modulo x.extended) ≡ o
+        → number_shown_as x.extended x.acked (x.sent - x.acked - 1) (length y.taken % modulo x.extended) ≡ Some (length y.taken)
         → MendsIn true (Info (length y.taken) g.nr g.payload ∷ w) (repeats_at o x) fs y → HeldFilledIn w (repeats_at o x) fs y
     at None e is m = inr (record {
       nr = g.nr;
@@ -196,7 +196,7 @@ srej_row k w x r fs y p g o named_as m =
       out = g.out;
       asks = elim g.asks [
         | inl n ↦ inl n
-        | inr (inl same) ↦ absurd (let u : None ≡ Some (length y.taken) = sym e ∙ ap (λ (j : ℕ). named x.extended x.acked (x.sent - x.acked - 1) (j % modulo x.extended)) same ∙ is in let z : ⊥ = cc in z)
+        | inr (inl same) ↦ absurd (let u : None ≡ Some (length y.taken) = sym e ∙ ap (λ (j : ℕ). number_shown_as x.extended x.acked (x.sent - x.acked - 1) (j % modulo x.extended)) same ∙ is in let z : ⊥ = cc in z)
         | inr (inr has) ↦ inr has
       ];
     })
@@ -212,13 +212,13 @@ srej_row k w x r fs y p g o named_as m =
             out = info_out (length y.taken) g.least w n x differs g.out;
             asks = elim g.asks [
               | inl a ↦ inl a
-              | inr (inl same) ↦ absurd (differs (sym (some_is n (length y.taken) (sym e ∙ ap (λ (j : ℕ). named x.extended x.acked (x.sent - x.acked - 1) (j % modulo x.extended)) same ∙ is))))
+              | inr (inl same) ↦ absurd (differs (sym (some_is n (length y.taken) (sym e ∙ ap (λ (j : ℕ). number_shown_as x.extended x.acked (x.sent - x.acked - 1) (j % modulo x.extended)) same ∙ is))))
               | inr (inr has) ↦ inr has
             ];
           })
     ]
 
-held_sender_row : (k : ℕ) (w : List Frame) (x : Station) (f : Frame) (fs : List Frame) (y : Station) → Pair true k (w ++ x.said) x (f ∷ fs) y → (g : HeldGap (w ++ x.said) x (f ∷ fs) y)
+held_sender_row : (k : ℕ) (w : List Frame) (x : Station) (f : Frame) (fs : List Frame) (y : Station) → IsStationPair true k (w ++ x.said) x (f ∷ fs) y → (g : HeldGap (w ++ x.said) x (f ∷ fs) y)
     → MendsIn true (Info (length y.taken) g.nr g.payload ∷ w) (row_as true Up x (shown x.extended f) (information f)) fs y
     → HeldFilledIn w (row_as true Up x (shown x.extended f) (information f)) fs y
 held_sender_row k w x (Info n r q) fs y p g m = inr (record {
@@ -227,7 +227,7 @@ held_sender_row k w x (Info n r q) fs y p g m = inr (record {
   least = g.least;
   mends = m;
   out = numbered true k r (w ++ x.said) (Info n r q) fs x y (files (n % modulo x.extended) q) (NoInfo (length y.taken) g.least w) refl p
-      (files_out (length y.taken) g.least w (named x.extended (length x.taken) (x.window - 1) (n % modulo x.extended)) q (acknowledges r x) (g.out.0, g.out.1, g.out.2, λ owes. absurd (true≢false owes)));
+      (files_out (length y.taken) g.least w (number_shown_as x.extended (length x.taken) (x.window - 1) (n % modulo x.extended)) q (acknowledges r x) (g.out.0, g.out.1, g.out.2, λ owes. absurd (true≢false owes)));
   asks = g.asks;
 })
 held_sender_row k w x (Rr r) fs y p g m = inr (record {
@@ -240,11 +240,11 @@ held_sender_row k w x (Rr r) fs y p g m = inr (record {
 })
 held_sender_row k w x (Rej r) fs y p g m = absurd (no_foreign y.calling x.taken y.sent (marks true fs) p.1.1)
 held_sender_row k w x (Srej r) fs y p g m =
-    let low = climbs_le x.acked (length y.taken) (numbers fs) p.0.0.climb in
+    let low = climbs_le x.acked (length y.taken) (receive_numbers_in_frames fs) p.0.0.climb in
     let high = g.out.0 in
-    cond_both (nat_lt x.acked x.sent) (repeats_at (named x.extended x.acked (x.sent - x.acked - 1) (r % modulo x.extended)) x) (strays x)
+    cond_both (nat_lt x.acked x.sent) (repeats_at (number_shown_as x.extended x.acked (x.sent - x.acked - 1) (r % modulo x.extended)) x) (strays x)
     (λ t. MendsIn true (Info (length y.taken) g.nr g.payload ∷ w) t fs y → HeldFilledIn w t fs y)
-    (λ some n. srej_row k w x r fs y p g (named x.extended x.acked (x.sent - x.acked - 1) (r % modulo x.extended)) refl n)
+    (λ some n. srej_row k w x r fs y p g (number_shown_as x.extended x.acked (x.sent - x.acked - 1) (r % modulo x.extended)) refl n)
     (λ none. absurd (true≢false (sym (lt-ltb x.acked x.sent (omega (arith, low, high))) ∙ none))) m
 held_sender_row k w x SetUp fs y p g m = absurd g.mends.0.3.0
 held_sender_row k w x Disc fs y p g m = absurd g.mends.0.3.0

@@ -9,7 +9,7 @@ use Rattle.hdlc_station_model.specs.Sending.{sends_waiting, settles}
 use Rattle.hdlc_station_model.specs.Calls.{finishes}
 use Rattle.hdlc_station_model.specs.Selective.{receives_as}
 use Rattle.hdlc_station_model.specs.Repeating.{passes_bound}
-use Rattle.hdlc_pair_laws.specs.Invariant.{Pair, Both, infos, numbers}
+use Rattle.hdlc_pair_laws.specs.Invariant.{IsStationPair, Both, infos, receive_numbers_in_frames}
 use Rattle.hdlc_pair_laws.specs.Flowing.{one_if}
 use Rattle.hdlc_pair_laws.proofs.Ways.{way_bounds}
 use Rattle.hdlc_pair_laws.proofs.Hearing.{row_as, hears_as, received, frame_heard}
@@ -126,12 +126,12 @@ upkeep_le false window given true next fresh gap held asked some low owes =
 upkeep_le false window given false next fresh gap held asked some low owes =
     omega (arith, rejections_le window (given - next + ungapped fresh gap) (given + 1) (omega (arith, ungapped_le fresh gap)))
 
-pub left_le : (selective : Bool) (k window : ℕ) (lx : List Frame) (x : Station) (ly : List Frame) (y : Station) → 1 ≤ window → Pair selective k lx x ly y
+pub left_le : (selective : Bool) (k window : ℕ) (lx : List Frame) (x : Station) (ly : List Frame) (y : Station) → 1 ≤ window → IsStationPair selective k lx x ly y
     → InWindow window x.handed x → InWindow window y.handed y
     → left selective window lx x ly y ≤ passes_bound window (length lx + length ly) (length x.handed + length y.handed)
 left_le selective k window lx x ly y some p wx wy =
-    let bx = way_bounds k x.handed x.acked x.sent y.taken (infos lx) (numbers ly) p.0.0 in
-    let by = way_bounds k y.handed y.acked y.sent x.taken (infos ly) (numbers lx) p.1.0 in
+    let bx = way_bounds k x.handed x.acked x.sent y.taken (infos lx) (receive_numbers_in_frames ly) p.0.0 in
+    let by = way_bounds k y.handed y.acked y.sent x.taken (infos ly) (receive_numbers_in_frames lx) p.1.0 in
     let hx : ℕ = length x.handed in
     let hy : ℕ = length y.handed in
     let ux = upkeep_le selective window hy x.owed (length x.taken) (sets_up ly) x.gap x.held x.asked some (omega (arith, by.1, p.1.0.given)) wx.owes in

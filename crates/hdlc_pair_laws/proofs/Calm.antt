@@ -16,10 +16,10 @@ use Rattle.hdlc_station_model.specs.Selective.{receives_as}
 use Rattle.hdlc_station_model.specs.Calls.{hands, finishes, ticks}
 use Rattle.hdlc_station_model.specs.Events.{quits, is_late}
 use Rattle.hdlc_station_model.specs.Lines.{altered, next_of}
-use Rattle.hdlc_pair_laws.specs.Links.{Came, Link, station_of, line_of, with_line, did, opened}
-use Rattle.hdlc_pair_laws.specs.Steps.{LinkStep, Send, Pass, Lose, Repeat, Alter, Put, UserRelease, Drain, Tick, refusal_at, send_unless, lose, repeat, alter, release, tick_at, tick, is_overfull, Draining, pass_next, drained, step, happens, run}
-use Rattle.hdlc_pair_laws.specs.Laws.{Opening, after}
-use Rattle.hdlc_pair_laws.specs.Invariant.{Pair, Both}
+use Rattle.hdlc_pair_laws.specs.Links.{StationLinkOutcome, StationLink, station_of, frames_from_station, with_frames_from_station, did, opened_station_link}
+use Rattle.hdlc_pair_laws.specs.Steps.{StationLinkStep, Send, Pass, Lose, Repeat, Alter, Put, UserRelease, Drain, Tick, payload_refusal_at_side, send_unless, lose, repeat, alter, release, tick_at, tick, is_overfull, Draining, pass_next, drained, station_link_step, link_behind_step, station_link_run}
+use Rattle.hdlc_pair_laws.specs.Laws.{StationLinkOpening, after}
+use Rattle.hdlc_pair_laws.specs.Invariant.{IsStationPair, Both}
 use Rattle.hdlc_pair_laws.specs.Keeping.{found}
 use Rattle.hdlc_pair_laws.specs.LossFree.{FlowKeeps}
 use Rattle.hdlc_pair_laws.specs.Flowing.{Still, Asked, Agreed, Shape, Flushed, Midway}
@@ -70,7 +70,7 @@ taken_calm false p x h = (refl, h.1)
 -- ---- a frame comes
 
 up_calm : ControlReadsBack → (selective c : Bool) (k n : ℕ) (w : List Frame) (now : ℕ) (x : Station) (f : Frame) (fs : List Frame) (y : Station)
-    → Pair selective k (w ++ x.said) x (f ∷ fs) y → Flushed c n w x (f ∷ fs) y → IsCalm x → IsCalm (receives_as selective now (found y f) x)
+    → IsStationPair selective k (w ++ x.said) x (f ∷ fs) y → Flushed c n w x (f ∷ fs) y → IsCalm x → IsCalm (receives_as selective now (found y f) x)
 up_calm law selective c k n w now x (Info m r p) fs y h s calm =
     let z : Station = sees now x in
     subst IsCalm
@@ -92,10 +92,10 @@ first_is : (f g : Frame) (fs gs : List Frame) → f ∷ fs ≡ g ∷ gs → (f �
 first_is f g fs gs e = (cc, cc)
 
 asked_calm : ControlReadsBack → (selective : Bool) (k n : ℕ) (w : List Frame) (now : ℕ) (x : Station) (f : Frame) (fs : List Frame) (y : Station)
-    → Pair selective k (w ++ x.said) x (f ∷ fs) y → Asked n (f ∷ fs) y (w ++ x.said) x → IsCalm x → IsCalm (receives_as selective now (found y f) x)
+    → IsStationPair selective k (w ++ x.said) x (f ∷ fs) y → Asked n (f ∷ fs) y (w ++ x.said) x → IsCalm x → IsCalm (receives_as selective now (found y f) x)
 asked_calm law selective k n w now x f fs y h a calm =
     let first = first_is f SetUp fs [] a.2 in
-    let q = subst (λ (z : Frame). Pair selective k (w ++ x.said) x (z ∷ fs) y) first.0 h in
+    let q = subst (λ (z : Frame). IsStationPair selective k (w ++ x.said) x (z ∷ fs) y) first.0 h in
     let z : Station = agrees true (comes_up (sees now x)) in
     let e : receives_as selective now (found y f) x ≡ z =
     ap (λ (g : Frame). receives_as selective now (found y g) x) first.0 ∙ heard_live selective now (found y SetUp) x (ap is_down a.1)
@@ -105,10 +105,10 @@ asked_calm law selective k n w now x f fs y h a calm =
     subst IsCalm (sym e) calm
 
 agreed_calm : ControlReadsBack → (selective : Bool) (k n : ℕ) (w : List Frame) (now : ℕ) (x : Station) (f : Frame) (fs : List Frame) (y : Station)
-    → Pair selective k (w ++ x.said) x (f ∷ fs) y → Agreed n (w ++ x.said) x (f ∷ fs) y → IsCalm x → IsCalm (receives_as selective now (found y f) x)
+    → IsStationPair selective k (w ++ x.said) x (f ∷ fs) y → Agreed n (w ++ x.said) x (f ∷ fs) y → IsCalm x → IsCalm (receives_as selective now (found y f) x)
 agreed_calm law selective k n w now x f fs y h a calm =
     let first = first_is f (Ua true) fs [] a.3 in
-    let q = subst (λ (z : Frame). Pair selective k (w ++ x.said) x (z ∷ fs) y) first.0 h in
+    let q = subst (λ (z : Frame). IsStationPair selective k (w ++ x.said) x (z ∷ fs) y) first.0 h in
     let z : Station = comes_up (record (sees now x) { timer = None; expiries = 0 }) in
     let e : receives_as selective now (found y f) x ≡ sends_waiting z =
     ap (λ (g : Frame). receives_as selective now (found y g) x) first.0 ∙ heard_live selective now (found y (Ua true)) x (ap is_down a.0)
@@ -152,7 +152,7 @@ module _ (laws : Frames) (wd : ℕ) where
   keeps : FlowKeeps
   keeps = flow_keeps laws.back
 
-  same_calm : (l : Link) (came : List Came) → Sounds wd Calm l → Sounds wd Calm (record l { came = came })
+  same_calm : (l : StationLink) (came : List StationLinkOutcome) → Sounds wd Calm l → Sounds wd Calm (record l { came = came })
   same_calm l came h = same wd Calm l h l.moment l.passes l.order_kept l.loss_free came
 
   to_r : ToR wd Calm
@@ -181,7 +181,7 @@ module _ (laws : Frames) (wd : ℕ) where
 
   -- ---- the steps
 
-  sent_calm : (side : Side) (l : Link) (p : List ℕ) (o : Option Came) → (o ≡ None → length p ≤ 1026) → Sounds wd Calm l → Sounds wd Calm (send_unless o side p l)
+  sent_calm : (side : Side) (l : StationLink) (p : List ℕ) (o : Option StationLinkOutcome) → (o ≡ None → length p ≤ 1026) → Sounds wd Calm l → Sounds wd Calm (send_unless o side p l)
   sent_calm E l p (Some refused) short h = same_calm l _ h
   sent_calm R l p (Some refused) short h = same_calm l _ h
   sent_calm E l p None short h =
@@ -214,7 +214,7 @@ module _ (laws : Frames) (wd : ℕ) where
         ),
       )
 
-  e_ticked : (now : ℕ) (l : Link) → is_late now l.e ≡ false → Sounds wd Calm l → Sounds wd Calm (tick_at E now l)
+  e_ticked : (now : ℕ) (l : StationLink) → is_late now l.e ≡ false → Sounds wd Calm l → Sounds wd Calm (tick_at E now l)
   e_ticked now l late h =
       let q = h.claim in
       let t : Station = ticks now l.e in
@@ -231,7 +231,7 @@ module _ (laws : Frames) (wd : ℕ) where
         ),
       )
 
-  r_ticked : (now : ℕ) (l : Link) → is_late now l.r ≡ false → Sounds wd Calm l → Sounds wd Calm (tick_at R now l)
+  r_ticked : (now : ℕ) (l : StationLink) → is_late now l.r ≡ false → Sounds wd Calm l → Sounds wd Calm (tick_at R now l)
   r_ticked now l late h =
       let q = h.claim in
       let t : Station = ticks now l.r in
@@ -248,13 +248,13 @@ module _ (laws : Frames) (wd : ℕ) where
       )
 
   -- as long as nothing was lost
-  abbrev Clean : Link → Type 0
+  abbrev Clean : StationLink → Type 0
   Clean l = l.loss_free ≡ true → Sounds wd Calm l
 
-  ticked_calm : (now : ℕ) (l : Link) → Clean l → Clean (tick now l)
+  ticked_calm : (now : ℕ) (l : StationLink) → Clean l → Clean (tick now l)
   ticked_calm now l h e =
       let f = both_false l.loss_free (is_late now l.e) (is_late now l.r) e in
-      let first : Link = record l { moment = max l.moment now; loss_free = l.loss_free && not (is_late now l.e || is_late now l.r) } in
+      let first : StationLink = record l { moment = max l.moment now; loss_free = l.loss_free && not (is_late now l.e || is_late now l.r) } in
       r_ticked now (tick_at E now first) f.2 (e_ticked now first f.1 (same wd Calm l (h f.0) _ l.passes l.order_kept _ l.came))
 
   next_calm : (side : Option Side) (overfull : Bool) (d : Draining) → Sounds wd Calm d.link → Sounds wd Calm (pass_next side overfull d).link
@@ -268,55 +268,55 @@ module _ (laws : Frames) (wd : ℕ) where
       drained_calm most (pass_next (next_of d.link.from_e d.link.from_r) (is_overfull d.link) d)
       (next_calm (next_of d.link.from_e d.link.from_r) (is_overfull d.link) d h)
 
-  lost_calm : (side : Side) (line : List (List ℕ)) (l : Link) → Clean l → Clean (lose side line l)
+  lost_calm : (side : Side) (line : List (List ℕ)) (l : StationLink) → Clean l → Clean (lose side line l)
   lost_calm side [] l h = λ e. same_calm l _ (h e)
   lost_calm E (octets ∷ rest) l h = λ e. absurd cc
   lost_calm R (octets ∷ rest) l h = λ e. absurd cc
 
-  repeated_calm : (side : Side) (line : List (List ℕ)) (l : Link) → Clean l → Clean (repeat side line l)
+  repeated_calm : (side : Side) (line : List (List ℕ)) (l : StationLink) → Clean l → Clean (repeat side line l)
   repeated_calm side [] l h = λ e. same_calm l _ (h e)
   repeated_calm E (octets ∷ rest) l h = λ e. absurd cc
   repeated_calm R (octets ∷ rest) l h = λ e. absurd cc
 
-  changed_calm : (side : Side) (frames : List (List ℕ)) (l : Link) → Clean (with_line side frames (record l { order_kept = false; loss_free = false }))
+  changed_calm : (side : Side) (frames : List (List ℕ)) (l : StationLink) → Clean (with_frames_from_station side frames (record l { order_kept = false; loss_free = false }))
   changed_calm E frames l = λ e. absurd cc
   changed_calm R frames l = λ e. absurd cc
 
-  altered_calm : (side : Side) (place mask : ℕ) (line : List (List ℕ)) (l : Link) → Clean l → Clean (alter side place mask line l)
+  altered_calm : (side : Side) (place mask : ℕ) (line : List (List ℕ)) (l : StationLink) → Clean l → Clean (alter side place mask line l)
   altered_calm side place mask [] l h = λ e. same_calm l _ (h e)
   altered_calm side place mask (octets ∷ rest) l h =
       cond_both (nat_lt place (length octets))
-      (if mask == 0 then l else with_line side (altered octets place mask ∷ rest) (record l { order_kept = false; loss_free = false })) _ Clean
-      (λ in_frame. cond_both (mask == 0) l (with_line side (altered octets place mask ∷ rest) (record l { order_kept = false; loss_free = false })) Clean
+      (if mask == 0 then l else with_frames_from_station side (altered octets place mask ∷ rest) (record l { order_kept = false; loss_free = false })) _ Clean
+      (λ in_frame. cond_both (mask == 0) l (with_frames_from_station side (altered octets place mask ∷ rest) (record l { order_kept = false; loss_free = false })) Clean
       (λ none. h) (λ some. changed_calm side (altered octets place mask ∷ rest) l))
       (λ short e. same_calm l _ (h e))
 
-  released_calm : (side : Side) (sub : ℕ) (l : Link) → Clean (release side sub l)
+  released_calm : (side : Side) (sub : ℕ) (l : StationLink) → Clean (release side sub l)
   released_calm E sub l =
       cond_both (is_down l.e.phase) (record l { loss_free = false }) (did E (quits sub l.e) (record l { loss_free = false })) Clean (λ d e. absurd cc) (λ d e. absurd cc)
   released_calm R sub l =
       cond_both (is_down l.r.phase) (record l { loss_free = false }) (did R (quits sub l.r) (record l { loss_free = false })) Clean (λ d e. absurd cc) (λ d e. absurd cc)
 
-  step_calm : (s : LinkStep) (l : Link) → Clean l → Clean (step s l)
+  step_calm : (s : StationLinkStep) (l : StationLink) → Clean l → Clean (station_link_step s l)
   step_calm (Send side p) l h = λ e.
-      sent_calm side l p (refusal_at side (station_of l side) p (station_of l side).released) (refused_long side (station_of l side) p (station_of l side).released)
-      (h (sym (sent_free side p l (refusal_at side (station_of l side) p (station_of l side).released)) ∙ e))
-  step_calm (Pass side) l h = λ e. (passed wd Calm laws to_r to_e side l (h (sym (passed_free side (line_of l side) l) ∙ e))).0
-  step_calm (Lose side) l h = lost_calm side (line_of l side) l h
-  step_calm (Repeat side) l h = repeated_calm side (line_of l side) l h
-  step_calm (Alter side place mask) l h = altered_calm side place mask (line_of l side) l h
-  step_calm (Put side octets) l h = changed_calm side (octets ∷ line_of l side) l
+      sent_calm side l p (payload_refusal_at_side side (station_of l side) p (station_of l side).released) (refused_long side (station_of l side) p (station_of l side).released)
+      (h (sym (sent_free side p l (payload_refusal_at_side side (station_of l side) p (station_of l side).released)) ∙ e))
+  step_calm (Pass side) l h = λ e. (passed wd Calm laws to_r to_e side l (h (sym (passed_free side (frames_from_station l side) l) ∙ e))).0
+  step_calm (Lose side) l h = lost_calm side (frames_from_station l side) l h
+  step_calm (Repeat side) l h = repeated_calm side (frames_from_station l side) l h
+  step_calm (Alter side place mask) l h = altered_calm side place mask (frames_from_station l side) l h
+  step_calm (Put side octets) l h = changed_calm side (octets ∷ frames_from_station l side) l
   step_calm (UserRelease side sub) l h = released_calm side sub l
   step_calm (Drain most) l h = λ e.
       same_calm (drained most (record { link = l; passes = 0 })).link _
       (drained_calm most (record { link = l; passes = 0 }) (h (sym (drained_free most (record { link = l; passes = 0 })) ∙ e)))
   step_calm (Tick moment) l h = ticked_calm moment l h
 
-  run_calm : (steps : List LinkStep) (l : Link) → Clean l → Clean (run l steps)
+  run_calm : (steps : List StationLinkStep) (l : StationLink) → Clean l → Clean (station_link_run l steps)
   run_calm [] l h = h
-  run_calm (s ∷ rest) l h = run_calm rest (happens s l) (step_calm s (record l { came = [] }) (λ e. same_calm l [] (h e)))
+  run_calm (s ∷ rest) l h = run_calm rest (link_behind_step s l) (step_calm s (record l { came = [] }) (λ e. same_calm l [] (h e)))
 
-opened_calm : (s : Opening) → Sounds s.window Calm (opened s.selective s.extended s.window s.n2 s.t1 s.moment)
+opened_calm : (s : StationLinkOpening) → Sounds s.window Calm (opened_station_link s.selective s.extended s.window s.n2 s.t1 s.moment)
 opened_calm s = record {
   k = span_of s.selective s.extended s.window;
   fe = SetUp ∷ [];
@@ -335,5 +335,5 @@ opened_calm s = record {
   );
 }
 
-pub after_calm : Frames → (s : Opening) (steps : List LinkStep) → (after s steps).loss_free ≡ true → Sounds s.window Calm (after s steps)
-after_calm laws s steps = run_calm laws s.window steps (opened s.selective s.extended s.window s.n2 s.t1 s.moment) (λ e. opened_calm s)
+pub after_calm : Frames → (s : StationLinkOpening) (steps : List StationLinkStep) → (after s steps).loss_free ≡ true → Sounds s.window Calm (after s steps)
+after_calm laws s steps = run_calm laws s.window steps (opened_station_link s.selective s.extended s.window s.n2 s.t1 s.moment) (λ e. opened_calm s)

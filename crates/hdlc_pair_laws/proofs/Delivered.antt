@@ -14,11 +14,11 @@ use Rattle.hdlc_station_model.specs.Calls.{finishes}
 use Rattle.hdlc_station_model.specs.Selective.{receives_as}
 use Rattle.hdlc_station_model.specs.Events.{news, quits, is_late}
 use Rattle.hdlc_station_model.specs.Lines.{altered, next_of}
-use Rattle.hdlc_pair_laws.specs.Links.{Came, Link, station_of, line_of, with_line, did, hears_each, opened}
-use Rattle.hdlc_pair_laws.specs.Steps.{LinkStep, Send, Pass, Lose, Repeat, Alter, Put, UserRelease, Drain, Tick, refusal_at, send_unless, pass, lose, repeat, alter, release, tick_at, tick, is_overfull, Draining, pass_next, drained, step, happens, run}
-use Rattle.hdlc_pair_laws.specs.Laws.{Opening, after, IsEmpty, bound, Delivery, DeliveryBound}
-use Rattle.hdlc_pair_laws.specs.Invariant.{Pair, infos, numbers}
-use Rattle.hdlc_pair_laws.specs.Flowing.{Rests, Shape}
+use Rattle.hdlc_pair_laws.specs.Links.{StationLinkOutcome, StationLink, station_of, frames_from_station, with_frames_from_station, did, hears_each, opened_station_link}
+use Rattle.hdlc_pair_laws.specs.Steps.{StationLinkStep, Send, Pass, Lose, Repeat, Alter, Put, UserRelease, Drain, Tick, payload_refusal_at_side, send_unless, pass, lose, repeat, alter, release, tick_at, tick, is_overfull, Draining, pass_next, drained, station_link_step, link_behind_step, station_link_run}
+use Rattle.hdlc_pair_laws.specs.Laws.{StationLinkOpening, after, IsEmpty, bound, Delivery, DeliveryBound}
+use Rattle.hdlc_pair_laws.specs.Invariant.{IsStationPair, infos, receive_numbers_in_frames}
+use Rattle.hdlc_pair_laws.specs.Flowing.{HasNoPayloadToSend, Shape}
 use Rattle.hdlc_pair_laws.proofs.Ways.{way_bounds}
 use Rattle.hdlc_pair_laws.proofs.Lines.{none_on_line}
 use Rattle.hdlc_pair_laws.proofs.Opened.{span_of, opened_stands}
@@ -26,27 +26,27 @@ use Rattle.hdlc_pair_laws.proofs.Runs.{Frames, refused_long}
 use Rattle.hdlc_pair_laws.proofs.Delivers.{Flows, Passed, e_sends, r_sends, e_ticks, r_ticks, e_pass, r_pass}
 
 -- the parts of a link that the shape doesn't speak of
-same_flows : (l : Link) (came : List Came) → Flows l → Flows (record l { came = came })
+same_flows : (l : StationLink) (came : List StationLinkOutcome) → Flows l → Flows (record l { came = came })
 same_flows l came g = record { k = g.k; fe = g.fe; fr = g.fr; stands = g.stands; n = g.n; passes = g.passes; shape = g.shape }
 
 -- ---- a pass
 
-e_line : Frames → (l : Link) (line : List (List ℕ)) → l.from_e ≡ line → Flows l → Flows (pass E line l)
+e_line : Frames → (l : StationLink) (line : List (List ℕ)) → l.from_e ≡ line → Flows l → Flows (pass E line l)
 e_line laws l [] e g = same_flows l _ g
 e_line laws l (octets ∷ rest) e g = (e_pass laws l g octets rest e).flows
 
-r_line : Frames → (l : Link) (line : List (List ℕ)) → l.from_r ≡ line → Flows l → Flows (pass R line l)
+r_line : Frames → (l : StationLink) (line : List (List ℕ)) → l.from_r ≡ line → Flows l → Flows (pass R line l)
 r_line laws l [] e g = same_flows l _ g
 r_line laws l (octets ∷ rest) e g = (r_pass laws l g octets rest e).flows
 
-pass_flows : Frames → (side : Side) (l : Link) → Flows l → Flows (pass side (line_of l side) l)
+pass_flows : Frames → (side : Side) (l : StationLink) → Flows l → Flows (pass side (frames_from_station l side) l)
 pass_flows laws E l g = e_line laws l l.from_e refl g
 pass_flows laws R l g = r_line laws l l.from_r refl g
 
 -- ---- a drain
 
 -- behind a drain that began at l with n deliveries: nothing waits, or too many frames, or each pass was a delivery
-pub record Emptied (l : Link) (n most : ℕ) (d : Draining) : Type 0 where
+pub record Emptied (l : StationLink) (n most : ℕ) (d : Draining) : Type 0 where
   pub flows : Flows d.link
   pub handed_e : d.link.e.handed ≡ l.e.handed
   pub handed_r : d.link.r.handed ≡ l.r.handed
@@ -72,21 +72,21 @@ next_is [] (f ∷ fs) h = absurd cc
 next_is [] [] h = (refl, refl)
 
 -- the pass of the end that is next is a delivery
-e_delivers : Frames → (l : Link) (line : List (List ℕ)) (from_r : List (List ℕ)) → l.from_e ≡ line → next_of line from_r ≡ Some E → (g : Flows l) → Passed l g.n (pass E line l)
+e_delivers : Frames → (l : StationLink) (line : List (List ℕ)) (from_r : List (List ℕ)) → l.from_e ≡ line → next_of line from_r ≡ Some E → (g : Flows l) → Passed l g.n (pass E line l)
 e_delivers laws l (f ∷ fs) from_r e h g = e_pass laws l g f fs e
 e_delivers laws l [] (f ∷ fs) e h g = absurd cc
 e_delivers laws l [] [] e h g = absurd cc
 
-r_delivers : Frames → (l : Link) (from_e line : List (List ℕ)) → l.from_r ≡ line → next_of from_e line ≡ Some R → (g : Flows l) → Passed l g.n (pass R line l)
+r_delivers : Frames → (l : StationLink) (from_e line : List (List ℕ)) → l.from_r ≡ line → next_of from_e line ≡ Some R → (g : Flows l) → Passed l g.n (pass R line l)
 r_delivers laws l (f ∷ fs) line e h g = absurd cc
 r_delivers laws l [] (f ∷ fs) e h g = r_pass laws l g f fs e
 r_delivers laws l [] [] e h g = absurd cc
 
-pub delivers : Frames → (side : Side) (l : Link) → next_of l.from_e l.from_r ≡ Some side → (g : Flows l) → Passed l g.n (pass side (line_of l side) l)
+pub delivers : Frames → (side : Side) (l : StationLink) → next_of l.from_e l.from_r ≡ Some side → (g : Flows l) → Passed l g.n (pass side (frames_from_station l side) l)
 delivers laws E l h g = e_delivers laws l l.from_e l.from_r refl h g
 delivers laws R l h g = r_delivers laws l l.from_e l.from_r refl h g
 
-more_passes : (l l' : Link) (n most : ℕ) (d : Draining) → l'.e.handed ≡ l.e.handed → l'.r.handed ≡ l.r.handed → Emptied l' (n + 1) most d → Emptied l n (suc most) d
+more_passes : (l l' : StationLink) (n most : ℕ) (d : Draining) → l'.e.handed ≡ l.e.handed → l'.r.handed ≡ l.r.handed → Emptied l' (n + 1) most d → Emptied l n (suc most) d
 more_passes l l' n most d e r h =
     record {
       flows = h.flows;
@@ -110,7 +110,7 @@ one_round laws most rest d g (Some side) true next full =
 one_round laws most rest d g (Some side) false next full =
     let p = delivers laws side d.link next g in
     let r = rest (pass_next (Some side) false d) p.flows in
-    let l' : Link = pass side (line_of d.link side) d.link in
+    let l' : StationLink = pass side (frames_from_station d.link side) d.link in
     more_passes d.link l' g.n most (drained most (pass_next (Some side) false d)) p.handed_e p.handed_r
     (subst (λ (n : ℕ). Emptied l' n most (drained most (pass_next (Some side) false d))) p.count r)
 
@@ -120,12 +120,12 @@ drained_empties laws (suc most) d g = one_round laws most (drained_empties laws 
 
 -- ---- a line is loss-free before a step where it is so behind it
 
-heard_free : (side : Side) (vs : List Verdict) (l : Link) → (hears_each side vs l).loss_free ≡ l.loss_free
+heard_free : (side : Side) (vs : List Verdict) (l : StationLink) → (hears_each side vs l).loss_free ≡ l.loss_free
 heard_free side [] l = refl
 heard_free E (v ∷ vs) l = heard_free E vs (did E (finishes (receives_as l.selective l.moment v l.e)) l)
 heard_free R (v ∷ vs) l = heard_free R vs (did R (finishes (receives_as l.selective l.moment v l.r)) l)
 
-pub passed_free : (side : Side) (line : List (List ℕ)) (l : Link) → (pass side line l).loss_free ≡ l.loss_free
+pub passed_free : (side : Side) (line : List (List ℕ)) (l : StationLink) → (pass side line l).loss_free ≡ l.loss_free
 passed_free E [] l = refl
 passed_free R [] l = refl
 passed_free E (octets ∷ rest) l = heard_free R (news l.read_r octets) _
@@ -134,14 +134,14 @@ passed_free R (octets ∷ rest) l = heard_free E (news l.read_e octets) _
 next_free : (side : Option Side) (overfull : Bool) (d : Draining) → (pass_next side overfull d).link.loss_free ≡ d.link.loss_free
 next_free None overfull d = refl
 next_free (Some side) true d = refl
-next_free (Some side) false d = passed_free side (line_of d.link side) d.link
+next_free (Some side) false d = passed_free side (frames_from_station d.link side) d.link
 
 pub drained_free : (most : ℕ) (d : Draining) → (drained most d).link.loss_free ≡ d.link.loss_free
 drained_free zero d = refl
 drained_free (suc most) d =
     drained_free most (pass_next (next_of d.link.from_e d.link.from_r) (is_overfull d.link) d) ∙ next_free (next_of d.link.from_e d.link.from_r) (is_overfull d.link) d
 
-pub sent_free : (side : Side) (p : List ℕ) (l : Link) (o : Option Came) → (send_unless o side p l).loss_free ≡ l.loss_free
+pub sent_free : (side : Side) (p : List ℕ) (l : StationLink) (o : Option StationLinkOutcome) → (send_unless o side p l).loss_free ≡ l.loss_free
 sent_free E p l None = refl
 sent_free R p l None = refl
 sent_free E p l (Some refused) = refl
@@ -149,38 +149,38 @@ sent_free R p l (Some refused) = refl
 
 -- ---- the steps
 
-abbrev pub Clean : Link → Type 0
+abbrev pub Clean : StationLink → Type 0
 Clean l = l.loss_free ≡ true → Flows l
 
-sent_flows : (side : Side) (l : Link) (p : List ℕ) (o : Option Came) → (o ≡ None → length p ≤ 1026) → Flows l → Flows (send_unless o side p l)
+sent_flows : (side : Side) (l : StationLink) (p : List ℕ) (o : Option StationLinkOutcome) → (o ≡ None → length p ≤ 1026) → Flows l → Flows (send_unless o side p l)
 sent_flows side l p (Some refused) short g = same_flows l _ g
 sent_flows E l p None short g = e_sends l p (short refl) g
 sent_flows R l p None short g = r_sends l p (short refl) g
 
-lost_clean : (side : Side) (line : List (List ℕ)) (l : Link) → Clean l → Clean (lose side line l)
+lost_clean : (side : Side) (line : List (List ℕ)) (l : StationLink) → Clean l → Clean (lose side line l)
 lost_clean side [] l h = λ e. same_flows l _ (h e)
 lost_clean E (octets ∷ rest) l h = λ e. absurd cc
 lost_clean R (octets ∷ rest) l h = λ e. absurd cc
 
-repeated_clean : (side : Side) (line : List (List ℕ)) (l : Link) → Clean l → Clean (repeat side line l)
+repeated_clean : (side : Side) (line : List (List ℕ)) (l : StationLink) → Clean l → Clean (repeat side line l)
 repeated_clean side [] l h = λ e. same_flows l _ (h e)
 repeated_clean E (octets ∷ rest) l h = λ e. absurd cc
 repeated_clean R (octets ∷ rest) l h = λ e. absurd cc
 
-changed_clean : (side : Side) (frames : List (List ℕ)) (l : Link) → Clean (with_line side frames (record l { order_kept = false; loss_free = false }))
+changed_clean : (side : Side) (frames : List (List ℕ)) (l : StationLink) → Clean (with_frames_from_station side frames (record l { order_kept = false; loss_free = false }))
 changed_clean E frames l = λ e. absurd cc
 changed_clean R frames l = λ e. absurd cc
 
-altered_clean : (side : Side) (place mask : ℕ) (line : List (List ℕ)) (l : Link) → Clean l → Clean (alter side place mask line l)
+altered_clean : (side : Side) (place mask : ℕ) (line : List (List ℕ)) (l : StationLink) → Clean l → Clean (alter side place mask line l)
 altered_clean side place mask [] l h = λ e. same_flows l _ (h e)
 altered_clean side place mask (octets ∷ rest) l h =
     cond_both (nat_lt place (length octets))
-    (if mask == 0 then l else with_line side (altered octets place mask ∷ rest) (record l { order_kept = false; loss_free = false })) _ Clean
-    (λ in_frame. cond_both (mask == 0) l (with_line side (altered octets place mask ∷ rest) (record l { order_kept = false; loss_free = false })) Clean
+    (if mask == 0 then l else with_frames_from_station side (altered octets place mask ∷ rest) (record l { order_kept = false; loss_free = false })) _ Clean
+    (λ in_frame. cond_both (mask == 0) l (with_frames_from_station side (altered octets place mask ∷ rest) (record l { order_kept = false; loss_free = false })) Clean
     (λ none. h) (λ some. changed_clean side (altered octets place mask ∷ rest) l))
     (λ short e. same_flows l _ (h e))
 
-released_clean : (side : Side) (sub : ℕ) (l : Link) → Clean (release side sub l)
+released_clean : (side : Side) (sub : ℕ) (l : StationLink) → Clean (release side sub l)
 released_clean E sub l =
     cond_both (is_down l.e.phase) (record l { loss_free = false }) (did E (quits sub l.e) (record l { loss_free = false })) Clean (λ d e. absurd cc) (λ d e. absurd cc)
 released_clean R sub l =
@@ -192,37 +192,37 @@ both_false true false true h = absurd cc
 both_false true true c h = absurd cc
 both_false false b c h = absurd cc
 
-ticked_clean : (now : ℕ) (l : Link) → Clean l → Clean (tick now l)
+ticked_clean : (now : ℕ) (l : StationLink) → Clean l → Clean (tick now l)
 ticked_clean now l h e =
     let f = both_false l.loss_free (is_late now l.e) (is_late now l.r) e in
     let g = h f.0 in
-    let first : Link = record l { moment = max l.moment now; loss_free = l.loss_free && not (is_late now l.e || is_late now l.r) } in
+    let first : StationLink = record l { moment = max l.moment now; loss_free = l.loss_free && not (is_late now l.e || is_late now l.r) } in
     let g' : Flows first = record { k = g.k; fe = g.fe; fr = g.fr; stands = g.stands; n = g.n; passes = g.passes; shape = g.shape } in
     r_ticks (tick_at E now first) now f.2 (e_ticks first now f.1 g')
 
-step_clean : Frames → (s : LinkStep) (l : Link) → Clean l → Clean (step s l)
+step_clean : Frames → (s : StationLinkStep) (l : StationLink) → Clean l → Clean (station_link_step s l)
 step_clean laws (Send side p) l h = λ e.
-    sent_flows side l p (refusal_at side (station_of l side) p (station_of l side).released) (refused_long side (station_of l side) p (station_of l side).released)
-    (h (sym (sent_free side p l (refusal_at side (station_of l side) p (station_of l side).released)) ∙ e))
-step_clean laws (Pass side) l h = λ e. pass_flows laws side l (h (sym (passed_free side (line_of l side) l) ∙ e))
-step_clean laws (Lose side) l h = lost_clean side (line_of l side) l h
-step_clean laws (Repeat side) l h = repeated_clean side (line_of l side) l h
-step_clean laws (Alter side place mask) l h = altered_clean side place mask (line_of l side) l h
-step_clean laws (Put side octets) l h = changed_clean side (octets ∷ line_of l side) l
+    sent_flows side l p (payload_refusal_at_side side (station_of l side) p (station_of l side).released) (refused_long side (station_of l side) p (station_of l side).released)
+    (h (sym (sent_free side p l (payload_refusal_at_side side (station_of l side) p (station_of l side).released)) ∙ e))
+step_clean laws (Pass side) l h = λ e. pass_flows laws side l (h (sym (passed_free side (frames_from_station l side) l) ∙ e))
+step_clean laws (Lose side) l h = lost_clean side (frames_from_station l side) l h
+step_clean laws (Repeat side) l h = repeated_clean side (frames_from_station l side) l h
+step_clean laws (Alter side place mask) l h = altered_clean side place mask (frames_from_station l side) l h
+step_clean laws (Put side octets) l h = changed_clean side (octets ∷ frames_from_station l side) l
 step_clean laws (UserRelease side sub) l h = released_clean side sub l
 step_clean laws (Drain most) l h = λ e.
     same_flows (drained most (record { link = l; passes = 0 })).link _
     (drained_empties laws most (record { link = l; passes = 0 }) (h (sym (drained_free most (record { link = l; passes = 0 })) ∙ e))).flows
 step_clean laws (Tick moment) l h = ticked_clean moment l h
 
-happens_clean : Frames → (s : LinkStep) (l : Link) → Clean l → Clean (happens s l)
+happens_clean : Frames → (s : StationLinkStep) (l : StationLink) → Clean l → Clean (link_behind_step s l)
 happens_clean laws s l h = step_clean laws s (record l { came = [] }) (λ e. same_flows l [] (h e))
 
-run_clean : Frames → (steps : List LinkStep) (l : Link) → Clean l → Clean (run l steps)
+run_clean : Frames → (steps : List StationLinkStep) (l : StationLink) → Clean l → Clean (station_link_run l steps)
 run_clean laws [] l h = h
-run_clean laws (s ∷ rest) l h = run_clean laws rest (happens s l) (happens_clean laws s l h)
+run_clean laws (s ∷ rest) l h = run_clean laws rest (link_behind_step s l) (happens_clean laws s l h)
 
-pub opened_flows : (s : Opening) → Flows (opened s.selective s.extended s.window s.n2 s.t1 s.moment)
+pub opened_flows : (s : StationLinkOpening) → Flows (opened_station_link s.selective s.extended s.window s.n2 s.t1 s.moment)
 opened_flows s =
     record {
       k = span_of s.selective s.extended s.window;
@@ -235,20 +235,20 @@ opened_flows s =
     }
 
 -- before the first step there was no delivery
-pub opened_none : (s : Opening) → (opened_flows s).n ≡ 0
+pub opened_none : (s : StationLinkOpening) → (opened_flows s).n ≡ 0
 unfolding opened_flows
 opened_none s = refl
 
-pub after_flows : Frames → (s : Opening) (steps : List LinkStep) → (after s steps).loss_free ≡ true → Flows (after s steps)
-after_flows laws s steps = run_clean laws steps (opened s.selective s.extended s.window s.n2 s.t1 s.moment) (λ e. opened_flows s)
+pub after_flows : Frames → (s : StationLinkOpening) (steps : List StationLinkStep) → (after s steps).loss_free ≡ true → Flows (after s steps)
+after_flows laws s steps = run_clean laws steps (opened_station_link s.selective s.extended s.window s.n2 s.t1 s.moment) (λ e. opened_flows s)
 
 -- ---- the bound
 
-pub bound_at : (selective : Bool) (k n : ℕ) (lx : List Frame) (x : Station) (ly : List Frame) (y : Station) → Pair selective k lx x ly y → Shape n lx x ly y
+pub bound_at : (selective : Bool) (k n : ℕ) (lx : List Frame) (x : Station) (ly : List Frame) (y : Station) → IsStationPair selective k lx x ly y → Shape n lx x ly y
     → n + (length lx + length ly) ≤ 2 + 2 * (length x.handed + length y.handed)
 bound_at selective k n lx x ly y p shape =
-    let bx = way_bounds k x.handed x.acked x.sent y.taken (infos lx) (numbers ly) p.0.0 in
-    let by = way_bounds k y.handed y.acked y.sent x.taken (infos ly) (numbers lx) p.1.0 in
+    let bx = way_bounds k x.handed x.acked x.sent y.taken (infos lx) (receive_numbers_in_frames ly) p.0.0 in
+    let by = way_bounds k y.handed y.acked y.sent x.taken (infos ly) (receive_numbers_in_frames lx) p.1.0 in
     let gx = p.0.0.given in
     let gy = p.1.0.given in
     elim shape [
@@ -257,7 +257,7 @@ bound_at selective k n lx x ly y p shape =
       | inr (inr a) ↦ omega (arith, a.0.4)
     ]
 
-pub bound_flows : (l : Link) (g : Flows l) → g.n + (length g.fe + length g.fr) ≤ bound l
+pub bound_flows : (l : StationLink) (g : Flows l) → g.n + (length g.fe + length g.fr) ≤ bound l
 bound_flows l g = bound_at l.selective g.k g.n g.fe l.e g.fr l.r g.stands.pair g.shape
 
 pub delivery_bound : Frames → DeliveryBound
@@ -266,7 +266,7 @@ delivery_bound laws s steps e = let g = after_flows laws s steps e in omega (ari
 -- ---- an empty line
 
 -- a station that is up, has nothing unacknowledged and may begin has sent all
-pub all_sent : (x : Station) (c : Bool) → x.phase ≡ Up → x.busy ≡ false → x.sent ≡ x.acked → 1 ≤ x.window → (x.calling || nat_lt 0 (length x.taken)) ≡ true → Rests x → x.sent ≡ length x.handed
+pub all_sent : (x : Station) (c : Bool) → x.phase ≡ Up → x.busy ≡ false → x.sent ≡ x.acked → 1 ≤ x.window → (x.calling || nat_lt 0 (length x.taken)) ≡ true → HasNoPayloadToSend x → x.sent ≡ length x.handed
 all_sent x c up ready same some may (inr all) = all
 all_sent x c up ready same some may (inl cannot) =
     let room : nat_lt (x.sent - x.acked) x.window ≡ true = lt-ltb (x.sent - x.acked) x.window (omega arith) in
@@ -280,7 +280,7 @@ pub whole : (taken handed : List (List ℕ)) (s : ℕ) → taken ≡ take (lengt
 whole taken handed s prefix same all = prefix ∙ take_all (length taken) handed (omega arith)
 
 -- no frame waits
-pub emptied_at : (selective : Bool) (k n : ℕ) (x : Station) (y : Station) → Pair selective k [] x [] y → Shape n [] x [] y
+pub emptied_at : (selective : Bool) (k n : ℕ) (x : Station) (y : Station) → IsStationPair selective k [] x [] y → Shape n [] x [] y
     → (x.phase ≡ Up) × (y.phase ≡ Up) × (y.taken ≡ x.handed) × (1 ≤ length x.handed → x.taken ≡ y.handed)
 emptied_at selective k n x y p (inl a) = absurd (let e : [] ≡ SetUp ∷ [] = a.2 in let u : ⊥ = cc in u)
 emptied_at selective k n x y p (inr (inl a)) = absurd (let e : [] ≡ Ua true ∷ [] = a.3 in let u : ⊥ = cc in u)
@@ -303,10 +303,10 @@ emptied_at selective k n x y p (inr (inr a)) =
 
 pub delivery : Frames → Delivery
 delivery laws s steps free empty =
-    let l : Link = after s steps in
+    let l : StationLink = after s steps in
     let g = after_flows laws s steps free in
     let ne : g.fe ≡ [] = none_on_line l.e g.fe (sym empty.0 ∙ g.stands.lined_x) in
     let nr : g.fr ≡ [] = none_on_line l.r g.fr (sym empty.1 ∙ g.stands.lined_y) in
     emptied_at l.selective g.k g.n l.e l.r
-    (subst (λ (t : List Frame). Pair l.selective g.k t l.e [] l.r) ne (subst (λ (t : List Frame). Pair l.selective g.k g.fe l.e t l.r) nr g.stands.pair))
+    (subst (λ (t : List Frame). IsStationPair l.selective g.k t l.e [] l.r) ne (subst (λ (t : List Frame). IsStationPair l.selective g.k g.fe l.e t l.r) nr g.stands.pair))
     (subst (λ (t : List Frame). Shape g.n t l.e [] l.r) ne (subst (λ (t : List Frame). Shape g.n g.fe l.e t l.r) nr g.shape))

@@ -13,9 +13,9 @@ use Rattle.hdlc_station_model.specs.Sending.{can_send, waiting, sends_next, send
 use Rattle.hdlc_station_model.specs.Receiving.{row_idle, agrees, comes_up}
 use Rattle.hdlc_station_model.specs.Calls.{hands, finishes, ticks}
 use Rattle.hdlc_station_model.specs.Events.{is_late}
-use Rattle.hdlc_pair_laws.specs.Links.{Link, did, hears_each, reads}
+use Rattle.hdlc_pair_laws.specs.Links.{StationLink, did, hears_each, station_link_behind_octets}
 use Rattle.hdlc_pair_laws.specs.Steps.{counted, pass, tick_at}
-use Rattle.hdlc_pair_laws.specs.Invariant.{Pair, Both}
+use Rattle.hdlc_pair_laws.specs.Invariant.{IsStationPair, Both}
 use Rattle.hdlc_pair_laws.specs.Keeping.{found}
 use Rattle.hdlc_pair_laws.specs.Flowing.{one_if, Still, AtRest, Fresh, Shape}
 use Rattle.hdlc_pair_laws.proofs.Events.{finishes_keeps, hands_keeps, ticks_keeps}
@@ -24,7 +24,7 @@ use Rattle.hdlc_pair_laws.proofs.Runs.{Frames}
 use Rattle.hdlc_pair_laws.proofs.Hearing.{row_as}
 use Rattle.hdlc_pair_laws.proofs.Flows.{still_swap, still_back, Within, ends_well, heard_live, heard_row, answered_flows, handed_flows, not_due, ticked_flows}
 
-pub record Flows (l : Link) : Type 0 where
+pub record Flows (l : StationLink) : Type 0 where
   pub k : ℕ
   pub fe : List Frame
   pub fr : List Frame
@@ -80,7 +80,7 @@ quiet_ticks now x live late cannot owes =
 
 -- ---- an event at an end
 
-e_flows : (l : Link) (g : Flows l) (x : Station) → Both l.selective g.k g.fe x g.fr l.r → Shape g.n (g.fe ++ x.said) x g.fr l.r → Flows (did E x l)
+e_flows : (l : StationLink) (g : Flows l) (x : Station) → Both l.selective g.k g.fe x g.fr l.r → Shape g.n (g.fe ++ x.said) x g.fr l.r → Flows (did E x l)
 e_flows l g x b shape = record {
   k = g.k;
   fe = g.fe ++ x.said;
@@ -91,7 +91,7 @@ e_flows l g x b shape = record {
   shape = shape;
 }
 
-r_flows : (l : Link) (g : Flows l) (x : Station) → Both l.selective g.k g.fr x g.fe l.e → Shape g.n g.fe l.e (g.fr ++ x.said) x → Flows (did R x l)
+r_flows : (l : StationLink) (g : Flows l) (x : Station) → Both l.selective g.k g.fr x g.fe l.e → Shape g.n g.fe l.e (g.fr ++ x.said) x → Flows (did R x l)
 r_flows l g x b shape =
     let t = turned l.selective g.k g.fe l.e g.fr l.r l.from_e l.from_r l.read_e l.read_r g.stands in
     let a = acted l.selective g.k g.fr l.r g.fe l.e l.from_r l.from_e l.read_r l.read_e x g.fe l.from_e l.read_r t t.lined_y t.flag_x b in
@@ -105,10 +105,10 @@ r_flows l g x b shape =
       shape = shape;
     }
 
-e_ready : (l : Link) (g : Flows l) → Both l.selective g.k g.fe l.e g.fr l.r
+e_ready : (l : StationLink) (g : Flows l) → Both l.selective g.k g.fe l.e g.fr l.r
 e_ready l g = begun l.selective g.k g.fe l.e g.fr l.r l.from_e l.from_r l.read_e l.read_r g.stands
 
-r_ready : (l : Link) (g : Flows l) → Both l.selective g.k g.fr l.r g.fe l.e
+r_ready : (l : StationLink) (g : Flows l) → Both l.selective g.k g.fr l.r g.fe l.e
 r_ready l g = begun l.selective g.k g.fr l.r g.fe l.e l.from_r l.from_e l.read_r l.read_e (turned l.selective g.k g.fe l.e g.fr l.r l.from_e l.from_r l.read_e l.read_r g.stands)
 
 -- nothing is said between two calls
@@ -123,7 +123,7 @@ within_r n lx x ly y h s = subst (λ (t : List Frame). Still false n t x ly y) (
 
 -- ---- a payload is handed down
 
-pub e_sends : (l : Link) (p : List ℕ) → length p ≤ 1026 → Flows l → Flows (did E (finishes (hands l.moment p l.e)) l)
+pub e_sends : (l : StationLink) (p : List ℕ) → length p ≤ 1026 → Flows l → Flows (did E (finishes (hands l.moment p l.e)) l)
 e_sends l p short g =
     e_flows l g (finishes (hands l.moment p l.e)) (finishes_keeps l.selective g.k g.fe (hands l.moment p l.e) g.fr l.r (hands_keeps l.selective g.k g.fe l.moment l.e g.fr l.r p short (e_ready l g)))
     (elim g.shape [
@@ -136,7 +136,7 @@ e_sends l p short g =
           inr (inr (d.0, d.1, a.2))
     ])
 
-pub r_sends : (l : Link) (p : List ℕ) → length p ≤ 1026 → Flows l → Flows (did R (finishes (hands l.moment p l.r)) l)
+pub r_sends : (l : StationLink) (p : List ℕ) → length p ≤ 1026 → Flows l → Flows (did R (finishes (hands l.moment p l.r)) l)
 r_sends l p short g =
     r_flows l g (finishes (hands l.moment p l.r)) (finishes_keeps l.selective g.k g.fr (hands l.moment p l.r) g.fe l.e (hands_keeps l.selective g.k g.fr l.moment l.r g.fe l.e p short (r_ready l g)))
     (elim g.shape [
@@ -152,7 +152,7 @@ r_sends l p short g =
 
 -- ---- a tick that finds no expired timer
 
-pub e_ticks : (l : Link) (now : ℕ) → is_late now l.e ≡ false → Flows l → Flows (tick_at E now l)
+pub e_ticks : (l : StationLink) (now : ℕ) → is_late now l.e ≡ false → Flows l → Flows (tick_at E now l)
 e_ticks l now late g =
     e_flows l g (finishes (ticks now l.e)) (finishes_keeps l.selective g.k g.fe (ticks now l.e) g.fr l.r (ticks_keeps l.selective g.k g.fe now l.e g.fr l.r (e_ready l g)))
     (elim g.shape [
@@ -165,7 +165,7 @@ e_ticks l now late g =
           inr (inr (d.0, d.1, a.2))
     ])
 
-pub r_ticks : (l : Link) (now : ℕ) → is_late now l.r ≡ false → Flows l → Flows (tick_at R now l)
+pub r_ticks : (l : StationLink) (now : ℕ) → is_late now l.r ≡ false → Flows l → Flows (tick_at R now l)
 r_ticks l now late g =
     r_flows l g (finishes (ticks now l.r)) (finishes_keeps l.selective g.k g.fr (ticks now l.r) g.fe l.e (ticks_keeps l.selective g.k g.fr now l.r g.fe l.e (r_ready l g)))
     (elim g.shape [
@@ -190,7 +190,7 @@ sets_up true x = idle_row x.extended x
 sets_up false x = idle_row x.extended x
 
 asked_answer : ControlReadsBack → (selective : Bool) (k : ℕ) (now : ℕ) (lx : List Frame) (x : Station) (fs : List Frame) (y : Station) → x.phase ≡ Idle → Fresh false x
-    → Pair selective k lx x (SetUp ∷ fs) y → answered selective now y SetUp x ≡ agrees true (comes_up (sees now x))
+    → IsStationPair selective k lx x (SetUp ∷ fs) y → answered selective now y SetUp x ≡ agrees true (comes_up (sees now x))
 asked_answer law selective k now lx x fs y idle fresh h =
     ap finishes (heard_live selective now (found y SetUp) x (ap is_down idle))
     ∙ ap (λ t. finishes (sends_waiting t))
@@ -203,7 +203,7 @@ agreed_row true x = refl
 agreed_row false x = refl
 
 pub agreed_answer : ControlReadsBack → (selective : Bool) (k : ℕ) (now : ℕ) (lx : List Frame) (x : Station) (fs : List Frame) (y : Station) → x.phase ≡ Setting
-    → Pair selective k lx x (Ua true ∷ fs) y → answered selective now y (Ua true) x ≡ finishes (sends_waiting (comes_up (record (sees now x) { timer = None; expiries = 0 })))
+    → IsStationPair selective k lx x (Ua true ∷ fs) y → answered selective now y (Ua true) x ≡ finishes (sends_waiting (comes_up (record (sees now x) { timer = None; expiries = 0 })))
 agreed_answer law selective k now lx x fs y setting h =
     ap finishes (heard_live selective now (found y (Ua true)) x (ap is_down setting))
     ∙ ap (λ t. finishes (sends_waiting t))
@@ -212,19 +212,19 @@ agreed_answer law selective k now lx x fs y setting h =
 -- ---- a frame is passed
 
 -- the link behind the pass, one delivery more; what was handed down stays
-pub record Passed (l : Link) (n : ℕ) (l' : Link) : Type 0 where
+pub record Passed (l : StationLink) (n : ℕ) (l' : StationLink) : Type 0 where
   pub flows : Flows l'
   pub count : flows.n ≡ n + 1
   pub handed_e : l'.e.handed ≡ l.e.handed
   pub handed_r : l'.r.handed ≡ l.r.handed
 
-abbrev from_e_passed : Link → List (List ℕ) → List ℕ → Station → Link
+abbrev from_e_passed : StationLink → List (List ℕ) → List ℕ → Station → StationLink
 from_e_passed l rest read x = did R x (record l { from_e = rest; passes = counted l.passes; read_r = read })
 
-abbrev from_r_passed : Link → List (List ℕ) → List ℕ → Station → Link
+abbrev from_r_passed : StationLink → List (List ℕ) → List ℕ → Station → StationLink
 from_r_passed l rest read x = did E x (record l { from_r = rest; passes = counted l.passes; read_e = read })
 
-e_passed_to : (l : Link) (g : Flows l) (octets : List ℕ) (rest : List (List ℕ)) (f : First l.e octets rest g.fe) (x : Station)
+e_passed_to : (l : StationLink) (g : Flows l) (octets : List ℕ) (rest : List (List ℕ)) (f : First l.e octets rest g.fe) (x : Station)
     → Both l.selective g.k g.fr x f.frames l.e → Shape (g.n + 1) f.frames l.e (g.fr ++ x.said) x → x.handed ≡ l.r.handed
     → Passed l g.n (from_e_passed l rest (l.read_r ++ octets_of l.e f.frame) x)
 e_passed_to l g octets rest f x b shape handed =
@@ -245,7 +245,7 @@ e_passed_to l g octets rest f x b shape handed =
       handed_r = handed;
     }
 
-r_passed_to : (l : Link) (g : Flows l) (octets : List ℕ) (rest : List (List ℕ)) (f : First l.r octets rest g.fr) (x : Station)
+r_passed_to : (l : StationLink) (g : Flows l) (octets : List ℕ) (rest : List (List ℕ)) (f : First l.r octets rest g.fr) (x : Station)
     → Both l.selective g.k g.fe x f.frames l.r → Shape (g.n + 1) (g.fe ++ x.said) x f.frames l.r → x.handed ≡ l.e.handed
     → Passed l g.n (from_r_passed l rest (l.read_e ++ octets_of l.r f.frame) x)
 r_passed_to l g octets rest f x b shape handed =
@@ -264,15 +264,15 @@ first_is f g fs gs l p q = let e : f ∷ fs ≡ g ∷ gs = sym p ∙ q in (cc, c
 none_first : (f : Frame) (fs l : List Frame) → l ≡ f ∷ fs → l ≡ [] → ⊥
 none_first f fs l p q = let e : f ∷ fs ≡ [] = sym p ∙ q in cc
 
-e_arrives : Frames → (l : Link) (g : Flows l) (octets : List ℕ) (rest : List (List ℕ)) (f : First l.e octets rest g.fe)
-    → Pair l.selective g.k g.fr l.r (f.frame ∷ f.frames) l.e → Both l.selective g.k g.fr l.r (f.frame ∷ f.frames) l.e
+e_arrives : Frames → (l : StationLink) (g : Flows l) (octets : List ℕ) (rest : List (List ℕ)) (f : First l.e octets rest g.fe)
+    → IsStationPair l.selective g.k g.fr l.r (f.frame ∷ f.frames) l.e → Both l.selective g.k g.fr l.r (f.frame ∷ f.frames) l.e
     → Passed l g.n (from_e_passed l rest (l.read_r ++ octets_of l.e f.frame) (answered l.selective l.moment l.e f.frame l.r))
 e_arrives laws l g octets rest f p b =
     let kept = answered_keeps laws.back l.selective g.k g.fr l.moment l.r f.frame f.frames l.e b in
     elim g.shape [
       | inl a ↦
           let first = first_is f.frame SetUp f.frames [] g.fe f.all a.2 in
-          let q = subst (λ (z : Frame). Pair l.selective g.k g.fr l.r (z ∷ f.frames) l.e) first.0 p in
+          let q = subst (λ (z : Frame). IsStationPair l.selective g.k g.fr l.r (z ∷ f.frames) l.e) first.0 p in
           let e = ap (λ (z : Frame). answered l.selective l.moment l.e z l.r) first.0 ∙ asked_answer laws.back l.selective g.k l.moment g.fr l.r f.frames l.e a.1 a.5 q in
           let x : Station = agrees true (comes_up (sees l.moment l.r)) in
           subst (λ (t : Station). Passed l g.n (from_e_passed l rest (l.read_r ++ octets_of l.e f.frame) t)) (sym e)
@@ -299,8 +299,8 @@ up_flows n w x y quiet none up few hx hy =
       record { own = λ e. absurd (true≢false (sym e ∙ hx.4)); peers = λ e. absurd (true≢false (sym e ∙ hy.4)) },
     )
 
-r_arrives : Frames → (l : Link) (g : Flows l) (octets : List ℕ) (rest : List (List ℕ)) (f : First l.r octets rest g.fr)
-    → Pair l.selective g.k g.fe l.e (f.frame ∷ f.frames) l.r → Both l.selective g.k g.fe l.e (f.frame ∷ f.frames) l.r
+r_arrives : Frames → (l : StationLink) (g : Flows l) (octets : List ℕ) (rest : List (List ℕ)) (f : First l.r octets rest g.fr)
+    → IsStationPair l.selective g.k g.fe l.e (f.frame ∷ f.frames) l.r → Both l.selective g.k g.fe l.e (f.frame ∷ f.frames) l.r
     → Passed l g.n (from_r_passed l rest (l.read_e ++ octets_of l.r f.frame) (answered l.selective l.moment l.r f.frame l.e))
 r_arrives laws l g octets rest f p b =
     let kept = answered_keeps laws.back l.selective g.k g.fe l.moment l.e f.frame f.frames l.r b in
@@ -308,7 +308,7 @@ r_arrives laws l g octets rest f p b =
       | inl a ↦ absurd (none_first f.frame f.frames g.fr f.all a.3)
       | inr (inl a) ↦
           let first = first_is f.frame (Ua true) f.frames [] g.fr f.all a.3 in
-          let q = subst (λ (z : Frame). Pair l.selective g.k g.fe l.e (z ∷ f.frames) l.r) first.0 p in
+          let q = subst (λ (z : Frame). IsStationPair l.selective g.k g.fe l.e (z ∷ f.frames) l.r) first.0 p in
           let e = ap (λ (z : Frame). answered l.selective l.moment l.r z l.e) first.0 ∙ agreed_answer laws.back l.selective g.k l.moment g.fe l.e f.frames l.r a.0 q in
           let z : Station = comes_up (record (sees l.moment l.e) { timer = None; expiries = 0 }) in
           let s = up_flows (g.n + 1) g.fe (record (sees l.moment l.e) { timer = None; expiries = 0; deed = z.deed }) l.r g.stands.quiet_x a.2 a.1 (omega (arith, a.6)) a.4 a.5 in
@@ -323,46 +323,46 @@ r_arrives laws l g octets rest f p b =
           (subst (λ (t : List Frame). Within true g.n g.fe l.e t l.r) f.all s) in
           r_passed_to l g octets rest f (answered l.selective l.moment l.r f.frame l.e) kept (inr (inr (d.0, d.1, a.2))) d.2
     ] where
-      e_is_up : (l : Link) (g : Flows l) (octets : List ℕ) (rest : List (List ℕ)) (f : First l.r octets rest g.fr) (x : Station) → Both l.selective g.k g.fe x f.frames l.r
+      e_is_up : (l : StationLink) (g : Flows l) (octets : List ℕ) (rest : List (List ℕ)) (f : First l.r octets rest g.fr) (x : Station) → Both l.selective g.k g.fe x f.frames l.r
           → Still true (g.n + 1) (g.fe ++ x.said) x f.frames l.r → AtRest x → AtRest l.r → x.handed ≡ l.e.handed
           → Passed l g.n (from_r_passed l rest (l.read_e ++ octets_of l.r f.frame) x)
       e_is_up l g octets rest f x b still rests others handed = r_passed_to l g octets rest f x b (inr (inr (still, rests, others))) handed
 
-pub e_pass : Frames → (l : Link) (g : Flows l) (octets : List ℕ) (rest : List (List ℕ)) → l.from_e ≡ octets ∷ rest → Passed l g.n (pass E (octets ∷ rest) l)
+pub e_pass : Frames → (l : StationLink) (g : Flows l) (octets : List ℕ) (rest : List (List ℕ)) → l.from_e ≡ octets ∷ rest → Passed l g.n (pass E (octets ∷ rest) l)
 e_pass laws l g octets rest e =
     let f = first_of_line l.e octets rest g.fe (sym e ∙ g.stands.lined_x) in
     let t = turned l.selective g.k g.fe l.e g.fr l.r l.from_e l.from_r l.read_e l.read_r g.stands in
-    let p : Pair l.selective g.k g.fr l.r (f.frame ∷ f.frames) l.e = subst (λ (q : List Frame). Pair l.selective g.k g.fr l.r q l.e) f.all t.pair in
+    let p : IsStationPair l.selective g.k g.fr l.r (f.frame ∷ f.frames) l.e = subst (λ (q : List Frame). IsStationPair l.selective g.k g.fr l.r q l.e) f.all t.pair in
     let b : Both l.selective g.k g.fr l.r (f.frame ∷ f.frames) l.e = subst (λ (q : List Frame). Both l.selective g.k g.fr l.r q l.e) f.all (r_ready l g) in
-    subst (λ (os : List ℕ). Passed l g.n (reads R os (record l { from_e = rest; passes = counted l.passes }))) (sym f.octets_are)
+    subst (λ (os : List ℕ). Passed l g.n (station_link_behind_octets R os (record l { from_e = rest; passes = counted l.passes }))) (sym f.octets_are)
     (subst (λ (vs : List Verdict). Passed l g.n (hears_each R vs (record l { from_e = rest; passes = counted l.passes; read_r = l.read_r ++ octets_of l.e f.frame })))
     (sym (one_event laws.parts laws.alone l.selective g.k g.fr l.r f.frame f.frames l.e l.read_r t.flag_x p))
     (e_arrives laws l g octets rest f p b))
 
-pub r_pass : Frames → (l : Link) (g : Flows l) (octets : List ℕ) (rest : List (List ℕ)) → l.from_r ≡ octets ∷ rest → Passed l g.n (pass R (octets ∷ rest) l)
+pub r_pass : Frames → (l : StationLink) (g : Flows l) (octets : List ℕ) (rest : List (List ℕ)) → l.from_r ≡ octets ∷ rest → Passed l g.n (pass R (octets ∷ rest) l)
 r_pass laws l g octets rest e =
     let f = first_of_line l.r octets rest g.fr (sym e ∙ g.stands.lined_y) in
-    let p : Pair l.selective g.k g.fe l.e (f.frame ∷ f.frames) l.r = subst (λ (q : List Frame). Pair l.selective g.k g.fe l.e q l.r) f.all g.stands.pair in
+    let p : IsStationPair l.selective g.k g.fe l.e (f.frame ∷ f.frames) l.r = subst (λ (q : List Frame). IsStationPair l.selective g.k g.fe l.e q l.r) f.all g.stands.pair in
     let b : Both l.selective g.k g.fe l.e (f.frame ∷ f.frames) l.r = subst (λ (q : List Frame). Both l.selective g.k g.fe l.e q l.r) f.all (e_ready l g) in
-    subst (λ (os : List ℕ). Passed l g.n (reads E os (record l { from_r = rest; passes = counted l.passes }))) (sym f.octets_are)
+    subst (λ (os : List ℕ). Passed l g.n (station_link_behind_octets E os (record l { from_r = rest; passes = counted l.passes }))) (sym f.octets_are)
     (subst (λ (vs : List Verdict). Passed l g.n (hears_each E vs (record l { from_r = rest; passes = counted l.passes; read_e = l.read_e ++ octets_of l.r f.frame })))
     (sym (one_event laws.parts laws.alone l.selective g.k g.fe l.e f.frame f.frames l.r l.read_e g.stands.flag_x p))
     (r_arrives laws l g octets rest f p b))
 
 -- ---- a payload and a tick deliver nothing
 
-pub e_sends_n : (l : Link) (p : List ℕ) (short : length p ≤ 1026) (g : Flows l) → (e_sends l p short g).n ≡ g.n
+pub e_sends_n : (l : StationLink) (p : List ℕ) (short : length p ≤ 1026) (g : Flows l) → (e_sends l p short g).n ≡ g.n
 unfolding e_sends e_flows
 e_sends_n l p short g = refl
 
-pub r_sends_n : (l : Link) (p : List ℕ) (short : length p ≤ 1026) (g : Flows l) → (r_sends l p short g).n ≡ g.n
+pub r_sends_n : (l : StationLink) (p : List ℕ) (short : length p ≤ 1026) (g : Flows l) → (r_sends l p short g).n ≡ g.n
 unfolding r_sends r_flows
 r_sends_n l p short g = refl
 
-pub e_ticks_n : (l : Link) (now : ℕ) (late : is_late now l.e ≡ false) (g : Flows l) → (e_ticks l now late g).n ≡ g.n
+pub e_ticks_n : (l : StationLink) (now : ℕ) (late : is_late now l.e ≡ false) (g : Flows l) → (e_ticks l now late g).n ≡ g.n
 unfolding e_ticks e_flows
 e_ticks_n l now late g = refl
 
-pub r_ticks_n : (l : Link) (now : ℕ) (late : is_late now l.r ≡ false) (g : Flows l) → (r_ticks l now late g).n ≡ g.n
+pub r_ticks_n : (l : StationLink) (now : ℕ) (late : is_late now l.r ≡ false) (g : Flows l) → (r_ticks l now late g).n ≡ g.n
 unfolding r_ticks r_flows
 r_ticks_n l now late g = refl

@@ -16,7 +16,7 @@ use Rattle.hdlc_station_model.specs.Selective.{receives_as}
 use Rattle.hdlc_station_model.specs.Calls.{hands, finishes, ticks, closes_at, closes}
 use Rattle.hdlc_station_model.specs.Events.{quits}
 use Rattle.hdlc_pair_laws.specs.Laws.{IsLosingLineRelease}
-use Rattle.hdlc_pair_laws.specs.Invariant.{Climbs, least_mark, greatest_mark, Half, IsSpan, Pair, Both, infos, numbers, marks, info_of, number_of, mark_of}
+use Rattle.hdlc_pair_laws.specs.Invariant.{Climbs, least_mark, greatest_mark, Half, IsSpan, IsStationPair, Both, infos, receive_numbers_in_frames, marks, info_of, receive_numbers_in_frame, marks_in_frame}
 use Rattle.hdlc_pair_laws.proofs.Ways.{climbs_push}
 use Rattle.hdlc_pair_laws.proofs.Keeps.{puts_quiet, sends_again_keeps, sends_waiting_keeps, settles_keeps, hand_keeps, down_keeps, more, same}
 use Rattle.hdlc_pair_laws.proofs.Rows.{first_gone, may_come}
@@ -32,7 +32,7 @@ not_not true false h = refl
 not_not false true h = refl
 not_not false false h = absurd cc
 
-pub swap : (selective : Bool) (k : ℕ) (lx : List Frame) (x : Station) (ly : List Frame) (y : Station) → Pair selective k lx x ly y → Pair selective k ly y lx x
+pub swap : (selective : Bool) (k : ℕ) (lx : List Frame) (x : Station) (ly : List Frame) (y : Station) → IsStationPair selective k lx x ly y → IsStationPair selective k ly y lx x
 swap selective k lx x ly y h = (h.1, h.0, not_not x.calling y.calling h.2, sym h.3, subst (λ (e : Bool). IsSpan selective e k) h.3 h.4)
 
 pub row_keeps : (selective : Bool) (k : ℕ) (w : List Frame) (x : Station) (f : Frame) (fs : List Frame) (y : Station)
@@ -79,10 +79,10 @@ set_up_sent selective k w x l y none calling b =
     let e : greatest_mark x.calling x.sent ≡ 0 = rw (calling, none) refl in
     let ms = subst (λ g. Climbs (least_mark x.calling y.taken) (marks selective lx ++ 0 ∷ []) g) (sym e)
     (climbs_push (least_mark x.calling y.taken) 0 (marks selective lx) (subst (λ g. Climbs (least_mark x.calling y.taken) (marks selective lx) g) e b.0.1)) in
-    subst (λ lz. Pair selective k lz x l y) (append_assoc w x.said (SetUp ∷ [])) (
-      subst (λ i. Half selective k i (marks selective (lx ++ SetUp ∷ [])) (numbers l) x y) (sym (same info_of lx SetUp refl))
-          (subst (λ m. Half selective k (infos lx) m (numbers l) x y) (sym (more (mark_of selective) lx SetUp)) (b.0.0, ms, b.0.2, b.0.3, b.0.4, b.0.5, b.0.6)),
-      subst (λ n. Half selective k (infos l) (marks selective l) n y x) (sym (same number_of lx SetUp refl)) b.1,
+    subst (λ lz. IsStationPair selective k lz x l y) (append_assoc w x.said (SetUp ∷ [])) (
+      subst (λ i. Half selective k i (marks selective (lx ++ SetUp ∷ [])) (receive_numbers_in_frames l) x y) (sym (same info_of lx SetUp refl))
+          (subst (λ m. Half selective k (infos lx) m (receive_numbers_in_frames l) x y) (sym (more (marks_in_frame selective) lx SetUp)) (b.0.0, ms, b.0.2, b.0.3, b.0.4, b.0.5, b.0.6)),
+      subst (λ n. Half selective k (infos l) (marks selective l) n y x) (sym (same receive_numbers_in_frame lx SetUp refl)) b.1,
       b.2,
       b.3,
       b.4,

@@ -11,7 +11,7 @@ use Rattle.hdlc_station_model.specs.Sending.{can_send, waiting, sends_next, send
 use Rattle.hdlc_station_model.specs.Receiving.{acknowledges, accepts, rejects, takes, marks_busy, repeats_rejected}
 use Rattle.hdlc_station_model.specs.Selective.{held_for, receives_as}
 use Rattle.hdlc_station_model.specs.Calls.{finishes}
-use Rattle.hdlc_pair_laws.specs.Invariant.{Pair, Both, infos, numbers, marks}
+use Rattle.hdlc_pair_laws.specs.Invariant.{IsStationPair, Both, infos, receive_numbers_in_frames, marks}
 use Rattle.hdlc_pair_laws.specs.Keeping.{found}
 use Rattle.hdlc_pair_laws.specs.Mending.{Mends, leads}
 use Rattle.hdlc_pair_laws.proofs.Ways.{climbs_le, way_tells}
@@ -28,7 +28,7 @@ use Rattle.hdlc_pair_laws.proofs.Filling.{Lacks, HasRej, Notes, Gap, Filled, Fil
 
 -- the gap, behind a frame that asks for nothing
 still_gap : (w : List Frame) (x : Station) (f : Frame) (fs : List Frame) (y : Station) (t : Station) (g : Gap (w ++ x.said) x (f ∷ fs) y)
-    → MendsIn false w t fs (record y { taken = g.before; owed = true }) → OutIn (length y.taken) g.least y.owed (numbers fs) w t → (HasRej (f ∷ fs) → HasRej fs) → FilledIn w t fs y
+    → MendsIn false w t fs (record y { taken = g.before; owed = true }) → OutIn (length y.taken) g.least y.owed (receive_numbers_in_frames fs) w t → (HasRej (f ∷ fs) → HasRej fs) → FilledIn w t fs y
 still_gap w x f fs y t g m out none = inr (record {
   before = g.before;
   least = g.least;
@@ -58,19 +58,19 @@ asked_again w x fs y before v is below m all = (
 again_sent : (x : Station) → (repeats_rejected x).sent ≡ x.sent
 again_sent x = cond_both (nat_lt x.acked x.sent) (starts_timer (sends_again x)) x (λ t. t.sent ≡ x.sent) (λ e. refl) (λ e. refl)
 
-sender_row : (k : ℕ) (w : List Frame) (x : Station) (f : Frame) (fs : List Frame) (y : Station) → Pair false k (w ++ x.said) x (f ∷ fs) y → (g : Gap (w ++ x.said) x (f ∷ fs) y)
+sender_row : (k : ℕ) (w : List Frame) (x : Station) (f : Frame) (fs : List Frame) (y : Station) → IsStationPair false k (w ++ x.said) x (f ∷ fs) y → (g : Gap (w ++ x.said) x (f ∷ fs) y)
     → MendsIn false w (row_as false Up x (shown x.extended f) (information f)) fs (record y { taken = g.before; owed = true })
     → FilledIn w (row_as false Up x (shown x.extended f) (information f)) fs y
 sender_row k w x (Info n r q) fs y p g m =
     still_gap w x (Info n r q) fs y (row_as false Up x (shown x.extended (Info n r q)) q) g m
-    (numbered false k r (w ++ x.said) (Info n r q) fs x y (takes (n % modulo x.extended) q) (λ t. OutIn (length y.taken) g.least y.owed (numbers fs) w t) refl p
-    (takes_out (length y.taken) g.least y.owed (numbers fs) w (n % modulo x.extended) q (acknowledges r x) g.out)) (λ has. has)
+    (numbered false k r (w ++ x.said) (Info n r q) fs x y (takes (n % modulo x.extended) q) (λ t. OutIn (length y.taken) g.least y.owed (receive_numbers_in_frames fs) w t) refl p
+    (takes_out (length y.taken) g.least y.owed (receive_numbers_in_frames fs) w (n % modulo x.extended) q (acknowledges r x) g.out)) (λ has. has)
 sender_row k w x (Rr r) fs y p g m =
     still_gap w x (Rr r) fs y (row_as false Up x (shown x.extended (Rr r)) []) g m
-    (numbered false k r (w ++ x.said) (Rr r) fs x y (marks_busy false) (λ t. OutIn (length y.taken) g.least y.owed (numbers fs) w t) refl p g.out) (λ has. has)
+    (numbered false k r (w ++ x.said) (Rr r) fs x y (marks_busy false) (λ t. OutIn (length y.taken) g.least y.owed (receive_numbers_in_frames fs) w t) refl p g.out) (λ has. has)
 sender_row k w x (Rej r) fs y p g m =
     let z : Station = marks_busy false (acknowledges r x) in
-    let low = climbs_le r (length y.taken) (numbers fs) p.0.0.climb.1 in
+    let low = climbs_le r (length y.taken) (receive_numbers_in_frames fs) p.0.0.climb.1 in
     let all = again_leads (length y.taken) w z low g.out.0 g.out.2 in
     inl (numbered false k r (w ++ x.said) (Rej r) fs x y (λ t. repeats_rejected (marks_busy false t))
     (λ t. MendsIn false w t fs (record y { taken = g.before; owed = true }) → MendsIn false w t fs y) refl p
@@ -146,7 +146,7 @@ led_on before n sent q fs h = elim (cases_Bool (length before == n)) [
   | inr other ↦ (before, sym (ap (λ (b : Bool). if b then leads (length before + 1) fs else leads (length before) fs) other) ∙ h)
 ]
 
-receiver_row : (k : ℕ) (w : List Frame) (y : Station) (f : Frame) (fs : List Frame) (x : Station) → Pair false k (w ++ y.said) y (f ∷ fs) x → (g : Gap (f ∷ fs) x (w ++ y.said) y)
+receiver_row : (k : ℕ) (w : List Frame) (y : Station) (f : Frame) (fs : List Frame) (x : Station) → IsStationPair false k (w ++ y.said) y (f ∷ fs) x → (g : Gap (f ∷ fs) x (w ++ y.said) y)
     → Next x fs g.least w (length y.taken) (row_as false Up y (shown y.extended f) (information f))
 receiver_row k w y (Info n r q) fs x p g =
     let v : ℕ = length y.taken in
@@ -154,7 +154,7 @@ receiver_row k w y (Info n r q) fs x p g =
     let led = led_on g.before n x.sent q (infos fs) g.mends.0.0.0 in
     numbered false k r (w ++ y.said) (Info n r q) fs y x (takes (n % modulo y.extended) q) (Next x fs g.least w v) refl p
     (cond_both (v % modulo y.extended == n % modulo y.extended) (accepts q a) (rejects a) (Next x fs g.least w v)
-    (λ e. absurd (g.out.2.0 (way_tells y.extended k x.handed x.acked x.sent y.taken (n, q) (infos fs) (numbers (w ++ y.said)) (span_below false y.extended k p.4) (eqb-true _ _ e) p.1.0)))
+    (λ e. absurd (g.out.2.0 (way_tells y.extended k x.handed x.acked x.sent y.taken (n, q) (infos fs) (receive_numbers_in_frames (w ++ y.said)) (span_below false y.extended k p.4) (eqb-true _ _ e) p.1.0)))
     (λ e. record { before = led.0; all = led.1; lacks = g.out.2.1; heard = rejects_heard v (length led.0) g.least w (length g.before) a refl g.notes }))
 receiver_row k w y (Rr r) fs x p g =
     numbered false k r (w ++ y.said) (Rr r) fs y x (marks_busy false) (Next x fs g.least w (length y.taken)) refl p

@@ -5,14 +5,14 @@ use Rattle.er_base.specs.declared.side.Side.TheVariants.{E, R}
 use Rattle.hdlc_frames.specs.Laws.{ControlReadsBack}
 use Rattle.hdlc_station_model.specs.Frames.{Frame, Info, Rr, Rej, Srej, SetUp, Disc, Dm, Ua}
 use Rattle.hdlc_station_model.specs.Stations.{Station}
-use Rattle.hdlc_pair_laws.specs.Links.{Link, line_of, opened}
-use Rattle.hdlc_pair_laws.specs.Steps.{Lose, lose, happens, run}
+use Rattle.hdlc_pair_laws.specs.Links.{StationLink, frames_from_station, opened_station_link}
+use Rattle.hdlc_pair_laws.specs.Steps.{Lose, lose, link_behind_step, station_link_run}
 use Rattle.hdlc_pair_laws.specs.Laws.{after, IsEmpty}
-use Rattle.hdlc_pair_laws.specs.Invariant.{infos, numbers}
-use Rattle.hdlc_pair_laws.specs.Flowing.{Consecutive, Ends, AllData, Still, Shape}
+use Rattle.hdlc_pair_laws.specs.Invariant.{infos, receive_numbers_in_frames}
+use Rattle.hdlc_pair_laws.specs.Flowing.{Consecutive, EndsAtNumber, AllData, Still, Shape}
 use Rattle.hdlc_pair_laws.specs.Filling.{TwoWait, GapsAreFilled}
 use Rattle.hdlc_pair_laws.specs.Recovery.{IsRecovered}
-use Rattle.hdlc_pair_laws.specs.Mending.{Own, AllExchange, Comes, Mends, leads}
+use Rattle.hdlc_pair_laws.specs.Mending.{Own, AllExchange, HasAllSentComing, Mends, leads}
 use Rattle.hdlc_pair_laws.proofs.Lines.{turned, first_of_line, lost, none_on_line}
 use Rattle.hdlc_pair_laws.proofs.Runs.{Frames}
 use Rattle.hdlc_pair_laws.proofs.Flows.{still_swap}
@@ -33,7 +33,7 @@ consecutive_le : (low high : ℕ) (fs : List (ℕ × List ℕ)) → Consecutive 
 consecutive_le low high [] h = omega (arith, h)
 consecutive_le low high (f ∷ fs) h = let g = consecutive_le (low + 1) high fs h.1 in omega (arith, g)
 
-all_come : (next sent : ℕ) (held fs : List (ℕ × List ℕ)) → Consecutive next fs sent → Comes true next held fs sent
+all_come : (next sent : ℕ) (held fs : List (ℕ × List ℕ)) → Consecutive next fs sent → HasAllSentComing true next held fs sent
 all_come next sent held fs h = let g = consecutive_le next sent fs h in comes_all true next next sent held fs (omega arith) g h
 
 in_order : (low high : ℕ) (fs : List (ℕ × List ℕ)) → Consecutive low fs high → leads low fs ≡ high
@@ -51,7 +51,7 @@ data_exchange (Dm ∷ fs) h = absurd h.0
 data_exchange (Ua final ∷ fs) h = absurd h.0
 
 -- where an I frame waits, the last N(R) doesn't hang on what was acknowledged
-ends_any : (a b high : ℕ) (l : List Frame) → AllData l → (infos l ≡ [] → ⊥) → Ends a (numbers l) high → Ends b (numbers l) high
+ends_any : (a b high : ℕ) (l : List Frame) → AllData l → (infos l ≡ [] → ⊥) → EndsAtNumber a (receive_numbers_in_frames l) high → EndsAtNumber b (receive_numbers_in_frames l) high
 ends_any a b high [] d some h = absurd (some refl)
 ends_any a b high (Info ns nr p ∷ fs) d some h = h
 ends_any a b high (Rr nr ∷ fs) d some h = h
@@ -112,14 +112,14 @@ lost_held : (c : Bool) (n : ℕ) (f : Frame) (fs : List Frame) (x : Station) (ly
     → HeldFilled fs x ly y
 lost_held c n (Info m r q) fs x ly y h asked two =
     let v : ℕ = length y.taken in
-    let run : Consecutive v ((v, q) ∷ infos fs) x.sent = (refl, h.0.2.1) in
+    let station_link_run : Consecutive v ((v, q) ∷ infos fs) x.sent = (refl, h.0.2.1) in
     inr (record {
       nr = r;
       payload = q;
       least = x.sent;
       mends = (
         (
-          (all_come v x.sent y.held ((v, q) ∷ infos fs) run, λ owes none. h.0.3 owes),
+          (all_come v x.sent y.held ((v, q) ∷ infos fs) station_link_run, λ owes none. h.0.3 owes),
           all_come (length x.taken) y.sent x.held (infos ly) h.1.2,
           (tt, data_exchange fs h.2.1),
           data_exchange ly h.3,
@@ -195,7 +195,7 @@ to_e law wd R true k now fe e f fs r wide quiet b own_e own_r rests_e rests_r h 
 to_e law wd E false k now fe e f fs r wide quiet b own_e own_r rests_e rests_r h = sender_step law k now fe e f fs r quiet b own_e.5 h
 to_e law wd R false k now fe e f fs r wide quiet b own_e own_r rests_e rests_r h = receiver_step law k now fe e f fs r quiet b own_e.5 h
 
-lost_fills : (wd : ℕ) (side : Side) (l : Link) → TwoWait side l → (line : List (List ℕ)) → line_of l side ≡ line → Sounds wd Calm l → Sounds wd (Fills side) (lose side line l)
+lost_fills : (wd : ℕ) (side : Side) (l : StationLink) → TwoWait side l → (line : List (List ℕ)) → frames_from_station l side ≡ line → Sounds wd Calm l → Sounds wd (Fills side) (lose side line l)
 lost_fills wd E l two [] e h =
     let q = h.claim in
     absurd (no_line true q.0 h.fe l.e h.fr l.r (none_on_line l.e h.fe (sym e ∙ h.stands.lined_x)) (calling_still q.0 h.fe l.e h.fr l.r q.1.0 (omega (arith, two))) two)
@@ -256,8 +256,8 @@ held_gap_waits : (lx : List Frame) (x : Station) (ly : List Frame) (y : Station)
 held_gap_waits lx x ly y ex ey g = elim g.asks [
   | inl n ↦
       let v : ℕ = length y.taken in
-      let c : Comes true v [] ((v, g.payload) ∷ []) x.sent =
-      subst (λ (held : List (ℕ × List ℕ)). Comes true v held ((v, g.payload) ∷ []) x.sent) n.0 (subst (λ (t : List Frame). Comes true v y.held ((v, g.payload) ∷ infos t) x.sent) ex g.mends.0.0.0) in
+      let c : HasAllSentComing true v [] ((v, g.payload) ∷ []) x.sent =
+      subst (λ (held : List (ℕ × List ℕ)). HasAllSentComing true v held ((v, g.payload) ∷ []) x.sent) n.0 (subst (λ (t : List Frame). HasAllSentComing true v y.held ((v, g.payload) ∷ infos t) x.sent) ex g.mends.0.0.0) in
       let below = n.2 in
       let least = g.out.1 in
       elim (c (v + 1) (omega arith) (omega (arith, below, least))) [
@@ -278,7 +278,7 @@ side_mends : (side : Side) (selective : Bool) (fe : List Frame) (e : Station) (f
 side_mends E selective fe e fr r ee er h = filled_mends selective fe e fr r ee er h
 side_mends R selective fe e fr r ee er h = mends_swap selective fr r fe e (filled_mends selective fr r fe e er ee h)
 
-emptied : (wd : ℕ) (side : Side) (l : Link) → 1 ≤ wd → Sounds wd (Fills side) l → IsEmpty l → IsRecovered l
+emptied : (wd : ℕ) (side : Side) (l : StationLink) → 1 ≤ wd → Sounds wd (Fills side) l → IsEmpty l → IsRecovered l
 emptied wd side l some g empty =
     let ee = none_on_line l.e g.fe (sym empty.0 ∙ g.stands.lined_x) in
     let er = none_on_line l.r g.fr (sym empty.1 ∙ g.stands.lined_y) in
@@ -287,15 +287,15 @@ emptied wd side l some g empty =
 
 pub gaps_are_filled : Frames → GapsAreFilled
 gaps_are_filled laws s steps free side two passes p end =
-    let l : Link = after s steps in
-    let o : Link = opened s.selective s.extended s.window s.n2 s.t1 s.moment in
-    let split : run o (steps ++ Lose side ∷ passes) ≡ run l (Lose side ∷ passes) = run_append steps (Lose side ∷ passes) o in
+    let l : StationLink = after s steps in
+    let o : StationLink = opened_station_link s.selective s.extended s.window s.n2 s.t1 s.moment in
+    let split : station_link_run o (steps ++ Lose side ∷ passes) ≡ station_link_run l (Lose side ∷ passes) = run_append steps (Lose side ∷ passes) o in
     let h = after_calm laws s steps free in
-    let clear : Link = record l { came = [] } in
-    let g = lost_fills s.window side clear (two_same side l two) (line_of clear side) refl (same s.window Calm l h l.moment l.passes l.order_kept l.loss_free []) in
-    let r = (passes_keep s.window (Fills side) laws (to_r laws.back s.window side) (to_e laws.back s.window side) passes (happens (Lose side) l) p g).0 in
-    subst IsRecovered (sym split) (emptied s.window side (run l (Lose side ∷ passes)) s.some r (subst IsEmpty split end))
+    let clear : StationLink = record l { came = [] } in
+    let g = lost_fills s.window side clear (two_same side l two) (frames_from_station clear side) refl (same s.window Calm l h l.moment l.passes l.order_kept l.loss_free []) in
+    let r = (passes_keep s.window (Fills side) laws (to_r laws.back s.window side) (to_e laws.back s.window side) passes (link_behind_step (Lose side) l) p g).0 in
+    subst IsRecovered (sym split) (emptied s.window side (station_link_run l (Lose side ∷ passes)) s.some r (subst IsEmpty split end))
   where
-    two_same : (side : Side) (l : Link) → TwoWait side l → TwoWait side (record l { came = [] })
+    two_same : (side : Side) (l : StationLink) → TwoWait side l → TwoWait side (record l { came = [] })
     two_same E l h = h
     two_same R l h = h

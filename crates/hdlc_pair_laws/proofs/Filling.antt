@@ -9,8 +9,8 @@ use Rattle.hdlc_station_model.specs.Stations.{Station, is_down, puts}
 use Rattle.hdlc_station_model.specs.Sending.{info_at, can_send, waiting, frames_again, sends_next, sends_up_to, sends_waiting, sends_again, settles, starts_timer}
 use Rattle.hdlc_station_model.specs.Receiving.{accepts, rejects, takes, repeats_rejected}
 use Rattle.hdlc_station_model.specs.Calls.{finishes}
-use Rattle.hdlc_pair_laws.specs.Invariant.{infos, numbers, info_of}
-use Rattle.hdlc_pair_laws.specs.Flowing.{Consecutive, Ends}
+use Rattle.hdlc_pair_laws.specs.Invariant.{infos, receive_numbers_in_frames, info_of}
+use Rattle.hdlc_pair_laws.specs.Flowing.{Consecutive, EndsAtNumber}
 use Rattle.hdlc_pair_laws.specs.Mending.{Mends, leads}
 use Rattle.hdlc_pair_laws.proofs.Keeps.{more}
 use Rattle.hdlc_pair_laws.proofs.Mending.{not_none, leads_append, waiting_mends, finishes_mends}
@@ -38,7 +38,7 @@ HasRej (Ua final ∷ fs) = HasRej fs
 
 -- V(R) is below what was sent, and so are as many; none waits with that number; and the last N(R) is V(R), where y owes no answer
 abbrev pub Out : (v least : ℕ) (owed : Bool) → List ℕ → List (ℕ × List ℕ) → (acked sent : ℕ) → Type 0
-Out v least owed shows waits acked sent = (v < sent) × (least ≤ sent) × Lacks v waits × (owed ≡ false → waits ≡ [] → Ends acked shows v)
+Out v least owed shows waits acked sent = (v < sent) × (least ≤ sent) × Lacks v waits × (owed ≡ false → waits ≡ [] → EndsAtNumber acked shows v)
 
 -- y sees the gap at the next I frame, of which one waits, or a REJ waits
 abbrev pub Notes : (gap : Bool) (next least : ℕ) → List Frame → Type 0
@@ -49,7 +49,7 @@ pub record Gap (lx : List Frame) (x : Station) (ly : List Frame) (y : Station) :
   pub before : List (List ℕ)
   pub least : ℕ
   pub mends : Mends false lx x ly (record y { taken = before; owed = true })
-  pub out : Out (length y.taken) least y.owed (numbers ly) (infos lx) x.acked x.sent
+  pub out : Out (length y.taken) least y.owed (receive_numbers_in_frames ly) (infos lx) x.acked x.sent
   pub notes : Notes y.gap (length before) least ly
 
 -- it was filled, or it is there
@@ -140,7 +140,7 @@ module _ (w l : List Frame) (y : Station) where
     before = g.before;
     least = g.least;
     mends = waiting_mends false w l (record y { taken = g.before; owed = true }) x g.mends;
-    out = waiting_out (length y.taken) g.least y.owed (numbers l) w x g.out;
+    out = waiting_out (length y.taken) g.least y.owed (receive_numbers_in_frames l) w x g.out;
     notes = g.notes;
   })
 
@@ -150,7 +150,7 @@ module _ (w l : List Frame) (y : Station) where
     before = g.before;
     least = g.least;
     mends = finishes_mends false w l (record y { taken = g.before; owed = true }) x g.mends;
-    out = finishes_out (length y.taken) g.least y.owed (numbers l) w x g.out;
+    out = finishes_out (length y.taken) g.least y.owed (receive_numbers_in_frames l) w x g.out;
     notes = g.notes;
   })
 

@@ -10,13 +10,13 @@ use Rattle.hdlc_station_model.specs.declared.phase.Phase.TheVariants.{Up}
 use Rattle.hdlc_station_model.specs.Frames.{Frame, Info, Rr, Rej, Srej, SetUp, Disc, Dm, Ua, modulo, shown, information, sent_address, sent_body}
 use Rattle.hdlc_station_model.specs.Stations.{Station, is_down, sees, puts}
 use Rattle.hdlc_station_model.specs.Sending.{info_at, can_send, waiting, sends_next, sends_up_to, sends_waiting, settles, expires, expires_if_due}
-use Rattle.hdlc_station_model.specs.Receiving.{named, acknowledges, acknowledging, accepts, rejects, takes, marks_busy}
+use Rattle.hdlc_station_model.specs.Receiving.{number_shown_as, acknowledges, acknowledging, accepts, rejects, takes, marks_busy}
 use Rattle.hdlc_station_model.specs.Selective.{held_for, is_found, without_gap, takes_run, holds, says_next, files_at, files, receives_as}
 use Rattle.hdlc_station_model.specs.Calls.{hands, finishes, ticks}
 use Rattle.hdlc_station_model.specs.Events.{is_late}
-use Rattle.hdlc_pair_laws.specs.Invariant.{Pair, infos, numbers, marks, info_of, number_of}
+use Rattle.hdlc_pair_laws.specs.Invariant.{IsStationPair, infos, receive_numbers_in_frames, marks, info_of, receive_numbers_in_frame}
 use Rattle.hdlc_pair_laws.specs.Keeping.{found}
-use Rattle.hdlc_pair_laws.specs.Flowing.{Consecutive, Ends, IsData, AllData, one_if, Flow, Rises, Still, Rests, AtRest}
+use Rattle.hdlc_pair_laws.specs.Flowing.{Consecutive, EndsAtNumber, IsData, AllData, one_if, IsStationFlow, AreReceiveReadyNumbersRising, Still, HasNoPayloadToSend, AtRest}
 use Rattle.hdlc_pair_laws.proofs.Keeps.{more}
 use Rattle.hdlc_pair_laws.proofs.Rows.{named_is, may_come}
 use Rattle.hdlc_pair_laws.proofs.Hearing.{row_as, hears_as, received, frame_heard}
@@ -35,7 +35,7 @@ pub consecutive_push : (low high : ℕ) (p : List ℕ) (fs : List (ℕ × List �
 consecutive_push low high p [] h = (sym h, ap (λ t. t + 1) h)
 consecutive_push low high p (f ∷ fs) h = (h.0, consecutive_push (low + 1) high p fs h.1)
 
-pub ends_push : (low high : ℕ) (xs : List ℕ) → Ends low (xs ++ high ∷ []) high
+pub ends_push : (low high : ℕ) (xs : List ℕ) → EndsAtNumber low (xs ++ high ∷ []) high
 ends_push low high [] = refl
 ends_push low high (x ∷ xs) = ends_push x high xs
 
@@ -47,7 +47,7 @@ length_push : (l : List Frame) (f : Frame) → length (l ++ f ∷ []) ≡ length
 length_push l f = length-append l (f ∷ [])
 
 -- an RR that shows more, any number in an I frame, and one more I frame taken
-rises_rr : (low high : ℕ) (l : List Frame) → Rises low l high true → Rises low (l ++ Rr high ∷ []) high false
+rises_rr : (low high : ℕ) (l : List Frame) → AreReceiveReadyNumbersRising low l high true → AreReceiveReadyNumbersRising low (l ++ Rr high ∷ []) high false
 rises_rr low high [] h = (h refl, λ e. absurd (true≢false (sym e)))
 rises_rr low high (Info ns nr p ∷ fs) h = rises_rr nr high fs h
 rises_rr low high (Rr nr ∷ fs) h = (h.0, rises_rr nr high fs h.1)
@@ -58,7 +58,7 @@ rises_rr low high (Disc ∷ fs) h = rises_rr low high fs h
 rises_rr low high (Dm ∷ fs) h = rises_rr low high fs h
 rises_rr low high (Ua final ∷ fs) h = rises_rr low high fs h
 
-rises_info : (low high n : ℕ) (p : List ℕ) (owed : Bool) (l : List Frame) → Rises low l high owed → Rises low (l ++ Info n high p ∷ []) high false
+rises_info : (low high n : ℕ) (p : List ℕ) (owed : Bool) (l : List Frame) → AreReceiveReadyNumbersRising low l high owed → AreReceiveReadyNumbersRising low (l ++ Info n high p ∷ []) high false
 rises_info low high n p owed [] h = λ e. absurd (true≢false (sym e))
 rises_info low high n p owed (Info ns nr q ∷ fs) h = rises_info nr high n p owed fs h
 rises_info low high n p owed (Rr nr ∷ fs) h = (h.0, rises_info nr high n p owed fs h.1)
@@ -73,7 +73,7 @@ below_more : (low high : ℕ) (owed : Bool) → (owed ≡ true → low < high) �
 below_more low high true below same = let b : low < high = below refl in omega arith
 below_more low high false below same = let e : low ≡ high = same refl in omega arith
 
-rises_taken : (low high : ℕ) (owed : Bool) (l : List Frame) → Rises low l high owed → (owed ≡ false → Ends low (numbers l) high) → Rises low l (high + 1) true
+rises_taken : (low high : ℕ) (owed : Bool) (l : List Frame) → AreReceiveReadyNumbersRising low l high owed → (owed ≡ false → EndsAtNumber low (receive_numbers_in_frames l) high) → AreReceiveReadyNumbersRising low l (high + 1) true
 rises_taken low high owed [] h ends = λ e. below_more low high owed h ends
 rises_taken low high owed (Info ns nr p ∷ fs) h ends = rises_taken nr high owed fs h ends
 rises_taken low high owed (Rr nr ∷ fs) h ends = (h.0, rises_taken nr high owed fs h.1 ends)
@@ -91,13 +91,13 @@ rr_flows c n lx x ly y owed h =
     let f : Frame = Rr (length x.taken) in
     let len = length_push lx f in
     let one : one_if x.owed ≡ 1 = ap one_if owed in (
-      subst (λ i. Flow c i (numbers ly) x y) (sym (more info_of lx f ∙ append-nil (infos lx))) h.0,
-      (h.1.0, h.1.1, h.1.2, λ e. subst (λ ns. Ends y.acked ns (length x.taken)) (sym (more number_of lx f)) (ends_push y.acked (length x.taken) (numbers lx)), h.1.4, h.1.5, h.1.6),
+      subst (λ i. IsStationFlow c i (receive_numbers_in_frames ly) x y) (sym (more info_of lx f ∙ append-nil (infos lx))) h.0,
+      (h.1.0, h.1.1, h.1.2, λ e. subst (λ ns. EndsAtNumber y.acked ns (length x.taken)) (sym (more receive_numbers_in_frame lx f)) (ends_push y.acked (length x.taken) (receive_numbers_in_frames lx)), h.1.4, h.1.5, h.1.6),
       data_push lx f h.2 tt,
       h.3,
       omega (arith, h.4),
       record {
-        own = rises_rr y.acked (length x.taken) lx (subst (λ (b : Bool). Rises y.acked lx (length x.taken) b) owed h.5.own);
+        own = rises_rr y.acked (length x.taken) lx (subst (λ (b : Bool). AreReceiveReadyNumbersRising y.acked lx (length x.taken) b) owed h.5.own);
         peers = h.5.peers;
       },
     )
@@ -117,7 +117,7 @@ next_flows c n lx x ly y h =
         h.0.5,
         h.0.6,
       ),
-      (h.1.0, h.1.1, h.1.2, λ e. subst (λ ns. Ends y.acked ns (length x.taken)) (sym (more number_of lx f)) (ends_push y.acked (length x.taken) (numbers lx)), h.1.4, h.1.5, h.1.6),
+      (h.1.0, h.1.1, h.1.2, λ e. subst (λ ns. EndsAtNumber y.acked ns (length x.taken)) (sym (more receive_numbers_in_frame lx f)) (ends_push y.acked (length x.taken) (receive_numbers_in_frames lx)), h.1.4, h.1.5, h.1.6),
       data_push lx f h.2 tt,
       h.3,
       omega (arith, h.4),
@@ -139,12 +139,12 @@ up_to_flows c n w (suc m) x l y h =
       | inr cannot ↦ rw cannot h
     ]
 
-pub up_to_rests : (m : ℕ) (x : Station) → x.sent + m ≡ length x.handed → Rests (sends_up_to m x)
+pub up_to_rests : (m : ℕ) (x : Station) → x.sent + m ≡ length x.handed → HasNoPayloadToSend (sends_up_to m x)
 up_to_rests zero x h = inr (omega arith)
 up_to_rests (suc m) x h =
     elim (cases_Bool (can_send x)) [
       | inl can ↦ rw can (up_to_rests m (sends_next x) (omega arith))
-      | inr cannot ↦ subst (λ (b : Bool). Rests (if b then sends_up_to m (sends_next x) else x)) (sym cannot) (inl cannot)
+      | inr cannot ↦ subst (λ (b : Bool). HasNoPayloadToSend (if b then sends_up_to m (sends_next x) else x)) (sym cannot) (inl cannot)
     ]
 
 pub up_to_given : (m : ℕ) (x : Station) → x.sent + m ≡ length x.handed → (sends_up_to m x).sent ≤ length (sends_up_to m x).handed
@@ -163,7 +163,7 @@ Done c n w l y handed x = Within c n w x l y × AtRest x × (x.handed ≡ handed
 up_not_down : (p : Phase) → p ≡ Up → is_down p ≡ false
 up_not_down p h = ap is_down h
 
-pub settles_done : (c : Bool) (n : ℕ) (w : List Frame) (x : Station) (l : List Frame) (y : Station) → Rests x → Within c n w x l y → Done c n w l y x.handed (settles x)
+pub settles_done : (c : Bool) (n : ℕ) (w : List Frame) (x : Station) (l : List Frame) (y : Station) → HasNoPayloadToSend x → Within c n w x l y → Done c n w l y x.handed (settles x)
 settles_done c n w x l y rests h =
     cond_both x.owed (record (puts (Rr (length x.taken)) x) { owed = false }) x (Done c n w l y x.handed)
     (λ owed. (
@@ -214,7 +214,7 @@ heard_live selective now v x live =
     received selective now v x ∙ ap (λ (b : Bool). if b then x else sends_waiting (hears_as selective v (sees now x))) live
 
 -- a frame comes to its row
-pub heard_row : ControlReadsBack → (selective : Bool) (k : ℕ) (lx : List Frame) (x : Station) (f : Frame) (fs : List Frame) (y : Station) → Pair selective k lx x (f ∷ fs) y
+pub heard_row : ControlReadsBack → (selective : Bool) (k : ℕ) (lx : List Frame) (x : Station) (f : Frame) (fs : List Frame) (y : Station) → IsStationPair selective k lx x (f ∷ fs) y
     → hears_as selective (found y f) x ≡ row_as selective x.phase x (shown x.extended f) (information f)
 heard_row law selective k lx x f fs y h =
     ap (λ (c : Bool). hears_as selective (Frame_found (sent_address c f) (sent_body y.extended f)) x) (not_not x.calling y.calling h.2)
@@ -222,9 +222,9 @@ heard_row law selective k lx x f fs y h =
     ∙ frame_heard law selective x f (may_come selective k lx x f fs y h)
 
 -- N(S) is the next number: it is named first
-named_first : (e : Bool) (a n : ℕ) → named e a n (a % modulo e) ≡ Some a
+named_first : (e : Bool) (a n : ℕ) → number_shown_as e a n (a % modulo e) ≡ Some a
 named_first e a zero = ap (λ (b : Bool). if b then Some a else None) (eq-eqb (a % modulo e) (a % modulo e) refl)
-named_first e a (suc n) = ap (λ (b : Bool). if b then Some a else named e (a + 1) n (a % modulo e)) (eq-eqb (a % modulo e) (a % modulo e) refl)
+named_first e a (suc n) = ap (λ (b : Bool). if b then Some a else number_shown_as e (a + 1) n (a % modulo e)) (eq-eqb (a % modulo e) (a % modulo e) refl)
 
 next_filed : (p : List ℕ) (x : Station) → x.held ≡ [] → files (length x.taken % modulo x.extended) p x ≡ takes_next true p x
 next_filed p x none =
@@ -233,7 +233,7 @@ next_filed p x none =
     else (if is_found (held_for (length x.taken) x.held) then says_next x else holds (length x.taken) p x)) (eq-eqb (length x.taken) (length x.taken) refl)
     ∙ ap (λ (held : List (ℕ × List ℕ)). takes_run p (without_gap (length held) (length x.taken + 1) held) x) none
 
-next_taken : (selective : Bool) (x : Station) (m r : ℕ) (p : List ℕ) → length x.taken ≡ m → x.held ≡ [] → named x.extended x.acked (x.sent - x.acked) (r % modulo x.extended) ≡ Some r
+next_taken : (selective : Bool) (x : Station) (m r : ℕ) (p : List ℕ) → length x.taken ≡ m → x.held ≡ [] → number_shown_as x.extended x.acked (x.sent - x.acked) (r % modulo x.extended) ≡ Some r
     → row_as selective Up x (shown x.extended (Info m r p)) p ≡ takes_next selective p (acknowledges r x)
 next_taken true x m r p same none is =
     ap (λ (o : Option ℕ). acknowledging o (files (m % modulo x.extended) p) x) is
@@ -244,24 +244,24 @@ next_taken false x m r p same none is =
     ∙ ap (λ (b : Bool). if b then accepts p (acknowledges r x) else rejects (acknowledges r x))
     (eq-eqb (length x.taken % modulo x.extended) (m % modulo x.extended) (ap (λ t. t % modulo x.extended) same))
 
-ready_row : (selective : Bool) (x : Station) (r : ℕ) → named x.extended x.acked (x.sent - x.acked) (r % modulo x.extended) ≡ Some r
+ready_row : (selective : Bool) (x : Station) (r : ℕ) → number_shown_as x.extended x.acked (x.sent - x.acked) (r % modulo x.extended) ≡ Some r
     → row_as selective Up x (shown x.extended (Rr r)) [] ≡ marks_busy false (acknowledges r x)
 ready_row true x r is = ap (λ (o : Option ℕ). acknowledging o (marks_busy false) x) is
 ready_row false x r is = ap (λ (o : Option ℕ). acknowledging o (marks_busy false) x) is
 
 pub info_is : ControlReadsBack → (selective : Bool) (k : ℕ) (lx : List Frame) (x : Station) (m r : ℕ) (p : List ℕ) (fs : List Frame) (y : Station) → x.phase ≡ Up → length x.taken ≡ m
-    → x.held ≡ [] → Pair selective k lx x (Info m r p ∷ fs) y → hears_as selective (found y (Info m r p)) x ≡ takes_next selective p (acknowledges r x)
+    → x.held ≡ [] → IsStationPair selective k lx x (Info m r p ∷ fs) y → hears_as selective (found y (Info m r p)) x ≡ takes_next selective p (acknowledges r x)
 info_is law selective k lx x m r p fs y up same none h =
     heard_row law selective k lx x (Info m r p) fs y h
     ∙ ap (λ (q : Phase). row_as selective q x (shown x.extended (Info m r p)) p) up
-    ∙ next_taken selective x m r p same none (named_is selective k r (infos lx) (marks selective lx) (numbers fs) x y h.4 h.0)
+    ∙ next_taken selective x m r p same none (named_is selective k r (infos lx) (marks selective lx) (receive_numbers_in_frames fs) x y h.4 h.0)
 
 pub rr_is : ControlReadsBack → (selective : Bool) (k : ℕ) (lx : List Frame) (x : Station) (r : ℕ) (fs : List Frame) (y : Station) → x.phase ≡ Up
-    → Pair selective k lx x (Rr r ∷ fs) y → hears_as selective (found y (Rr r)) x ≡ marks_busy false (acknowledges r x)
+    → IsStationPair selective k lx x (Rr r ∷ fs) y → hears_as selective (found y (Rr r)) x ≡ marks_busy false (acknowledges r x)
 rr_is law selective k lx x r fs y up h =
     heard_row law selective k lx x (Rr r) fs y h
     ∙ ap (λ (q : Phase). row_as selective q x (shown x.extended (Rr r)) []) up
-    ∙ ready_row selective x r (named_is selective k r (infos lx) (marks selective lx) (numbers fs) x y h.4 h.0)
+    ∙ ready_row selective x r (named_is selective k r (infos lx) (marks selective lx) (receive_numbers_in_frames fs) x y h.4 h.0)
 
 pub info_flows : (selective c : Bool) (n : ℕ) (lx : List Frame) (x : Station) (m r : ℕ) (p : List ℕ) (fs : List Frame) (y : Station)
     → Still c n lx x (Info m r p ∷ fs) y → Still c (n + 1) lx (takes_next selective p (acknowledges r x)) fs y
@@ -273,7 +273,7 @@ info_flows selective c n lx x m r p fs y h =
       h.3.1,
       omega (arith, h.4),
       record {
-        own = subst (λ (j : ℕ). Rises y.acked lx j true) (sym len) (rises_taken y.acked (length x.taken) x.owed lx h.5.own h.1.3);
+        own = subst (λ (j : ℕ). AreReceiveReadyNumbersRising y.acked lx j true) (sym len) (rises_taken y.acked (length x.taken) x.owed lx h.5.own h.1.3);
         peers = h.5.peers;
       },
     )
@@ -285,7 +285,7 @@ rr_heard_flows c n lx x r fs y h =
 
 -- both are up: the first frame of y comes to x
 pub answered_flows : ControlReadsBack → (selective c : Bool) (n k : ℕ) (w : List Frame) (now : ℕ) (x : Station) (f : Frame) (fs : List Frame) (y : Station)
-    → x.sent ≤ length x.handed → Pair selective k (w ++ x.said) x (f ∷ fs) y → Within c n w x (f ∷ fs) y → Done c (n + 1) w fs y x.handed (answered selective now y f x)
+    → x.sent ≤ length x.handed → IsStationPair selective k (w ++ x.said) x (f ∷ fs) y → Within c n w x (f ∷ fs) y → Done c (n + 1) w fs y x.handed (answered selective now y f x)
 answered_flows law selective c n k w now x (Info m r p) fs y given h s =
     let z : Station = sees now x in
     subst (λ (t : Station). Done c (n + 1) w fs y x.handed t)

@@ -12,12 +12,12 @@ use Rattle.hdlc_station_model.specs.declared.phase.Phase.TheVariants.{Idle, Sett
 use Rattle.hdlc_station_model.specs.Frames.{modulo}
 use Rattle.hdlc_station_model.specs.Stations.{Station, Deed, no_deed, is_down, sees, puts}
 use Rattle.hdlc_station_model.specs.Sending.{can_send, waiting, info_at, sends_next, sends_up_to, sends_waiting, starts_timer, refuses_frame}
-use Rattle.hdlc_station_model.specs.Receiving.{strays, is_known_address, is_addressed, errs, named, acknowledges, acknowledging, marks_busy, agrees}
+use Rattle.hdlc_station_model.specs.Receiving.{strays, is_known_address, is_addressed, errs, number_shown_as, acknowledges, acknowledging, marks_busy, agrees}
 use Rattle.hdlc_station_model.specs.Selective.{is_selective_error, held_for, is_found, without_gap, takes_run, holds, says_next, files_at, files, repeats_at, repeats_one, sets_up_selective_again, selective_row, selective_hears, selective_hears_control, selective_receives}
 use Rattle.hdlc_station_model.specs.Calls.{receives}
 use Rattle.hdlc_station_model.specs.Laws.{ReceivesGive, ReleasedAreInert}
 use Rattle.hdlc_station_model.specs.Reports.{newer, is_release, ReleasesAreTold}
-use Rattle.hdlc_pair_laws.specs.Keeping.{Gives, FramesGive}
+use Rattle.hdlc_pair_laws.specs.Keeping.{TellsWhatStationTakes, FramesGive}
 
 -- ---- a station with selective reject that isn't released
 
@@ -82,7 +82,7 @@ again_at (Some n) x live d = calm x (starts_timer (record (puts (info_at x n) x)
 
 repeated : (nr : ℕ) (x : Station) → is_down x.phase ≡ false → x.deed ≡ no_deed → Given x (repeats_one nr x)
 repeated nr x live d =
-    let o : Option ℕ = named x.extended x.acked (x.sent - x.acked - 1) nr in
+    let o : Option ℕ = number_shown_as x.extended x.acked (x.sent - x.acked - 1) nr in
     cond_both (nat_lt x.acked x.sent) (repeats_at o x) (strays x) (Given x) (λ some. again_at o x live d) (λ none. strayed x live d)
 
 set_up : (poll : Bool) (x : Station) → is_down x.phase ≡ false → x.deed ≡ no_deed → Given x (sets_up_selective_again poll x)
@@ -112,12 +112,12 @@ rowed Setting control.Ua information x live d = told x _ refl refl refl refl ref
 rowed Setting control.Dm information x live d = told x _ refl refl refl refl refl
 rowed Setting control.Frmr information x live d = told x _ refl refl refl refl refl
 rowed Up (control.Info ns nr) information x live d =
-    numbered (named x.extended x.acked (x.sent - x.acked) nr) (files ns information) x
-    (λ n. filed (named x.extended (length x.taken) (x.window - 1) ns) information x (acknowledges n x) live refl refl refl refl d)
+    numbered (number_shown_as x.extended x.acked (x.sent - x.acked) nr) (files ns information) x
+    (λ n. filed (number_shown_as x.extended (length x.taken) (x.window - 1) ns) information x (acknowledges n x) live refl refl refl refl d)
 rowed Up (control.Rr nr) information x live d =
-    numbered (named x.extended x.acked (x.sent - x.acked) nr) (marks_busy false) x (λ n. calm x (marks_busy false (acknowledges n x)) live refl refl refl refl d)
+    numbered (number_shown_as x.extended x.acked (x.sent - x.acked) nr) (marks_busy false) x (λ n. calm x (marks_busy false (acknowledges n x)) live refl refl refl refl d)
 rowed Up (control.Rnr nr) information x live d =
-    numbered (named x.extended x.acked (x.sent - x.acked) nr) (marks_busy true) x (λ n. calm x (marks_busy true (acknowledges n x)) live refl refl refl refl d)
+    numbered (number_shown_as x.extended x.acked (x.sent - x.acked) nr) (marks_busy true) x (λ n. calm x (marks_busy true (acknowledges n x)) live refl refl refl refl d)
 rowed Up (control.Rej nr) information x live d = refused x
 rowed Up (control.Srej nr) information x live d = repeated nr x live d
 rowed Up (control.Sabm poll) information x live d = set_up poll x live d
@@ -152,7 +152,7 @@ heard TooShort x live d = calm x _ live refl refl refl refl d
 heard TooLong x live d = calm x _ live refl refl refl refl d
 heard Aborted x live d = calm x _ live refl refl refl refl d
 
-live_gives : (x y : Station) → is_down x.phase ≡ false → Given x y → Gives x y
+live_gives : (x y : Station) → is_down x.phase ≡ false → Given x y → TellsWhatStationTakes x y
 live_gives x y live h = record {
   handed = h.handed;
   taken = h.taken;
@@ -161,7 +161,7 @@ live_gives x y live h = record {
 }
 
 -- nothing comes of a frame at a released station
-down_gives : (x : Station) → x.deed ≡ no_deed → Gives x x
+down_gives : (x : Station) → x.deed ≡ no_deed → TellsWhatStationTakes x x
 down_gives x d = record {
   handed = refl;
   taken = sym (append-nil x.taken) ∙ ap (λ (e : Deed). x.taken ++ (option_to_list e.payload ++ e.more)) (sym d);
@@ -179,9 +179,9 @@ down_gives x d = record {
 seen : (now : ℕ) (x y : Station) → Given (sees now x) y → Given x y
 seen now x y h = record { handed = h.handed; taken = h.taken; released = h.released; down = h.down }
 
-selective_gives : (now : ℕ) (v : Verdict) (x : Station) → x.deed ≡ no_deed → Gives x (selective_receives now v x)
+selective_gives : (now : ℕ) (v : Verdict) (x : Station) → x.deed ≡ no_deed → TellsWhatStationTakes x (selective_receives now v x)
 selective_gives now v x d =
-    cond_both (is_down x.phase) x (sends_waiting (selective_hears v (sees now x))) (Gives x) (λ down. down_gives x d)
+    cond_both (is_down x.phase) x (sends_waiting (selective_hears v (sees now x))) (TellsWhatStationTakes x) (λ down. down_gives x d)
     (λ live. live_gives x _ live (seen now x _ (given_sent (sees now x) (selective_hears v (sees now x)) (heard v (sees now x) live d))))
 
 -- ---- either kind

@@ -7,8 +7,8 @@ use Rattle.hdlc_station_model.specs.declared.phase.Phase.TheVariants.{Idle, Sett
 use Rattle.hdlc_station_model.specs.Frames.{Frame, Info, Rr, Rej, Srej, SetUp, Disc, Dm, Ua, modulo, set_up, shown, information}
 use Rattle.hdlc_station_model.specs.Stations.{Station, puts}
 use Rattle.hdlc_station_model.specs.Sending.{refuses_frame, sends_again, starts_timer}
-use Rattle.hdlc_station_model.specs.Receiving.{acknowledges, accepts, rejects, takes, marks_busy, repeats_rejected, agrees, row_up, row}
-use Rattle.hdlc_pair_laws.specs.Invariant.{Way, least_mark, greatest_mark, Pair, Both, infos, numbers, marks}
+use Rattle.hdlc_station_model.specs.Receiving.{acknowledges, accepts, rejects, takes, marks_busy, repeats_rejected, agrees, row_up, row_of_phase}
+use Rattle.hdlc_pair_laws.specs.Invariant.{Way, least_mark, greatest_mark, IsStationPair, Both, infos, receive_numbers_in_frames, marks}
 use Rattle.hdlc_pair_laws.proofs.Ways.{climbs_low, way_take, way_tells}
 use Rattle.hdlc_pair_laws.proofs.Keeps.{puts_quiet, puts_shown, sends_again_keeps}
 use Rattle.hdlc_pair_laws.proofs.Rows.{span_below, no_foreign, half_shown, first_gone, set_up_at, least_le, numbered_keeps, disconnects, up_keeps, set_up_idle}
@@ -16,13 +16,13 @@ use Rattle.hdlc_pair_laws.proofs.Rows.{span_below, no_foreign, half_shown, first
 -- ---- an I frame
 
 accept_keeps : (k : ℕ) (lx : List Frame) (x : Station) (n r : ℕ) (p : List ℕ) (fs : List Frame) (y : Station) → length x.taken ≡ n
-    → Pair false k lx x (Info n r p ∷ fs) y → Pair false k lx (accepts p x) fs y
+    → IsStationPair false k lx x (Info n r p ∷ fs) y → IsStationPair false k lx (accepts p x) fs y
 accept_keeps k lx x n r p fs y same h =
-    let v = subst (λ (j : ℕ). Way k y.handed y.acked y.sent x.taken ((j, p) ∷ infos fs) (numbers lx)) (sym same) h.1.0 in
-    let g = half_shown false k r (infos lx) (marks false lx) (numbers fs) x y h.0 in (
+    let v = subst (λ (j : ℕ). Way k y.handed y.acked y.sent x.taken ((j, p) ∷ infos fs) (receive_numbers_in_frames lx)) (sym same) h.1.0 in
+    let g = half_shown false k r (infos lx) (marks false lx) (receive_numbers_in_frames fs) x y h.0 in (
       g,
       (
-        way_take k y.handed y.acked y.sent x.taken (infos fs) (numbers lx) p v,
+        way_take k y.handed y.acked y.sent x.taken (infos fs) (receive_numbers_in_frames lx) p v,
         climbs_low (least_mark y.calling (x.taken ++ p ∷ [])) 1 (greatest_mark y.calling y.sent) (marks false fs) (least_le y.calling (x.taken ++ p ∷ [])) h.1.1.1,
         h.1.2,
         h.1.3,
@@ -46,7 +46,7 @@ take_keeps : (k : ℕ) (w : List Frame) (x : Station) (n r : ℕ) (p : List ℕ)
 take_keeps k w x n r p fs y b =
     cond_both (length x.taken % modulo x.extended == n % modulo x.extended) (accepts p x) (rejects x) (λ t. Both false k w t fs y)
     (λ e. accept_keeps k (w ++ x.said) x n r p fs y
-    (way_tells x.extended k y.handed y.acked y.sent x.taken (n, p) (infos fs) (numbers (w ++ x.said)) (span_below false x.extended k b.4) (eqb-true _ _ e) b.1.0) b)
+    (way_tells x.extended k y.handed y.acked y.sent x.taken (n, p) (infos fs) (receive_numbers_in_frames (w ++ x.said)) (span_below false x.extended k b.4) (eqb-true _ _ e) b.1.0) b)
     (λ e. reject_keeps k w x fs y (first_gone false k (w ++ x.said) x (Info n r p) fs y b))
 
 repeat_keeps : (k : ℕ) (w : List Frame) (x : Station) (l : List Frame) (y : Station) → Both false k w x l y → Both false k w (repeats_rejected x) l y
@@ -64,7 +64,7 @@ set_up_up k w false x l y none b =
     (λ e. puts_quiet false k w (record x { gap = false }) l y (Ua true) refl refl refl b) (λ e. absurd (true≢false (sym (eq-eqb _ _ none) ∙ e)))
 
 pub go_back_row_keeps : (k : ℕ) (w : List Frame) (p : Phase) (x : Station) (f : Frame) (fs : List Frame) (y : Station)
-    → Both false k w (record x { phase = p }) (f ∷ fs) y → Both false k w (row p (record x { phase = p }) (shown x.extended f) (information f)) fs y
+    → Both false k w (record x { phase = p }) (f ∷ fs) y → Both false k w (row_of_phase p (record x { phase = p }) (shown x.extended f) (information f)) fs y
 go_back_row_keeps k w Idle x (Info n r q) fs y b = first_gone false k (w ++ x.said) (record x { phase = Idle }) (Info n r q) fs y b
 go_back_row_keeps k w Idle x (Rr r) fs y b = first_gone false k (w ++ x.said) (record x { phase = Idle }) (Rr r) fs y b
 go_back_row_keeps k w Idle x (Rej r) fs y b = first_gone false k (w ++ x.said) (record x { phase = Idle }) (Rej r) fs y b

@@ -10,7 +10,7 @@ use Rattle.hdlc_station_model.specs.declared.phase.Phase.{Phase}
 use Rattle.hdlc_station_model.specs.Frames.{Frame, Info, Rr, Rej, Srej, SetUp, Disc, Dm, Ua, modulo, shown, poll_final, information, sent_address, table_octets, sent_body}
 use Rattle.hdlc_station_model.specs.Stations.{Station, is_down, sees}
 use Rattle.hdlc_station_model.specs.Sending.{sends_waiting}
-use Rattle.hdlc_station_model.specs.Receiving.{is_known_address, is_addressed, is_error, row, hears}
+use Rattle.hdlc_station_model.specs.Receiving.{is_known_address, is_addressed, is_error, row_of_phase, hears}
 use Rattle.hdlc_station_model.specs.Selective.{is_selective_error, selective_row, selective_hears, receives_as}
 
 -- the table has octets for each frame
@@ -92,7 +92,7 @@ addressed false e (Ua final) = refl
 -- what a station of either kind does
 abbrev pub row_as : (selective : Bool) → Phase → Station → Control → List ℕ → Station
 row_as true p s c information = selective_row p s c information
-row_as false p s c information = row p s c information
+row_as false p s c information = row_of_phase p s c information
 
 abbrev pub hears_as : (selective : Bool) → Verdict → Station → Station
 hears_as true verdict s = selective_hears verdict s

@@ -8,7 +8,7 @@ use Rattle.hdlc_station_model.specs.Frames.{Frame, SetUp, modulo}
 use Rattle.hdlc_station_model.specs.Stations.{Station, is_down, sees, puts, made}
 use Rattle.hdlc_station_model.specs.Sending.{starts_timer}
 use Rattle.hdlc_station_model.specs.Calls.{starts_at, starts, closes_at, closes}
-use Rattle.hdlc_pair_laws.specs.Invariant.{Pair, Both}
+use Rattle.hdlc_pair_laws.specs.Invariant.{IsStationPair, Both}
 use Rattle.hdlc_pair_laws.specs.Keeping.{CallsKeep}
 use Rattle.hdlc_pair_laws.proofs.Keeps.{down_keeps}
 use Rattle.hdlc_pair_laws.proofs.Rows.{first_gone, first_twice}
@@ -41,7 +41,7 @@ below true window h = (refl, omega arith)
 below false window h = (refl, omega arith)
 
 pair_made : (extended : Bool) (window n2 t1 : ℕ) → 1 ≤ window → window < modulo extended
-    → Pair false (modulo extended - 1) [] (made true extended window n2 t1) [] (made false extended window n2 t1)
+    → IsStationPair false (modulo extended - 1) [] (made true extended window n2 t1) [] (made false extended window n2 t1)
 pair_made extended window n2 t1 some few =
     let b = below extended window few in (
       (record { prefix = refl; window = omega arith; given = omega arith; chain = omega arith; climb = omega arith }, omega arith, refl, b.1, tt, tt, refl),

@@ -8,12 +8,12 @@ use Rattle.hdlc_station_model.specs.Frames.{Frame, sent_address, sent_body}
 use Rattle.hdlc_station_model.specs.Stations.{Station}
 use Rattle.hdlc_station_model.specs.Selective.{receives_as}
 use Rattle.hdlc_station_model.specs.Lines.{next_of}
-use Rattle.hdlc_pair_laws.specs.Links.{Came, Link, line_of, hears_each, reads}
-use Rattle.hdlc_pair_laws.specs.Steps.{LinkStep, Send, Pass, Lose, Repeat, Alter, Put, UserRelease, Drain, Tick, pass, is_overfull, Draining, pass_next, drained, happens}
-use Rattle.hdlc_pair_laws.specs.Laws.{Opening, after, passed_of, deliveries, IsEmpty}
+use Rattle.hdlc_pair_laws.specs.Links.{StationLinkOutcome, StationLink, frames_from_station, hears_each, station_link_behind_octets}
+use Rattle.hdlc_pair_laws.specs.Steps.{StationLinkStep, Send, Pass, Lose, Repeat, Alter, Put, UserRelease, Drain, Tick, pass, is_overfull, Draining, pass_next, drained, link_behind_step}
+use Rattle.hdlc_pair_laws.specs.Laws.{StationLinkOpening, after, count_of_passed_frames, deliveries, IsEmpty}
 use Rattle.hdlc_pair_laws.specs.Recovery.{ArePasses, bound_of, PassesBound, DrainEmptiesLive}
 use Rattle.hdlc_station_model.specs.Repeating.{passes_bound}
-use Rattle.hdlc_pair_laws.specs.Invariant.{Pair, Both}
+use Rattle.hdlc_pair_laws.specs.Invariant.{IsStationPair, Both}
 use Rattle.hdlc_pair_laws.proofs.Lines.{octets_of, Stands, turned, begun, acted, First, first_of_line, answered, one_event, flag_behind, answered_keeps}
 use Rattle.hdlc_pair_laws.proofs.Runs.{Frames, Holds, after_holds}
 use Rattle.hdlc_pair_laws.proofs.Delivered.{none_next, full_next, next_is}
@@ -22,7 +22,7 @@ use Rattle.hdlc_pair_laws.proofs.WindowsRun.{Windowed, after_windowed}
 use Rattle.hdlc_pair_laws.proofs.Bounded.{answered_spends, left, came_left, left_le, left_none}
 
 -- at most so many passes are left
-pub record Lasts (window n : ℕ) (l : Link) : Type 0 where
+pub record Lasts (window n : ℕ) (l : StationLink) : Type 0 where
   pub k : ℕ
   pub fe : List Frame
   pub fr : List Frame
@@ -31,12 +31,12 @@ pub record Lasts (window n : ℕ) (l : Link) : Type 0 where
   pub few : left l.selective window fe l.e fr l.r ≤ n
 
 -- and one less
-pub record LastsLess (window n : ℕ) (l : Link) : Type 0 where
+pub record LastsLess (window n : ℕ) (l : StationLink) : Type 0 where
   pub less : ℕ
   pub one : less + 1 ≤ n
   pub lasts : Lasts window less l
 
-same_lasts : (window n : ℕ) (l : Link) (came : List Came) → Lasts window n l → Lasts window n (record l { came = came })
+same_lasts : (window n : ℕ) (l : StationLink) (came : List StationLinkOutcome) → Lasts window n l → Lasts window n (record l { came = came })
 same_lasts window n l came h = record { k = h.k; fe = h.fe; fr = h.fr; stands = h.stands; windowed = h.windowed; few = h.few }
 
 -- ---- a pass
@@ -46,11 +46,11 @@ answered_in window selective now y f x h =
     let v : Verdict = Frame_found (sent_address y.calling f) (sent_body y.extended f) in
     finishes_in window x.handed (receives_as selective now v x) (receives_in window x.handed selective now v x h)
 
-e_lasts : Frames → (window n : ℕ) (l : Link) (octets : List ℕ) (rest : List (List ℕ)) → l.from_e ≡ octets ∷ rest → (h : Lasts window n l) → First l.e octets rest h.fe
-    → (passes : ℕ) → LastsLess window n (reads R octets (record l { from_e = rest; passes = passes }))
+e_lasts : Frames → (window n : ℕ) (l : StationLink) (octets : List ℕ) (rest : List (List ℕ)) → l.from_e ≡ octets ∷ rest → (h : Lasts window n l) → First l.e octets rest h.fe
+    → (passes : ℕ) → LastsLess window n (station_link_behind_octets R octets (record l { from_e = rest; passes = passes }))
 e_lasts laws window n l octets rest e h f passes =
     let t = turned l.selective h.k h.fe l.e h.fr l.r l.from_e l.from_r l.read_e l.read_r h.stands in
-    let p : Pair l.selective h.k h.fr l.r (f.frame ∷ f.frames) l.e = subst (λ (q : List Frame). Pair l.selective h.k h.fr l.r q l.e) f.all t.pair in
+    let p : IsStationPair l.selective h.k h.fr l.r (f.frame ∷ f.frames) l.e = subst (λ (q : List Frame). IsStationPair l.selective h.k h.fr l.r q l.e) f.all t.pair in
     let b : Both l.selective h.k h.fr l.r (f.frame ∷ f.frames) l.e =
     subst (λ (q : List Frame). Both l.selective h.k h.fr l.r q l.e) f.all (begun l.selective h.k h.fr l.r h.fe l.e l.from_r l.from_e l.read_r l.read_e t) in
     let x : Station = answered l.selective l.moment l.e f.frame l.r in
@@ -61,7 +61,7 @@ e_lasts laws window n l octets rest e h f passes =
     subst (λ (q : List Frame). left l.selective window h.fr l.r q l.e ≤ n) f.all (omega (arith, h.few)) in
     let less = came_left l.selective window n h.fr l.r x f.frame f.frames l.e t.quiet_x i.handed_is
     (λ cost. answered_spends laws.back cost window l.selective h.k h.fr l.moment l.r f.frame f.frames l.e h.windowed.1.room b) was in
-    subst (λ (os : List ℕ). LastsLess window n (reads R os (record l { from_e = rest; passes = passes }))) (sym f.octets_are)
+    subst (λ (os : List ℕ). LastsLess window n (station_link_behind_octets R os (record l { from_e = rest; passes = passes }))) (sym f.octets_are)
     (subst (λ (vs : List Verdict). LastsLess window n (hears_each R vs (record l { from_e = rest; passes = passes; read_r = l.read_r ++ octets_of l.e f.frame })))
     (sym (one_event laws.parts laws.alone l.selective h.k h.fr l.r f.frame f.frames l.e l.read_r t.flag_x p))
     (record {
@@ -77,11 +77,11 @@ e_lasts laws window n l octets rest e h f passes =
       };
     }))
 
-r_lasts : Frames → (window n : ℕ) (l : Link) (octets : List ℕ) (rest : List (List ℕ)) → l.from_r ≡ octets ∷ rest → (h : Lasts window n l) → First l.r octets rest h.fr
-    → (passes : ℕ) → LastsLess window n (reads E octets (record l { from_r = rest; passes = passes }))
+r_lasts : Frames → (window n : ℕ) (l : StationLink) (octets : List ℕ) (rest : List (List ℕ)) → l.from_r ≡ octets ∷ rest → (h : Lasts window n l) → First l.r octets rest h.fr
+    → (passes : ℕ) → LastsLess window n (station_link_behind_octets E octets (record l { from_r = rest; passes = passes }))
 r_lasts laws window n l octets rest e h f passes =
     let t = h.stands in
-    let p : Pair l.selective h.k h.fe l.e (f.frame ∷ f.frames) l.r = subst (λ (q : List Frame). Pair l.selective h.k h.fe l.e q l.r) f.all t.pair in
+    let p : IsStationPair l.selective h.k h.fe l.e (f.frame ∷ f.frames) l.r = subst (λ (q : List Frame). IsStationPair l.selective h.k h.fe l.e q l.r) f.all t.pair in
     let b : Both l.selective h.k h.fe l.e (f.frame ∷ f.frames) l.r =
     subst (λ (q : List Frame). Both l.selective h.k h.fe l.e q l.r) f.all (begun l.selective h.k h.fe l.e h.fr l.r l.from_e l.from_r l.read_e l.read_r t) in
     let x : Station = answered l.selective l.moment l.r f.frame l.e in
@@ -91,7 +91,7 @@ r_lasts laws window n l octets rest e h f passes =
     let was : left l.selective window h.fe l.e (f.frame ∷ f.frames) l.r ≤ n = subst (λ (q : List Frame). left l.selective window h.fe l.e q l.r ≤ n) f.all h.few in
     let less = came_left l.selective window n h.fe l.e x f.frame f.frames l.r t.quiet_x i.handed_is
     (λ cost. answered_spends laws.back cost window l.selective h.k h.fe l.moment l.e f.frame f.frames l.r h.windowed.0.room b) was in
-    subst (λ (os : List ℕ). LastsLess window n (reads E os (record l { from_r = rest; passes = passes }))) (sym f.octets_are)
+    subst (λ (os : List ℕ). LastsLess window n (station_link_behind_octets E os (record l { from_r = rest; passes = passes }))) (sym f.octets_are)
     (subst (λ (vs : List Verdict). LastsLess window n (hears_each E vs (record l { from_r = rest; passes = passes; read_e = l.read_e ++ octets_of l.r f.frame })))
     (sym (one_event laws.parts laws.alone l.selective h.k h.fe l.e f.frame f.frames l.r l.read_e t.flag_x p))
     (record {
@@ -107,7 +107,7 @@ r_lasts laws window n l octets rest e h f passes =
       };
     }))
 
-pass_lasts : Frames → (window n : ℕ) (side : Side) (l : Link) (octets : List ℕ) (rest : List (List ℕ)) → line_of l side ≡ octets ∷ rest → Lasts window n l
+pass_lasts : Frames → (window n : ℕ) (side : Side) (l : StationLink) (octets : List ℕ) (rest : List (List ℕ)) → frames_from_station l side ≡ octets ∷ rest → Lasts window n l
     → LastsLess window n (pass side (octets ∷ rest) l)
 pass_lasts laws window n E l octets rest e h = e_lasts laws window n l octets rest e h (first_of_line l.e octets rest h.fe (sym e ∙ h.stands.lined_x)) _
 pass_lasts laws window n R l octets rest e h = r_lasts laws window n l octets rest e h (first_of_line l.r octets rest h.fr (sym e ∙ h.stands.lined_y)) _
@@ -115,23 +115,23 @@ pass_lasts laws window n R l octets rest e h = r_lasts laws window n l octets re
 -- ---- a list of passes
 
 -- a pass gives a frame or none, and leaves so many
-record Given (window n : ℕ) (line : List (List ℕ)) (l : Link) : Type 0 where
+record Given (window n : ℕ) (line : List (List ℕ)) (l : StationLink) : Type 0 where
   pub less : ℕ
-  pub one : passed_of line + less ≤ n
+  pub one : count_of_passed_frames line + less ≤ n
   pub lasts : Lasts window less l
 
-given : Frames → (window n : ℕ) (side : Side) (l : Link) (line : List (List ℕ)) → line_of l side ≡ line → Lasts window n l → Given window n line (pass side line l)
+given : Frames → (window n : ℕ) (side : Side) (l : StationLink) (line : List (List ℕ)) → frames_from_station l side ≡ line → Lasts window n l → Given window n line (pass side line l)
 given laws window n side l [] e h = record { less = n; one = omega arith; lasts = same_lasts window n l _ h }
 given laws window n side l (octets ∷ rest) e h =
     let p = pass_lasts laws window n side l octets rest e h in
     record { less = p.less; one = omega (arith, p.one); lasts = p.lasts }
 
-all_given : Frames → (window n : ℕ) (passes : List LinkStep) (l : Link) → ArePasses passes → Lasts window n l → deliveries l passes ≤ n
+all_given : Frames → (window n : ℕ) (passes : List StationLinkStep) (l : StationLink) → ArePasses passes → Lasts window n l → deliveries l passes ≤ n
 all_given laws window n [] l are h = omega arith
 all_given laws window n (Pass side ∷ rest) l are h =
-    let now : Link = record l { came = [] } in
-    let g = given laws window n side now (line_of now side) refl (same_lasts window n l [] h) in
-    omega (arith, g.one, all_given laws window g.less rest (happens (Pass side) l) are.1 g.lasts)
+    let now : StationLink = record l { came = [] } in
+    let g = given laws window n side now (frames_from_station now side) refl (same_lasts window n l [] h) in
+    omega (arith, g.one, all_given laws window g.less rest (link_behind_step (Pass side) l) are.1 g.lasts)
 all_given laws window n (Send side payload ∷ rest) l are h = absurd are.0
 all_given laws window n (Lose side ∷ rest) l are h = absurd are.0
 all_given laws window n (Repeat side ∷ rest) l are h = absurd are.0
@@ -143,21 +143,21 @@ all_given laws window n (Tick moment ∷ rest) l are h = absurd are.0
 
 -- ---- a drain
 
-abbrev Ends : Link → Type 0
+abbrev Ends : StationLink → Type 0
 Ends l = IsEmpty l ⊎ (is_overfull l ≡ true)
 
 -- the pass of the end that is next
-e_next : Frames → (window n : ℕ) (l : Link) (line from_r : List (List ℕ)) → l.from_e ≡ line → next_of line from_r ≡ Some E → Lasts window n l → LastsLess window n (pass E line l)
+e_next : Frames → (window n : ℕ) (l : StationLink) (line from_r : List (List ℕ)) → l.from_e ≡ line → next_of line from_r ≡ Some E → Lasts window n l → LastsLess window n (pass E line l)
 e_next laws window n l (f ∷ fs) from_r e next h = pass_lasts laws window n E l f fs e h
 e_next laws window n l [] (f ∷ fs) e next h = absurd cc
 e_next laws window n l [] [] e next h = absurd cc
 
-r_next : Frames → (window n : ℕ) (l : Link) (from_e line : List (List ℕ)) → l.from_r ≡ line → next_of from_e line ≡ Some R → Lasts window n l → LastsLess window n (pass R line l)
+r_next : Frames → (window n : ℕ) (l : StationLink) (from_e line : List (List ℕ)) → l.from_r ≡ line → next_of from_e line ≡ Some R → Lasts window n l → LastsLess window n (pass R line l)
 r_next laws window n l (f ∷ fs) line e next h = absurd cc
 r_next laws window n l [] (f ∷ fs) e next h = pass_lasts laws window n R l f fs e h
 r_next laws window n l [] [] e next h = absurd cc
 
-next_lasts : Frames → (window n : ℕ) (side : Side) (l : Link) → next_of l.from_e l.from_r ≡ Some side → Lasts window n l → LastsLess window n (pass side (line_of l side) l)
+next_lasts : Frames → (window n : ℕ) (side : Side) (l : StationLink) → next_of l.from_e l.from_r ≡ Some side → Lasts window n l → LastsLess window n (pass side (frames_from_station l side) l)
 next_lasts laws window n E l next h = e_next laws window n l l.from_e l.from_r refl next h
 next_lasts laws window n R l next h = r_next laws window n l l.from_e l.from_r refl next h
 
@@ -182,9 +182,9 @@ drained_ends laws window (suc most) n d few h =
 
 -- ---- the laws
 
-after_lasts : Frames → (s : Opening) (steps : List LinkStep) → (after s steps).order_kept ≡ true → Lasts s.window (bound_of s (after s steps)) (after s steps)
+after_lasts : Frames → (s : StationLinkOpening) (steps : List StationLinkStep) → (after s steps).order_kept ≡ true → Lasts s.window (bound_of s (after s steps)) (after s steps)
 after_lasts laws s steps kept =
-    let l : Link = after s steps in
+    let l : StationLink = after s steps in
     let h : Holds l = after_holds laws s steps kept in
     let w : Windowed s.window l = after_windowed s steps in
     let ne : length l.from_e ≡ length h.fe = ap length h.stands.lined_x ∙ length-map h.fe _ in

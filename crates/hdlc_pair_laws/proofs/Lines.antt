@@ -8,7 +8,7 @@ use Rattle.hdlc_station_model.specs.Stations.{Station, settled}
 use Rattle.hdlc_station_model.specs.Calls.{finishes}
 use Rattle.hdlc_station_model.specs.Selective.{receives_as}
 use Rattle.hdlc_station_model.specs.Events.{said_octets, news}
-use Rattle.hdlc_pair_laws.specs.Invariant.{Pair, Both}
+use Rattle.hdlc_pair_laws.specs.Invariant.{IsStationPair, Both}
 use Rattle.hdlc_pair_laws.proofs.Ways.{short_at}
 use Rattle.hdlc_pair_laws.proofs.Hearing.{body_fits}
 use Rattle.hdlc_pair_laws.proofs.Streams.{AtFlag, one_new, at_flag_again}
@@ -27,7 +27,7 @@ pub record Stands (selective : Bool) (k : ℕ) (lx : List Frame) (x : Station) (
   pub quiet_y : y.said ≡ []
   pub flag_x : AtFlag read_x
   pub flag_y : AtFlag read_y
-  pub pair : Pair selective k lx x ly y
+  pub pair : IsStationPair selective k lx x ly y
 
 pub turned : (selective : Bool) (k : ℕ) (lx : List Frame) (x : Station) (ly : List Frame) (y : Station) (line_x line_y : List (List ℕ)) (read_x read_y : List ℕ)
     → Stands selective k lx x ly y line_x line_y read_x read_y → Stands selective k ly y lx x line_y line_x read_y read_x
@@ -37,7 +37,7 @@ turned selective k lx x ly y line_x line_y read_x read_y h =
 -- the invariant at the start of a call
 pub begun : (selective : Bool) (k : ℕ) (lx : List Frame) (x : Station) (ly : List Frame) (y : Station) (line_x line_y : List (List ℕ)) (read_x read_y : List ℕ)
     → Stands selective k lx x ly y line_x line_y read_x read_y → Both selective k lx x ly y
-begun selective k lx x ly y line_x line_y read_x read_y h = subst (λ (t : List Frame). Pair selective k (lx ++ t) x ly y) (sym h.quiet_x) (subst (λ (t : List Frame). Pair selective k t x ly y) (sym (append-nil lx)) h.pair)
+begun selective k lx x ly y line_x line_y read_x read_y h = subst (λ (t : List Frame). IsStationPair selective k (lx ++ t) x ly y) (sym h.quiet_x) (subst (λ (t : List Frame). IsStationPair selective k t x ly y) (sym (append-nil lx)) h.pair)
 
 -- a call keeps the role and the modulo
 same_calling : (b c d : Bool) → b ≡ not c → d ≡ not c → d ≡ b
@@ -81,7 +81,7 @@ none_on_line y [] e = refl
 none_on_line y (f ∷ fs) e = absurd cc
 
 -- an I frame that waits has the payload of its number, so it is short
-short_info : (selective : Bool) (k : ℕ) (lx : List Frame) (x : Station) (f : Frame) (fs : List Frame) (y : Station) → Pair selective k lx x (f ∷ fs) y → length (information f) ≤ 1026
+short_info : (selective : Bool) (k : ℕ) (lx : List Frame) (x : Station) (f : Frame) (fs : List Frame) (y : Station) → IsStationPair selective k lx x (f ∷ fs) y → length (information f) ≤ 1026
 short_info selective k lx x (Info n r p) fs y h = subst (λ (q : List ℕ). length q ≤ 1026) (sym h.1.0.chain.1) (short_at y.handed n h.1.4)
 short_info selective k lx x (Rr r) fs y h = omega arith
 short_info selective k lx x (Rej r) fs y h = omega arith
@@ -96,7 +96,7 @@ abbrev pub answered : (selective : Bool) → ℕ → Station → Frame → Stati
 answered selective now y f x = finishes (receives_as selective now (Frame_found (sent_address y.calling f) (sent_body y.extended f)) x)
 
 -- the first frame of y comes to x: it is one event
-pub one_event : FlagParts → FrameAlone → (selective : Bool) (k : ℕ) (lx : List Frame) (x : Station) (f : Frame) (fs : List Frame) (y : Station) (read_x : List ℕ) → AtFlag read_x → Pair selective k lx x (f ∷ fs) y
+pub one_event : FlagParts → FrameAlone → (selective : Bool) (k : ℕ) (lx : List Frame) (x : Station) (f : Frame) (fs : List Frame) (y : Station) (read_x : List ℕ) → AtFlag read_x → IsStationPair selective k lx x (f ∷ fs) y
     → news read_x (octets_of y f) ≡ Frame_found (sent_address y.calling f) (sent_body y.extended f) ∷ []
 one_event parts alone selective k lx x f fs y read_x flag h =
     let fits = body_fits y.extended f (short_info selective k lx x f fs y h) in
@@ -122,7 +122,7 @@ lost selective k lx x ly y line_x line_y read_x read_y octets rest h f =
       quiet_y = h.quiet_y;
       flag_x = h.flag_x;
       flag_y = h.flag_y;
-      pair = first_gone selective k lx x f.frame f.frames y (subst (λ (l : List Frame). Pair selective k lx x l y) f.all h.pair);
+      pair = first_gone selective k lx x f.frame f.frames y (subst (λ (l : List Frame). IsStationPair selective k lx x l y) f.all h.pair);
     }
 
 pub repeated : (selective : Bool) (k : ℕ) (lx : List Frame) (x : Station) (ly : List Frame) (y : Station) (line_x line_y : List (List ℕ)) (read_x read_y : List ℕ) (octets : List ℕ) (rest : List (List ℕ))
@@ -135,5 +135,5 @@ repeated selective k lx x ly y line_x line_y read_x read_y octets rest h f =
       quiet_y = h.quiet_y;
       flag_x = h.flag_x;
       flag_y = h.flag_y;
-      pair = first_twice selective k lx x f.frame f.frames y (subst (λ (l : List Frame). Pair selective k lx x l y) f.all h.pair);
+      pair = first_twice selective k lx x f.frame f.frames y (subst (λ (l : List Frame). IsStationPair selective k lx x l y) f.all h.pair);
     }

@@ -11,7 +11,7 @@ use Rattle.hdlc_station_model.specs.Receiving.{acknowledges, marks_busy, agrees,
 use Rattle.hdlc_station_model.specs.Selective.{receives_as}
 use Rattle.hdlc_station_model.specs.Calls.{hands, finishes, ticks}
 use Rattle.hdlc_station_model.specs.Events.{is_late}
-use Rattle.hdlc_pair_laws.specs.Invariant.{Pair, Both}
+use Rattle.hdlc_pair_laws.specs.Invariant.{IsStationPair, Both}
 use Rattle.hdlc_pair_laws.specs.Flowing.{one_if, Still, AtRest, Fresh, Asked, Agreed, Shape, Flushed, Midway, Ended}
 use Rattle.hdlc_pair_laws.specs.Keeping.{found}
 use Rattle.hdlc_pair_laws.specs.LossFree.{FlowKeeps, FlowBounds}
@@ -48,13 +48,13 @@ unsent_finishes x owes = cond_both (is_down x.phase) x (settles x) (λ t. t ≡ 
 
 -- ---- a call begins
 
-calling_begins : (selective : Bool) (k n : ℕ) (lx : List Frame) (x : Station) (ly : List Frame) (y : Station) → Pair selective k lx x ly y → Shape n lx x ly y → Midway true n lx (settled x) ly y
+calling_begins : (selective : Bool) (k n : ℕ) (lx : List Frame) (x : Station) (ly : List Frame) (y : Station) → IsStationPair selective k lx x ly y → Shape n lx x ly y → Midway true n lx (settled x) ly y
 calling_begins selective k n lx x ly y p (inl a) = inl (a.0, a.1, append-nil lx ∙ a.2, a.3, a.4, a.5, a.6)
 calling_begins selective k n lx x ly y p (inr (inl a)) = inr (inl (a.0, a.1, append-nil lx ∙ a.2, a.3, a.4, a.5, a.6))
 calling_begins selective k n lx x ly y p (inr (inr a)) =
     inr (inr ((subst (λ (t : List Frame). Still true n t (settled x) ly y) (sym (append-nil lx)) a.0, a.1.1, p.0.0.given), a.2))
 
-called_begins : (selective : Bool) (k n : ℕ) (lx : List Frame) (x : Station) (ly : List Frame) (y : Station) → Pair selective k lx x ly y → Shape n lx x ly y → Midway false n ly (settled y) lx x
+called_begins : (selective : Bool) (k n : ℕ) (lx : List Frame) (x : Station) (ly : List Frame) (y : Station) → IsStationPair selective k lx x ly y → Shape n lx x ly y → Midway false n ly (settled y) lx x
 called_begins selective k n lx x ly y p (inl a) = inl (a.0, a.1, a.2, append-nil ly ∙ a.3, a.4, a.5, a.6)
 called_begins selective k n lx x ly y p (inr (inl a)) = inr (inl (a.0, a.1, a.2, append-nil ly ∙ a.3, a.4, a.5, a.6))
 called_begins selective k n lx x ly y p (inr (inr a)) =
@@ -121,7 +121,7 @@ lives false n w x l y (inr (inr a)) = ap is_down a.0.0.0.0
 
 -- both are up
 up_receives : ControlReadsBack → (selective c : Bool) (k n : ℕ) (w : List Frame) (now : ℕ) (x : Station) (f : Frame) (fs : List Frame) (y : Station)
-    → Pair selective k (w ++ x.said) x (f ∷ fs) y → Flushed c n w x (f ∷ fs) y → Flushed c (n + 1) w (receives_as selective now (found y f) x) fs y
+    → IsStationPair selective k (w ++ x.said) x (f ∷ fs) y → Flushed c n w x (f ∷ fs) y → Flushed c (n + 1) w (receives_as selective now (found y f) x) fs y
 up_receives law selective c k n w now x (Info m r p) fs y h s =
     let z : Station = sees now x in
     subst (λ (t : Station). Flushed c (n + 1) w t fs y)
@@ -145,11 +145,11 @@ first_is f g fs gs e = (cc, cc)
 
 -- the set-up frame comes to the called station
 asked_receives : ControlReadsBack → (selective : Bool) (k n : ℕ) (w : List Frame) (now : ℕ) (x : Station) (f : Frame) (fs : List Frame) (y : Station)
-    → Pair selective k (w ++ x.said) x (f ∷ fs) y → Asked n (f ∷ fs) y (w ++ x.said) x
+    → IsStationPair selective k (w ++ x.said) x (f ∷ fs) y → Asked n (f ∷ fs) y (w ++ x.said) x
     → Agreed (n + 1) fs y (w ++ (receives_as selective now (found y f) x).said) (receives_as selective now (found y f) x)
 asked_receives law selective k n w now x f fs y h a =
     let first = first_is f SetUp fs [] a.2 in
-    let q = subst (λ (z : Frame). Pair selective k (w ++ x.said) x (z ∷ fs) y) first.0 h in
+    let q = subst (λ (z : Frame). IsStationPair selective k (w ++ x.said) x (z ∷ fs) y) first.0 h in
     let z : Station = agrees true (comes_up (sees now x)) in
     let e : receives_as selective now (found y f) x ≡ z =
     ap (λ (g : Frame). receives_as selective now (found y g) x) first.0 ∙ heard_live selective now (found y SetUp) x (ap is_down a.1)
@@ -161,11 +161,11 @@ asked_receives law selective k n w now x f fs y h a =
 
 -- its answer comes to the calling one, and what was handed to it before flows
 agreed_receives : ControlReadsBack → (selective : Bool) (k n : ℕ) (w : List Frame) (now : ℕ) (x : Station) (f : Frame) (fs : List Frame) (y : Station)
-    → Pair selective k (w ++ x.said) x (f ∷ fs) y → Agreed n (w ++ x.said) x (f ∷ fs) y
+    → IsStationPair selective k (w ++ x.said) x (f ∷ fs) y → Agreed n (w ++ x.said) x (f ∷ fs) y
     → Flushed true (n + 1) w (receives_as selective now (found y f) x) fs y × AtRest y
 agreed_receives law selective k n w now x f fs y h a =
     let first = first_is f (Ua true) fs [] a.3 in
-    let q = subst (λ (z : Frame). Pair selective k (w ++ x.said) x (z ∷ fs) y) first.0 h in
+    let q = subst (λ (z : Frame). IsStationPair selective k (w ++ x.said) x (z ∷ fs) y) first.0 h in
     let v : Station = record (sees now x) { timer = None; expiries = 0 } in
     let z : Station = comes_up v in
     let e : receives_as selective now (found y f) x ≡ sends_waiting z =

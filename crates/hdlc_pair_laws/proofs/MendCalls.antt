@@ -10,7 +10,7 @@ use Rattle.hdlc_station_model.specs.Stations.{Station, is_up, is_down, made, set
 use Rattle.hdlc_station_model.specs.Calls.{starts, hands, finishes, ticks, closes}
 use Rattle.hdlc_station_model.specs.Selective.{receives_as}
 use Rattle.hdlc_station_model.specs.Reports.{is_release, ReleasesAreTold}
-use Rattle.hdlc_pair_laws.specs.Invariant.{Pair, Both}
+use Rattle.hdlc_pair_laws.specs.Invariant.{IsStationPair, Both}
 use Rattle.hdlc_pair_laws.specs.Keeping.{found, FramesGive}
 use Rattle.hdlc_station_model.specs.Repeating.{MayRepeat}
 use Rattle.hdlc_pair_laws.specs.Mending.{Own, Progress, Lossy, HalfTicked, Ticked, Reached, MayHear, MaySpeak, Began, Between, Within}
@@ -65,7 +65,7 @@ started selective extended wd n2 t1 now = record {
   reached = tt;
 }
 
-begins : (p : Progress) (selective c : Bool) (k wd : ℕ) (lx : List Frame) (x : Station) (ly : List Frame) (y : Station) → Pair selective k lx x ly y
+begins : (p : Progress) (selective c : Bool) (k wd : ℕ) (lx : List Frame) (x : Station) (ly : List Frame) (y : Station) → IsStationPair selective k lx x ly y
     → Between p selective c wd lx x ly y → Within p selective c wd lx (settled x) ly y
 begins p selective c k wd lx x ly y b h = record {
   own = subst (λ (t : List Frame). Own c wd t x) (sym (append-nil lx)) h.own;
@@ -138,7 +138,7 @@ repeated selective c wd lx x f fs y h =
 
 -- ---- the tick
 
-calling_ticked : (selective : Bool) (k wd : ℕ) (w : List Frame) (now : ℕ) (x : Station) (l : List Frame) (y : Station) → w ≡ [] → l ≡ [] → Pair selective k w x l y
+calling_ticked : (selective : Bool) (k wd : ℕ) (w : List Frame) (now : ℕ) (x : Station) (l : List Frame) (y : Station) → w ≡ [] → l ≡ [] → IsStationPair selective k w x l y
     → Between Lossy selective true wd w x l y → is_down x.phase ≡ false → is_down y.phase ≡ false → MayRepeat now x → Within HalfTicked selective true wd w (ticks now (settled x)) l y
 calling_ticked selective k wd w now x l y nw nl p h live_x live_y may =
     let z : Station = settled x in
@@ -148,14 +148,14 @@ calling_ticked selective k wd w now x l y nw nl p h live_x live_y may =
     behind Lossy HalfTicked selective true wd w z l l y t i g.peers (began_kept true z t y i.3 (ticks_tell.asleep now z) g.began)
     (calling_ticks selective k wd w now z l y nw nl refl p h.own h.peers h.rests h.peer_rests h.began live_x live_y may) g
 
-called_ticked : (selective : Bool) (k wd : ℕ) (w : List Frame) (now : ℕ) (x : Station) (l : List Frame) (y : Station) → Pair selective k w x l y
+called_ticked : (selective : Bool) (k wd : ℕ) (w : List Frame) (now : ℕ) (x : Station) (l : List Frame) (y : Station) → IsStationPair selective k w x l y
     → Between HalfTicked selective false wd w x l y → MayRepeat now x → Within Ticked selective false wd w (ticks now (settled x)) l y
 called_ticked selective k wd w now x l y p h may =
     let z : Station = settled x in
     let t : Station = ticks now z in
     let g = begins HalfTicked selective false k wd w x l y p h in
     let i = ticks_in false wd w now z g.given g.own in
-    let b : Both selective k w z l y = subst (λ (r : List Frame). Pair selective k r z l y) (sym (append-nil w)) p in
+    let b : Both selective k w z l y = subst (λ (r : List Frame). IsStationPair selective k r z l y) (sym (append-nil w)) p in
     behind HalfTicked Ticked selective false wd w z l l y t i g.peers (began_kept false z t y i.3 (ticks_tell.asleep now z) g.began)
     (called_ticks selective k wd w now z l y refl b h.own g.reached may) g
 

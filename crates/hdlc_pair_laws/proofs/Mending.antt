@@ -7,9 +7,9 @@ use Rattle.hdlc_station_model.specs.Frames.{Frame, Rr, Srej}
 use Rattle.hdlc_station_model.specs.Stations.{Station, is_down, sees, puts}
 use Rattle.hdlc_station_model.specs.Sending.{info_at, can_send, waiting, frames_again, sends_next, sends_up_to, sends_waiting, sends_again, settles}
 use Rattle.hdlc_station_model.specs.Calls.{hands, finishes}
-use Rattle.hdlc_pair_laws.specs.Invariant.{infos, numbers, info_of, number_of}
-use Rattle.hdlc_pair_laws.specs.Flowing.{Ends}
-use Rattle.hdlc_pair_laws.specs.Mending.{AllExchange, Comes, IsExchange, Mends, Near, Toward, Waits, leads}
+use Rattle.hdlc_pair_laws.specs.Invariant.{infos, receive_numbers_in_frames, info_of, receive_numbers_in_frame}
+use Rattle.hdlc_pair_laws.specs.Flowing.{EndsAtNumber}
+use Rattle.hdlc_pair_laws.specs.Mending.{AllExchange, HasAllSentComing, IsExchange, Mends, Near, Toward, Waits, leads}
 use Rattle.hdlc_pair_laws.proofs.Keeps.{more}
 use Rattle.hdlc_pair_laws.proofs.Flows.{ends_push}
 
@@ -36,8 +36,8 @@ waits_last m [] p = inl refl
 waits_last m (g ∷ fs) p = inr (waits_last m fs p)
 
 -- again
-comes_again : (selective : Bool) (next sent n : ℕ) (p : List ℕ) (held waits : List (ℕ × List ℕ)) → n < sent → Comes selective next held waits sent
-    → Comes selective next held (waits ++ (n, p) ∷ []) sent
+comes_again : (selective : Bool) (next sent n : ℕ) (p : List ℕ) (held waits : List (ℕ × List ℕ)) → n < sent → HasAllSentComing selective next held waits sent
+    → HasAllSentComing selective next held (waits ++ (n, p) ∷ []) sent
 comes_again true next sent n p held waits below h = λ m low high. elim (h m low high) [ inl is ↦ inl is | inr w ↦ inr (waits_push m waits (n, p) w) ]
 comes_again false next sent n p held waits below h =
     leads_append next waits ((n, p) ∷ [])
@@ -45,8 +45,8 @@ comes_again false next sent n p held waits below h =
     ∙ cond_both (sent == n) (sent + 1) sent (λ t. t ≡ sent) (λ e. absurd (let s = eqb-true sent n e in let u : ⊥ = omega (arith, s, below) in u)) (λ e. refl)
 
 -- for the first time
-comes_first : (selective : Bool) (next sent : ℕ) (p : List ℕ) (held waits : List (ℕ × List ℕ)) → Comes selective next held waits sent
-    → Comes selective next held (waits ++ (sent, p) ∷ []) (sent + 1)
+comes_first : (selective : Bool) (next sent : ℕ) (p : List ℕ) (held waits : List (ℕ × List ℕ)) → HasAllSentComing selective next held waits sent
+    → HasAllSentComing selective next held (waits ++ (sent, p) ∷ []) (sent + 1)
 comes_first true next sent p held waits h = λ m low high. elim (cases_lt m sent) [
   | inl lower ↦ elim (h m low lower) [ inl is ↦ inl is | inr w ↦ inr (waits_push m waits (sent, p) w) ]
   | inr last ↦
@@ -68,18 +68,18 @@ exchange_push (g ∷ gs) f h p = (h.0, exchange_push gs f h.1 p)
 
 module _ (selective : Bool) (lx : List Frame) (x : Station) (ly : List Frame) (y : Station) (owed : Bool) where
   -- a frame that shows V(R) and is no I frame: whatever was owed
-  shown_mends : (f : Frame) → IsExchange f → info_of f ≡ [] → number_of f ≡ length x.taken ∷ [] → Near selective lx x ly y
+  shown_mends : (f : Frame) → IsExchange f → info_of f ≡ [] → receive_numbers_in_frame f ≡ length x.taken ∷ [] → Near selective lx x ly y
       → Mends selective (lx ++ f ∷ []) (record x { owed = owed }) ly y
   shown_mends f is e1 e2 h = (
     (
-      subst (λ i. Toward selective i (numbers ly) x y) (sym (more info_of lx f ∙ ap (λ t. infos lx ++ t) e1 ∙ append-nil (infos lx))) h.0,
+      subst (λ i. Toward selective i (receive_numbers_in_frames ly) x y) (sym (more info_of lx f ∙ ap (λ t. infos lx ++ t) e1 ∙ append-nil (infos lx))) h.0,
       h.1,
       exchange_push lx f h.2 is,
       h.3,
       h.4,
       h.5,
     ),
-    λ owes none. subst (λ ns. Ends y.acked ns (length x.taken)) (sym (more number_of lx f ∙ ap (λ t. numbers lx ++ t) e2)) (ends_push y.acked (length x.taken) (numbers lx)),
+    λ owes none. subst (λ ns. EndsAtNumber y.acked ns (length x.taken)) (sym (more receive_numbers_in_frame lx f ∙ ap (λ t. receive_numbers_in_frames lx ++ t) e2)) (ends_push y.acked (length x.taken) (receive_numbers_in_frames lx)),
   )
 
   -- an I frame again
@@ -88,7 +88,7 @@ module _ (selective : Bool) (lx : List Frame) (x : Station) (ly : List Frame) (y
       let f : Frame = info_at x n in
       let p : List ℕ = slice_index_or x.handed n [] in (
         (
-          subst (λ i. Toward selective i (numbers ly) x y) (sym (more info_of lx f))
+          subst (λ i. Toward selective i (receive_numbers_in_frames ly) x y) (sym (more info_of lx f))
               (comes_again selective (length y.taken) x.sent n p y.held (infos lx) below h.0.0, λ owes none. absurd (not_none (infos lx) (n, p) none)),
           h.1,
           exchange_push lx f h.2 tt,
@@ -96,7 +96,7 @@ module _ (selective : Bool) (lx : List Frame) (x : Station) (ly : List Frame) (y
           h.4,
           h.5,
         ),
-        λ owes none. subst (λ ns. Ends y.acked ns (length x.taken)) (sym (more number_of lx f)) (ends_push y.acked (length x.taken) (numbers lx)),
+        λ owes none. subst (λ ns. EndsAtNumber y.acked ns (length x.taken)) (sym (more receive_numbers_in_frame lx f)) (ends_push y.acked (length x.taken) (receive_numbers_in_frames lx)),
       )
 
   -- the next one
@@ -105,7 +105,7 @@ module _ (selective : Bool) (lx : List Frame) (x : Station) (ly : List Frame) (y
       let f : Frame = info_at x x.sent in
       let p : List ℕ = slice_index_or x.handed x.sent [] in (
         (
-          subst (λ i. Toward selective i (numbers ly) (record x { sent = x.sent + 1 }) y) (sym (more info_of lx f))
+          subst (λ i. Toward selective i (receive_numbers_in_frames ly) (record x { sent = x.sent + 1 }) y) (sym (more info_of lx f))
               (comes_first selective (length y.taken) x.sent p y.held (infos lx) h.0.0, λ owes none. absurd (not_none (infos lx) (x.sent, p) none)),
           h.1,
           exchange_push lx f h.2 tt,
@@ -113,7 +113,7 @@ module _ (selective : Bool) (lx : List Frame) (x : Station) (ly : List Frame) (y
           h.4,
           h.5,
         ),
-        λ owes none. subst (λ ns. Ends y.acked ns (length x.taken)) (sym (more number_of lx f)) (ends_push y.acked (length x.taken) (numbers lx)),
+        λ owes none. subst (λ ns. EndsAtNumber y.acked ns (length x.taken)) (sym (more receive_numbers_in_frame lx f)) (ends_push y.acked (length x.taken) (receive_numbers_in_frames lx)),
       )
 
 -- ---- within a call
@@ -125,7 +125,7 @@ abbrev pub MendsIn : (selective : Bool) → List Frame → Station → List Fram
 MendsIn selective w x l y = Mends selective (w ++ x.said) x l y
 
 module _ (selective : Bool) (w : List Frame) (l : List Frame) (y : Station) where
-  pub puts_shown_mends : (x : Station) (owed : Bool) (f : Frame) → IsExchange f → info_of f ≡ [] → number_of f ≡ length x.taken ∷ [] → NearIn selective w x l y
+  pub puts_shown_mends : (x : Station) (owed : Bool) (f : Frame) → IsExchange f → info_of f ≡ [] → receive_numbers_in_frame f ≡ length x.taken ∷ [] → NearIn selective w x l y
       → MendsIn selective w (record (puts f x) { owed = owed }) l y
   puts_shown_mends x owed f is e1 e2 h =
       subst (λ lx. Mends selective lx (record x { owed = owed }) l y) (append_assoc w x.said (f ∷ [])) (shown_mends selective (w ++ x.said) x l y owed f is e1 e2 h)
@@ -143,14 +143,14 @@ module _ (selective : Bool) (w : List Frame) (l : List Frame) (y : Station) wher
       subst (λ t. Mends selective (w ++ t) x l y) (append_assoc x.said (f ∷ []) (map Srej ms))
       (asked_mends ms (puts f x) (subst (λ lz. Mends selective lz x l y) (append_assoc w x.said (f ∷ [])) (
         (
-          subst (λ i. Toward selective i (numbers l) x y) (sym (more info_of lx f ∙ append-nil (infos lx))) h.0.0,
+          subst (λ i. Toward selective i (receive_numbers_in_frames l) x y) (sym (more info_of lx f ∙ append-nil (infos lx))) h.0.0,
           h.0.1,
           exchange_push lx f h.0.2 tt,
           h.0.3,
           h.0.4,
           h.0.5,
         ),
-        λ owes none. subst (λ ns. Ends y.acked ns (length x.taken)) (sym (more number_of lx f ∙ append-nil (numbers lx))) (h.1 owes none),
+        λ owes none. subst (λ ns. EndsAtNumber y.acked ns (length x.taken)) (sym (more receive_numbers_in_frame lx f ∙ append-nil (receive_numbers_in_frames lx))) (h.1 owes none),
       )))
 
   -- the frames from V(A) on, again

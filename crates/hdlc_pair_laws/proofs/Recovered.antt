@@ -9,14 +9,14 @@ use Rattle.hdlc_station_model.specs.Stations.{Station, is_up, is_down, settled}
 use Rattle.hdlc_station_model.specs.Selective.{held_for, is_found}
 use Rattle.hdlc_station_model.specs.Calls.{finishes, ticks}
 use Rattle.hdlc_station_model.specs.Events.{is_late}
-use Rattle.hdlc_pair_laws.specs.Links.{Link, opened}
-use Rattle.hdlc_pair_laws.specs.Steps.{LinkStep, Tick, tick_at, tick, happens, run}
-use Rattle.hdlc_pair_laws.specs.Laws.{Opening, after, IsEmpty}
-use Rattle.hdlc_pair_laws.specs.Invariant.{Pair}
+use Rattle.hdlc_pair_laws.specs.Links.{StationLink, opened_station_link}
+use Rattle.hdlc_pair_laws.specs.Steps.{StationLinkStep, Tick, tick_at, tick, link_behind_step, station_link_run}
+use Rattle.hdlc_pair_laws.specs.Laws.{StationLinkOpening, after, IsEmpty}
+use Rattle.hdlc_pair_laws.specs.Invariant.{IsStationPair}
 use Rattle.hdlc_pair_laws.specs.Recovery.{ArePasses, AreLive, IsRecovered, Recovery}
 use Rattle.hdlc_station_model.specs.Repeating.{MayRepeat}
 use Rattle.hdlc_pair_laws.specs.Timers.{IsRenewed, Renewal}
-use Rattle.hdlc_pair_laws.specs.Mending.{Timed, Own, Rested, Comes, Mends, HalfTicked, Ticked, Reached}
+use Rattle.hdlc_pair_laws.specs.Mending.{Timed, Own, Rested, HasAllSentComing, Mends, HalfTicked, Ticked, Reached}
 use Rattle.hdlc_pair_laws.specs.Repairs.{IsMended}
 use Rattle.hdlc_pair_laws.proofs.Ways.{way_bounds}
 use Rattle.hdlc_pair_laws.proofs.Events.{finishes_keeps, ticks_keeps}
@@ -36,7 +36,7 @@ use Rattle.hdlc_pair_laws.proofs.Ticks.{calling_ticks, called_ticks}
 abbrev HalfRecovers : Claim
 HalfRecovers selective fe e fr r = Reached HalfTicked selective true fe e fr r
 
-e_ticks : (wd : ℕ) (l : Link) (now : ℕ) → Sound wd l → AreLive l → IsEmpty l → MayRepeat now l.e → Sounds wd HalfRecovers (tick_at E now l)
+e_ticks : (wd : ℕ) (l : StationLink) (now : ℕ) → Sound wd l → AreLive l → IsEmpty l → MayRepeat now l.e → Sounds wd HalfRecovers (tick_at E now l)
 e_ticks wd l now g live empty may =
     let t : Station = ticks now l.e in
     let x : Station = finishes t in
@@ -50,7 +50,7 @@ e_ticks wd l now g live empty may =
     (finished_reached HalfTicked l.selective true g.fe t g.fr l.r tt
     (calling_ticks l.selective g.k wd g.fe now l.e g.fr l.r ne nr g.stands.quiet_x g.stands.pair g.own_e g.own_r g.rests_e g.rests_r (g.first, g.begun) live.0 live.1 may)))
 
-r_ticks : (wd : ℕ) (l : Link) (now : ℕ) → Sounds wd HalfRecovers l → MayRepeat now l.r → Sounds wd Recovers (tick_at R now l)
+r_ticks : (wd : ℕ) (l : StationLink) (now : ℕ) → Sounds wd HalfRecovers l → MayRepeat now l.r → Sounds wd Recovers (tick_at R now l)
 r_ticks wd l now g may =
     let t : Station = ticks now l.r in
     let x : Station = finishes t in
@@ -64,15 +64,15 @@ r_ticks wd l now g may =
     (called_ticks l.selective g.k wd g.fr now l.r g.fe l.e g.stands.quiet_y (r_ready wd HalfRecovers l g) g.own_r
     (subst (λ (v : List Frame). Reached HalfTicked l.selective false v l.r g.fe l.e) (sym unsaid) h) may))))
 
-both_ticked : (wd : ℕ) (l : Link) (now : ℕ) → Sound wd l → AreLive l → IsEmpty l → MayRepeat now l.e → MayRepeat now l.r → Sounds wd Recovers (tick now l)
+both_ticked : (wd : ℕ) (l : StationLink) (now : ℕ) → Sound wd l → AreLive l → IsEmpty l → MayRepeat now l.e → MayRepeat now l.r → Sounds wd Recovers (tick now l)
 both_ticked wd l now h live empty may_e may_r =
-    let first : Link = record l { moment = max l.moment now; loss_free = l.loss_free && not (is_late now l.e || is_late now l.r) } in
+    let first : StationLink = record l { moment = max l.moment now; loss_free = l.loss_free && not (is_late now l.e || is_late now l.r) } in
     let g : Sound wd first = same wd NoClaim l h _ l.passes l.order_kept _ l.came in
     r_ticks wd (tick_at E now first) now (e_ticks wd first now g live empty may_e) may_r
 
 -- ---- no frame waits any more
 
-took_all : (selective : Bool) (next sent : ℕ) (held : List (ℕ × List ℕ)) → next ≤ sent → held_for next held ≡ None → Comes selective next held [] sent → next ≡ sent
+took_all : (selective : Bool) (next sent : ℕ) (held : List (ℕ × List ℕ)) → next ≤ sent → held_for next held ≡ None → HasAllSentComing selective next held [] sent → next ≡ sent
 took_all true next sent held le free h = elim (cases_lt next sent) [
   | inl lower ↦ elim (h next (omega arith) lower) [ inl is ↦ absurd (true≢false (sym is ∙ ap is_found free)) | inr w ↦ absurd w ]
   | inr top ↦ omega (arith, le, top)
@@ -80,7 +80,7 @@ took_all true next sent held le free h = elim (cases_lt next sent) [
 took_all false next sent held le free h = h
 
 -- both are up, and all is acknowledged
-mended_at : (selective : Bool) (k wd : ℕ) (x y : Station) → 1 ≤ wd → Pair selective k [] x [] y → Own true wd [] x → Own false wd [] y → Rested x → Rested y → Mends selective [] x [] y → IsMended x y
+mended_at : (selective : Bool) (k wd : ℕ) (x y : Station) → 1 ≤ wd → IsStationPair selective k [] x [] y → Own true wd [] x → Own false wd [] y → Rested x → Rested y → Mends selective [] x [] y → IsMended x y
 mended_at selective k wd x y some p own_x own_y rests_x rests_y m =
     let bx = way_bounds k x.handed x.acked x.sent y.taken [] [] p.0.0 in
     let by = way_bounds k y.handed y.acked y.sent x.taken [] [] p.1.0 in
@@ -109,21 +109,21 @@ mended_at selective k wd x y some p own_x own_y rests_x rests_y m =
       y_stopped = (ty.1 (acked_y ∙ all_y), (ty.0 (ty.1 (acked_y ∙ all_y))).1);
     }
 
-reached_mended : (selective : Bool) (k wd : ℕ) (x y : Station) → 1 ≤ wd → Pair selective k [] x [] y → Own true wd [] x → Own false wd [] y → Rested x → Rested y
+reached_mended : (selective : Bool) (k wd : ℕ) (x y : Station) → 1 ≤ wd → IsStationPair selective k [] x [] y → Own true wd [] x → Own false wd [] y → Rested x → Rested y
     → Reached Ticked selective true [] x [] y → IsMended x y
 reached_mended selective k wd x y some p own_x own_y rests_x rests_y (inl a) = absurd (let e : [] ≡ SetUp ∷ [] = a.1 in let u : ⊥ = cc in u)
 reached_mended selective k wd x y some p own_x own_y rests_x rests_y (inr (inl a)) = absurd (let e : [] ≡ Ua true ∷ [] = a.2 in let u : ⊥ = cc in u)
 reached_mended selective k wd x y some p own_x own_y rests_x rests_y (inr (inr m)) = mended_at selective k wd x y some p own_x own_y rests_x rests_y m
 
-pub mended : (selective : Bool) (k wd : ℕ) (lx : List Frame) (x : Station) (ly : List Frame) (y : Station) → 1 ≤ wd → lx ≡ [] → ly ≡ [] → Pair selective k lx x ly y
+pub mended : (selective : Bool) (k wd : ℕ) (lx : List Frame) (x : Station) (ly : List Frame) (y : Station) → 1 ≤ wd → lx ≡ [] → ly ≡ [] → IsStationPair selective k lx x ly y
     → Own true wd lx x → Own false wd ly y → Rested x → Rested y → Reached Ticked selective true lx x ly y → IsMended x y
 mended selective k wd lx x ly y some ex ey p own_x own_y rests_x rests_y h =
     reached_mended selective k wd x y some
-    (subst (λ (t : List Frame). Pair selective k t x [] y) ex (subst (λ (t : List Frame). Pair selective k lx x t y) ey p))
+    (subst (λ (t : List Frame). IsStationPair selective k t x [] y) ex (subst (λ (t : List Frame). IsStationPair selective k lx x t y) ey p))
     (subst (λ (t : List Frame). Own true wd t x) ex own_x) (subst (λ (t : List Frame). Own false wd t y) ey own_y) rests_x rests_y
     (subst (λ (t : List Frame). Reached Ticked selective true t x [] y) ex (subst (λ (t : List Frame). Reached Ticked selective true lx x t y) ey h))
 
-emptied : (wd : ℕ) (l : Link) → 1 ≤ wd → Sounds wd Recovers l → IsEmpty l → IsMended l.e l.r
+emptied : (wd : ℕ) (l : StationLink) → 1 ≤ wd → Sounds wd Recovers l → IsEmpty l → IsMended l.e l.r
 emptied wd l some g empty =
     mended l.selective g.k wd g.fe l.e g.fr l.r some (none_on_line l.e g.fe (sym empty.0 ∙ g.stands.lined_x)) (none_on_line l.r g.fr (sym empty.1 ∙ g.stands.lined_y))
     g.stands.pair g.own_e g.own_r g.rests_e g.rests_r g.claim
@@ -131,32 +131,32 @@ emptied wd l some g empty =
 -- ---- the laws
 
 -- what holds behind the tick and the passes
-record Behind (l : Link) : Type 0 where
+record Behind (l : StationLink) : Type 0 where
   recovered : IsRecovered l
   renewed : IsRenewed l
 
-behind : Frames → (wd : ℕ) (l : Link) → 1 ≤ wd → Sound wd l → AreLive l → IsEmpty l → (now : ℕ) → MayRepeat now l.e → MayRepeat now l.r
-    → (second : List LinkStep) → ArePasses second → IsEmpty (run l (Tick now ∷ second)) → Behind (run l (Tick now ∷ second))
+behind : Frames → (wd : ℕ) (l : StationLink) → 1 ≤ wd → Sound wd l → AreLive l → IsEmpty l → (now : ℕ) → MayRepeat now l.e → MayRepeat now l.r
+    → (second : List StationLinkStep) → ArePasses second → IsEmpty (station_link_run l (Tick now ∷ second)) → Behind (station_link_run l (Tick now ∷ second))
 behind laws wd l some h live empty now may_e may_r second passes end =
     let g = both_ticked wd (record l { came = [] }) now (same wd NoClaim l h l.moment l.passes l.order_kept l.loss_free []) live empty may_e may_r in
-    let r = (passes_keep wd Recovers laws (recovers_to_r laws.back wd) (recovers_to_e laws.back wd) second (happens (Tick now) l) passes g).0 in
-    let e = emptied wd (run l (Tick now ∷ second)) some r end in
+    let r = (passes_keep wd Recovers laws (recovers_to_r laws.back wd) (recovers_to_e laws.back wd) second (link_behind_step (Tick now) l) passes g).0 in
+    let e = emptied wd (station_link_run l (Tick now ∷ second)) some r end in
     record {
       recovered = record { e_up = e.x_up; r_up = e.y_up; at_r = e.at_y; at_e = e.at_x };
       renewed = record { e_stopped = e.x_stopped.0; r_stopped = e.y_stopped.0; e_none = e.x_stopped.1; r_none = e.y_stopped.1 };
     }
 
-all_behind : Frames → (s : Opening) (steps : List LinkStep) → (after s steps).order_kept ≡ true → AreLive (after s steps)
-    → (first : List LinkStep) → ArePasses first → IsEmpty (after s (steps ++ first))
+all_behind : Frames → (s : StationLinkOpening) (steps : List StationLinkStep) → (after s steps).order_kept ≡ true → AreLive (after s steps)
+    → (first : List StationLinkStep) → ArePasses first → IsEmpty (after s (steps ++ first))
     → (now : ℕ) → MayRepeat now (after s (steps ++ first)).e → MayRepeat now (after s (steps ++ first)).r
-    → (second : List LinkStep) → ArePasses second → IsEmpty (after s (steps ++ first ++ Tick now ∷ second))
+    → (second : List StationLinkStep) → ArePasses second → IsEmpty (after s (steps ++ first ++ Tick now ∷ second))
     → Behind (after s (steps ++ first ++ Tick now ∷ second))
 all_behind laws s steps kept live first passes empty now may_e may_r second more end =
-    let o : Link = opened s.selective s.extended s.window s.n2 s.t1 s.moment in
-    let l : Link = after s (steps ++ first) in
-    let split : run o (steps ++ first) ≡ run (after s steps) first = run_append steps first o in
+    let o : StationLink = opened_station_link s.selective s.extended s.window s.n2 s.t1 s.moment in
+    let l : StationLink = after s (steps ++ first) in
+    let split : station_link_run o (steps ++ first) ≡ station_link_run (after s steps) first = run_append steps first o in
     let h = passes_sound s.window laws first (after s steps) passes (after_sound laws s steps kept) in
-    let join : run o (steps ++ first ++ Tick now ∷ second) ≡ run l (Tick now ∷ second) = run_append (steps ++ first) (Tick now ∷ second) o in
+    let join : station_link_run o (steps ++ first ++ Tick now ∷ second) ≡ station_link_run l (Tick now ∷ second) = run_append (steps ++ first) (Tick now ∷ second) o in
     subst Behind (sym join)
     (behind laws s.window l s.some (subst (Sound s.window) (sym split) h.0) (subst AreLive (sym split) (h.1 live)) empty now may_e may_r second more (subst IsEmpty join end))
 

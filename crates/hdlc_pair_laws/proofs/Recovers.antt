@@ -12,9 +12,9 @@ use Rattle.hdlc_station_model.specs.Sending.{sends_waiting, refuses_frame}
 use Rattle.hdlc_station_model.specs.Receiving.{agrees, comes_up}
 use Rattle.hdlc_station_model.specs.Selective.{held_for, receives_as}
 use Rattle.hdlc_station_model.specs.Calls.{hands, finishes}
-use Rattle.hdlc_pair_laws.specs.Invariant.{Pair, Both, Early, infos, numbers}
+use Rattle.hdlc_pair_laws.specs.Invariant.{IsStationPair, Both, Early, infos, receive_numbers_in_frames}
 use Rattle.hdlc_pair_laws.specs.Keeping.{found}
-use Rattle.hdlc_pair_laws.specs.Mending.{Own, Comes, Mends, Asks, Agrees, Progress, Lossy, HalfTicked, Ticked, Reached, MayHear, MaySpeak}
+use Rattle.hdlc_pair_laws.specs.Mending.{Own, HasAllSentComing, Mends, HasSetUpFrameWaiting, HasSetUpAnswerWaiting, Progress, Lossy, HalfTicked, Ticked, Reached, MayHear, MaySpeak}
 use Rattle.hdlc_pair_laws.proofs.Ways.{way_bounds}
 use Rattle.hdlc_pair_laws.proofs.Rows.{set_up_at}
 use Rattle.hdlc_pair_laws.proofs.Hearing.{row_as}
@@ -155,11 +155,11 @@ first_is : (f g : Frame) (fs gs : List Frame) → f ∷ fs ≡ g ∷ gs → (f �
 first_is f g fs gs e = (cc, cc)
 
 asked_received : ControlReadsBack → (selective : Bool) (k now : ℕ) (w : List Frame) (x : Station) (f : Frame) (fs : List Frame) (y : Station) → Both selective k w x (f ∷ fs) y
-    → Asks (f ∷ fs) y (w ++ x.said) x → Agrees fs y (w ++ (receives_as selective now (found y f) x).said) (receives_as selective now (found y f) x)
+    → HasSetUpFrameWaiting (f ∷ fs) y (w ++ x.said) x → HasSetUpAnswerWaiting fs y (w ++ (receives_as selective now (found y f) x).said) (receives_as selective now (found y f) x)
 asked_received law selective k now w x f fs y b a =
     let first = first_is f SetUp fs [] a.1 in
     let s = set_up_received law selective k now w x fs y (subst (λ (g : Frame). Both selective k w x (g ∷ fs) y) first.0 b) a.3 in
-    subst (λ (g : Frame). Agrees fs y (w ++ (receives_as selective now (found y g) x).said) (receives_as selective now (found y g) x)) (sym first.0) (
+    subst (λ (g : Frame). HasSetUpAnswerWaiting fs y (w ++ (receives_as selective now (found y g) x).said) (receives_as selective now (found y g) x)) (sym first.0) (
       a.0,
       first.1,
       ap (λ (t : List Frame). w ++ t) s.said ∙ sym (append_assoc w x.said (Ua true ∷ [])) ∙ ap (λ (t : List Frame). t ++ Ua true ∷ []) a.2,
@@ -169,16 +169,16 @@ asked_received law selective k now w x f fs y b a =
 
 -- ---- its answer comes to the calling one
 
-comes_none : (selective : Bool) (next sent : ℕ) (held : List (ℕ × List ℕ)) → next ≡ sent → Comes selective next held [] sent
+comes_none : (selective : Bool) (next sent : ℕ) (held : List (ℕ × List ℕ)) → next ≡ sent → HasAllSentComing selective next held [] sent
 comes_none true next sent held e = λ m low high. absurd (let u : ⊥ = omega (arith, e, low, high) in u)
 comes_none false next sent held e = e
 
 -- nothing was sent
 none_mends : (selective : Bool) (k : ℕ) (lx : List Frame) (x : Station) (y : Station) (p : Phase) → p ≡ Up → lx ≡ [] → x.sent ≡ 0 → (length y.taken ≡ 0 → y.sent ≡ 0) → y.phase ≡ Up
-    → Pair selective k lx x [] y → Mends selective lx (record x { phase = p }) [] y
+    → IsStationPair selective k lx x [] y → Mends selective lx (record x { phase = p }) [] y
 none_mends selective k lx x y p up none unsent first up_y h =
-    let bx = way_bounds k x.handed x.acked x.sent y.taken (infos lx) (numbers []) h.0.0 in
-    let by = way_bounds k y.handed y.acked y.sent x.taken (infos []) (numbers lx) h.1.0 in
+    let bx = way_bounds k x.handed x.acked x.sent y.taken (infos lx) (receive_numbers_in_frames []) h.0.0 in
+    let by = way_bounds k y.handed y.acked y.sent x.taken (infos []) (receive_numbers_in_frames lx) h.1.0 in
     let taken : length y.taken ≡ 0 = omega (arith, bx.1, unsent) in
     let sent : y.sent ≡ 0 = first taken in
     subst (λ (l : List Frame). Mends selective l (record x { phase = p }) [] y) (sym none) (
@@ -194,7 +194,7 @@ none_mends selective k lx x y p up none unsent first up_y h =
     )
 
 agreed_received : ControlReadsBack → (selective : Bool) (k now : ℕ) (w : List Frame) (x : Station) (f : Frame) (fs : List Frame) (y : Station) → Both selective k w x (f ∷ fs) y
-    → (length y.taken ≡ 0 → y.sent ≡ 0) → Agrees (w ++ x.said) x (f ∷ fs) y → MendsIn selective w (receives_as selective now (found y f) x) fs y
+    → (length y.taken ≡ 0 → y.sent ≡ 0) → HasSetUpAnswerWaiting (w ++ x.said) x (f ∷ fs) y → MendsIn selective w (receives_as selective now (found y f) x) fs y
 agreed_received law selective k now w x f fs y b silent a =
     let first = first_is f (Ua true) fs [] a.2 in
     let q : Both selective k w x (Ua true ∷ []) y = subst (λ (g : Frame). Both selective k w x (g ∷ []) y) first.0 (subst (λ (l : List Frame). Both selective k w x (f ∷ l) y) first.1 b) in

@@ -11,7 +11,7 @@ use Rattle.hdlc_station_model.specs.Stations.{Station, is_up, is_down, sees, put
 use Rattle.hdlc_station_model.specs.Sending.{info_at, can_send, waiting, frames_again, sends_next, sends_up_to, sends_waiting, sends_again, starts_timer, settles, gives_up, counts_expiry, expires_at, expires_if_due, is_due}
 use Rattle.hdlc_station_model.specs.Calls.{hands, finishes, ticks}
 use Rattle.hdlc_station_model.specs.Events.{is_late}
-use Rattle.hdlc_pair_laws.specs.Invariant.{infos, numbers, info_of, number_of}
+use Rattle.hdlc_pair_laws.specs.Invariant.{infos, receive_numbers_in_frames, info_of, receive_numbers_in_frame}
 use Rattle.hdlc_pair_laws.specs.Flowing.{Consecutive}
 use Rattle.hdlc_station_model.specs.Repeating.{MayRepeat}
 use Rattle.hdlc_pair_laws.specs.Mending.{AllAre, AllExchange, Fires}
@@ -27,7 +27,7 @@ all_push n m (x ∷ xs) h e = (h.0, all_push n m xs h.1 e)
 
 -- ---- what it sends
 
-pub again_fires : (x : Station) (n : ℕ) → Consecutive x.acked (infos (frames_again n x)) (x.acked + n) × AllAre (length x.taken) (numbers (frames_again n x)) × AllExchange (frames_again n x)
+pub again_fires : (x : Station) (n : ℕ) → Consecutive x.acked (infos (frames_again n x)) (x.acked + n) × AllAre (length x.taken) (receive_numbers_in_frames (frames_again n x)) × AllExchange (frames_again n x)
 again_fires x zero = (omega arith, tt, tt)
 again_fires x (suc n) =
     let f : Frame = info_at x (x.acked + n) in
@@ -36,7 +36,7 @@ again_fires x (suc n) =
     let e : x.acked + n + 1 ≡ x.acked + suc n = omega arith in (
       subst (λ (j : ℕ). Consecutive x.acked (infos (l ++ f ∷ [])) j) e
           (subst (λ i. Consecutive x.acked i (x.acked + n + 1)) (sym (more info_of l f)) (consecutive_push x.acked (x.acked + n) (slice_index_or x.handed (x.acked + n) []) (infos l) h.0)),
-      subst (λ ns. AllAre (length x.taken) ns) (sym (more number_of l f)) (all_push (length x.taken) (length x.taken) (numbers l) h.1 refl),
+      subst (λ ns. AllAre (length x.taken) ns) (sym (more receive_numbers_in_frame l f)) (all_push (length x.taken) (length x.taken) (receive_numbers_in_frames l) h.1 refl),
       exchange_push l f h.2 tt,
     )
 
@@ -44,7 +44,7 @@ first_fires : (l : List Frame) (x : Station) → Fires l x → Fires (l ++ info_
 first_fires l x h =
     let f : Frame = info_at x x.sent in (
       subst (λ i. Consecutive x.acked i (x.sent + 1)) (sym (more info_of l f)) (consecutive_push x.acked x.sent (slice_index_or x.handed x.sent []) (infos l) h.0),
-      subst (λ ns. AllAre (length x.taken) ns) (sym (more number_of l f)) (all_push (length x.taken) (length x.taken) (numbers l) h.1 refl),
+      subst (λ ns. AllAre (length x.taken) ns) (sym (more receive_numbers_in_frame l f)) (all_push (length x.taken) (length x.taken) (receive_numbers_in_frames l) h.1 refl),
       exchange_push l f h.2 tt,
       h.3,
     )
@@ -53,7 +53,7 @@ shown_fires : (l : List Frame) (x : Station) → Fires l x → Fires (l ++ Rr (l
 shown_fires l x h =
     let f : Frame = Rr (length x.taken) in (
       subst (λ i. Consecutive x.acked i x.sent) (sym (more info_of l f ∙ append-nil (infos l))) h.0,
-      subst (λ ns. AllAre (length x.taken) ns) (sym (more number_of l f)) (all_push (length x.taken) (length x.taken) (numbers l) h.1 refl),
+      subst (λ ns. AllAre (length x.taken) ns) (sym (more receive_numbers_in_frame l f)) (all_push (length x.taken) (length x.taken) (receive_numbers_in_frames l) h.1 refl),
       exchange_push l f h.2 tt,
       h.3,
     )

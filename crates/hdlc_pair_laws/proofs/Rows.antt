@@ -5,9 +5,9 @@ use Rattle.er_base.specs.declared.cause.Cause.TheVariants.{PeerDisconnected}
 use Rattle.er_base.specs.Causes.{release_of}
 use Rattle.hdlc_station_model.specs.Frames.{Frame, Info, Rr, Rej, Srej, SetUp, Disc, Dm, Ua, modulo, set_up}
 use Rattle.hdlc_station_model.specs.Stations.{Station}
-use Rattle.hdlc_station_model.specs.Sending.{releases}
-use Rattle.hdlc_station_model.specs.Receiving.{named, acknowledges, acknowledging, by_number, comes_up, row_idle}
-use Rattle.hdlc_pair_laws.specs.Invariant.{Climbs, least_mark, greatest_mark, Half, IsSpan, Pair, Both, infos, numbers, marks}
+use Rattle.hdlc_station_model.specs.Sending.{station_down_for_cause}
+use Rattle.hdlc_station_model.specs.Receiving.{number_shown_as, acknowledges, acknowledging, by_number, comes_up, row_idle}
+use Rattle.hdlc_pair_laws.specs.Invariant.{Climbs, least_mark, greatest_mark, Half, IsSpan, IsStationPair, Both, infos, receive_numbers_in_frames, marks}
 use Rattle.hdlc_pair_laws.proofs.Ways.{climbs_le, climbs_low, way_ack, way_number_gone, way_number_twice, way_frame_gone, way_some, way_frame_twice, way_bounds}
 use Rattle.hdlc_pair_laws.proofs.Holding.{holds_gone, holds_twice}
 use Rattle.hdlc_pair_laws.proofs.Keeps.{puts_quiet, down_keeps}
@@ -15,7 +15,7 @@ use Rattle.hdlc_pair_laws.proofs.Hearing.{MayCome}
 
 -- ---- N(R)
 
-pub found : (e : Bool) (n a r : ℕ) → a ≤ r → r ≤ a + n → n < modulo e → named e a n (r % modulo e) ≡ Some r
+pub found : (e : Bool) (n a r : ℕ) → a ≤ r → r ≤ a + n → n < modulo e → number_shown_as e a n (r % modulo e) ≡ Some r
 found true zero a r low high small =
     let same : a ≡ r = omega arith in
     rw (eq-eqb (a % 128) (r % 128) (ap (λ t. t % 128) same), same) refl
@@ -56,7 +56,7 @@ span_below false false k h = omega arith
 
 -- the first N(R) that waits towards x is named
 pub named_is : (selective : Bool) (k r : ℕ) (i : List (ℕ × List ℕ)) (m ns : List ℕ) (x y : Station) → IsSpan selective x.extended k → Half selective k i m (r ∷ ns) x y
-    → named x.extended x.acked (x.sent - x.acked) (r % modulo x.extended) ≡ Some r
+    → number_shown_as x.extended x.acked (x.sent - x.acked) (r % modulo x.extended) ≡ Some r
 named_is selective k r i m ns x y span h =
     let w = h.0 in
     let b = way_bounds k x.handed x.acked x.sent y.taken i (r ∷ ns) w in
@@ -105,33 +105,33 @@ half_mark_gone selective k i m ns y x h = (h.0, climbs_low (least_mark y.calling
 half_mark_twice : (selective : Bool) (k : ℕ) (i : List (ℕ × List ℕ)) (m ns : List ℕ) (y x : Station) → Half selective k i (0 ∷ m) ns y x → Half selective k i (0 ∷ 0 ∷ m) ns y x
 half_mark_twice selective k i m ns y x h = (h.0, (h.1.0, (omega arith, h.1.1)), h.2, h.3, h.4, h.5, h.6)
 
-pub first_gone : (selective : Bool) (k : ℕ) (lx : List Frame) (x : Station) (f : Frame) (fs : List Frame) (y : Station) → Pair selective k lx x (f ∷ fs) y → Pair selective k lx x fs y
+pub first_gone : (selective : Bool) (k : ℕ) (lx : List Frame) (x : Station) (f : Frame) (fs : List Frame) (y : Station) → IsStationPair selective k lx x (f ∷ fs) y → IsStationPair selective k lx x fs y
 first_gone selective k lx x (Info n r p) fs y h =
-    (half_shown selective k r (infos lx) (marks selective lx) (numbers fs) x y h.0, half_info_gone selective k n p (infos fs) (marks selective fs) (numbers lx) y x h.1, h.2, h.3, h.4)
-first_gone selective k lx x (Rr r) fs y h = (half_shown selective k r (infos lx) (marks selective lx) (numbers fs) x y h.0, h.1, h.2, h.3, h.4)
+    (half_shown selective k r (infos lx) (marks selective lx) (receive_numbers_in_frames fs) x y h.0, half_info_gone selective k n p (infos fs) (marks selective fs) (receive_numbers_in_frames lx) y x h.1, h.2, h.3, h.4)
+first_gone selective k lx x (Rr r) fs y h = (half_shown selective k r (infos lx) (marks selective lx) (receive_numbers_in_frames fs) x y h.0, h.1, h.2, h.3, h.4)
 first_gone true k lx x (Rej r) fs y h = absurd (no_foreign y.calling x.taken y.sent (marks true fs) h.1.1)
-first_gone false k lx x (Rej r) fs y h = (half_shown false k r (infos lx) (marks false lx) (numbers fs) x y h.0, h.1, h.2, h.3, h.4)
+first_gone false k lx x (Rej r) fs y h = (half_shown false k r (infos lx) (marks false lx) (receive_numbers_in_frames fs) x y h.0, h.1, h.2, h.3, h.4)
 first_gone true k lx x (Srej r) fs y h = h
 first_gone false k lx x (Srej r) fs y h = absurd (no_foreign y.calling x.taken y.sent (marks false fs) h.1.1)
-first_gone selective k lx x SetUp fs y h = (h.0, half_mark_gone selective k (infos fs) (marks selective fs) (numbers lx) y x h.1, h.2, h.3, h.4)
+first_gone selective k lx x SetUp fs y h = (h.0, half_mark_gone selective k (infos fs) (marks selective fs) (receive_numbers_in_frames lx) y x h.1, h.2, h.3, h.4)
 first_gone selective k lx x Disc fs y h = h
 first_gone selective k lx x Dm fs y h = h
 first_gone selective k lx x (Ua final) fs y h = h
 
-pub first_twice : (selective : Bool) (k : ℕ) (lx : List Frame) (x : Station) (f : Frame) (fs : List Frame) (y : Station) → Pair selective k lx x (f ∷ fs) y → Pair selective k lx x (f ∷ f ∷ fs) y
+pub first_twice : (selective : Bool) (k : ℕ) (lx : List Frame) (x : Station) (f : Frame) (fs : List Frame) (y : Station) → IsStationPair selective k lx x (f ∷ fs) y → IsStationPair selective k lx x (f ∷ f ∷ fs) y
 first_twice selective k lx x (Info n r p) fs y h = (
-  half_shown_twice selective k r (infos lx) (marks selective lx) (numbers fs) x y h.0,
-  half_info_twice selective k n p (infos fs) (marks selective fs) (numbers lx) y x h.1,
+  half_shown_twice selective k r (infos lx) (marks selective lx) (receive_numbers_in_frames fs) x y h.0,
+  half_info_twice selective k n p (infos fs) (marks selective fs) (receive_numbers_in_frames lx) y x h.1,
   h.2,
   h.3,
   h.4,
 )
-first_twice selective k lx x (Rr r) fs y h = (half_shown_twice selective k r (infos lx) (marks selective lx) (numbers fs) x y h.0, h.1, h.2, h.3, h.4)
+first_twice selective k lx x (Rr r) fs y h = (half_shown_twice selective k r (infos lx) (marks selective lx) (receive_numbers_in_frames fs) x y h.0, h.1, h.2, h.3, h.4)
 first_twice true k lx x (Rej r) fs y h = absurd (no_foreign y.calling x.taken y.sent (marks true fs) h.1.1)
-first_twice false k lx x (Rej r) fs y h = (half_shown_twice false k r (infos lx) (marks false lx) (numbers fs) x y h.0, h.1, h.2, h.3, h.4)
+first_twice false k lx x (Rej r) fs y h = (half_shown_twice false k r (infos lx) (marks false lx) (receive_numbers_in_frames fs) x y h.0, h.1, h.2, h.3, h.4)
 first_twice true k lx x (Srej r) fs y h = h
 first_twice false k lx x (Srej r) fs y h = absurd (no_foreign y.calling x.taken y.sent (marks false fs) h.1.1)
-first_twice selective k lx x SetUp fs y h = (h.0, half_mark_twice selective k (infos fs) (marks selective fs) (numbers lx) y x h.1, h.2, h.3, h.4)
+first_twice selective k lx x SetUp fs y h = (h.0, half_mark_twice selective k (infos fs) (marks selective fs) (receive_numbers_in_frames lx) y x h.1, h.2, h.3, h.4)
 first_twice selective k lx x Disc fs y h = h
 first_twice selective k lx x Dm fs y h = h
 first_twice selective k lx x (Ua final) fs y h = h
@@ -143,10 +143,10 @@ no_mark true taken h = (refl, omega arith)
 no_mark false taken h = absurd (let u : ⊥ = omega arith in u)
 
 -- where it stands in front, its receiver is the called station and took nothing
-pub set_up_at : (selective : Bool) (k : ℕ) (lx : List Frame) (x : Station) (fs : List Frame) (y : Station) → Pair selective k lx x (SetUp ∷ fs) y → (x.calling ≡ false) × (length x.taken ≡ 0)
+pub set_up_at : (selective : Bool) (k : ℕ) (lx : List Frame) (x : Station) (fs : List Frame) (y : Station) → IsStationPair selective k lx x (SetUp ∷ fs) y → (x.calling ≡ false) × (length x.taken ≡ 0)
 set_up_at selective k lx x fs y h = let m = no_mark y.calling x.taken h.1.1.0 in (h.2 ∙ ap not m.0, m.1)
 
-pub may_come : (selective : Bool) (k : ℕ) (lx : List Frame) (x : Station) (f : Frame) (fs : List Frame) (y : Station) → Pair selective k lx x (f ∷ fs) y → MayCome selective x.calling f
+pub may_come : (selective : Bool) (k : ℕ) (lx : List Frame) (x : Station) (f : Frame) (fs : List Frame) (y : Station) → IsStationPair selective k lx x (f ∷ fs) y → MayCome selective x.calling f
 may_come selective k lx x (Info n r p) fs y h = tt
 may_come selective k lx x (Rr r) fs y h = tt
 may_come true k lx x (Rej r) fs y h = absurd (no_foreign y.calling x.taken y.sent (marks true fs) h.1.1)
@@ -166,15 +166,15 @@ least_le false taken = omega arith
 
 -- a frame that shows this number acknowledges it, and then the rest of the frame
 pub numbered_keeps : (selective : Bool) (k : ℕ) (w : List Frame) (x : Station) (r : ℕ) (fs : List Frame) (y : Station) (rest : Station → Station)
-    → IsSpan selective x.extended k → Half selective k (infos (w ++ x.said)) (marks selective (w ++ x.said)) (r ∷ numbers fs) x y
-    → (Half selective k (infos (w ++ x.said)) (marks selective (w ++ x.said)) (r ∷ numbers fs) (acknowledges r x) y → Both selective k w (rest (acknowledges r x)) fs y)
+    → IsSpan selective x.extended k → Half selective k (infos (w ++ x.said)) (marks selective (w ++ x.said)) (r ∷ receive_numbers_in_frames fs) x y
+    → (Half selective k (infos (w ++ x.said)) (marks selective (w ++ x.said)) (r ∷ receive_numbers_in_frames fs) (acknowledges r x) y → Both selective k w (rest (acknowledges r x)) fs y)
     → Both selective k w (by_number (r % modulo x.extended) rest x) fs y
 numbered_keeps selective k w x r fs y rest span h keeps =
-    let e = named_is selective k r (infos (w ++ x.said)) (marks selective (w ++ x.said)) (numbers fs) x y span h in
+    let e = named_is selective k r (infos (w ++ x.said)) (marks selective (w ++ x.said)) (receive_numbers_in_frames fs) x y span h in
     subst (λ (o : Option ℕ). Both selective k w (acknowledging o rest x) fs y) (sym e)
-    (keeps (half_ack selective k r (infos (w ++ x.said)) (marks selective (w ++ x.said)) (numbers fs) x y h))
+    (keeps (half_ack selective k r (infos (w ++ x.said)) (marks selective (w ++ x.said)) (receive_numbers_in_frames fs) x y h))
 
-pub disconnects : (selective : Bool) (k : ℕ) (w : List Frame) (x : Station) (l : List Frame) (y : Station) → Both selective k w x l y → Both selective k w (releases PeerDisconnected x) l y
+pub disconnects : (selective : Bool) (k : ℕ) (w : List Frame) (x : Station) (l : List Frame) (y : Station) → Both selective k w x l y → Both selective k w (station_down_for_cause PeerDisconnected x) l y
 disconnects selective k w x l y b = down_keeps selective k w x l y (Some (release_of PeerDisconnected)) (refl, inr (refl, inr (inr refl))) b
 
 pub up_keeps : (selective : Bool) (k : ℕ) (w : List Frame) (x : Station) (l : List Frame) (y : Station) → Both selective k w x l y → Both selective k w (comes_up x) l y

@@ -14,10 +14,10 @@ use Rattle.hdlc_station_model.specs.Calls.{hands, finishes, ticks}
 use Rattle.hdlc_station_model.specs.Selective.{receives_as}
 use Rattle.hdlc_station_model.specs.Events.{news, quits, is_late}
 use Rattle.hdlc_station_model.specs.Lines.{altered, next_of}
-use Rattle.hdlc_pair_laws.specs.Links.{Came, RefusedLength, RefusedFull, Link, station_of, line_of, with_line, did, hears_each, reads, opened}
-use Rattle.hdlc_pair_laws.specs.Steps.{LinkStep, Send, Pass, Lose, Repeat, Alter, Put, UserRelease, Drain, Tick, refusal_at, send_unless, send, pass, lose, repeat, alter, release, tick_at, tick, is_overfull, Draining, pass_next, drained, step, happens, run}
-use Rattle.hdlc_pair_laws.specs.Laws.{Opening, after, Prefix, LosingLineReasons}
-use Rattle.hdlc_pair_laws.specs.Invariant.{Pair, Both}
+use Rattle.hdlc_pair_laws.specs.Links.{StationLinkOutcome, RefusedLength, RefusedFull, StationLink, station_of, frames_from_station, with_frames_from_station, did, hears_each, station_link_behind_octets, opened_station_link}
+use Rattle.hdlc_pair_laws.specs.Steps.{StationLinkStep, Send, Pass, Lose, Repeat, Alter, Put, UserRelease, Drain, Tick, payload_refusal_at_side, send_unless, send, pass, lose, repeat, alter, release, tick_at, tick, is_overfull, Draining, pass_next, drained, station_link_step, link_behind_step, station_link_run}
+use Rattle.hdlc_pair_laws.specs.Laws.{StationLinkOpening, after, Prefix, LosingLineReasons}
+use Rattle.hdlc_pair_laws.specs.Invariant.{IsStationPair, Both}
 use Rattle.hdlc_pair_laws.proofs.Events.{finishes_keeps, hands_keeps, ticks_keeps, quits_keeps}
 use Rattle.hdlc_pair_laws.proofs.Lines.{octets_of, Stands, turned, begun, acted, First, first_of_line, answered, one_event, flag_behind, answered_keeps, lost, repeated}
 use Rattle.hdlc_pair_laws.proofs.Opened.{span_of, opened_stands}
@@ -28,7 +28,7 @@ pub record Frames : Type 0 where
   pub parts : FlagParts
   pub alone : FrameAlone
 
-pub record Holds (l : Link) : Type 0 where
+pub record Holds (l : StationLink) : Type 0 where
   pub k : ℕ
   pub fe : List Frame
   pub fr : List Frame
@@ -36,7 +36,7 @@ pub record Holds (l : Link) : Type 0 where
 
 -- ---- an event at an end
 
-pub e_did : (l : Link) (h : Holds l) (x : Station) → Both l.selective h.k h.fe x h.fr l.r → Holds (did E x l)
+pub e_did : (l : StationLink) (h : Holds l) (x : Station) → Both l.selective h.k h.fe x h.fr l.r → Holds (did E x l)
 e_did l h x b = record {
   k = h.k;
   fe = h.fe ++ x.said;
@@ -44,7 +44,7 @@ e_did l h x b = record {
   stands = acted l.selective h.k h.fe l.e h.fr l.r l.from_e l.from_r l.read_e l.read_r x h.fr l.from_r l.read_e h.stands h.stands.lined_y h.stands.flag_x b;
 }
 
-pub r_did : (l : Link) (h : Holds l) (x : Station) → Both l.selective h.k h.fr x h.fe l.e → Holds (did R x l)
+pub r_did : (l : StationLink) (h : Holds l) (x : Station) → Both l.selective h.k h.fr x h.fe l.e → Holds (did R x l)
 r_did l h x b =
     let t = turned l.selective h.k h.fe l.e h.fr l.r l.from_e l.from_r l.read_e l.read_r h.stands in
     let a = acted l.selective h.k h.fr l.r h.fe l.e l.from_r l.from_e l.read_r l.read_e x h.fe l.from_e l.read_r t t.lined_y t.flag_x b in
@@ -56,15 +56,15 @@ r_did l h x b =
     }
 
 -- the invariant at the start of a call of e, of r
-pub e_begun : (l : Link) (h : Holds l) → Both l.selective h.k h.fe l.e h.fr l.r
+pub e_begun : (l : StationLink) (h : Holds l) → Both l.selective h.k h.fe l.e h.fr l.r
 e_begun l h = begun l.selective h.k h.fe l.e h.fr l.r l.from_e l.from_r l.read_e l.read_r h.stands
 
-pub r_begun : (l : Link) (h : Holds l) → Both l.selective h.k h.fr l.r h.fe l.e
+pub r_begun : (l : StationLink) (h : Holds l) → Both l.selective h.k h.fr l.r h.fe l.e
 r_begun l h = begun l.selective h.k h.fr l.r h.fe l.e l.from_r l.from_e l.read_r l.read_e (turned l.selective h.k h.fe l.e h.fr l.r l.from_e l.from_r l.read_e l.read_r h.stands)
 
 -- ---- sends
 
-sent_unless : (side : Side) (l : Link) (p : List ℕ) (o : Option Came) → (o ≡ None → length p ≤ 1026) → Holds l → Holds (send_unless o side p l)
+sent_unless : (side : Side) (l : StationLink) (p : List ℕ) (o : Option StationLinkOutcome) → (o ≡ None → length p ≤ 1026) → Holds l → Holds (send_unless o side p l)
 sent_unless E l p (Some refused) short h = record { k = h.k; fe = h.fe; fr = h.fr; stands = h.stands }
 sent_unless R l p (Some refused) short h = record { k = h.k; fe = h.fe; fr = h.fr; stands = h.stands }
 sent_unless E l p None short h =
@@ -74,7 +74,7 @@ sent_unless R l p None short h =
     r_did l h (finishes (hands l.moment p l.r))
     (finishes_keeps l.selective h.k h.fr (hands l.moment p l.r) h.fe l.e (hands_keeps l.selective h.k h.fr l.moment l.r h.fe l.e p (short refl) (r_begun l h)))
 
-pub refused_long : (side : Side) (s : Station) (p : List ℕ) (o : Option Release) → refusal_at side s p o ≡ None → length p ≤ 1026
+pub refused_long : (side : Side) (s : Station) (p : List ℕ) (o : Option Release) → payload_refusal_at_side side s p o ≡ None → length p ≤ 1026
 refused_long side s p (Some release) e = absurd cc
 refused_long side s p None e =
     elim (cases_Bool (nat_le 1 (length p) && nat_le (length p) 1026)) [
@@ -82,56 +82,56 @@ refused_long side s p None e =
       | inr not_fits ↦ absurd (let w : Some (RefusedLength side (length p)) ≡ None = sym (ap (λ (b : Bool). if b then (if nat_lt (waiting s) 16 then None else Some (RefusedFull side (waiting s))) else Some (RefusedLength side (length p))) not_fits) ∙ e in let u : ⊥ = cc in u)
     ]
 
-pub send_holds : (side : Side) (l : Link) (p : List ℕ) → Holds l → Holds (send side p l)
+pub send_holds : (side : Side) (l : StationLink) (p : List ℕ) → Holds l → Holds (send side p l)
 send_holds side l p h =
-    sent_unless side l p (refusal_at side (station_of l side) p (station_of l side).released) (refused_long side (station_of l side) p (station_of l side).released) h
+    sent_unless side l p (payload_refusal_at_side side (station_of l side) p (station_of l side).released) (refused_long side (station_of l side) p (station_of l side).released) h
 
 -- ---- a frame is passed
 
 -- a link of which these frames wait from e
-e_first : Frames → (l : Link) (octets : List ℕ) (rest : List (List ℕ)) → l.from_e ≡ octets ∷ rest → (h : Holds l) → First l.e octets rest h.fe
-    → (passes : ℕ) → Holds (reads R octets (record l { from_e = rest; passes = passes }))
+e_first : Frames → (l : StationLink) (octets : List ℕ) (rest : List (List ℕ)) → l.from_e ≡ octets ∷ rest → (h : Holds l) → First l.e octets rest h.fe
+    → (passes : ℕ) → Holds (station_link_behind_octets R octets (record l { from_e = rest; passes = passes }))
 e_first laws l octets rest e h f passes =
     let t = turned l.selective h.k h.fe l.e h.fr l.r l.from_e l.from_r l.read_e l.read_r h.stands in
-    let p : Pair l.selective h.k h.fr l.r (f.frame ∷ f.frames) l.e = subst (λ (q : List Frame). Pair l.selective h.k h.fr l.r q l.e) f.all t.pair in
+    let p : IsStationPair l.selective h.k h.fr l.r (f.frame ∷ f.frames) l.e = subst (λ (q : List Frame). IsStationPair l.selective h.k h.fr l.r q l.e) f.all t.pair in
     let b : Both l.selective h.k h.fr l.r (f.frame ∷ f.frames) l.e = subst (λ (q : List Frame). Both l.selective h.k h.fr l.r q l.e) f.all (r_begun l h) in
     let x : Station = answered l.selective l.moment l.e f.frame l.r in
     let a = acted l.selective h.k h.fr l.r h.fe l.e l.from_r l.from_e l.read_r l.read_e x f.frames rest (l.read_r ++ octets_of l.e f.frame) t f.rest_are (flag_behind l.e f.frame l.read_r)
     (answered_keeps laws.back l.selective h.k h.fr l.moment l.r f.frame f.frames l.e b) in
-    subst (λ (os : List ℕ). Holds (reads R os (record l { from_e = rest; passes = passes }))) (sym f.octets_are)
+    subst (λ (os : List ℕ). Holds (station_link_behind_octets R os (record l { from_e = rest; passes = passes }))) (sym f.octets_are)
     (subst (λ (vs : List Verdict). Holds (hears_each R vs (record l { from_e = rest; passes = passes; read_r = l.read_r ++ octets_of l.e f.frame })))
     (sym (one_event laws.parts laws.alone l.selective h.k h.fr l.r f.frame f.frames l.e l.read_r t.flag_x p))
     (record { k = h.k; fe = f.frames; fr = h.fr ++ x.said; stands = turned l.selective h.k (h.fr ++ x.said) _ f.frames l.e _ _ _ _ a }))
 
-r_first : Frames → (l : Link) (octets : List ℕ) (rest : List (List ℕ)) → l.from_r ≡ octets ∷ rest → (h : Holds l) → First l.r octets rest h.fr
-    → (passes : ℕ) → Holds (reads E octets (record l { from_r = rest; passes = passes }))
+r_first : Frames → (l : StationLink) (octets : List ℕ) (rest : List (List ℕ)) → l.from_r ≡ octets ∷ rest → (h : Holds l) → First l.r octets rest h.fr
+    → (passes : ℕ) → Holds (station_link_behind_octets E octets (record l { from_r = rest; passes = passes }))
 r_first laws l octets rest e h f passes =
     let t = h.stands in
-    let p : Pair l.selective h.k h.fe l.e (f.frame ∷ f.frames) l.r = subst (λ (q : List Frame). Pair l.selective h.k h.fe l.e q l.r) f.all t.pair in
+    let p : IsStationPair l.selective h.k h.fe l.e (f.frame ∷ f.frames) l.r = subst (λ (q : List Frame). IsStationPair l.selective h.k h.fe l.e q l.r) f.all t.pair in
     let b : Both l.selective h.k h.fe l.e (f.frame ∷ f.frames) l.r = subst (λ (q : List Frame). Both l.selective h.k h.fe l.e q l.r) f.all (e_begun l h) in
     let x : Station = answered l.selective l.moment l.r f.frame l.e in
     let a = acted l.selective h.k h.fe l.e h.fr l.r l.from_e l.from_r l.read_e l.read_r x f.frames rest (l.read_e ++ octets_of l.r f.frame) t f.rest_are (flag_behind l.r f.frame l.read_e)
     (answered_keeps laws.back l.selective h.k h.fe l.moment l.e f.frame f.frames l.r b) in
-    subst (λ (os : List ℕ). Holds (reads E os (record l { from_r = rest; passes = passes }))) (sym f.octets_are)
+    subst (λ (os : List ℕ). Holds (station_link_behind_octets E os (record l { from_r = rest; passes = passes }))) (sym f.octets_are)
     (subst (λ (vs : List Verdict). Holds (hears_each E vs (record l { from_r = rest; passes = passes; read_e = l.read_e ++ octets_of l.r f.frame })))
     (sym (one_event laws.parts laws.alone l.selective h.k h.fe l.e f.frame f.frames l.r l.read_e t.flag_x p))
     (record { k = h.k; fe = h.fe ++ x.said; fr = f.frames; stands = a }))
 
-e_passed : Frames → (l : Link) (line : List (List ℕ)) → l.from_e ≡ line → Holds l → Holds (pass E line l)
+e_passed : Frames → (l : StationLink) (line : List (List ℕ)) → l.from_e ≡ line → Holds l → Holds (pass E line l)
 e_passed laws l [] e h = record { k = h.k; fe = h.fe; fr = h.fr; stands = h.stands }
 e_passed laws l (octets ∷ rest) e h = e_first laws l octets rest e h (first_of_line l.e octets rest h.fe (sym e ∙ h.stands.lined_x)) _
 
-r_passed : Frames → (l : Link) (line : List (List ℕ)) → l.from_r ≡ line → Holds l → Holds (pass R line l)
+r_passed : Frames → (l : StationLink) (line : List (List ℕ)) → l.from_r ≡ line → Holds l → Holds (pass R line l)
 r_passed laws l [] e h = record { k = h.k; fe = h.fe; fr = h.fr; stands = h.stands }
 r_passed laws l (octets ∷ rest) e h = r_first laws l octets rest e h (first_of_line l.r octets rest h.fr (sym e ∙ h.stands.lined_y)) _
 
-pub pass_holds : Frames → (side : Side) (l : Link) → Holds l → Holds (pass side (line_of l side) l)
+pub pass_holds : Frames → (side : Side) (l : StationLink) → Holds l → Holds (pass side (frames_from_station l side) l)
 pass_holds laws E l h = e_passed laws l l.from_e refl h
 pass_holds laws R l h = r_passed laws l l.from_r refl h
 
 -- ---- a frame is lost or repeated
 
-e_lost : (l : Link) (line : List (List ℕ)) → l.from_e ≡ line → Holds l → Holds (lose E line l)
+e_lost : (l : StationLink) (line : List (List ℕ)) → l.from_e ≡ line → Holds l → Holds (lose E line l)
 e_lost l [] e h = record { k = h.k; fe = h.fe; fr = h.fr; stands = h.stands }
 e_lost l (octets ∷ rest) e h =
     let f = first_of_line l.e octets rest h.fe (sym e ∙ h.stands.lined_x) in
@@ -143,13 +143,13 @@ e_lost l (octets ∷ rest) e h =
       stands = turned l.selective h.k h.fr l.r f.frames l.e l.from_r rest l.read_r l.read_e (lost l.selective h.k h.fr l.r h.fe l.e l.from_r l.from_e l.read_r l.read_e octets rest t f);
     }
 
-r_lost : (l : Link) (line : List (List ℕ)) → l.from_r ≡ line → Holds l → Holds (lose R line l)
+r_lost : (l : StationLink) (line : List (List ℕ)) → l.from_r ≡ line → Holds l → Holds (lose R line l)
 r_lost l [] e h = record { k = h.k; fe = h.fe; fr = h.fr; stands = h.stands }
 r_lost l (octets ∷ rest) e h =
     let f = first_of_line l.r octets rest h.fr (sym e ∙ h.stands.lined_y) in
     record { k = h.k; fe = h.fe; fr = f.frames; stands = lost l.selective h.k h.fe l.e h.fr l.r l.from_e l.from_r l.read_e l.read_r octets rest h.stands f }
 
-e_repeated : (l : Link) (line : List (List ℕ)) → l.from_e ≡ line → Holds l → Holds (repeat E line l)
+e_repeated : (l : StationLink) (line : List (List ℕ)) → l.from_e ≡ line → Holds l → Holds (repeat E line l)
 e_repeated l [] e h = record { k = h.k; fe = h.fe; fr = h.fr; stands = h.stands }
 e_repeated l (octets ∷ rest) e h =
     let f = first_of_line l.e octets rest h.fe (sym e ∙ h.stands.lined_x) in
@@ -162,7 +162,7 @@ e_repeated l (octets ∷ rest) e h =
           (repeated l.selective h.k h.fr l.r h.fe l.e l.from_r l.from_e l.read_r l.read_e octets rest t f);
     }
 
-r_repeated : (l : Link) (line : List (List ℕ)) → l.from_r ≡ line → Holds l → Holds (repeat R line l)
+r_repeated : (l : StationLink) (line : List (List ℕ)) → l.from_r ≡ line → Holds l → Holds (repeat R line l)
 r_repeated l [] e h = record { k = h.k; fe = h.fe; fr = h.fr; stands = h.stands }
 r_repeated l (octets ∷ rest) e h =
     let f = first_of_line l.r octets rest h.fr (sym e ∙ h.stands.lined_y) in
@@ -175,31 +175,31 @@ r_repeated l (octets ∷ rest) e h =
 
 -- ---- a release, a tick
 
-e_released : (l : Link) (sub : ℕ) → Holds l → Holds (release E sub l)
+e_released : (l : StationLink) (sub : ℕ) → Holds l → Holds (release E sub l)
 e_released l sub h =
     cond_both (is_down l.e.phase) (record l { loss_free = false }) (did E (quits sub l.e) (record l { loss_free = false })) Holds
     (λ e. record { k = h.k; fe = h.fe; fr = h.fr; stands = h.stands })
     (λ e. e_did (record l { loss_free = false }) (record { k = h.k; fe = h.fe; fr = h.fr; stands = h.stands }) (quits sub l.e)
     (quits_keeps l.selective h.k h.fe l.e h.fr l.r sub (e_begun l h)))
 
-r_released : (l : Link) (sub : ℕ) → Holds l → Holds (release R sub l)
+r_released : (l : StationLink) (sub : ℕ) → Holds l → Holds (release R sub l)
 r_released l sub h =
     cond_both (is_down l.r.phase) (record l { loss_free = false }) (did R (quits sub l.r) (record l { loss_free = false })) Holds
     (λ e. record { k = h.k; fe = h.fe; fr = h.fr; stands = h.stands })
     (λ e. r_did (record l { loss_free = false }) (record { k = h.k; fe = h.fe; fr = h.fr; stands = h.stands }) (quits sub l.r)
     (quits_keeps l.selective h.k h.fr l.r h.fe l.e sub (r_begun l h)))
 
-e_ticked : (l : Link) (now : ℕ) → Holds l → Holds (tick_at E now l)
+e_ticked : (l : StationLink) (now : ℕ) → Holds l → Holds (tick_at E now l)
 e_ticked l now h = e_did l h (finishes (ticks now l.e))
     (finishes_keeps l.selective h.k h.fe (ticks now l.e) h.fr l.r (ticks_keeps l.selective h.k h.fe now l.e h.fr l.r (e_begun l h)))
 
-r_ticked : (l : Link) (now : ℕ) → Holds l → Holds (tick_at R now l)
+r_ticked : (l : StationLink) (now : ℕ) → Holds l → Holds (tick_at R now l)
 r_ticked l now h = r_did l h (finishes (ticks now l.r))
     (finishes_keeps l.selective h.k h.fr (ticks now l.r) h.fe l.e (ticks_keeps l.selective h.k h.fr now l.r h.fe l.e (r_begun l h)))
 
-tick_holds : (l : Link) (now : ℕ) → Holds l → Holds (tick now l)
+tick_holds : (l : StationLink) (now : ℕ) → Holds l → Holds (tick now l)
 tick_holds l now h =
-    let first : Link = record l { moment = max l.moment now; loss_free = l.loss_free && not (is_late now l.e || is_late now l.r) } in
+    let first : StationLink = record l { moment = max l.moment now; loss_free = l.loss_free && not (is_late now l.e || is_late now l.r) } in
     r_ticked (tick_at E now first) now (e_ticked first now (record { k = h.k; fe = h.fe; fr = h.fr; stands = h.stands }))
 
 -- ---- a drain
@@ -217,12 +217,12 @@ drained_holds laws (suc most) d h =
 
 -- ---- no frame was altered or put in, before a step where it is so behind it
 
-heard_kept : (side : Side) (vs : List Verdict) (l : Link) → (hears_each side vs l).order_kept ≡ l.order_kept
+heard_kept : (side : Side) (vs : List Verdict) (l : StationLink) → (hears_each side vs l).order_kept ≡ l.order_kept
 heard_kept side [] l = refl
 heard_kept E (v ∷ vs) l = heard_kept E vs (did E (finishes (receives_as l.selective l.moment v l.e)) l)
 heard_kept R (v ∷ vs) l = heard_kept R vs (did R (finishes (receives_as l.selective l.moment v l.r)) l)
 
-pub passed_kept : (side : Side) (line : List (List ℕ)) (l : Link) → (pass side line l).order_kept ≡ l.order_kept
+pub passed_kept : (side : Side) (line : List (List ℕ)) (l : StationLink) → (pass side line l).order_kept ≡ l.order_kept
 passed_kept E [] l = refl
 passed_kept R [] l = refl
 passed_kept E (octets ∷ rest) l = heard_kept R (news l.read_r octets) _
@@ -231,30 +231,30 @@ passed_kept R (octets ∷ rest) l = heard_kept E (news l.read_e octets) _
 next_kept : (side : Option Side) (overfull : Bool) (d : Draining) → (pass_next side overfull d).link.order_kept ≡ d.link.order_kept
 next_kept None overfull d = refl
 next_kept (Some side) true d = refl
-next_kept (Some side) false d = passed_kept side (line_of d.link side) d.link
+next_kept (Some side) false d = passed_kept side (frames_from_station d.link side) d.link
 
 pub drained_kept : (most : ℕ) (d : Draining) → (drained most d).link.order_kept ≡ d.link.order_kept
 drained_kept zero d = refl
 drained_kept (suc most) d =
     drained_kept most (pass_next (next_of d.link.from_e d.link.from_r) (is_overfull d.link) d) ∙ next_kept (next_of d.link.from_e d.link.from_r) (is_overfull d.link) d
 
-pub sent_kept : (side : Side) (p : List ℕ) (l : Link) (o : Option Came) → (send_unless o side p l).order_kept ≡ l.order_kept
+pub sent_kept : (side : Side) (p : List ℕ) (l : StationLink) (o : Option StationLinkOutcome) → (send_unless o side p l).order_kept ≡ l.order_kept
 sent_kept E p l None = refl
 sent_kept R p l None = refl
 sent_kept E p l (Some refused) = refl
 sent_kept R p l (Some refused) = refl
 
-pub lost_kept : (side : Side) (line : List (List ℕ)) (l : Link) → (lose side line l).order_kept ≡ l.order_kept
+pub lost_kept : (side : Side) (line : List (List ℕ)) (l : StationLink) → (lose side line l).order_kept ≡ l.order_kept
 lost_kept side [] l = refl
 lost_kept E (octets ∷ rest) l = refl
 lost_kept R (octets ∷ rest) l = refl
 
-pub repeated_kept : (side : Side) (line : List (List ℕ)) (l : Link) → (repeat side line l).order_kept ≡ l.order_kept
+pub repeated_kept : (side : Side) (line : List (List ℕ)) (l : StationLink) → (repeat side line l).order_kept ≡ l.order_kept
 repeated_kept side [] l = refl
 repeated_kept E (octets ∷ rest) l = refl
 repeated_kept R (octets ∷ rest) l = refl
 
-pub released_kept : (side : Side) (sub : ℕ) (l : Link) → (release side sub l).order_kept ≡ l.order_kept
+pub released_kept : (side : Side) (sub : ℕ) (l : StationLink) → (release side sub l).order_kept ≡ l.order_kept
 released_kept E sub l =
     cond_both (is_down l.e.phase) (record l { loss_free = false }) (did E (quits sub l.e) (record l { loss_free = false })) (λ t. t.order_kept ≡ l.order_kept) (λ e. refl) (λ e. refl)
 released_kept R sub l =
@@ -263,29 +263,29 @@ released_kept R sub l =
 -- ---- the steps
 
 -- the invariant holds as long as no frame was altered or put in
-abbrev pub Kept : Link → Type 0
+abbrev pub Kept : StationLink → Type 0
 Kept l = l.order_kept ≡ true → Holds l
 
-e_altered : (place mask : ℕ) (line : List (List ℕ)) (l : Link) → Kept l → Kept (alter E place mask line l)
+e_altered : (place mask : ℕ) (line : List (List ℕ)) (l : StationLink) → Kept l → Kept (alter E place mask line l)
 e_altered place mask [] l h = λ e. let g = h e in record { k = g.k; fe = g.fe; fr = g.fr; stands = g.stands }
 e_altered place mask (octets ∷ rest) l h =
     cond_both (nat_lt place (length octets))
-    (if mask == 0 then l else with_line E (altered octets place mask ∷ rest) (record l { order_kept = false; loss_free = false })) _ Kept
-    (λ in_frame. cond_both (mask == 0) l (with_line E (altered octets place mask ∷ rest) (record l { order_kept = false; loss_free = false })) Kept (λ none. h) (λ some e. absurd cc))
+    (if mask == 0 then l else with_frames_from_station E (altered octets place mask ∷ rest) (record l { order_kept = false; loss_free = false })) _ Kept
+    (λ in_frame. cond_both (mask == 0) l (with_frames_from_station E (altered octets place mask ∷ rest) (record l { order_kept = false; loss_free = false })) Kept (λ none. h) (λ some e. absurd cc))
     (λ short e. let g = h e in record { k = g.k; fe = g.fe; fr = g.fr; stands = g.stands })
 
-r_altered : (place mask : ℕ) (line : List (List ℕ)) (l : Link) → Kept l → Kept (alter R place mask line l)
+r_altered : (place mask : ℕ) (line : List (List ℕ)) (l : StationLink) → Kept l → Kept (alter R place mask line l)
 r_altered place mask [] l h = λ e. let g = h e in record { k = g.k; fe = g.fe; fr = g.fr; stands = g.stands }
 r_altered place mask (octets ∷ rest) l h =
     cond_both (nat_lt place (length octets))
-    (if mask == 0 then l else with_line R (altered octets place mask ∷ rest) (record l { order_kept = false; loss_free = false })) _ Kept
-    (λ in_frame. cond_both (mask == 0) l (with_line R (altered octets place mask ∷ rest) (record l { order_kept = false; loss_free = false })) Kept (λ none. h) (λ some e. absurd cc))
+    (if mask == 0 then l else with_frames_from_station R (altered octets place mask ∷ rest) (record l { order_kept = false; loss_free = false })) _ Kept
+    (λ in_frame. cond_both (mask == 0) l (with_frames_from_station R (altered octets place mask ∷ rest) (record l { order_kept = false; loss_free = false })) Kept (λ none. h) (λ some e. absurd cc))
     (λ short e. let g = h e in record { k = g.k; fe = g.fe; fr = g.fr; stands = g.stands })
 
-step_keeps : Frames → (s : LinkStep) (l : Link) → Kept l → Kept (step s l)
+step_keeps : Frames → (s : StationLinkStep) (l : StationLink) → Kept l → Kept (station_link_step s l)
 step_keeps laws (Send side p) l h e =
-    send_holds side l p (h (sym (sent_kept side p l (refusal_at side (station_of l side) p (station_of l side).released)) ∙ e))
-step_keeps laws (Pass side) l h e = pass_holds laws side l (h (sym (passed_kept side (line_of l side) l) ∙ e))
+    send_holds side l p (h (sym (sent_kept side p l (payload_refusal_at_side side (station_of l side) p (station_of l side).released)) ∙ e))
+step_keeps laws (Pass side) l h e = pass_holds laws side l (h (sym (passed_kept side (frames_from_station l side) l) ∙ e))
 step_keeps laws (Lose E) l h e = e_lost l l.from_e refl (h (sym (lost_kept E l.from_e l) ∙ e))
 step_keeps laws (Lose R) l h e = r_lost l l.from_r refl (h (sym (lost_kept R l.from_r l) ∙ e))
 step_keeps laws (Repeat E) l h e = e_repeated l l.from_e refl (h (sym (repeated_kept E l.from_e l) ∙ e))
@@ -301,23 +301,23 @@ step_keeps laws (Drain most) l h e =
     record { k = g.k; fe = g.fe; fr = g.fr; stands = g.stands }
 step_keeps laws (Tick moment) l h e = tick_holds l moment (h e)
 
-pub happens_keeps : Frames → (s : LinkStep) (l : Link) → Kept l → Kept (happens s l)
+pub happens_keeps : Frames → (s : StationLinkStep) (l : StationLink) → Kept l → Kept (link_behind_step s l)
 happens_keeps laws s l h =
     step_keeps laws s (record l { came = [] }) (λ e. let g = h e in record { k = g.k; fe = g.fe; fr = g.fr; stands = g.stands })
 
-pub run_keeps : Frames → (steps : List LinkStep) (l : Link) → Kept l → Kept (run l steps)
+pub run_keeps : Frames → (steps : List StationLinkStep) (l : StationLink) → Kept l → Kept (station_link_run l steps)
 run_keeps laws [] l h = h
-run_keeps laws (s ∷ rest) l h = run_keeps laws rest (happens s l) (happens_keeps laws s l h)
+run_keeps laws (s ∷ rest) l h = run_keeps laws rest (link_behind_step s l) (happens_keeps laws s l h)
 
 -- ---- a link that was just opened
 
-pub opened_holds : (s : Opening) → Holds (opened s.selective s.extended s.window s.n2 s.t1 s.moment)
+pub opened_holds : (s : StationLinkOpening) → Holds (opened_station_link s.selective s.extended s.window s.n2 s.t1 s.moment)
 opened_holds s = record { k = span_of s.selective s.extended s.window; fe = SetUp ∷ []; fr = []; stands = opened_stands s }
 
 -- ---- the laws
 
-pub after_holds : Frames → (s : Opening) (steps : List LinkStep) → (after s steps).order_kept ≡ true → Holds (after s steps)
-after_holds laws s steps = run_keeps laws steps (opened s.selective s.extended s.window s.n2 s.t1 s.moment) (λ e. opened_holds s)
+pub after_holds : Frames → (s : StationLinkOpening) (steps : List StationLinkStep) → (after s steps).order_kept ≡ true → Holds (after s steps)
+after_holds laws s steps = run_keeps laws steps (opened_station_link s.selective s.extended s.window s.n2 s.t1 s.moment) (λ e. opened_holds s)
 
 pub prefix : Frames → Prefix
 prefix laws s steps e = let h = after_holds laws s steps e in (h.stands.pair.0.0.prefix, h.stands.pair.1.0.prefix)

@@ -8,9 +8,9 @@ use Rattle.hdlc_station_model.specs.declared.phase.Phase.TheVariants.{Idle, Sett
 use Rattle.hdlc_station_model.specs.Frames.{Frame, Info, Rr, Rej, Srej, SetUp, Disc, Dm, Ua, modulo, set_up, shown, information}
 use Rattle.hdlc_station_model.specs.Stations.{Station, puts}
 use Rattle.hdlc_station_model.specs.Sending.{info_at, refuses_frame}
-use Rattle.hdlc_station_model.specs.Receiving.{strays, named, acknowledges, marks_busy, agrees}
+use Rattle.hdlc_station_model.specs.Receiving.{strays, number_shown_as, acknowledges, marks_busy, agrees}
 use Rattle.hdlc_station_model.specs.Selective.{held_for, is_found, without_gap, takes_run, missing_below, holds, says_next, files_at, files, repeats_at, repeats_one, sets_up_selective_again, selective_row_up, selective_row}
-use Rattle.hdlc_pair_laws.specs.Invariant.{Way, least_mark, greatest_mark, Pair, Both, infos, numbers, marks, reach, Holding}
+use Rattle.hdlc_pair_laws.specs.Invariant.{Way, least_mark, greatest_mark, IsStationPair, Both, infos, receive_numbers_in_frames, marks, reach, Holding}
 use Rattle.hdlc_pair_laws.proofs.Ways.{climbs_low, forward_le, forward_low, way_some, way_run, way_bounds}
 use Rattle.hdlc_pair_laws.proofs.Holding.{holding_emptied, holding_more, holding_kept, IsRun, run_is}
 use Rattle.hdlc_pair_laws.proofs.Keeps.{info_pushed, puts_quiet, puts_shown}
@@ -29,10 +29,10 @@ first_named e a count r n is same =
     let g : n ≡ a = cc in
     record { low = omega arith; high = omega arith; shows = ap (λ (m : ℕ). m % modulo e) g ∙ eqb-true (a % modulo e) r is }
 
-pub named_at : (e : Bool) (a count r n : ℕ) → named e a count r ≡ Some n → Named e a count r n
+pub named_at : (e : Bool) (a count r n : ℕ) → number_shown_as e a count r ≡ Some n → Named e a count r n
 named_at e a zero r n = cond_both (a % modulo e == r) (Some a) None (λ o. o ≡ Some n → Named e a zero r n) (λ is same. first_named e a zero r n is same) (λ isnt same. absurd cc)
 named_at e a (suc count) r n =
-    cond_both (a % modulo e == r) (Some a) (named e (a + 1) count r) (λ o. o ≡ Some n → Named e a (suc count) r n) (λ is same. first_named e a (suc count) r n is same)
+    cond_both (a % modulo e == r) (Some a) (number_shown_as e (a + 1) count r) (λ o. o ≡ Some n → Named e a (suc count) r n) (λ is same. first_named e a (suc count) r n is same)
     (λ isnt same.
     let m = named_at e (a + 1) count r n same in
     record { low = omega (arith, m.low); high = omega (arith, m.high); shows = m.shows })
@@ -46,11 +46,11 @@ half_tells false k next m n half low high near below same = omega arith
 
 -- the next frame comes
 run_keeps : (k : ℕ) (lx : List Frame) (x : Station) (n r : ℕ) (p : List ℕ) (fs : List Frame) (y : Station) → length x.taken ≡ n
-    → Pair true k lx x (Info n r p ∷ fs) y → Pair true k lx (takes_run p (without_gap (length x.held) (n + 1) x.held) x) fs y
+    → IsStationPair true k lx x (Info n r p ∷ fs) y → IsStationPair true k lx (takes_run p (without_gap (length x.held) (n + 1) x.held) x) fs y
 run_keeps k lx x n r p fs y same h =
     let d = h.1.6 in
     let run : List (List ℕ) = without_gap (length x.held) (n + 1) x.held in
-    let v = subst (λ (j : ℕ). Way k y.handed y.acked y.sent x.taken ((j, p) ∷ infos fs) (numbers lx)) (sym same) h.1.0 in
+    let v = subst (λ (j : ℕ). Way k y.handed y.acked y.sent x.taken ((j, p) ∷ infos fs) (receive_numbers_in_frames lx)) (sym same) h.1.0 in
     let le = forward_le k (max (reach (length x.taken) x.held) (n + 1)) y.sent y.handed (infos fs) d.chain.2 in
     let is : IsRun y.handed (n + 1) (length x.taken) x.held run =
     run_is y.handed (length x.held) (n + 1) (length x.taken) x.held (omega (arith, le, h.1.0.given)) d.own in
@@ -59,9 +59,9 @@ run_keeps k lx x n r p fs y same h =
     let t : List (List ℕ) = x.taken ++ p ∷ run in
     let l = length-append x.taken (p ∷ run) in
     let all : length t ≡ now = omega (arith, l) in (
-      half_shown true k r (infos lx) (marks true lx) (numbers fs) x y h.0,
+      half_shown true k r (infos lx) (marks true lx) (receive_numbers_in_frames fs) x y h.0,
       (
-        way_run k y.handed y.acked y.sent x.taken (infos fs) (numbers lx) p run
+        way_run k y.handed y.acked y.sent x.taken (infos fs) (receive_numbers_in_frames lx) p run
             (subst (λ (j : ℕ). take (j + 1 + length run) y.handed ≡ take (j + 1) y.handed ++ run) (sym same) is.is)
             (forward_low k now (max (reach (length x.taken) x.held) (n + 1)) y.sent y.handed (infos fs) (omega (arith, below)) d.chain.2)
             v,
@@ -81,9 +81,9 @@ run_keeps k lx x n r p fs y same h =
 -- SREJ frames
 asked_keeps : (k : ℕ) (w : List Frame) (ms : List ℕ) (x : Station) (l : List Frame) (y : Station)
     → Both true k w x l y → Both true k w (record x { said = x.said ++ map Srej ms }) l y
-asked_keeps k w [] x l y b = subst (λ t. Pair true k (w ++ t) x l y) (sym (append-nil x.said)) b
+asked_keeps k w [] x l y b = subst (λ t. IsStationPair true k (w ++ t) x l y) (sym (append-nil x.said)) b
 asked_keeps k w (m ∷ ms) x l y b =
-    subst (λ t. Pair true k (w ++ t) x l y) (append_assoc x.said (Srej m ∷ []) (map Srej ms))
+    subst (λ t. IsStationPair true k (w ++ t) x l y) (append_assoc x.said (Srej m ∷ []) (map Srej ms))
     (asked_keeps k w ms (puts (Srej m) x) l y (puts_quiet true k w x l y (Srej m) refl refl refl b))
 
 -- a frame behind a gap comes
@@ -123,13 +123,13 @@ number_keeps k w x n r p fs y b =
     (λ held. next_keeps k w x n r p fs y b) (λ free. hold_keeps k w x n r p fs y b))
 
 -- the number that is named is that of the frame
-pub named_none_or : (k : ℕ) (lx : List Frame) (x : Station) (n r : ℕ) (p : List ℕ) (fs : List Frame) (y : Station) → Pair true k lx x (Info n r p ∷ fs) y
-    → (o : Option ℕ) → named x.extended (length x.taken) (x.window - 1) (n % modulo x.extended) ≡ o → (o ≡ None) ⊎ (o ≡ Some n)
+pub named_none_or : (k : ℕ) (lx : List Frame) (x : Station) (n r : ℕ) (p : List ℕ) (fs : List Frame) (y : Station) → IsStationPair true k lx x (Info n r p ∷ fs) y
+    → (o : Option ℕ) → number_shown_as x.extended (length x.taken) (x.window - 1) (n % modulo x.extended) ≡ o → (o ≡ None) ⊎ (o ≡ Some n)
 named_none_or k lx x n r p fs y b None e = inl refl
 named_none_or k lx x n r p fs y b (Some m) e =
     let v = b.1.0 in
     let waits : List (ℕ × List ℕ) = infos fs in
-    let shows : List ℕ = numbers lx in
+    let shows : List ℕ = receive_numbers_in_frames lx in
     let at = named_at x.extended (length x.taken) (x.window - 1) (n % modulo x.extended) m e in
     let some = way_some k y.handed y.acked y.sent x.taken waits shows (n, p) v in
     let bounds = way_bounds k y.handed y.acked y.sent x.taken ((n, p) ∷ waits) shows v in
@@ -146,22 +146,22 @@ found_keeps k w x n r p fs y o (inr e) b = subst (λ (o : Option ℕ). Both true
 file_keeps : (k : ℕ) (w : List Frame) (x : Station) (n r : ℕ) (p : List ℕ) (fs : List Frame) (y : Station)
     → Both true k w x (Info n r p ∷ fs) y → Both true k w (files (n % modulo x.extended) p x) fs y
 file_keeps k w x n r p fs y b =
-    let o : Option ℕ = named x.extended (length x.taken) (x.window - 1) (n % modulo x.extended) in
+    let o : Option ℕ = number_shown_as x.extended (length x.taken) (x.window - 1) (n % modulo x.extended) in
     found_keeps k w x n r p fs y o (named_none_or k (w ++ x.said) x n r p fs y b o refl) b
 
 -- ---- SREJ
 
 again_keeps : (k : ℕ) (w : List Frame) (x : Station) (l : List Frame) (y : Station) (r : ℕ) → x.acked < x.sent
-    → (o : Option ℕ) → named x.extended x.acked (x.sent - x.acked - 1) r ≡ o → Both true k w x l y → Both true k w (repeats_at o x) l y
+    → (o : Option ℕ) → number_shown_as x.extended x.acked (x.sent - x.acked - 1) r ≡ o → Both true k w x l y → Both true k w (repeats_at o x) l y
 again_keeps k w x l y r some None e b = b
 again_keeps k w x l y r some (Some m) e b =
     let at = named_at x.extended x.acked (x.sent - x.acked - 1) r m e in
-    subst (λ lx. Pair true k lx x l y) (append_assoc w x.said (info_at x m ∷ [])) (info_pushed true k (w ++ x.said) x l y m at.low (omega (arith, at.high)) b)
+    subst (λ lx. IsStationPair true k lx x l y) (append_assoc w x.said (info_at x m ∷ [])) (info_pushed true k (w ++ x.said) x l y m at.low (omega (arith, at.high)) b)
 
 one_again_keeps : (k : ℕ) (w : List Frame) (x : Station) (l : List Frame) (y : Station) (r : ℕ) → Both true k w x l y → Both true k w (repeats_one r x) l y
 one_again_keeps k w x l y r b =
-    cond_both (nat_lt x.acked x.sent) (repeats_at (named x.extended x.acked (x.sent - x.acked - 1) r) x) (strays x) (λ t. Both true k w t l y)
-    (λ e. again_keeps k w x l y r (ltb-true x.acked x.sent e) (named x.extended x.acked (x.sent - x.acked - 1) r) refl b) (λ e. b)
+    cond_both (nat_lt x.acked x.sent) (repeats_at (number_shown_as x.extended x.acked (x.sent - x.acked - 1) r) x) (strays x) (λ t. Both true k w t l y)
+    (λ e. again_keeps k w x l y r (ltb-true x.acked x.sent e) (number_shown_as x.extended x.acked (x.sent - x.acked - 1) r) refl b) (λ e. b)
 
 -- ---- the rows
 

@@ -7,7 +7,7 @@ use Rattle.er_base.specs.declared.cause.Cause.{Cause}
 use Rattle.hdlc_station_model.specs.declared.phase.Phase.TheVariants.{Up}
 use Rattle.hdlc_station_model.specs.Frames.{Frame}
 use Rattle.hdlc_station_model.specs.Stations.{Station, puts}
-use Rattle.hdlc_station_model.specs.Sending.{info_at, frames_again, sends_again, starts_timer, releases}
+use Rattle.hdlc_station_model.specs.Sending.{info_at, frames_again, sends_again, starts_timer, station_down_for_cause}
 use Rattle.hdlc_station_model.specs.Receiving.{acknowledges}
 use Rattle.hdlc_pair_laws.specs.Mending.{AllPolite, IsPolite, Own, Timed}
 
@@ -60,5 +60,5 @@ module _ (c : Bool) (wd : ℕ) (w : List Frame) where
       (h.0, h.1, h.2, h.3, (λ none. absurd cc, λ same. absurd (some same), h.4.2), h.5, λ live. polite_again w (record x { phase = Up }) (x.sent - x.acked) (h.6 live), λ e. absurd cc)
 
   -- ---- a released one
-  pub own_dead : (x : Station) (said lx : List Frame) (cause : Cause) → Own c wd lx x → OwnIn c wd w (releases cause (record x { said = said }))
+  pub own_dead : (x : Station) (said lx : List Frame) (cause : Cause) → Own c wd lx x → OwnIn c wd w (station_down_for_cause cause (record x { said = said }))
   own_dead x said lx cause h = (h.0, h.1, h.2, h.3, refl, h.5, λ live. absurd cc, λ e. absurd cc)

@@ -17,7 +17,7 @@ use Rattle.hdlc_station_model.specs.Selective.{receives_as}
 use Rattle.hdlc_station_model.specs.Events.{quits}
 use Rattle.hdlc_pair_laws.specs.Invariant.{Both}
 use Rattle.hdlc_pair_laws.specs.Keeping.{found}
-use Rattle.hdlc_pair_laws.specs.Flowing.{Rests}
+use Rattle.hdlc_pair_laws.specs.Flowing.{HasNoPayloadToSend}
 use Rattle.hdlc_pair_laws.specs.Mending.{IsPolite, Rested, Timed}
 use Rattle.hdlc_pair_laws.proofs.Hearing.{row_as, hears_as, received}
 use Rattle.hdlc_pair_laws.proofs.Telling.{phases_stay}
@@ -30,7 +30,7 @@ use Rattle.hdlc_pair_laws.proofs.SoundRows.{Wakes, go_back_wakes, selective_wake
 
 -- within a call: what a part of it leaves of a station in this phase
 abbrev pub InCall : (calling : Bool) (window : ℕ) → List Frame → Phase → Station → Type 0
-InCall calling window w p t = OwnIn calling window w t × Rests t × (t.sent ≤ length t.handed) × (t.phase ≡ Idle → p ≡ Idle)
+InCall calling window w p t = OwnIn calling window w t × HasNoPayloadToSend t × (t.sent ≤ length t.handed) × (t.phase ≡ Idle → p ≡ Idle)
 
 -- what the whole call leaves
 abbrev pub Leaves : (calling : Bool) (window : ℕ) → List Frame → Phase → Station → Type 0
@@ -99,7 +99,7 @@ module _ (c : Bool) (wd : ℕ) (w : List Frame) where
 
   -- ---- the owed answer
 
-  settles_leaves : (p : Phase) (x : Station) → Rests x → (x.phase ≡ Idle → p ≡ Idle) → OwnIn c wd w x → Leaves c wd w p (settles x)
+  settles_leaves : (p : Phase) (x : Station) → HasNoPayloadToSend x → (x.phase ≡ Idle → p ≡ Idle) → OwnIn c wd w x → Leaves c wd w p (settles x)
   settles_leaves p x rests went h =
       cond_both x.owed (record (puts (Rr (length x.taken)) x) { owed = false }) x (Leaves c wd w p)
       (λ owed. (

@@ -9,8 +9,8 @@ use Rattle.hdlc_station_model.specs.declared.phase.Phase.{Phase}
 use Rattle.hdlc_station_model.specs.declared.phase.Phase.TheVariants.{Idle, Setting, Up, Down}
 use Rattle.hdlc_station_model.specs.Frames.{Frame, Info, Rr, Rej, Srej, SetUp, Disc, Dm, Ua, modulo, set_up, shown, information}
 use Rattle.hdlc_station_model.specs.Stations.{Station, is_down, puts}
-use Rattle.hdlc_station_model.specs.Sending.{info_at, refuses_frame, sends_again, starts_timer, releases}
-use Rattle.hdlc_station_model.specs.Receiving.{strays, named, acknowledges, acknowledging, by_number, accepts, rejects, takes, marks_busy, repeats_rejected, agrees, comes_up, row_idle, row_up, row}
+use Rattle.hdlc_station_model.specs.Sending.{info_at, refuses_frame, sends_again, starts_timer, station_down_for_cause}
+use Rattle.hdlc_station_model.specs.Receiving.{strays, number_shown_as, acknowledges, acknowledging, by_number, accepts, rejects, takes, marks_busy, repeats_rejected, agrees, comes_up, row_idle, row_up, row_of_phase}
 use Rattle.hdlc_station_model.specs.Selective.{held_for, is_found, without_gap, takes_run, missing_below, holds, says_next, files_at, files, repeats_at, repeats_one, sets_up_selective_again, selective_row_up, selective_row}
 use Rattle.hdlc_pair_laws.specs.Invariant.{Half, IsSpan, Both, marks}
 use Rattle.hdlc_pair_laws.specs.Mending.{AllPolite, IsPolite}
@@ -38,7 +38,7 @@ module _ (c : Bool) (wd : ℕ) (w : List Frame) where
       → Wakes c wd w p f (comes_up (record x { timer = timer; expiries = expiries }))
   comes_up_wakes p f x timer expiries live stopped zero none h = ((h.0, h.1, h.2, h.3, (λ e. (none, zero), λ e. stopped, omega (arith, none)), h.5, λ up. h.6 live, λ e. absurd cc), λ polite l. refl, λ e. absurd cc)
 
-  dead_wakes : (p : Phase) (f : Frame) (x : Station) (said : List Frame) → (IsPolite f → ⊥) → OwnIn c wd w x → Wakes c wd w p f (releases PeerDisconnected (record x { said = said }))
+  dead_wakes : (p : Phase) (f : Frame) (x : Station) (said : List Frame) → (IsPolite f → ⊥) → OwnIn c wd w x → Wakes c wd w p f (station_down_for_cause PeerDisconnected (record x { said = said }))
   dead_wakes p f x said impolite h = (own_dead c wd w x said (w ++ x.said) PeerDisconnected h, λ polite l. absurd (impolite polite), λ e. absurd cc)
 
   -- ---- an I frame with go-back
@@ -94,7 +94,7 @@ none_sent selective k i m ns x y none h =
 
 pub go_back_wakes : (k : ℕ) (c : Bool) (wd : ℕ) (w : List Frame) (p : Phase) (x : Station) (f : Frame) (fs : List Frame) (y : Station)
     → Both false k w (record x { phase = p }) (f ∷ fs) y → OwnIn c wd w (record x { phase = p })
-    → Wakes c wd w p f (row p (record x { phase = p }) (shown x.extended f) (information f))
+    → Wakes c wd w p f (row_of_phase p (record x { phase = p }) (shown x.extended f) (information f))
 go_back_wakes k c wd w Idle x (Info n r q) fs y b h = (h, λ polite live. refl, λ e. e)
 go_back_wakes k c wd w Idle x (Rr r) fs y b h = (h, λ polite live. refl, λ e. e)
 go_back_wakes k c wd w Idle x (Rej r) fs y b h = (h, λ polite live. refl, λ e. e)
@@ -182,7 +182,7 @@ module _ (c : Bool) (wd : ℕ) (w : List Frame) where
   one_wakes : (r : ℕ) (x : Station) → OwnIn c wd w (record x { phase = Up }) → Wakes c wd w Up (Srej r) (repeats_one (r % modulo x.extended) (record x { phase = Up }))
   one_wakes r x h =
       let u : Station = record x { phase = Up } in
-      let o : Option ℕ = named x.extended x.acked (x.sent - x.acked - 1) (r % modulo x.extended) in
+      let o : Option ℕ = number_shown_as x.extended x.acked (x.sent - x.acked - 1) (r % modulo x.extended) in
       cond_both (nat_lt x.acked x.sent) (repeats_at o u) (strays u) (Wakes c wd w Up (Srej r)) (λ some. at o (ltb-true x.acked x.sent some)) (λ none. (h, λ polite live. refl, λ e. e))
     where
       at : (o : Option ℕ) → x.acked < x.sent → Wakes c wd w Up (Srej r) (repeats_at o (record x { phase = Up }))
@@ -226,8 +226,8 @@ selective_wakes k c wd w Setting x (Ua final) fs y b h =
     comes_up_wakes c wd w Setting (Ua final) x None 0 refl refl refl (none_sent true k _ _ _ (record x { phase = Setting }) y b.0.2.0 b.0) h
 selective_wakes k c wd w Up x (Info n r q) fs y b h =
     numbered_wakes c wd w true k r (Info n r q) _ _ _ x y (files (n % modulo x.extended) q) b.4 b.0 h
-    (λ a. filed_wakes c wd w n r q (acknowledges r x) (named x.extended (length x.taken) (x.window - 1) (n % modulo x.extended))
-    (named_none_or k (w ++ x.said) (record x { phase = Up }) n r q fs y b (named x.extended (length x.taken) (x.window - 1) (n % modulo x.extended)) refl) a)
+    (λ a. filed_wakes c wd w n r q (acknowledges r x) (number_shown_as x.extended (length x.taken) (x.window - 1) (n % modulo x.extended))
+    (named_none_or k (w ++ x.said) (record x { phase = Up }) n r q fs y b (number_shown_as x.extended (length x.taken) (x.window - 1) (n % modulo x.extended)) refl) a)
 selective_wakes k c wd w Up x (Rr r) fs y b h =
     numbered_wakes c wd w true k r (Rr r) _ _ _ x y (marks_busy false) b.4 b.0 h
     (λ a. up_wakes c wd w (Rr r) (marks_busy false (acknowledges r x)) (a.0, a.1, refl, a.3, a.4, a.5, a.6, a.7))

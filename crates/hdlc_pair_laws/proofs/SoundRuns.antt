@@ -11,9 +11,9 @@ use Rattle.hdlc_station_model.specs.Stations.{Station, is_up, is_down, settled}
 use Rattle.hdlc_station_model.specs.Calls.{hands, finishes, ticks, closes_at}
 use Rattle.hdlc_station_model.specs.Events.{quits, is_late}
 use Rattle.hdlc_station_model.specs.Lines.{altered, next_of}
-use Rattle.hdlc_pair_laws.specs.Links.{Came, Link, station_of, line_of, with_line, did, opened}
-use Rattle.hdlc_pair_laws.specs.Steps.{LinkStep, Send, Pass, Lose, Repeat, Alter, Put, UserRelease, Drain, Tick, refusal_at, send_unless, lose, repeat, alter, release, tick_at, tick, is_overfull, Draining, pass_next, drained, step, happens, run}
-use Rattle.hdlc_pair_laws.specs.Laws.{Opening, after}
+use Rattle.hdlc_pair_laws.specs.Links.{StationLinkOutcome, StationLink, station_of, frames_from_station, with_frames_from_station, did, opened_station_link}
+use Rattle.hdlc_pair_laws.specs.Steps.{StationLinkStep, Send, Pass, Lose, Repeat, Alter, Put, UserRelease, Drain, Tick, payload_refusal_at_side, send_unless, lose, repeat, alter, release, tick_at, tick, is_overfull, Draining, pass_next, drained, station_link_step, link_behind_step, station_link_run}
+use Rattle.hdlc_pair_laws.specs.Laws.{StationLinkOpening, after}
 use Rattle.hdlc_pair_laws.specs.Timers.{TimedAt, TimersRun}
 use Rattle.hdlc_pair_laws.specs.Recovery.{ArePasses, AreLive, PassesRelease}
 use Rattle.hdlc_pair_laws.specs.Mending.{Own, Timed}
@@ -29,16 +29,16 @@ use Rattle.hdlc_pair_laws.proofs.Sounds.{Claim, Sounds, own_gone, own_twice, e_d
 abbrev pub NoClaim : Claim
 NoClaim selective fe e fr r = Unit {0}
 
-abbrev pub Sound : (window : ℕ) → Link → Type 0
+abbrev pub Sound : (window : ℕ) → StationLink → Type 0
 Sound window l = Sounds window NoClaim l
 
 module _ (wd : ℕ) where
-  same_sound : (l : Link) (came : List Came) → Sound wd l → Sound wd (record l { came = came })
+  same_sound : (l : StationLink) (came : List StationLinkOutcome) → Sound wd l → Sound wd (record l { came = came })
   same_sound l came h = same wd NoClaim l h l.moment l.passes l.order_kept l.loss_free came
 
   -- ---- sends
 
-  sent_sound : (side : Side) (l : Link) (p : List ℕ) (o : Option Came) → (o ≡ None → length p ≤ 1026) → Sound wd l → Sound wd (send_unless o side p l)
+  sent_sound : (side : Side) (l : StationLink) (p : List ℕ) (o : Option StationLinkOutcome) → (o ≡ None → length p ≤ 1026) → Sound wd l → Sound wd (send_unless o side p l)
   sent_sound E l p (Some refused) short h = same_sound l _ h
   sent_sound R l p (Some refused) short h = same_sound l _ h
   sent_sound E l p None short h =
@@ -59,12 +59,12 @@ module _ (wd : ℕ) where
   to_e : ToE wd NoClaim
   to_e selective k now fe e f fs r wide quiet b oe or re rr c = tt
 
-  pub passes_sound : Frames → (passes : List LinkStep) (l : Link) → ArePasses passes → Sound wd l → Sound wd (run l passes) × (AreLive l → AreLive (run l passes))
+  pub passes_sound : Frames → (passes : List StationLinkStep) (l : StationLink) → ArePasses passes → Sound wd l → Sound wd (station_link_run l passes) × (AreLive l → AreLive (station_link_run l passes))
   passes_sound laws passes l p h = passes_keep wd NoClaim laws to_r to_e passes l p h
 
   -- ---- a frame is lost or repeated
 
-  lost_sound : (side : Side) (l : Link) (line : List (List ℕ)) → line_of l side ≡ line → Sound wd l → Sound wd (lose side line l)
+  lost_sound : (side : Side) (l : StationLink) (line : List (List ℕ)) → frames_from_station l side ≡ line → Sound wd l → Sound wd (lose side line l)
   lost_sound side l [] e h = same_sound l _ h
   lost_sound E l (octets ∷ rest) e h =
       let f = first_of_line l.e octets rest h.fe (sym e ∙ h.stands.lined_x) in
@@ -100,7 +100,7 @@ module _ (wd : ℕ) where
         claim = tt;
       }
 
-  repeated_sound : (side : Side) (l : Link) (line : List (List ℕ)) → line_of l side ≡ line → Sound wd l → Sound wd (repeat side line l)
+  repeated_sound : (side : Side) (l : StationLink) (line : List (List ℕ)) → frames_from_station l side ≡ line → Sound wd l → Sound wd (repeat side line l)
   repeated_sound side l [] e h = same_sound l _ h
   repeated_sound E l (octets ∷ rest) e h =
       let f = first_of_line l.e octets rest h.fe (sym e ∙ h.stands.lined_x) in
@@ -143,23 +143,23 @@ module _ (wd : ℕ) where
   quits_down sub x live =
       cond_both (is_down x.phase) x (record (closes_at x.phase x) { phase = Down; timer = None }) (λ t. is_up t.phase ≡ false) (λ down. absurd (true≢false (sym down ∙ live))) (λ e. refl)
 
-  released_sound : (side : Side) (sub : ℕ) (l : Link) → Sound wd l → Sound wd (release side sub l)
+  released_sound : (side : Side) (sub : ℕ) (l : StationLink) → Sound wd l → Sound wd (release side sub l)
   released_sound E sub l h =
-      let first : Link = record l { loss_free = false } in
+      let first : StationLink = record l { loss_free = false } in
       let g : Sound wd first = same wd NoClaim l h l.moment l.passes l.order_kept false l.came in
       cond_both (is_down l.e.phase) first (did E (quits sub l.e) first) (Sound wd) (λ down. g)
       (λ live. e_does wd NoClaim NoClaim first g (quits sub l.e) (quits_keeps l.selective g.k g.fe l.e g.fr l.r sub (e_ready wd NoClaim first g))
       (quits_leaves true wd g.fe sub l.e live (e_own wd NoClaim first g)) (λ idle. quits_down sub l.e live) tt)
   released_sound R sub l h =
-      let first : Link = record l { loss_free = false } in
+      let first : StationLink = record l { loss_free = false } in
       let g : Sound wd first = same wd NoClaim l h l.moment l.passes l.order_kept false l.came in
       cond_both (is_down l.r.phase) first (did R (quits sub l.r) first) (Sound wd) (λ down. g)
       (λ live. r_does wd NoClaim NoClaim first g (quits sub l.r) (quits_keeps l.selective g.k g.fr l.r g.fe l.e sub (r_ready wd NoClaim first g))
       (quits_leaves false wd g.fr sub l.r live (r_own wd NoClaim first g)) tt)
 
-  ticked_sound : (now : ℕ) (l : Link) → Sound wd l → Sound wd (tick now l)
+  ticked_sound : (now : ℕ) (l : StationLink) → Sound wd l → Sound wd (tick now l)
   ticked_sound now l h =
-      let first : Link = record l { moment = max l.moment now; loss_free = l.loss_free && not (is_late now l.e || is_late now l.r) } in
+      let first : StationLink = record l { moment = max l.moment now; loss_free = l.loss_free && not (is_late now l.e || is_late now l.r) } in
       let g : Sound wd first = same wd NoClaim l h _ l.passes l.order_kept _ l.came in
       let e = e_does wd NoClaim NoClaim first g (finishes (ticks now l.e))
       (finishes_keeps l.selective g.k g.fe (ticks now l.e) g.fr l.r (ticks_keeps l.selective g.k g.fe now l.e g.fr l.r (e_ready wd NoClaim first g)))
@@ -185,40 +185,40 @@ module _ (wd : ℕ) where
   -- ---- the steps
 
   -- as long as no frame was altered or put in
-  abbrev Kept : Link → Type 0
+  abbrev Kept : StationLink → Type 0
   Kept l = l.order_kept ≡ true → Sound wd l
 
-  changed_sound : (side : Side) (frames : List (List ℕ)) (l : Link) → Kept (with_line side frames (record l { order_kept = false; loss_free = false }))
+  changed_sound : (side : Side) (frames : List (List ℕ)) (l : StationLink) → Kept (with_frames_from_station side frames (record l { order_kept = false; loss_free = false }))
   changed_sound E frames l = λ e. absurd cc
   changed_sound R frames l = λ e. absurd cc
 
-  altered_sound : (side : Side) (place mask : ℕ) (line : List (List ℕ)) (l : Link) → Kept l → Kept (alter side place mask line l)
+  altered_sound : (side : Side) (place mask : ℕ) (line : List (List ℕ)) (l : StationLink) → Kept l → Kept (alter side place mask line l)
   altered_sound side place mask [] l h = λ e. same_sound l _ (h e)
   altered_sound side place mask (octets ∷ rest) l h =
       cond_both (nat_lt place (length octets))
-      (if mask == 0 then l else with_line side (altered octets place mask ∷ rest) (record l { order_kept = false; loss_free = false })) _ Kept
-      (λ in_frame. cond_both (mask == 0) l (with_line side (altered octets place mask ∷ rest) (record l { order_kept = false; loss_free = false })) Kept
+      (if mask == 0 then l else with_frames_from_station side (altered octets place mask ∷ rest) (record l { order_kept = false; loss_free = false })) _ Kept
+      (λ in_frame. cond_both (mask == 0) l (with_frames_from_station side (altered octets place mask ∷ rest) (record l { order_kept = false; loss_free = false })) Kept
       (λ none. h) (λ some. changed_sound side (altered octets place mask ∷ rest) l))
       (λ short e. same_sound l _ (h e))
 
-  step_sound : Frames → (s : LinkStep) (l : Link) → Kept l → Kept (step s l)
+  step_sound : Frames → (s : StationLinkStep) (l : StationLink) → Kept l → Kept (station_link_step s l)
   step_sound laws (Send side p) l h e =
-      sent_sound side l p (refusal_at side (station_of l side) p (station_of l side).released) (refused_long side (station_of l side) p (station_of l side).released)
-      (h (sym (sent_kept side p l (refusal_at side (station_of l side) p (station_of l side).released)) ∙ e))
-  step_sound laws (Pass side) l h e = (passed wd NoClaim laws to_r to_e side l (h (sym (passed_kept side (line_of l side) l) ∙ e))).0
-  step_sound laws (Lose side) l h e = lost_sound side l (line_of l side) refl (h (sym (lost_kept side (line_of l side) l) ∙ e))
-  step_sound laws (Repeat side) l h e = repeated_sound side l (line_of l side) refl (h (sym (repeated_kept side (line_of l side) l) ∙ e))
-  step_sound laws (Alter side place mask) l h e = altered_sound side place mask (line_of l side) l h e
-  step_sound laws (Put side octets) l h e = changed_sound side (octets ∷ line_of l side) l e
+      sent_sound side l p (payload_refusal_at_side side (station_of l side) p (station_of l side).released) (refused_long side (station_of l side) p (station_of l side).released)
+      (h (sym (sent_kept side p l (payload_refusal_at_side side (station_of l side) p (station_of l side).released)) ∙ e))
+  step_sound laws (Pass side) l h e = (passed wd NoClaim laws to_r to_e side l (h (sym (passed_kept side (frames_from_station l side) l) ∙ e))).0
+  step_sound laws (Lose side) l h e = lost_sound side l (frames_from_station l side) refl (h (sym (lost_kept side (frames_from_station l side) l) ∙ e))
+  step_sound laws (Repeat side) l h e = repeated_sound side l (frames_from_station l side) refl (h (sym (repeated_kept side (frames_from_station l side) l) ∙ e))
+  step_sound laws (Alter side place mask) l h e = altered_sound side place mask (frames_from_station l side) l h e
+  step_sound laws (Put side octets) l h e = changed_sound side (octets ∷ frames_from_station l side) l e
   step_sound laws (UserRelease side sub) l h e = released_sound side sub l (h (sym (released_kept side sub l) ∙ e))
   step_sound laws (Drain most) l h e =
       same_sound (drained most (record { link = l; passes = 0 })).link _
       (drained_sound laws most (record { link = l; passes = 0 }) (h (sym (drained_kept most (record { link = l; passes = 0 })) ∙ e)))
   step_sound laws (Tick moment) l h e = ticked_sound moment l (h e)
 
-  run_sound : Frames → (steps : List LinkStep) (l : Link) → Kept l → Kept (run l steps)
+  run_sound : Frames → (steps : List StationLinkStep) (l : StationLink) → Kept l → Kept (station_link_run l steps)
   run_sound laws [] l h = h
-  run_sound laws (s ∷ rest) l h = run_sound laws rest (happens s l) (step_sound laws s (record l { came = [] }) (λ e. same_sound l [] (h e)))
+  run_sound laws (s ∷ rest) l h = run_sound laws rest (link_behind_step s l) (step_sound laws s (record l { came = [] }) (λ e. same_sound l [] (h e)))
 
 -- ---- a link that was just opened
 
@@ -226,7 +226,7 @@ pub wide_at : (selective extended : Bool) (window : ℕ) → selective ≡ true 
 wide_at true extended window e = refl
 wide_at false extended window e = absurd cc
 
-opened_sound : (s : Opening) → Sound s.window (opened s.selective s.extended s.window s.n2 s.t1 s.moment)
+opened_sound : (s : StationLinkOpening) → Sound s.window (opened_station_link s.selective s.extended s.window s.n2 s.t1 s.moment)
 opened_sound s = record {
   k = span_of s.selective s.extended s.window;
   fe = SetUp ∷ [];
@@ -242,18 +242,18 @@ opened_sound s = record {
   claim = tt;
 }
 
-pub after_sound : Frames → (s : Opening) (steps : List LinkStep) → (after s steps).order_kept ≡ true → Sound s.window (after s steps)
-after_sound laws s steps = run_sound s.window laws steps (opened s.selective s.extended s.window s.n2 s.t1 s.moment) (λ e. opened_sound s)
+pub after_sound : Frames → (s : StationLinkOpening) (steps : List StationLinkStep) → (after s steps).order_kept ≡ true → Sound s.window (after s steps)
+after_sound laws s steps = run_sound s.window laws steps (opened_station_link s.selective s.extended s.window s.n2 s.t1 s.moment) (λ e. opened_sound s)
 
 -- ---- passes release no live end
 
-pub run_append : (a b : List LinkStep) (l : Link) → run l (a ++ b) ≡ run (run l a) b
+pub run_append : (a b : List StationLinkStep) (l : StationLink) → station_link_run l (a ++ b) ≡ station_link_run (station_link_run l a) b
 run_append [] b l = refl
-run_append (s ∷ a) b l = run_append a b (happens s l)
+run_append (s ∷ a) b l = run_append a b (link_behind_step s l)
 
 pub passes_release : Frames → PassesRelease
 passes_release laws s steps kept live passes p =
-    subst AreLive (sym (run_append steps passes (opened s.selective s.extended s.window s.n2 s.t1 s.moment)))
+    subst AreLive (sym (run_append steps passes (opened_station_link s.selective s.extended s.window s.n2 s.t1 s.moment)))
     ((passes_sound s.window laws passes (after s steps) p (after_sound laws s steps kept)).1 live)
 
 -- ---- T1
@@ -267,5 +267,5 @@ timed_at Down x h = h
 pub timers_run : Frames → TimersRun
 timers_run laws s steps kept =
     let h = after_sound laws s steps kept in
-    let l : Link = after s steps in
+    let l : StationLink = after s steps in
     (timed_at l.e.phase l.e h.own_e.4, timed_at l.r.phase l.r h.own_r.4)

@@ -7,9 +7,9 @@ use Rattle.hdlc_frames.specs.Framing.{Verdict}
 use Rattle.hdlc_station_model.specs.declared.phase.Phase.TheVariants.{Idle}
 use Rattle.hdlc_station_model.specs.Frames.{Frame}
 use Rattle.hdlc_station_model.specs.Stations.{Station, is_up, settled}
-use Rattle.hdlc_pair_laws.specs.Links.{Came, Link, line_of, did, hears_each, reads}
-use Rattle.hdlc_pair_laws.specs.Steps.{LinkStep, Send, Pass, Lose, Repeat, Alter, Put, UserRelease, Drain, Tick, pass, happens, run}
-use Rattle.hdlc_pair_laws.specs.Invariant.{Pair, Both}
+use Rattle.hdlc_pair_laws.specs.Links.{StationLinkOutcome, StationLink, frames_from_station, did, hears_each, station_link_behind_octets}
+use Rattle.hdlc_pair_laws.specs.Steps.{StationLinkStep, Send, Pass, Lose, Repeat, Alter, Put, UserRelease, Drain, Tick, pass, link_behind_step, station_link_run}
+use Rattle.hdlc_pair_laws.specs.Invariant.{IsStationPair, Both}
 use Rattle.hdlc_pair_laws.specs.Recovery.{ArePasses, AreLive}
 use Rattle.hdlc_pair_laws.specs.Mending.{Own, Rested}
 use Rattle.hdlc_pair_laws.proofs.Lines.{octets_of, Stands, turned, begun, acted, First, first_of_line, answered, one_event, flag_behind, answered_keeps}
@@ -21,7 +21,7 @@ use Rattle.hdlc_pair_laws.proofs.SoundCalls.{Leaves, answered_lives}
 abbrev pub Claim : Type 1
 Claim = (selective : Bool) → List Frame → Station → List Frame → Station → Type 0
 
-pub record Sounds (window : ℕ) (Q : Claim) (l : Link) : Type 0 where
+pub record Sounds (window : ℕ) (Q : Claim) (l : StationLink) : Type 0 where
   pub k : ℕ
   pub fe : List Frame
   pub fr : List Frame
@@ -52,7 +52,7 @@ own_twice c wd f fs x h = (h.0, h.1, h.2, h.3, h.4, h.5, λ live. ((h.6 live).0,
 module _ (wd : ℕ) (Q P : Claim) where
   -- ---- an event at an end
 
-  pub e_does : (l : Link) (h : Sounds wd Q l) (x : Station) → Both l.selective h.k h.fe x h.fr l.r → Leaves true wd h.fe l.e.phase x → (l.r.phase ≡ Idle → is_up x.phase ≡ false)
+  pub e_does : (l : StationLink) (h : Sounds wd Q l) (x : Station) → Both l.selective h.k h.fe x h.fr l.r → Leaves true wd h.fe l.e.phase x → (l.r.phase ≡ Idle → is_up x.phase ≡ false)
       → P l.selective (h.fe ++ x.said) (settled x) h.fr l.r → Sounds wd P (did E x l)
   e_does l h x b o first claim = record {
     k = h.k;
@@ -69,7 +69,7 @@ module _ (wd : ℕ) (Q P : Claim) where
     claim = claim;
   }
 
-  pub r_does : (l : Link) (h : Sounds wd Q l) (x : Station) → Both l.selective h.k h.fr x h.fe l.e → Leaves false wd h.fr l.r.phase x
+  pub r_does : (l : StationLink) (h : Sounds wd Q l) (x : Station) → Both l.selective h.k h.fr x h.fe l.e → Leaves false wd h.fr l.r.phase x
       → P l.selective h.fe l.e (h.fr ++ x.said) (settled x) → Sounds wd P (did R x l)
   r_does l h x b o claim =
       let t = turned l.selective h.k h.fe l.e h.fr l.r l.from_e l.from_r l.read_e l.read_r h.stands in
@@ -90,20 +90,20 @@ module _ (wd : ℕ) (Q P : Claim) where
       }
 
 module _ (wd : ℕ) (Q : Claim) where
-  pub e_ready : (l : Link) (h : Sounds wd Q l) → Both l.selective h.k h.fe l.e h.fr l.r
+  pub e_ready : (l : StationLink) (h : Sounds wd Q l) → Both l.selective h.k h.fe l.e h.fr l.r
   e_ready l h = begun l.selective h.k h.fe l.e h.fr l.r l.from_e l.from_r l.read_e l.read_r h.stands
 
-  pub r_ready : (l : Link) (h : Sounds wd Q l) → Both l.selective h.k h.fr l.r h.fe l.e
+  pub r_ready : (l : StationLink) (h : Sounds wd Q l) → Both l.selective h.k h.fr l.r h.fe l.e
   r_ready l h = begun l.selective h.k h.fr l.r h.fe l.e l.from_r l.from_e l.read_r l.read_e (turned l.selective h.k h.fe l.e h.fr l.r l.from_e l.from_r l.read_e l.read_r h.stands)
 
-  pub e_own : (l : Link) (h : Sounds wd Q l) → OwnIn true wd h.fe l.e
+  pub e_own : (l : StationLink) (h : Sounds wd Q l) → OwnIn true wd h.fe l.e
   e_own l h = own_begun true wd h.fe l.e h.stands.quiet_x h.own_e
 
-  pub r_own : (l : Link) (h : Sounds wd Q l) → OwnIn false wd h.fr l.r
+  pub r_own : (l : StationLink) (h : Sounds wd Q l) → OwnIn false wd h.fr l.r
   r_own l h = own_begun false wd h.fr l.r h.stands.quiet_y h.own_r
 
   -- the parts of a link that nothing is claimed of
-  pub same : (l : Link) (h : Sounds wd Q l) (moment passes : ℕ) (order_kept loss_free : Bool) (came : List Came)
+  pub same : (l : StationLink) (h : Sounds wd Q l) (moment passes : ℕ) (order_kept loss_free : Bool) (came : List StationLinkOutcome)
       → Sounds wd Q (record l { moment = moment; passes = passes; order_kept = order_kept; loss_free = loss_free; came = came })
   same l h moment passes order_kept loss_free came =
       record { k = h.k; fe = h.fe; fr = h.fr; stands = h.stands; own_e = h.own_e; own_r = h.own_r; rests_e = h.rests_e; rests_r = h.rests_r; first = h.first; wide = h.wide; begun = h.begun; claim = h.claim }
@@ -122,14 +122,14 @@ module _ (wd : ℕ) (Q : Claim) where
       → Q selective (fe ++ (answered selective now r f e).said) (settled (answered selective now r f e)) fs r
 
   -- and live ends stay so
-  abbrev pub Gone : Link → Link → Type 0
+  abbrev pub Gone : StationLink → StationLink → Type 0
   Gone l l' = Sounds wd Q l' × (AreLive l → AreLive l')
 
-  e_first : Frames → ToR → (l : Link) (octets : List ℕ) (rest : List (List ℕ)) → l.from_e ≡ octets ∷ rest → (h : Sounds wd Q l) → First l.e octets rest h.fe
-      → (passes : ℕ) → Gone l (reads R octets (record l { from_e = rest; passes = passes }))
+  e_first : Frames → ToR → (l : StationLink) (octets : List ℕ) (rest : List (List ℕ)) → l.from_e ≡ octets ∷ rest → (h : Sounds wd Q l) → First l.e octets rest h.fe
+      → (passes : ℕ) → Gone l (station_link_behind_octets R octets (record l { from_e = rest; passes = passes }))
   e_first laws keeps l octets rest e h f passes =
       let t = turned l.selective h.k h.fe l.e h.fr l.r l.from_e l.from_r l.read_e l.read_r h.stands in
-      let p : Pair l.selective h.k h.fr l.r (f.frame ∷ f.frames) l.e = subst (λ (q : List Frame). Pair l.selective h.k h.fr l.r q l.e) f.all t.pair in
+      let p : IsStationPair l.selective h.k h.fr l.r (f.frame ∷ f.frames) l.e = subst (λ (q : List Frame). IsStationPair l.selective h.k h.fr l.r q l.e) f.all t.pair in
       let b : Both l.selective h.k h.fr l.r (f.frame ∷ f.frames) l.e = subst (λ (q : List Frame). Both l.selective h.k h.fr l.r q l.e) f.all (r_ready l h) in
       let o : Own true wd (f.frame ∷ f.frames) l.e = subst (λ (q : List Frame). Own true wd q l.e) f.all h.own_e in
       let x : Station = answered l.selective l.moment l.e f.frame l.r in
@@ -138,7 +138,7 @@ module _ (wd : ℕ) (Q : Claim) where
       let g = answered_lives laws.back l.selective h.k false wd h.fr l.moment l.r f.frame f.frames l.e b (r_own l h) in
       let c = keeps l.selective h.k l.moment h.fr l.r f.frame f.frames l.e h.wide h.stands.quiet_y b h.own_r o h.rests_r h.rests_e
       (subst (λ (q : List Frame). Q l.selective q l.e h.fr l.r) f.all h.claim) in
-      subst (λ (os : List ℕ). Gone l (reads R os (record l { from_e = rest; passes = passes }))) (sym f.octets_are)
+      subst (λ (os : List ℕ). Gone l (station_link_behind_octets R os (record l { from_e = rest; passes = passes }))) (sym f.octets_are)
       (subst (λ (vs : List Verdict). Gone l (hears_each R vs (record l { from_e = rest; passes = passes; read_r = l.read_r ++ octets_of l.e f.frame })))
       (sym (one_event laws.parts laws.alone l.selective h.k h.fr l.r f.frame f.frames l.e l.read_r t.flag_x p)) (
         record {
@@ -158,11 +158,11 @@ module _ (wd : ℕ) (Q : Claim) where
         λ live. (live.0, g.1 (o.6 live.0).0 live.1),
       ))
 
-  r_first : Frames → ToE → (l : Link) (octets : List ℕ) (rest : List (List ℕ)) → l.from_r ≡ octets ∷ rest → (h : Sounds wd Q l) → First l.r octets rest h.fr
-      → (passes : ℕ) → Gone l (reads E octets (record l { from_r = rest; passes = passes }))
+  r_first : Frames → ToE → (l : StationLink) (octets : List ℕ) (rest : List (List ℕ)) → l.from_r ≡ octets ∷ rest → (h : Sounds wd Q l) → First l.r octets rest h.fr
+      → (passes : ℕ) → Gone l (station_link_behind_octets E octets (record l { from_r = rest; passes = passes }))
   r_first laws keeps l octets rest e h f passes =
       let t = h.stands in
-      let p : Pair l.selective h.k h.fe l.e (f.frame ∷ f.frames) l.r = subst (λ (q : List Frame). Pair l.selective h.k h.fe l.e q l.r) f.all t.pair in
+      let p : IsStationPair l.selective h.k h.fe l.e (f.frame ∷ f.frames) l.r = subst (λ (q : List Frame). IsStationPair l.selective h.k h.fe l.e q l.r) f.all t.pair in
       let b : Both l.selective h.k h.fe l.e (f.frame ∷ f.frames) l.r = subst (λ (q : List Frame). Both l.selective h.k h.fe l.e q l.r) f.all (e_ready l h) in
       let o : Own false wd (f.frame ∷ f.frames) l.r = subst (λ (q : List Frame). Own false wd q l.r) f.all h.own_r in
       let x : Station = answered l.selective l.moment l.r f.frame l.e in
@@ -171,7 +171,7 @@ module _ (wd : ℕ) (Q : Claim) where
       let g = answered_lives laws.back l.selective h.k true wd h.fe l.moment l.e f.frame f.frames l.r b (e_own l h) in
       let c = keeps l.selective h.k l.moment h.fe l.e f.frame f.frames l.r h.wide h.stands.quiet_x b h.own_e o h.rests_e h.rests_r
       (subst (λ (q : List Frame). Q l.selective h.fe l.e q l.r) f.all h.claim) in
-      subst (λ (os : List ℕ). Gone l (reads E os (record l { from_r = rest; passes = passes }))) (sym f.octets_are)
+      subst (λ (os : List ℕ). Gone l (station_link_behind_octets E os (record l { from_r = rest; passes = passes }))) (sym f.octets_are)
       (subst (λ (vs : List Verdict). Gone l (hears_each E vs (record l { from_r = rest; passes = passes; read_e = l.read_e ++ octets_of l.r f.frame })))
       (sym (one_event laws.parts laws.alone l.selective h.k h.fe l.e f.frame f.frames l.r l.read_e t.flag_x p)) (
         record {
@@ -192,24 +192,24 @@ module _ (wd : ℕ) (Q : Claim) where
         λ live. (g.1 (o.6 live.1).0 live.0, live.1),
       ))
 
-  e_passed : Frames → ToR → (l : Link) (line : List (List ℕ)) → l.from_e ≡ line → Sounds wd Q l → Gone l (pass E line l)
+  e_passed : Frames → ToR → (l : StationLink) (line : List (List ℕ)) → l.from_e ≡ line → Sounds wd Q l → Gone l (pass E line l)
   e_passed laws keeps l [] e h = (same l h l.moment l.passes l.order_kept l.loss_free _, λ live. live)
   e_passed laws keeps l (octets ∷ rest) e h = e_first laws keeps l octets rest e h (first_of_line l.e octets rest h.fe (sym e ∙ h.stands.lined_x)) _
 
-  r_passed : Frames → ToE → (l : Link) (line : List (List ℕ)) → l.from_r ≡ line → Sounds wd Q l → Gone l (pass R line l)
+  r_passed : Frames → ToE → (l : StationLink) (line : List (List ℕ)) → l.from_r ≡ line → Sounds wd Q l → Gone l (pass R line l)
   r_passed laws keeps l [] e h = (same l h l.moment l.passes l.order_kept l.loss_free _, λ live. live)
   r_passed laws keeps l (octets ∷ rest) e h = r_first laws keeps l octets rest e h (first_of_line l.r octets rest h.fr (sym e ∙ h.stands.lined_y)) _
 
-  pub passed : Frames → ToR → ToE → (side : Side) (l : Link) → Sounds wd Q l → Gone l (pass side (line_of l side) l)
+  pub passed : Frames → ToR → ToE → (side : Side) (l : StationLink) → Sounds wd Q l → Gone l (pass side (frames_from_station l side) l)
   passed laws to_r to_e E l h = e_passed laws to_r l l.from_e refl h
   passed laws to_r to_e R l h = r_passed laws to_e l l.from_r refl h
 
   -- frames are given alone
-  pub passes_keep : Frames → ToR → ToE → (passes : List LinkStep) (l : Link) → ArePasses passes → Sounds wd Q l → Gone l (run l passes)
+  pub passes_keep : Frames → ToR → ToE → (passes : List StationLinkStep) (l : StationLink) → ArePasses passes → Sounds wd Q l → Gone l (station_link_run l passes)
   passes_keep laws to_r to_e [] l p h = (h, λ live. live)
   passes_keep laws to_r to_e (Pass side ∷ rest) l p h =
       let first = passed laws to_r to_e side (record l { came = [] }) (same l h l.moment l.passes l.order_kept l.loss_free []) in
-      let r = passes_keep laws to_r to_e rest (happens (Pass side) l) p.1 first.0 in
+      let r = passes_keep laws to_r to_e rest (link_behind_step (Pass side) l) p.1 first.0 in
       (r.0, λ live. r.1 (first.1 live))
   passes_keep laws to_r to_e (Send side payload ∷ rest) l p h = absurd p.0
   passes_keep laws to_r to_e (Lose side ∷ rest) l p h = absurd p.0

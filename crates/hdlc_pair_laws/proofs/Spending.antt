@@ -8,8 +8,8 @@ use Rattle.hdlc_station_model.specs.declared.phase.Phase.TheVariants.{Idle, Sett
 use Rattle.hdlc_station_model.specs.Frames.{Frame, Info, Rr, Rej, Srej, SetUp, Disc, Dm, Ua, modulo, set_up, shown, information}
 use Rattle.hdlc_station_model.specs.Stations.{Station, puts}
 use Rattle.hdlc_station_model.specs.Sending.{info_at, can_send, waiting, sends_next, sends_up_to, sends_waiting, frames_again, sends_again, starts_timer, refuses_frame, settles}
-use Rattle.hdlc_station_model.specs.Receiving.{acknowledges, acknowledging, by_number, accepts, rejects, takes, marks_busy, repeats_rejected, agrees, sets_up_again, row_idle, row_up, row}
-use Rattle.hdlc_pair_laws.specs.Invariant.{Half, IsSpan, Both, infos, numbers, marks, greatest_mark}
+use Rattle.hdlc_station_model.specs.Receiving.{acknowledges, acknowledging, by_number, accepts, rejects, takes, marks_busy, repeats_rejected, agrees, sets_up_again, row_idle, row_up, row_of_phase}
+use Rattle.hdlc_pair_laws.specs.Invariant.{Half, IsSpan, Both, infos, receive_numbers_in_frames, marks, greatest_mark}
 use Rattle.hdlc_pair_laws.specs.Flowing.{one_if}
 use Rattle.hdlc_pair_laws.proofs.Ways.{forward_le, way_tells}
 use Rattle.hdlc_pair_laws.proofs.Rows.{named_is, span_below}
@@ -137,13 +137,13 @@ module _ (set_up_cost window : ℕ) where
       → length x.taken % modulo x.extended ≡ n % modulo x.extended → length x.taken < length y.handed
   next_below k lw x n r q fs y b same =
       let v = b.1.0 in
-      let e = way_tells x.extended k y.handed y.acked y.sent x.taken (n, q) (infos fs) (numbers (lw ++ x.said)) (span_below false x.extended k b.4) same v in
+      let e = way_tells x.extended k y.handed y.acked y.sent x.taken (n, q) (infos fs) (receive_numbers_in_frames (lw ++ x.said)) (span_below false x.extended k b.4) same v in
       let le = forward_le k (max (length x.taken) (n + 1)) y.sent y.handed (infos fs) v.chain.2 in
       omega (arith, e, le, v.given)
 
   pub go_back_spends : (k : ℕ) (lw : List Frame) (p : Phase) (x : Station) (f : Frame) (fs : List Frame) (y : Station) → x.sent ≤ x.acked + window
       → Both false k lw (record x { phase = p }) (f ∷ fs) y
-      → Spends false set_up_cost window (length y.handed) (sets_up (f ∷ fs)) (sets_up fs) (weight 2 window f) x (row p (record x { phase = p }) (shown x.extended f) (information f))
+      → Spends false set_up_cost window (length y.handed) (sets_up (f ∷ fs)) (sets_up fs) (weight 2 window f) x (row_of_phase p (record x { phase = p }) (shown x.extended f) (information f))
   go_back_spends k lw Idle x (Info n r q) fs y room b = omega arith
   go_back_spends k lw Idle x (Rr r) fs y room b = omega arith
   go_back_spends k lw Idle x (Rej r) fs y room b = omega arith
@@ -158,7 +158,7 @@ module _ (set_up_cost window : ℕ) where
   go_back_spends k lw Setting x (Srej r) fs y room b = omega (arith, refuses_spends false (length y.handed) false (sets_up fs) (record x { phase = Setting }))
   go_back_spends k lw Setting x SetUp fs y room b = setting_spends (length y.handed) (sets_up fs) x.extended (record x { phase = Setting })
     where
-      setting_spends : (high : ℕ) (fresh e : Bool) (z : Station) → Spends false set_up_cost window high true fresh 2 z (row Setting z (set_up e) [])
+      setting_spends : (high : ℕ) (fresh e : Bool) (z : Station) → Spends false set_up_cost window high true fresh 2 z (row_of_phase Setting z (set_up e) [])
       setting_spends high fresh true z = refuses_spends false high true fresh z
       setting_spends high fresh false z = refuses_spends false high true fresh z
   go_back_spends k lw Setting x Disc fs y room b = omega (arith, weights_push set_up_cost window x.said (Ua true))
@@ -168,17 +168,17 @@ module _ (set_up_cost window : ℕ) where
       let u : Station = record x { phase = Up } in
       let high : ℕ = length y.handed in
       let none = none_sets_up false 1 fs (greatest_mark y.calling y.sent) (omega arith) b.1.1.1 in
-      numbered false k (infos (lw ++ x.said)) (marks false (lw ++ x.said)) (numbers fs) u r y (takes (n % modulo x.extended) q)
+      numbered false k (infos (lw ++ x.said)) (marks false (lw ++ x.said)) (receive_numbers_in_frames fs) u r y (takes (n % modulo x.extended) q)
       (λ t. Spends false set_up_cost window high (sets_up fs) (sets_up fs) 2 x t) b.4 b.0
       (subst (λ (c : Bool). Spends false set_up_cost window high c c 2 x (takes (n % modulo x.extended) q (acknowledges r u))) (sym none)
       (takes_spends high (n % modulo x.extended) q (acknowledges r u) (next_below k lw u n r q fs y b)))
   go_back_spends k lw Up x (Rr r) fs y room b =
       let u : Station = record x { phase = Up } in
-      numbered false k (infos (lw ++ x.said)) (marks false (lw ++ x.said)) (numbers fs) u r y (marks_busy false)
+      numbered false k (infos (lw ++ x.said)) (marks false (lw ++ x.said)) (receive_numbers_in_frames fs) u r y (marks_busy false)
       (λ t. Spends false set_up_cost window (length y.handed) (sets_up fs) (sets_up fs) 1 x t) b.4 b.0 (omega arith)
   go_back_spends k lw Up x (Rej r) fs y room b =
       let u : Station = record x { phase = Up } in
-      numbered false k (infos (lw ++ x.said)) (marks false (lw ++ x.said)) (numbers fs) u r y (λ t. repeats_rejected (marks_busy false t))
+      numbered false k (infos (lw ++ x.said)) (marks false (lw ++ x.said)) (receive_numbers_in_frames fs) u r y (λ t. repeats_rejected (marks_busy false t))
       (λ t. Spends false set_up_cost window (length y.handed) (sets_up fs) (sets_up fs) (1 + 2 * window) x t) b.4 b.0
       (repeats_spends (length y.handed) (sets_up fs) (marks_busy false (acknowledges r u)) (omega (arith, b.0.0.climb.0)))
   go_back_spends k lw Up x (Srej r) fs y room b = omega (arith, refuses_spends false (length y.handed) false (sets_up fs) (record x { phase = Up }))

@@ -8,9 +8,9 @@ use Rattle.hdlc_station_model.specs.declared.phase.Phase.TheVariants.{Idle, Sett
 use Rattle.hdlc_station_model.specs.Frames.{Frame, Info, Rr, Rej, Srej, SetUp, Disc, Dm, Ua, modulo, set_up, shown, information}
 use Rattle.hdlc_station_model.specs.Stations.{Station}
 use Rattle.hdlc_station_model.specs.Sending.{info_at, refuses_frame}
-use Rattle.hdlc_station_model.specs.Receiving.{strays, named, acknowledges, marks_busy, agrees}
+use Rattle.hdlc_station_model.specs.Receiving.{strays, number_shown_as, acknowledges, marks_busy, agrees}
 use Rattle.hdlc_station_model.specs.Selective.{held_for, is_found, without_gap, takes_run, missing_below, holds, says_next, files_at, files, repeats_at, repeats_one, sets_up_selective_again, selective_row_up, selective_row}
-use Rattle.hdlc_pair_laws.specs.Invariant.{Both, infos, numbers, marks, greatest_mark}
+use Rattle.hdlc_pair_laws.specs.Invariant.{Both, infos, receive_numbers_in_frames, marks, greatest_mark}
 use Rattle.hdlc_pair_laws.proofs.Ways.{forward_le}
 use Rattle.hdlc_pair_laws.proofs.Rows.{half_ack, no_foreign}
 use Rattle.hdlc_pair_laws.proofs.SelectiveRows.{named_at, named_none_or}
@@ -51,7 +51,7 @@ module _ (set_up_cost window : ℕ) where
       (λ held. next_spends high x) (λ free. holds_spends high n p x low below))
 
   found_spends : (k : ℕ) (lw : List Frame) (x : Station) (n r : ℕ) (p : List ℕ) (fs : List Frame) (y : Station)
-      → (o : Option ℕ) → named x.extended (length x.taken) (x.window - 1) (n % modulo x.extended) ≡ o → (o ≡ None) ⊎ (o ≡ Some n)
+      → (o : Option ℕ) → number_shown_as x.extended (length x.taken) (x.window - 1) (n % modulo x.extended) ≡ o → (o ≡ None) ⊎ (o ≡ Some n)
       → Both true k lw x (Info n r p ∷ fs) y → Spends true set_up_cost window (length y.handed) false false 2 x (files_at o p x)
   found_spends k lw x n r p fs y o is (inl e) b =
       subst (λ (o : Option ℕ). Spends true set_up_cost window (length y.handed) false false 2 x (files_at o p x)) (sym e) (next_spends (length y.handed) x)
@@ -70,8 +70,8 @@ module _ (set_up_cost window : ℕ) where
 
   one_spends : (high r : ℕ) (fresh : Bool) (x : Station) → Spends true set_up_cost window high fresh fresh 3 x (repeats_one r x)
   one_spends high r fresh x =
-      cond_both (nat_lt x.acked x.sent) (repeats_at (named x.extended x.acked (x.sent - x.acked - 1) r) x) (strays x) (λ t. Spends true set_up_cost window high fresh fresh 3 x t)
-      (λ e. again_spends high fresh (named x.extended x.acked (x.sent - x.acked - 1) r) x) (λ e. omega arith)
+      cond_both (nat_lt x.acked x.sent) (repeats_at (number_shown_as x.extended x.acked (x.sent - x.acked - 1) r) x) (strays x) (λ t. Spends true set_up_cost window high fresh fresh 3 x t)
+      (λ e. again_spends high fresh (number_shown_as x.extended x.acked (x.sent - x.acked - 1) r) x) (λ e. omega arith)
 
   -- ---- the rows
 
@@ -113,15 +113,15 @@ module _ (set_up_cost window : ℕ) where
       let u : Station = record x { phase = Up } in
       let high : ℕ = length y.handed in
       let none = none_sets_up true 1 fs (greatest_mark y.calling y.sent) (omega arith) b.1.1.1 in
-      let a : Both true k lw (acknowledges r u) (Info n r q ∷ fs) y = (half_ack true k r (infos (lw ++ x.said)) (marks true (lw ++ x.said)) (numbers fs) u y b.0, b.1, b.2, b.3, b.4) in
-      let o : Option ℕ = named x.extended (length x.taken) (x.window - 1) (n % modulo x.extended) in
-      numbered true k (infos (lw ++ x.said)) (marks true (lw ++ x.said)) (numbers fs) u r y (files (n % modulo x.extended) q)
+      let a : Both true k lw (acknowledges r u) (Info n r q ∷ fs) y = (half_ack true k r (infos (lw ++ x.said)) (marks true (lw ++ x.said)) (receive_numbers_in_frames fs) u y b.0, b.1, b.2, b.3, b.4) in
+      let o : Option ℕ = number_shown_as x.extended (length x.taken) (x.window - 1) (n % modulo x.extended) in
+      numbered true k (infos (lw ++ x.said)) (marks true (lw ++ x.said)) (receive_numbers_in_frames fs) u r y (files (n % modulo x.extended) q)
       (λ t. Spends true set_up_cost window high (sets_up fs) (sets_up fs) 2 x t) b.4 b.0
       (subst (λ (c : Bool). Spends true set_up_cost window high c c 2 x (files (n % modulo x.extended) q (acknowledges r u))) (sym none)
       (found_spends k lw (acknowledges r u) n r q fs y o refl (named_none_or k (lw ++ x.said) (acknowledges r u) n r q fs y a o refl) a))
   selective_spends k lw Up x (Rr r) fs y b =
       let u : Station = record x { phase = Up } in
-      numbered true k (infos (lw ++ x.said)) (marks true (lw ++ x.said)) (numbers fs) u r y (marks_busy false)
+      numbered true k (infos (lw ++ x.said)) (marks true (lw ++ x.said)) (receive_numbers_in_frames fs) u r y (marks_busy false)
       (λ t. Spends true set_up_cost window (length y.handed) (sets_up fs) (sets_up fs) 1 x t) b.4 b.0 (omega arith)
   selective_spends k lw Up x (Rej r) fs y b = absurd (no_foreign y.calling x.taken y.sent (marks true fs) b.1.1)
   selective_spends k lw Up x (Srej r) fs y b = one_spends (length y.handed) (r % modulo x.extended) (sets_up fs) (record x { phase = Up })

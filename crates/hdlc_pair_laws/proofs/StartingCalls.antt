@@ -12,8 +12,8 @@ use Rattle.hdlc_station_model.specs.declared.phase.Phase.{Phase}
 use Rattle.hdlc_station_model.specs.declared.phase.Phase.TheVariants.{Idle, Setting, Up, Down}
 use Rattle.hdlc_station_model.specs.Frames.{Frame, Rr, Rej, Srej, SetUp, Disc, Dm, Ua, modulo}
 use Rattle.hdlc_station_model.specs.Stations.{Station, is_down, sees, puts}
-use Rattle.hdlc_station_model.specs.Sending.{info_at, sends_waiting, sends_again, starts_timer, settles, gives_up, counts_expiry, expires_at, expires, expires_if_due, is_due, releases, refuses_frame}
-use Rattle.hdlc_station_model.specs.Receiving.{strays, is_known_address, is_addressed, is_error, errs, named, acknowledges, acknowledging, accepts, rejects, takes, marks_busy, repeats_rejected, comes_up, agrees, sets_up_again, row, hears, hears_control}
+use Rattle.hdlc_station_model.specs.Sending.{info_at, sends_waiting, sends_again, starts_timer, settles, gives_up, counts_expiry, expires_at, expires, expires_if_due, is_due, station_down_for_cause, refuses_frame}
+use Rattle.hdlc_station_model.specs.Receiving.{strays, is_known_address, is_addressed, is_error, errs, number_shown_as, acknowledges, acknowledging, accepts, rejects, takes, marks_busy, repeats_rejected, comes_up, agrees, sets_up_again, row_of_phase, hears, hears_control}
 use Rattle.hdlc_station_model.specs.Selective.{is_selective_error, held_for, is_found, without_gap, takes_run, missing_below, holds, says_next, files_at, files, repeats_at, repeats_one, sets_up_selective_again, selective_row, selective_hears, selective_hears_control, receives_as}
 use Rattle.hdlc_station_model.specs.Calls.{starts_at, starts, hands, finishes, ticks, closes_at, closes}
 use Rattle.hdlc_pair_laws.specs.Timers.{StartsTimer, TimersStart}
@@ -27,11 +27,11 @@ strayed : (p : Phase) (x : Station) → x.phase ≡ p → x.said ≡ [] → At p
 strayed p x e c = kept p x (strays x) refl refl refl e (calm_none x.said c)
 
 -- it says this, and is released
-gone : (p : Phase) (fs : List Frame) (cause : Cause) (x : Station) → (p ≡ Down → ⊥) → x.said ≡ [] → Calm fs → At p x (releases cause (record x { said = x.said ++ fs }))
-gone p fs cause x live c calm = turned p x (releases cause (record x { said = x.said ++ fs })) (inl refl) refl refl (λ down. live (sym down)) (calm_behind x.said fs c calm)
+gone : (p : Phase) (fs : List Frame) (cause : Cause) (x : Station) → (p ≡ Down → ⊥) → x.said ≡ [] → Calm fs → At p x (station_down_for_cause cause (record x { said = x.said ++ fs }))
+gone p fs cause x live c calm = turned p x (station_down_for_cause cause (record x { said = x.said ++ fs })) (inl refl) refl refl (λ down. live (sym down)) (calm_behind x.said fs c calm)
 
-dropped : (p : Phase) (cause : Cause) (x : Station) → (p ≡ Down → ⊥) → x.said ≡ [] → At p x (releases cause x)
-dropped p cause x live c = turned p x (releases cause x) (inl refl) refl refl (λ down. live (sym down)) (calm_none x.said c)
+dropped : (p : Phase) (cause : Cause) (x : Station) → (p ≡ Down → ⊥) → x.said ≡ [] → At p x (station_down_for_cause cause x)
+dropped p cause x live c = turned p x (station_down_for_cause cause x) (inl refl) refl refl (λ down. live (sym down)) (calm_none x.said c)
 
 idle_live : Idle ≡ Down → ⊥
 idle_live e = absurd cc
@@ -53,7 +53,7 @@ came poll x c = turned Idle x (agrees poll (comes_up x)) (inr (refl, refl, refl)
 
 -- N(R) names n
 abbrev Names : ℕ → Station → ℕ → Type 0
-Names nr x n = named x.extended x.acked (x.sent - x.acked) nr ≡ Some n
+Names nr x n = number_shown_as x.extended x.acked (x.sent - x.acked) nr ≡ Some n
 
 -- this is said behind it, and nothing else touches T1
 told : (nr n : ℕ) (x y : Station) → Names nr x n → y.timer ≡ (acknowledges n x).timer → y.acked ≡ n → y.sent ≡ x.sent → y.phase ≡ Up → y.moment ≡ x.moment → y.t1 ≡ x.t1 → Calm y.said → At Up x y
@@ -94,7 +94,7 @@ set_up poll x e c = cond_both (length x.taken == 0) (agrees poll (record x { gap
 
 -- ---- the rows of a station with go-back
 
-rowed : (p : Phase) (c : Control) (information : List ℕ) (x : Station) → x.phase ≡ p → x.said ≡ [] → At p x (row p x c information)
+rowed : (p : Phase) (c : Control) (information : List ℕ) (x : Station) → x.phase ≡ p → x.said ≡ [] → At p x (row_of_phase p x c information)
 rowed Idle (control.Info ns nr) information x e c = strayed Idle x e c
 rowed Idle (control.Rr nr) information x e c = strayed Idle x e c
 rowed Idle (control.Rnr nr) information x e c = strayed Idle x e c
@@ -119,11 +119,11 @@ rowed Setting control.Ua information x e c =
 rowed Setting control.Dm information x e c = dropped Setting PeerDisconnected x setting_live c
 rowed Setting control.Frmr information x e c = dropped Setting PeerDisconnected x setting_live c
 rowed Up (control.Info ns nr) information x e c =
-    numbered (named x.extended x.acked (x.sent - x.acked) nr) (takes ns information) x c (λ n is. took nr n ns information x e c is)
-rowed Up (control.Rr nr) information x e c = numbered (named x.extended x.acked (x.sent - x.acked) nr) (marks_busy false) x c (λ n is. marked nr n false x e c is)
-rowed Up (control.Rnr nr) information x e c = numbered (named x.extended x.acked (x.sent - x.acked) nr) (marks_busy true) x c (λ n is. marked nr n true x e c is)
+    numbered (number_shown_as x.extended x.acked (x.sent - x.acked) nr) (takes ns information) x c (λ n is. took nr n ns information x e c is)
+rowed Up (control.Rr nr) information x e c = numbered (number_shown_as x.extended x.acked (x.sent - x.acked) nr) (marks_busy false) x c (λ n is. marked nr n false x e c is)
+rowed Up (control.Rnr nr) information x e c = numbered (number_shown_as x.extended x.acked (x.sent - x.acked) nr) (marks_busy true) x c (λ n is. marked nr n true x e c is)
 rowed Up (control.Rej nr) information x e c =
-    numbered (named x.extended x.acked (x.sent - x.acked) nr) (λ t. repeats_rejected (marks_busy false t)) x c (λ n is. rejected nr n x e c is)
+    numbered (number_shown_as x.extended x.acked (x.sent - x.acked) nr) (λ t. repeats_rejected (marks_busy false t)) x c (λ n is. rejected nr n x e c is)
 rowed Up (control.Srej nr) information x e c = refused Up x up_live c
 rowed Up (control.Sabm poll) information x e c = set_up poll x e c
 rowed Up (control.Sabme poll) information x e c = set_up poll x e c
@@ -142,8 +142,8 @@ erred Down x e c = kept Down x x refl refl refl e (calm_none x.said c)
 heard_control : (address : ℕ) (o : Option (Control × List ℕ)) (x : Station) → x.said ≡ [] → At x.phase x (hears_control address o x)
 heard_control address None x c = erred x.phase x refl c
 heard_control address (Some read) x c =
-    cond_both (is_addressed x.calling address read.0) (if is_error x.calling read.0 read.1 then errs x.phase x else row x.phase x read.0 read.1) (strays x) (At x.phase x)
-    (λ own. cond_both (is_error x.calling read.0 read.1) (errs x.phase x) (row x.phase x read.0 read.1) (At x.phase x)
+    cond_both (is_addressed x.calling address read.0) (if is_error x.calling read.0 read.1 then errs x.phase x else row_of_phase x.phase x read.0 read.1) (strays x) (At x.phase x)
+    (λ own. cond_both (is_error x.calling read.0 read.1) (errs x.phase x) (row_of_phase x.phase x read.0 read.1) (At x.phase x)
     (λ wrong. erred x.phase x refl c) (λ right. rowed x.phase read.0 read.1 x refl c))
     (λ foreign. strayed x.phase x refl c)
 
@@ -165,7 +165,7 @@ filed nr n (Some m) payload x e c is =
     (λ held. told nr n x (says_next t) is refl refl refl e refl refl (calm_behind x.said (Rr (length x.taken) ∷ []) c (refl, refl)))
     (λ new. told nr n x (holds m payload t) is refl refl refl e refl refl (calm_behind x.said (map Srej (missing_below m t)) c (calm_asked (missing_below m t)))))
 
-again_at : (nr : ℕ) (o : Option ℕ) (x : Station) → x.phase ≡ Up → x.said ≡ [] → x.acked < x.sent → named x.extended x.acked (x.sent - x.acked - 1) nr ≡ o → At Up x (repeats_at o x)
+again_at : (nr : ℕ) (o : Option ℕ) (x : Station) → x.phase ≡ Up → x.said ≡ [] → x.acked < x.sent → number_shown_as x.extended x.acked (x.sent - x.acked - 1) nr ≡ o → At Up x (repeats_at o x)
 again_at nr None x e c some is = strayed Up x e c
 again_at nr (Some n) x e c some is =
     let b = named_at x.extended x.acked (x.sent - x.acked - 1) nr n is in
@@ -175,7 +175,7 @@ again_at nr (Some n) x e c some is =
 
 one_again : (nr : ℕ) (x : Station) → x.phase ≡ Up → x.said ≡ [] → At Up x (repeats_one nr x)
 one_again nr x e c =
-    let o : Option ℕ = named x.extended x.acked (x.sent - x.acked - 1) nr in
+    let o : Option ℕ = number_shown_as x.extended x.acked (x.sent - x.acked - 1) nr in
     cond_both (nat_lt x.acked x.sent) (repeats_at o x) (strays x) (At Up x) (λ some. again_at nr o x e c (ltb-true x.acked x.sent some) refl) (λ none. strayed Up x e c)
 
 selective_set_up : (poll : Bool) (x : Station) → x.phase ≡ Up → x.said ≡ [] → At Up x (sets_up_selective_again poll x)
@@ -190,8 +190,8 @@ selective_rowed Setting (control.Rej nr) information x e c = refused Setting x s
 selective_rowed Setting (control.Srej nr) information x e c = strayed Setting x e c
 selective_rowed Setting control information x e c = rowed Setting control information x e c
 selective_rowed Up (control.Info ns nr) information x e c =
-    numbered (named x.extended x.acked (x.sent - x.acked) nr) (files ns information) x c
-    (λ n is. filed nr n (named x.extended (length x.taken) (x.window - 1) ns) information x e c is)
+    numbered (number_shown_as x.extended x.acked (x.sent - x.acked) nr) (files ns information) x c
+    (λ n is. filed nr n (number_shown_as x.extended (length x.taken) (x.window - 1) ns) information x e c is)
 selective_rowed Up (control.Rej nr) information x e c = refused Up x up_live c
 selective_rowed Up (control.Srej nr) information x e c = one_again nr x e c
 selective_rowed Up (control.Sabm poll) information x e c = selective_set_up poll x e c

@@ -12,10 +12,10 @@ use Rattle.hdlc_station_model.specs.declared.phase.Phase.TheVariants.{Idle, Sett
 use Rattle.hdlc_station_model.specs.Frames.{Rr, Rej, SetUp, modulo}
 use Rattle.hdlc_station_model.specs.Stations.{Station, Deed, no_deed, is_up, is_down, sees, puts}
 use Rattle.hdlc_station_model.specs.Sending.{info_at, can_send, waiting, sends_next, sends_up_to, sends_waiting, sends_again, starts_timer, settles, gives_up, counts_expiry, expires_at, expires, expires_if_due, is_due, refuses_frame}
-use Rattle.hdlc_station_model.specs.Receiving.{strays, is_known_address, is_addressed, is_error, errs, named, acknowledges, acknowledging, accepts, rejects, takes, marks_busy, repeats_rejected, agrees, sets_up_again, row, hears, hears_control}
+use Rattle.hdlc_station_model.specs.Receiving.{strays, is_known_address, is_addressed, is_error, errs, number_shown_as, acknowledges, acknowledging, accepts, rejects, takes, marks_busy, repeats_rejected, agrees, sets_up_again, row_of_phase, hears, hears_control}
 use Rattle.hdlc_station_model.specs.Selective.{is_selective_error, held_for, is_found, without_gap, takes_run, holds, says_next, files_at, files, repeats_at, repeats_one, sets_up_selective_again, selective_row, selective_hears, selective_hears_control}
 use Rattle.hdlc_station_model.specs.Calls.{starts_at, ticks}
-use Rattle.hdlc_pair_laws.specs.Keeping.{Tells, ReceivesTell, TicksTell, PhasesStay}
+use Rattle.hdlc_pair_laws.specs.Keeping.{TellsStationPhaseAndRelease, ReceivesTell, TicksTell, PhasesStay}
 use Rattle.hdlc_pair_laws.proofs.Hearing.{hears_as, received}
 
 -- ---- what sending leaves alone
@@ -75,7 +75,7 @@ set_up : (poll : Bool) (t : Station) → t.phase ≡ Up → t.deed ≡ no_deed �
 set_up poll t e d = cond_both (length t.taken == 0) (agrees poll (record t { gap = false })) (refuses_frame t) (Rowed Up)
     (λ none. still Up (agrees poll (record t { gap = false })) e d) (λ some. refused Up t)
 
-rowed : (p : Phase) (c : Control) (information : List ℕ) (x : Station) → x.phase ≡ p → x.deed ≡ no_deed → Rowed p (row p x c information)
+rowed : (p : Phase) (c : Control) (information : List ℕ) (x : Station) → x.phase ≡ p → x.deed ≡ no_deed → Rowed p (row_of_phase p x c information)
 rowed Idle (control.Info ns nr) information x e d = still Idle (strays x) e d
 rowed Idle (control.Rr nr) information x e d = still Idle (strays x) e d
 rowed Idle (control.Rnr nr) information x e d = still Idle (strays x) e d
@@ -99,13 +99,13 @@ rowed Setting control.Ua information x e d = (inl refl, λ asleep. (refl, λ up.
 rowed Setting control.Dm information x e d = (inr refl, λ asleep. (refl, λ up. absurd cc), λ awake. (refl, λ none. absurd cc), λ live none. absurd cc, λ up. absurd cc, inr (refl, refl))
 rowed Setting control.Frmr information x e d = (inr refl, λ asleep. (refl, λ up. absurd cc), λ awake. (refl, λ none. absurd cc), λ live none. absurd cc, λ up. absurd cc, inr (refl, refl))
 rowed Up (control.Info ns nr) information x e d =
-    numbered (named x.extended x.acked (x.sent - x.acked) nr) (takes ns information) x (λ n. took ns information (acknowledges n x) e d)
+    numbered (number_shown_as x.extended x.acked (x.sent - x.acked) nr) (takes ns information) x (λ n. took ns information (acknowledges n x) e d)
 rowed Up (control.Rr nr) information x e d =
-    numbered (named x.extended x.acked (x.sent - x.acked) nr) (marks_busy false) x (λ n. still Up (marks_busy false (acknowledges n x)) e d)
+    numbered (number_shown_as x.extended x.acked (x.sent - x.acked) nr) (marks_busy false) x (λ n. still Up (marks_busy false (acknowledges n x)) e d)
 rowed Up (control.Rnr nr) information x e d =
-    numbered (named x.extended x.acked (x.sent - x.acked) nr) (marks_busy true) x (λ n. still Up (marks_busy true (acknowledges n x)) e d)
+    numbered (number_shown_as x.extended x.acked (x.sent - x.acked) nr) (marks_busy true) x (λ n. still Up (marks_busy true (acknowledges n x)) e d)
 rowed Up (control.Rej nr) information x e d =
-    numbered (named x.extended x.acked (x.sent - x.acked) nr) (λ t. repeats_rejected (marks_busy false t)) x
+    numbered (number_shown_as x.extended x.acked (x.sent - x.acked) nr) (λ t. repeats_rejected (marks_busy false t)) x
     (λ n. repeated (marks_busy false (acknowledges n x)) e d)
 rowed Up (control.Srej nr) information x e d = refused Up x
 rowed Up (control.Sabm poll) information x e d = set_up poll x e d
@@ -125,8 +125,8 @@ erred Down x e d = still Down x e d
 heard_control : (address : ℕ) (o : Option (Control × List ℕ)) (x : Station) → x.deed ≡ no_deed → Rowed x.phase (hears_control address o x)
 heard_control address None x d = erred x.phase x refl d
 heard_control address (Some read) x d =
-    cond_both (is_addressed x.calling address read.0) (if is_error x.calling read.0 read.1 then errs x.phase x else row x.phase x read.0 read.1) (strays x) (Rowed x.phase)
-    (λ e. cond_both (is_error x.calling read.0 read.1) (errs x.phase x) (row x.phase x read.0 read.1) (Rowed x.phase)
+    cond_both (is_addressed x.calling address read.0) (if is_error x.calling read.0 read.1 then errs x.phase x else row_of_phase x.phase x read.0 read.1) (strays x) (Rowed x.phase)
+    (λ e. cond_both (is_error x.calling read.0 read.1) (errs x.phase x) (row_of_phase x.phase x read.0 read.1) (Rowed x.phase)
     (λ e. erred x.phase x refl d) (λ e. rowed x.phase read.0 read.1 x refl d))
     (λ e. still x.phase (strays x) refl d)
 
@@ -147,7 +147,7 @@ again_at (Some n) t e d = still Up (starts_timer (record (puts (info_at t n) t) 
 
 one_again : (nr : ℕ) (t : Station) → t.phase ≡ Up → t.deed ≡ no_deed → Rowed Up (repeats_one nr t)
 one_again nr t e d =
-    let o : Option ℕ = named t.extended t.acked (t.sent - t.acked - 1) nr in
+    let o : Option ℕ = number_shown_as t.extended t.acked (t.sent - t.acked - 1) nr in
     cond_both (nat_lt t.acked t.sent) (repeats_at o t) (strays t) (Rowed Up) (λ some. again_at o t e d) (λ none. still Up (strays t) e d)
 
 selective_set_up : (poll : Bool) (t : Station) → t.phase ≡ Up → t.deed ≡ no_deed → Rowed Up (sets_up_selective_again poll t)
@@ -161,8 +161,8 @@ selective_rowed Setting (control.Rej nr) information x e d = refused Setting x
 selective_rowed Setting (control.Srej nr) information x e d = still Setting (strays x) e d
 selective_rowed Setting c information x e d = rowed Setting c information x e d
 selective_rowed Up (control.Info ns nr) information x e d =
-    numbered (named x.extended x.acked (x.sent - x.acked) nr) (files ns information) x
-    (λ n. filed (named x.extended (length x.taken) (x.window - 1) ns) information (acknowledges n x) e d)
+    numbered (number_shown_as x.extended x.acked (x.sent - x.acked) nr) (files ns information) x
+    (λ n. filed (number_shown_as x.extended (length x.taken) (x.window - 1) ns) information (acknowledges n x) e d)
 selective_rowed Up (control.Rej nr) information x e d = refused Up x
 selective_rowed Up (control.Srej nr) information x e d = one_again nr x e d
 selective_rowed Up (control.Sabm poll) information x e d = selective_set_up poll x e d
@@ -216,7 +216,7 @@ receives_tell selective now v x d =
     let h : Rowed x.phase (if is_down x.phase then x else sends_waiting (hears_as selective v (sees now x))) =
     cond_both (is_down x.phase) x (sends_waiting (hears_as selective v (sees now x))) (Rowed x.phase) (λ e. still x.phase x refl d)
     (λ e. sent x.phase (hears_as selective v (sees now x)) (heard selective v (sees now x) d)) in
-    subst (Tells x) (sym (received selective now v x)) (record { reason = h.0; asleep = h.1; awake = h.2; lives = h.3; came = h.4; alone = h.5 })
+    subst (TellsStationPhaseAndRelease x) (sym (received selective now v x)) (record { reason = h.0; asleep = h.1; awake = h.2; lives = h.3; came = h.4; alone = h.5 })
 
 -- ---- a tick
 

@@ -9,10 +9,10 @@ use Rattle.hdlc_station_model.specs.Frames.{Frame, SetUp}
 use Rattle.hdlc_station_model.specs.Stations.{Station, is_up, is_down, sees, puts}
 use Rattle.hdlc_station_model.specs.Sending.{starts_timer, counts_expiry}
 use Rattle.hdlc_station_model.specs.Calls.{ticks}
-use Rattle.hdlc_pair_laws.specs.Invariant.{Pair, Both, Early, infos, numbers}
-use Rattle.hdlc_pair_laws.specs.Flowing.{Consecutive, Ends}
+use Rattle.hdlc_pair_laws.specs.Invariant.{IsStationPair, Both, Early, infos, receive_numbers_in_frames}
+use Rattle.hdlc_pair_laws.specs.Flowing.{Consecutive, EndsAtNumber}
 use Rattle.hdlc_station_model.specs.Repeating.{MayRepeat}
-use Rattle.hdlc_pair_laws.specs.Mending.{Timed, Own, Rested, HasBegun, leads, Waits, Comes, Toward, Mends, AllAre, Fires, Asks, HalfTicked, Ticked}
+use Rattle.hdlc_pair_laws.specs.Mending.{Timed, Own, Rested, HasBegun, leads, Waits, HasAllSentComing, Toward, Mends, AllAre, Fires, HasSetUpFrameWaiting, HalfTicked, Ticked}
 use Rattle.hdlc_pair_laws.proofs.Ways.{way_bounds}
 use Rattle.hdlc_pair_laws.proofs.Events.{ticks_keeps}
 use Rattle.hdlc_pair_laws.proofs.Repeats.{up_fires, setting_ticks, called_silent, IsSilent}
@@ -41,11 +41,11 @@ waits_all low high m (f ∷ fs) above below h = elim (cases_lt low m) [
   | inr top ↦ inl (let e : low ≡ m = omega arith in h.0 ∙ e)
 ]
 
-pub comes_all : (selective : Bool) (low next high : ℕ) (held fs : List (ℕ × List ℕ)) → low ≤ next → next ≤ high → Consecutive low fs high → Comes selective next held fs high
+pub comes_all : (selective : Bool) (low next high : ℕ) (held fs : List (ℕ × List ℕ)) → low ≤ next → next ≤ high → Consecutive low fs high → HasAllSentComing selective next held fs high
 comes_all true low next high held fs above below h = λ m from to. inr (waits_all low high m fs (omega arith) to h)
 comes_all false low next high held fs above below h = leads_all low next high fs above below h
 
-ends_all : (low high : ℕ) (xs : List ℕ) → low ≡ high → AllAre high xs → Ends low xs high
+ends_all : (low high : ℕ) (xs : List ℕ) → low ≡ high → AllAre high xs → EndsAtNumber low xs high
 ends_all low high [] e h = e
 ends_all low high (x ∷ xs) e h = ends_all x high xs h.0 h.1
 
@@ -58,12 +58,12 @@ fires_toward selective waits shows x y low high all are = (
       ends_all x.acked (length y.taken) shows (omega (arith, low, high, e)) are,
 )
 
-pub fires_mend : (selective : Bool) (k : ℕ) (lx : List Frame) (x : Station) (ly : List Frame) (y : Station) → Pair selective k lx x ly y → Fires lx x → Fires ly y → Mends selective lx x ly y
+pub fires_mend : (selective : Bool) (k : ℕ) (lx : List Frame) (x : Station) (ly : List Frame) (y : Station) → IsStationPair selective k lx x ly y → Fires lx x → Fires ly y → Mends selective lx x ly y
 fires_mend selective k lx x ly y p fx fy =
-    let bx = way_bounds k x.handed x.acked x.sent y.taken (infos lx) (numbers ly) p.0.0 in
-    let by = way_bounds k y.handed y.acked y.sent x.taken (infos ly) (numbers lx) p.1.0 in
-    let tx = fires_toward selective (infos lx) (numbers ly) x y bx.0 bx.1 fx.0 fy.1 in
-    let ty = fires_toward selective (infos ly) (numbers lx) y x by.0 by.1 fy.0 fx.1 in
+    let bx = way_bounds k x.handed x.acked x.sent y.taken (infos lx) (receive_numbers_in_frames ly) p.0.0 in
+    let by = way_bounds k y.handed y.acked y.sent x.taken (infos ly) (receive_numbers_in_frames lx) p.1.0 in
+    let tx = fires_toward selective (infos lx) (receive_numbers_in_frames ly) x y bx.0 bx.1 fx.0 fy.1 in
+    let ty = fires_toward selective (infos ly) (receive_numbers_in_frames lx) y x by.0 by.1 fy.0 fx.1 in
     ((tx, ty.0, fx.2, fy.2, fx.3, fy.3), ty.1)
 
 -- ---- the phases of two live stations
@@ -90,18 +90,18 @@ timed_setting x c wd l setting h = subst (λ (p : Phase). Timed p x.timer x.expi
 -- ---- the ticks
 
 -- the called station took nothing of one that is setting up
-none_taken : (selective : Bool) (k : ℕ) (lx : List Frame) (x : Station) (ly : List Frame) (y : Station) → x.phase ≡ Setting → Pair selective k lx x ly y → length y.taken ≡ 0
+none_taken : (selective : Bool) (k : ℕ) (lx : List Frame) (x : Station) (ly : List Frame) (y : Station) → x.phase ≡ Setting → IsStationPair selective k lx x ly y → length y.taken ≡ 0
 none_taken selective k lx x ly y setting p =
-    let b = way_bounds k x.handed x.acked x.sent y.taken (infos lx) (numbers ly) p.0.0 in
+    let b = way_bounds k x.handed x.acked x.sent y.taken (infos lx) (receive_numbers_in_frames ly) p.0.0 in
     let unsent : x.sent ≡ 0 = (subst (λ (q : Phase). Early q x.calling x.sent) setting p.0.2).0 in
     omega (arith, b.1, unsent)
 
 -- the calling station
-pub calling_ticks : (selective : Bool) (k wd : ℕ) (w : List Frame) (now : ℕ) (x : Station) (l : List Frame) (y : Station) → w ≡ [] → l ≡ [] → x.said ≡ [] → Pair selective k w x l y
+pub calling_ticks : (selective : Bool) (k wd : ℕ) (w : List Frame) (now : ℕ) (x : Station) (l : List Frame) (y : Station) → w ≡ [] → l ≡ [] → x.said ≡ [] → IsStationPair selective k w x l y
     → Own true wd w x → Own false wd l y → Rested x → Rested y → HasBegun x y → is_down x.phase ≡ false → is_down y.phase ≡ false → MayRepeat now x
     → ReachedIn HalfTicked selective true w (ticks now x) l y
 calling_ticks selective k wd w now x l y nw nl quiet p own_x own_y rests_x rests_y begun live_x live_y may =
-    let b = way_bounds k x.handed x.acked x.sent y.taken (infos w) (numbers l) p.0.0 in
+    let b = way_bounds k x.handed x.acked x.sent y.taken (infos w) (receive_numbers_in_frames l) p.0.0 in
     elim (both_phases x.phase y.phase live_x begun.1 begun.0 (called_phase y.phase y.calling y.sent live_y own_y.0 p.1.2)) [
       | inl up ↦ inr (
         subst (λ (t : List Frame). Fires (t ++ (ticks now x).said) (ticks now x)) (sym nw)
@@ -111,7 +111,7 @@ calling_ticks selective k wd w now x l y nw nl quiet p own_x own_y rests_x rests
       )
       | inr early ↦
           let v : Station = starts_timer (puts SetUp (counts_expiry (sees now x))) in
-          inl (subst (λ (t : Station). Asks (w ++ t.said) t l y) (sym (setting_ticks now x early.0 (timed_setting x true wd w early.0 own_x) may)) (
+          inl (subst (λ (t : Station). HasSetUpFrameWaiting (w ++ t.said) t l y) (sym (setting_ticks now x early.0 (timed_setting x true wd w early.0 own_x) may)) (
             early.0,
             ap (λ (t : List Frame). t ++ v.said) nw ∙ ap (λ (t : List Frame). t ++ SetUp ∷ []) quiet,
             nl,
@@ -136,7 +136,7 @@ called_ticks selective k wd w now x l y quiet p own (inl a) may =
     )
 called_ticks selective k wd w now x l y quiet p own (inr f) may =
     let t : Station = ticks now x in
-    let b = way_bounds k x.handed x.acked x.sent y.taken (infos (w ++ x.said)) (numbers l) p.0.0 in
+    let b = way_bounds k x.handed x.acked x.sent y.taken (infos (w ++ x.said)) (receive_numbers_in_frames l) p.0.0 in
     let nw : w ≡ [] = sym (append-nil w) ∙ ap (λ (r : List Frame). w ++ r) (sym quiet) ∙ f.1 in
     let fires : Fires (w ++ t.said) t =
     subst (λ (r : List Frame). Fires (r ++ t.said) t) (sym nw) (up_fires now x f.2 quiet (omega (arith, b.0, b.1)) (timed_up x false wd w f.2 own) may) in

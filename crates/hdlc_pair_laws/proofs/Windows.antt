@@ -13,7 +13,7 @@ use Rattle.hdlc_station_model.specs.declared.phase.Phase.TheVariants.{Idle, Sett
 use Rattle.hdlc_station_model.specs.Frames.{Rr, Rej, SetUp, modulo}
 use Rattle.hdlc_station_model.specs.Stations.{Station, is_up, is_down, sees, puts}
 use Rattle.hdlc_station_model.specs.Sending.{can_send, waiting, sends_next, sends_up_to, sends_waiting, sends_again, starts_timer, settles, gives_up, counts_expiry, expires_at, expires, expires_if_due, is_due, refuses_frame}
-use Rattle.hdlc_station_model.specs.Receiving.{strays, is_known_address, is_addressed, is_error, errs, named, acknowledges, acknowledging, by_number, accepts, rejects, takes, marks_busy, repeats_rejected, agrees, sets_up_again, row_idle, row, hears, hears_control}
+use Rattle.hdlc_station_model.specs.Receiving.{strays, is_known_address, is_addressed, is_error, errs, number_shown_as, acknowledges, acknowledging, by_number, accepts, rejects, takes, marks_busy, repeats_rejected, agrees, sets_up_again, row_idle, row_of_phase, hears, hears_control}
 use Rattle.hdlc_station_model.specs.Selective.{is_selective_error, held_for, is_found, without_gap, takes_run, holds, says_next, files_at, files, repeats_at, repeats_one, sets_up_selective_again, selective_row, selective_hears, selective_hears_control, receives_as}
 use Rattle.hdlc_station_model.specs.Calls.{starts_at, starts, hands, finishes, ticks, closes_at}
 use Rattle.hdlc_station_model.specs.Events.{quits}
@@ -58,7 +58,7 @@ module _ (window : ℕ) (given : List (List ℕ)) where
 
   -- ---- a frame that comes
 
-  numbered_in : (r : ℕ) (rest : Station → Station) (x : Station) → ((t : Station) → InWindow window given t → InWindow window given (rest t)) → (o : Option ℕ) → named x.extended x.acked (x.sent - x.acked) r ≡ o
+  numbered_in : (r : ℕ) (rest : Station → Station) (x : Station) → ((t : Station) → InWindow window given t → InWindow window given (rest t)) → (o : Option ℕ) → number_shown_as x.extended x.acked (x.sent - x.acked) r ≡ o
       → InWindow window given x → InWindow window given (acknowledging o rest x)
   numbered_in r rest x keeps None e h = h
   numbered_in r rest x keeps (Some n) e h =
@@ -67,7 +67,7 @@ module _ (window : ℕ) (given : List (List ℕ)) where
 
   by_number_in : (r : ℕ) (rest : Station → Station) (x : Station) → ((t : Station) → InWindow window given t → InWindow window given (rest t))
       → InWindow window given x → InWindow window given (by_number r rest x)
-  by_number_in r rest x keeps h = numbered_in r rest x keeps (named x.extended x.acked (x.sent - x.acked) r) refl h
+  by_number_in r rest x keeps h = numbered_in r rest x keeps (number_shown_as x.extended x.acked (x.sent - x.acked) r) refl h
 
   takes_in : (ns : ℕ) (p : List ℕ) (x : Station) → InWindow window given x → InWindow window given (takes ns p x)
   takes_in ns p x h =
@@ -94,7 +94,7 @@ module _ (window : ℕ) (given : List (List ℕ)) where
   idle_in control.Dm i x h = h
   idle_in control.Frmr i x h = h
 
-  row_in : (p : Phase) (c : Control) (i : List ℕ) (x : Station) → InWindow window given x → InWindow window given (row p x c i)
+  row_in : (p : Phase) (c : Control) (i : List ℕ) (x : Station) → InWindow window given x → InWindow window given (row_of_phase p x c i)
   row_in Idle c i x h = idle_in c i x h
   row_in Up (control.Info ns nr) i x h = by_number_in nr (takes ns i) x (takes_in ns i) h
   row_in Up (control.Rr nr) i x h = by_number_in nr (marks_busy false) x (λ t g. g) h
@@ -127,8 +127,8 @@ module _ (window : ℕ) (given : List (List ℕ)) where
   control_in : (address : ℕ) (o : Option (Control × List ℕ)) (x : Station) → InWindow window given x → InWindow window given (hears_control address o x)
   control_in address None x h = errs_in x.phase x h
   control_in address (Some read) x h =
-      cond_both (is_addressed x.calling address read.0) (if is_error x.calling read.0 read.1 then errs x.phase x else row x.phase x read.0 read.1) (strays x) (InWindow window given)
-      (λ e. cond_both (is_error x.calling read.0 read.1) (errs x.phase x) (row x.phase x read.0 read.1) (InWindow window given)
+      cond_both (is_addressed x.calling address read.0) (if is_error x.calling read.0 read.1 then errs x.phase x else row_of_phase x.phase x read.0 read.1) (strays x) (InWindow window given)
+      (λ e. cond_both (is_error x.calling read.0 read.1) (errs x.phase x) (row_of_phase x.phase x read.0 read.1) (InWindow window given)
       (λ e. errs_in x.phase x h) (λ e. row_in x.phase read.0 read.1 x h))
       (λ e. h)
 
@@ -157,8 +157,8 @@ module _ (window : ℕ) (given : List (List ℕ)) where
 
   one_in : (r : ℕ) (x : Station) → InWindow window given x → InWindow window given (repeats_one r x)
   one_in r x h =
-      cond_both (nat_lt x.acked x.sent) (repeats_at (named x.extended x.acked (x.sent - x.acked - 1) r) x) (strays x) (InWindow window given)
-      (λ e. one_at (named x.extended x.acked (x.sent - x.acked - 1) r) x h) (λ e. h)
+      cond_both (nat_lt x.acked x.sent) (repeats_at (number_shown_as x.extended x.acked (x.sent - x.acked - 1) r) x) (strays x) (InWindow window given)
+      (λ e. one_at (number_shown_as x.extended x.acked (x.sent - x.acked - 1) r) x h) (λ e. h)
 
   set_up_selective_in : (poll : Bool) (x : Station) → InWindow window given x → InWindow window given (sets_up_selective_again poll x)
   set_up_selective_in poll x h = cond_both (length x.taken == 0) (agrees poll (record x { held = []; asked = [] })) (refuses_frame x) (InWindow window given) (λ e. h) (λ e. h)
@@ -166,7 +166,7 @@ module _ (window : ℕ) (given : List (List ℕ)) where
   selective_row_in : (p : Phase) (c : Control) (i : List ℕ) (x : Station) → InWindow window given x → InWindow window given (selective_row p x c i)
   selective_row_in Idle c i x h = idle_in c i x h
   selective_row_in Up (control.Info ns nr) i x h =
-      by_number_in nr (files ns i) x (λ t g. files_in (named t.extended (length t.taken) (t.window - 1) ns) i t g) h
+      by_number_in nr (files ns i) x (λ t g. files_in (number_shown_as t.extended (length t.taken) (t.window - 1) ns) i t g) h
   selective_row_in Up (control.Rr nr) i x h = by_number_in nr (marks_busy false) x (λ t g. g) h
   selective_row_in Up (control.Rnr nr) i x h = by_number_in nr (marks_busy true) x (λ t g. g) h
   selective_row_in Up (control.Srej nr) i x h = one_in nr x h

@@ -10,17 +10,17 @@ use Rattle.hdlc_station_model.specs.Calls.{hands, finishes, ticks}
 use Rattle.hdlc_station_model.specs.Selective.{receives_as}
 use Rattle.hdlc_station_model.specs.Events.{news, quits}
 use Rattle.hdlc_station_model.specs.Lines.{altered, next_of}
-use Rattle.hdlc_pair_laws.specs.Links.{Came, Link, station_of, line_of, with_line, did, hears_each, opened}
-use Rattle.hdlc_pair_laws.specs.Steps.{LinkStep, Send, Pass, Lose, Repeat, Alter, Put, UserRelease, Drain, Tick, refusal_at, send_unless, pass, lose, repeat, alter, release, is_overfull, Draining, pass_next, drained, step, happens, run}
-use Rattle.hdlc_pair_laws.specs.Laws.{Opening, after}
+use Rattle.hdlc_pair_laws.specs.Links.{StationLinkOutcome, StationLink, station_of, frames_from_station, with_frames_from_station, did, hears_each, opened_station_link}
+use Rattle.hdlc_pair_laws.specs.Steps.{StationLinkStep, Send, Pass, Lose, Repeat, Alter, Put, UserRelease, Drain, Tick, payload_refusal_at_side, send_unless, pass, lose, repeat, alter, release, is_overfull, Draining, pass_next, drained, station_link_step, link_behind_step, station_link_run}
+use Rattle.hdlc_pair_laws.specs.Laws.{StationLinkOpening, after}
 use Rattle.hdlc_pair_laws.proofs.Windows.{InWindow, own_handed, receives_in, finishes_in, hands_in, ticks_in, quits_in}
 
-abbrev pub Windowed : (window : ℕ) → Link → Type 0
+abbrev pub Windowed : (window : ℕ) → StationLink → Type 0
 Windowed window l = InWindow window l.e.handed l.e × InWindow window l.r.handed l.r
 
 -- ---- what an end does
 
-heard : (window : ℕ) (side : Side) (vs : List Verdict) (l : Link) → Windowed window l → Windowed window (hears_each side vs l)
+heard : (window : ℕ) (side : Side) (vs : List Verdict) (l : StationLink) → Windowed window l → Windowed window (hears_each side vs l)
 heard window side [] l h = h
 heard window E (v ∷ vs) l h =
     let x : Station = receives_as l.selective l.moment v l.e in
@@ -36,38 +36,38 @@ handed window now p x h =
     let t : Station = hands now p x in
     own_handed window t.handed (finishes t) (finishes_in window t.handed t (hands_in window now p x h))
 
-sent : (window : ℕ) (side : Side) (p : List ℕ) (o : Option Came) (l : Link) → Windowed window l → Windowed window (send_unless o side p l)
+sent : (window : ℕ) (side : Side) (p : List ℕ) (o : Option StationLinkOutcome) (l : StationLink) → Windowed window l → Windowed window (send_unless o side p l)
 sent window side p (Some refused) l h = h
 sent window E p None l h = (handed window l.moment p l.e h.0, h.1)
 sent window R p None l h = (h.0, handed window l.moment p l.r h.1)
 
-passed : (window : ℕ) (side : Side) (line : List (List ℕ)) (l : Link) → Windowed window l → Windowed window (pass side line l)
+passed : (window : ℕ) (side : Side) (line : List (List ℕ)) (l : StationLink) → Windowed window l → Windowed window (pass side line l)
 passed window side [] l h = h
 passed window E (octets ∷ rest) l h = heard window R (news l.read_r octets) _ h
 passed window R (octets ∷ rest) l h = heard window E (news l.read_e octets) _ h
 
-lost : (window : ℕ) (side : Side) (line : List (List ℕ)) (l : Link) → Windowed window l → Windowed window (lose side line l)
+lost : (window : ℕ) (side : Side) (line : List (List ℕ)) (l : StationLink) → Windowed window l → Windowed window (lose side line l)
 lost window side [] l h = h
 lost window E (octets ∷ rest) l h = h
 lost window R (octets ∷ rest) l h = h
 
-repeated : (window : ℕ) (side : Side) (line : List (List ℕ)) (l : Link) → Windowed window l → Windowed window (repeat side line l)
+repeated : (window : ℕ) (side : Side) (line : List (List ℕ)) (l : StationLink) → Windowed window l → Windowed window (repeat side line l)
 repeated window side [] l h = h
 repeated window E (octets ∷ rest) l h = h
 repeated window R (octets ∷ rest) l h = h
 
-lined : (window : ℕ) (side : Side) (line : List (List ℕ)) (l : Link) → Windowed window l → Windowed window (with_line side line (record l { order_kept = false; loss_free = false }))
+lined : (window : ℕ) (side : Side) (line : List (List ℕ)) (l : StationLink) → Windowed window l → Windowed window (with_frames_from_station side line (record l { order_kept = false; loss_free = false }))
 lined window E line l h = h
 lined window R line l h = h
 
-changed : (window : ℕ) (side : Side) (place mask : ℕ) (line : List (List ℕ)) (l : Link) → Windowed window l → Windowed window (alter side place mask line l)
+changed : (window : ℕ) (side : Side) (place mask : ℕ) (line : List (List ℕ)) (l : StationLink) → Windowed window l → Windowed window (alter side place mask line l)
 changed window side place mask [] l h = h
 changed window side place mask (octets ∷ rest) l h =
-    let other : Link = with_line side (altered octets place mask ∷ rest) (record l { order_kept = false; loss_free = false }) in
+    let other : StationLink = with_frames_from_station side (altered octets place mask ∷ rest) (record l { order_kept = false; loss_free = false }) in
     cond_both (nat_lt place (length octets)) (if mask == 0 then l else other) _ (Windowed window)
     (λ in_frame. cond_both (mask == 0) l other (Windowed window) (λ none. h) (λ some. lined window side (altered octets place mask ∷ rest) l h)) (λ short. h)
 
-released : (window : ℕ) (side : Side) (sub : ℕ) (l : Link) → Windowed window l → Windowed window (release side sub l)
+released : (window : ℕ) (side : Side) (sub : ℕ) (l : StationLink) → Windowed window l → Windowed window (release side sub l)
 released window E sub l h =
     cond_both (is_down l.e.phase) (record l { loss_free = false }) (did E (quits sub l.e) (record l { loss_free = false })) (Windowed window) (λ d. h)
     (λ d. (own_handed window l.e.handed (quits sub l.e) (quits_in window l.e.handed sub l.e h.0), h.1))
@@ -83,7 +83,7 @@ ticked window now x h = own_handed window x.handed (finishes (ticks now x)) (fin
 next_passed : (window : ℕ) (side : Option Side) (overfull : Bool) (d : Draining) → Windowed window d.link → Windowed window (pass_next side overfull d).link
 next_passed window None overfull d h = h
 next_passed window (Some side) true d h = h
-next_passed window (Some side) false d h = passed window side (line_of d.link side) d.link h
+next_passed window (Some side) false d h = passed window side (frames_from_station d.link side) d.link h
 
 all_passed : (window most : ℕ) (d : Draining) → Windowed window d.link → Windowed window (drained most d).link
 all_passed window zero d h = h
@@ -91,24 +91,24 @@ all_passed window (suc most) d h =
     all_passed window most (pass_next (next_of d.link.from_e d.link.from_r) (is_overfull d.link) d)
     (next_passed window (next_of d.link.from_e d.link.from_r) (is_overfull d.link) d h)
 
-stepped : (window : ℕ) (s : LinkStep) (l : Link) → Windowed window l → Windowed window (step s l)
-stepped window (Send side p) l h = sent window side p (refusal_at side (station_of l side) p (station_of l side).released) l h
-stepped window (Pass side) l h = passed window side (line_of l side) l h
-stepped window (Lose side) l h = lost window side (line_of l side) l h
-stepped window (Repeat side) l h = repeated window side (line_of l side) l h
-stepped window (Alter side place mask) l h = changed window side place mask (line_of l side) l h
-stepped window (Put side octets) l h = lined window side (octets ∷ line_of l side) l h
+stepped : (window : ℕ) (s : StationLinkStep) (l : StationLink) → Windowed window l → Windowed window (station_link_step s l)
+stepped window (Send side p) l h = sent window side p (payload_refusal_at_side side (station_of l side) p (station_of l side).released) l h
+stepped window (Pass side) l h = passed window side (frames_from_station l side) l h
+stepped window (Lose side) l h = lost window side (frames_from_station l side) l h
+stepped window (Repeat side) l h = repeated window side (frames_from_station l side) l h
+stepped window (Alter side place mask) l h = changed window side place mask (frames_from_station l side) l h
+stepped window (Put side octets) l h = lined window side (octets ∷ frames_from_station l side) l h
 stepped window (UserRelease side sub) l h = released window side sub l h
 stepped window (Drain most) l h = all_passed window most (record { link = l; passes = 0 }) h
 stepped window (Tick moment) l h = (ticked window moment l.e h.0, ticked window moment l.r h.1)
 
-ran : (window : ℕ) (steps : List LinkStep) (l : Link) → Windowed window l → Windowed window (run l steps)
+ran : (window : ℕ) (steps : List StationLinkStep) (l : StationLink) → Windowed window l → Windowed window (station_link_run l steps)
 ran window [] l h = h
-ran window (s ∷ rest) l h = ran window rest (happens s l) (stepped window s (record l { came = [] }) h)
+ran window (s ∷ rest) l h = ran window rest (link_behind_step s l) (stepped window s (record l { came = [] }) h)
 
-pub after_windowed : (s : Opening) (steps : List LinkStep) → Windowed s.window (after s steps)
+pub after_windowed : (s : StationLinkOpening) (steps : List StationLinkStep) → Windowed s.window (after s steps)
 after_windowed s steps =
-    ran s.window steps (opened s.selective s.extended s.window s.n2 s.t1 s.moment) (
+    ran s.window steps (opened_station_link s.selective s.extended s.window s.n2 s.t1 s.moment) (
       record { is = refl; room = omega arith; owes = λ e. absurd (true≢false (sym e)); handed_is = refl },
       record { is = refl; room = omega arith; owes = λ e. absurd (true≢false (sym e)); handed_is = refl },
     )

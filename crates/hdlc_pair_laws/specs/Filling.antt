@@ -3,13 +3,13 @@
 use Rattle.std.specs.Prelude.{◌≡◌, ◌+◌, ◌≤◌, true, List, ◌∷◌, ◌++◌, length}
 use Rattle.er_base.specs.declared.side.Side.{Side}
 use Rattle.er_base.specs.Sides.{other}
-use Rattle.hdlc_pair_laws.specs.Links.{Link, station_of}
-use Rattle.hdlc_pair_laws.specs.Steps.{LinkStep, Lose}
-use Rattle.hdlc_pair_laws.specs.Laws.{Opening, after, IsEmpty}
+use Rattle.hdlc_pair_laws.specs.Links.{StationLink, station_of}
+use Rattle.hdlc_pair_laws.specs.Steps.{StationLinkStep, Lose}
+use Rattle.hdlc_pair_laws.specs.Laws.{StationLinkOpening, after, IsEmpty}
 use Rattle.hdlc_pair_laws.specs.Recovery.{ArePasses, IsRecovered}
 
 -- at least two I frames of this end weren't taken yet: on a loss-free line they wait
-abbrev pub TwoWait : Side → Link → Type 0
+abbrev pub TwoWait : Side → StationLink → Type 0
 TwoWait side l = length (station_of l (other side)).taken + 2 ≤ (station_of l side).sent
 
 -- on a line that was loss-free so far the first frame that waits from an end is lost, whichever frame it is, while two I frames or more wait from
@@ -17,7 +17,7 @@ TwoWait side l = length (station_of l (other side)).taken + 2 ≤ (station_of l 
 -- handed
 abbrev pub GapsAreFilled : Type 0
 GapsAreFilled =
-    (s : Opening) (steps : List LinkStep) → (after s steps).loss_free ≡ true
+    (s : StationLinkOpening) (steps : List StationLinkStep) → (after s steps).loss_free ≡ true
     → (side : Side) → TwoWait side (after s steps)
-    → (passes : List LinkStep) → ArePasses passes → IsEmpty (after s (steps ++ Lose side ∷ passes))
+    → (passes : List StationLinkStep) → ArePasses passes → IsEmpty (after s (steps ++ Lose side ∷ passes))
     → IsRecovered (after s (steps ++ Lose side ∷ passes))

@@ -4,7 +4,7 @@ use Rattle.hdlc_station_model.specs.declared.phase.Phase.TheVariants.{Idle, Sett
 use Rattle.hdlc_station_model.specs.Frames.{Frame, Info, Rr, Rej, Srej, SetUp, Disc, Dm, Ua}
 use Rattle.hdlc_station_model.specs.Stations.{Station}
 use Rattle.hdlc_station_model.specs.Sending.{can_send}
-use Rattle.hdlc_pair_laws.specs.Invariant.{infos, numbers}
+use Rattle.hdlc_pair_laws.specs.Invariant.{infos, receive_numbers_in_frames}
 
 -- ---- two stations that are both up
 
@@ -14,9 +14,9 @@ Consecutive low [] high = low ≡ high
 Consecutive low (f ∷ fs) high = (f.0 ≡ low) × Consecutive (low + 1) fs high
 
 -- the last of these numbers, or low where there is none, is high
-abbrev pub Ends : ℕ → List ℕ → ℕ → Type 0
-Ends low [] high = low ≡ high
-Ends low (x ∷ xs) high = Ends x xs high
+abbrev pub EndsAtNumber : ℕ → List ℕ → ℕ → Type 0
+EndsAtNumber low [] high = low ≡ high
+EndsAtNumber low (x ∷ xs) high = EndsAtNumber x xs high
 
 -- I frames and RR alone wait
 abbrev pub IsData : Frame → Type 0
@@ -38,12 +38,12 @@ one_if true = 1
 one_if false = 0
 
 -- of what x sends to y: its I frames that wait, and the numbers N(R) that wait from y
-abbrev pub Flow : Bool → List (ℕ × List ℕ) → List ℕ → Station → Station → Type 0
-Flow c waits shows x y =
+abbrev pub IsStationFlow : Bool → List (ℕ × List ℕ) → List ℕ → Station → Station → Type 0
+IsStationFlow c waits shows x y =
     (x.phase ≡ Up)
     × (x.busy ≡ false)
     × Consecutive (length y.taken) waits x.sent
-    × (y.owed ≡ false → Ends x.acked shows (length y.taken))
+    × (y.owed ≡ false → EndsAtNumber x.acked shows (length y.taken))
     × (x.calling ≡ c)
     × (1 ≤ x.window)
     × (x.held ≡ [])
@@ -54,34 +54,34 @@ Count n lx x ly y =
     n + length lx + one_if x.owed + length ly + one_if y.owed ≤ 2 + x.sent + length x.taken + y.sent + length y.taken
 
 -- each RR that waits shows more than the number before it, or than the number acknowledged; and so will the answer that is owed
-abbrev pub Rises : ℕ → List Frame → ℕ → Bool → Type 0
-Rises low [] high owed = owed ≡ true → low < high
-Rises low (Info ns nr payload ∷ fs) high owed = Rises nr fs high owed
-Rises low (Rr nr ∷ fs) high owed = (low < nr) × Rises nr fs high owed
-Rises low (Rej nr ∷ fs) high owed = Rises nr fs high owed
-Rises low (Srej nr ∷ fs) high owed = Rises low fs high owed
-Rises low (SetUp ∷ fs) high owed = Rises low fs high owed
-Rises low (Disc ∷ fs) high owed = Rises low fs high owed
-Rises low (Dm ∷ fs) high owed = Rises low fs high owed
-Rises low (Ua final ∷ fs) high owed = Rises low fs high owed
+abbrev pub AreReceiveReadyNumbersRising : ℕ → List Frame → ℕ → Bool → Type 0
+AreReceiveReadyNumbersRising low [] high owed = owed ≡ true → low < high
+AreReceiveReadyNumbersRising low (Info ns nr payload ∷ fs) high owed = AreReceiveReadyNumbersRising nr fs high owed
+AreReceiveReadyNumbersRising low (Rr nr ∷ fs) high owed = (low < nr) × AreReceiveReadyNumbersRising nr fs high owed
+AreReceiveReadyNumbersRising low (Rej nr ∷ fs) high owed = AreReceiveReadyNumbersRising nr fs high owed
+AreReceiveReadyNumbersRising low (Srej nr ∷ fs) high owed = AreReceiveReadyNumbersRising low fs high owed
+AreReceiveReadyNumbersRising low (SetUp ∷ fs) high owed = AreReceiveReadyNumbersRising low fs high owed
+AreReceiveReadyNumbersRising low (Disc ∷ fs) high owed = AreReceiveReadyNumbersRising low fs high owed
+AreReceiveReadyNumbersRising low (Dm ∷ fs) high owed = AreReceiveReadyNumbersRising low fs high owed
+AreReceiveReadyNumbersRising low (Ua final ∷ fs) high owed = AreReceiveReadyNumbersRising low fs high owed
 
 -- of what waits in both directions: ax and rx are V(A) and V(R) of x, ox says whether it owes an answer
 pub record Rising (lx ly : List Frame) (ax rx : ℕ) (ox : Bool) (ay ry : ℕ) (oy : Bool) : Type 0 where
-  pub own : Rises ay lx rx ox
-  pub peers : Rises ax ly ry oy
+  pub own : AreReceiveReadyNumbersRising ay lx rx ox
+  pub peers : AreReceiveReadyNumbersRising ax ly ry oy
 
 abbrev pub Still : Bool → ℕ → List Frame → Station → List Frame → Station → Type 0
 Still c n lx x ly y =
-    Flow c (infos lx) (numbers ly) x y × Flow (not c) (infos ly) (numbers lx) y x × AllData lx × AllData ly × Count n lx x ly y
+    IsStationFlow c (infos lx) (receive_numbers_in_frames ly) x y × IsStationFlow (not c) (infos ly) (receive_numbers_in_frames lx) y x × AllData lx × AllData ly × Count n lx x ly y
     × Rising lx ly x.acked (length x.taken) x.owed y.acked (length y.taken) y.owed
 
 -- no payload may be sent, or none is left
-abbrev pub Rests : Station → Type 0
-Rests x = (can_send x ≡ false) ⊎ (x.sent ≡ length x.handed)
+abbrev pub HasNoPayloadToSend : Station → Type 0
+HasNoPayloadToSend x = (can_send x ≡ false) ⊎ (x.sent ≡ length x.handed)
 
 -- and no answer is owed
 abbrev pub AtRest : Station → Type 0
-AtRest x = (x.owed ≡ false) × Rests x
+AtRest x = (x.owed ≡ false) × HasNoPayloadToSend x
 
 -- ---- the shape of a link
 
@@ -107,7 +107,7 @@ Shape n lx x ly y = Asked n lx x ly y ⊎ Agreed n lx x ly y ⊎ Flowing n lx x 
 
 -- both are up: payloads that may be sent are sent
 abbrev pub Flushed : Bool → ℕ → List Frame → Station → List Frame → Station → Type 0
-Flushed c n w x l y = Still c n (w ++ x.said) x l y × Rests x × (x.sent ≤ length x.handed)
+Flushed c n w x l y = Still c n (w ++ x.said) x l y × HasNoPayloadToSend x × (x.sent ≤ length x.handed)
 
 abbrev pub Midway : Bool → ℕ → List Frame → Station → List Frame → Station → Type 0
 Midway true n w x l y = Asked n (w ++ x.said) x l y ⊎ Agreed n (w ++ x.said) x l y ⊎ (Flushed true n w x l y × AtRest y)

@@ -24,18 +24,18 @@ abbrev pub infos : List Frame → List (ℕ × List ℕ)
 infos l = flat_map info_of l
 
 -- the numbers N(R)
-abbrev pub number_of : Frame → List ℕ
-number_of (Info ns nr payload) = nr ∷ []
-number_of (Rr nr) = nr ∷ []
-number_of (Rej nr) = nr ∷ []
-number_of (Srej nr) = []
-number_of SetUp = []
-number_of Disc = []
-number_of Dm = []
-number_of (Ua final) = []
+abbrev pub receive_numbers_in_frame : Frame → List ℕ
+receive_numbers_in_frame (Info ns nr payload) = nr ∷ []
+receive_numbers_in_frame (Rr nr) = nr ∷ []
+receive_numbers_in_frame (Rej nr) = nr ∷ []
+receive_numbers_in_frame (Srej nr) = []
+receive_numbers_in_frame SetUp = []
+receive_numbers_in_frame Disc = []
+receive_numbers_in_frame Dm = []
+receive_numbers_in_frame (Ua final) = []
 
-abbrev pub numbers : List Frame → List ℕ
-numbers l = flat_map number_of l
+abbrev pub receive_numbers_in_frames : List Frame → List ℕ
+receive_numbers_in_frames l = flat_map receive_numbers_in_frame l
 
 -- the mark 2 is above each that a station has: it stands for a frame that no station of this kind sends
 abbrev pub foreign_if : Bool → List ℕ
@@ -43,18 +43,18 @@ foreign_if true = 2 ∷ []
 foreign_if false = []
 
 -- the set-up frame has the mark 0, an I frame the mark 1; no station with go-back sends SREJ, and none with selective reject sends REJ
-abbrev pub mark_of : (selective : Bool) → Frame → List ℕ
-mark_of selective (Info ns nr payload) = 1 ∷ []
-mark_of selective (Rr nr) = []
-mark_of selective (Rej nr) = foreign_if selective
-mark_of selective (Srej nr) = foreign_if (not selective)
-mark_of selective SetUp = 0 ∷ []
-mark_of selective Disc = []
-mark_of selective Dm = []
-mark_of selective (Ua final) = []
+abbrev pub marks_in_frame : (selective : Bool) → Frame → List ℕ
+marks_in_frame selective (Info ns nr payload) = 1 ∷ []
+marks_in_frame selective (Rr nr) = []
+marks_in_frame selective (Rej nr) = foreign_if selective
+marks_in_frame selective (Srej nr) = foreign_if (not selective)
+marks_in_frame selective SetUp = 0 ∷ []
+marks_in_frame selective Disc = []
+marks_in_frame selective Dm = []
+marks_in_frame selective (Ua final) = []
 
 abbrev pub marks : (selective : Bool) → List Frame → List ℕ
-marks selective l = flat_map (mark_of selective) l
+marks selective l = flat_map (marks_in_frame selective) l
 
 -- ---- one direction: from a sender to a receiver
 
@@ -119,9 +119,9 @@ pub record Holding (k : ℕ) (handed : List (List ℕ)) (s next : ℕ) (held : L
   pub own : AllOwn handed held
 
 -- a station with go-back holds nothing
-abbrev pub Holds : (selective : Bool) → (k : ℕ) (handed : List (List ℕ)) (s next : ℕ) (held : List (ℕ × List ℕ)) (waits : List (ℕ × List ℕ)) → Type 0
-Holds true k handed s next held waits = Holding k handed s next held waits
-Holds false k handed s next held waits = held ≡ []
+abbrev pub HoldsOutOfOrderPayloads : (selective : Bool) → (k : ℕ) (handed : List (List ℕ)) (s next : ℕ) (held : List (ℕ × List ℕ)) (waits : List (ℕ × List ℕ)) → Type 0
+HoldsOutOfOrderPayloads true k handed s next held waits = Holding k handed s next held waits
+HoldsOutOfOrderPayloads false k handed s next held waits = held ≡ []
 
 -- of what x sends to y: the I frames and the marks that wait from x, and the numbers N(R) that wait from y
 abbrev pub Half : (selective : Bool) → ℕ → List (ℕ × List ℕ) → List ℕ → List ℕ → Station → Station → Type 0
@@ -132,7 +132,7 @@ Half selective k waits from shows x y =
     × (x.window ≤ k)
     × AllShort x.handed
     × IsLosingLineRelease x.released
-    × Holds selective k x.handed x.sent (length y.taken) y.held waits
+    × HoldsOutOfOrderPayloads selective k x.handed x.sent (length y.taken) y.held waits
 
 -- the greatest window of a kind
 abbrev pub IsSpan : (selective extended : Bool) → ℕ → Type 0
@@ -140,14 +140,14 @@ IsSpan true extended k = 2 * k ≤ modulo extended
 IsSpan false extended k = k + 1 ≡ modulo extended
 
 -- two stations of one kind and what waits between them: lx from x, ly from y
-abbrev pub Pair : (selective : Bool) → ℕ → List Frame → Station → List Frame → Station → Type 0
-Pair selective k lx x ly y =
-    Half selective k (infos lx) (marks selective lx) (numbers ly) x y
-    × Half selective k (infos ly) (marks selective ly) (numbers lx) y x
+abbrev pub IsStationPair : (selective : Bool) → ℕ → List Frame → Station → List Frame → Station → Type 0
+IsStationPair selective k lx x ly y =
+    Half selective k (infos lx) (marks selective lx) (receive_numbers_in_frames ly) x y
+    × Half selective k (infos ly) (marks selective ly) (receive_numbers_in_frames lx) y x
     × (x.calling ≡ not y.calling)
     × (x.extended ≡ y.extended)
     × IsSpan selective x.extended k
 
 -- within a call of x, where w waited from x before it
 abbrev pub Both : (selective : Bool) → ℕ → List Frame → Station → List Frame → Station → Type 0
-Both selective k w x l y = Pair selective k (w ++ x.said) x l y
+Both selective k w x l y = IsStationPair selective k (w ++ x.said) x l y

@@ -8,15 +8,15 @@ use Rattle.hdlc_station_model.specs.Stations.{Station, no_deed, is_up, is_down, 
 use Rattle.hdlc_station_model.specs.Calls.{starts, hands, finishes, ticks, closes}
 use Rattle.hdlc_station_model.specs.Selective.{receives_as}
 use Rattle.hdlc_station_model.specs.Reports.{TellsRelease}
-use Rattle.hdlc_pair_laws.specs.Invariant.{Pair, Both}
+use Rattle.hdlc_pair_laws.specs.Invariant.{IsStationPair, Both}
 
 -- what a frame of y is found as
 abbrev pub found : Station → Frame → Verdict
 found y f = Frame_found (sent_address y.calling f) (sent_body y.extended f)
 
 -- its octets on the line
-abbrev pub octets_from : Station → Frame → List ℕ
-octets_from y f = sent_octets y.calling y.extended f
+abbrev pub frame_octets_of_station : Station → Frame → List ℕ
+frame_octets_of_station y f = sent_octets y.calling y.extended f
 
 -- nothing stands behind the newest flag of what was read
 abbrev pub IsAtFlag : List ℕ → Type 0
@@ -24,9 +24,9 @@ IsAtFlag read = (read ≡ []) ⊎ ((before : List ℕ) × (read ≡ before ++ fl
 
 -- each call keeps the invariant
 pub record CallsKeep : Type 0 where
-  pub swapped : (selective : Bool) (k : ℕ) (lx : List Frame) (x : Station) (ly : List Frame) (y : Station) → Pair selective k lx x ly y → Pair selective k ly y lx x
+  pub swapped : (selective : Bool) (k : ℕ) (lx : List Frame) (x : Station) (ly : List Frame) (y : Station) → IsStationPair selective k lx x ly y → IsStationPair selective k ly y lx x
   pub made_pair : (extended : Bool) (window n2 t1 : ℕ) → 1 ≤ window → window < modulo extended
-      → Pair false (modulo extended - 1) [] (made true extended window n2 t1) [] (made false extended window n2 t1)
+      → IsStationPair false (modulo extended - 1) [] (made true extended window n2 t1) [] (made false extended window n2 t1)
   pub started : (selective : Bool) (k : ℕ) (w : List Frame) (now : ℕ) (x : Station) (l : List Frame) (y : Station) → Both selective k w x l y → Both selective k w (starts now x) l y
   pub received : (selective : Bool) (k : ℕ) (w : List Frame) (now : ℕ) (x : Station) (f : Frame) (fs : List Frame) (y : Station)
       → Both selective k w x (f ∷ fs) y → Both selective k w (receives_as selective now (found y f) x) fs y
@@ -36,15 +36,15 @@ pub record CallsKeep : Type 0 where
   pub ticked : (selective : Bool) (k : ℕ) (w : List Frame) (now : ℕ) (x : Station) (l : List Frame) (y : Station) → Both selective k w x l y → Both selective k w (ticks now x) l y
   pub closed : (selective : Bool) (k : ℕ) (w : List Frame) (x : Station) (l : List Frame) (y : Station) → Both selective k w x l y → Both selective k w (closes x) l y
   -- the first frame of y is lost, or stands twice
-  pub lost : (selective : Bool) (k : ℕ) (lx : List Frame) (x : Station) (f : Frame) (fs : List Frame) (y : Station) → Pair selective k lx x (f ∷ fs) y → Pair selective k lx x fs y
-  pub repeated : (selective : Bool) (k : ℕ) (lx : List Frame) (x : Station) (f : Frame) (fs : List Frame) (y : Station) → Pair selective k lx x (f ∷ fs) y → Pair selective k lx x (f ∷ f ∷ fs) y
+  pub lost : (selective : Bool) (k : ℕ) (lx : List Frame) (x : Station) (f : Frame) (fs : List Frame) (y : Station) → IsStationPair selective k lx x (f ∷ fs) y → IsStationPair selective k lx x fs y
+  pub repeated : (selective : Bool) (k : ℕ) (lx : List Frame) (x : Station) (f : Frame) (fs : List Frame) (y : Station) → IsStationPair selective k lx x (f ∷ fs) y → IsStationPair selective k lx x (f ∷ f ∷ fs) y
   -- it is the one frame that its octets close
   pub one_frame : (selective : Bool) (k : ℕ) (lx : List Frame) (x : Station) (f : Frame) (fs : List Frame) (y : Station) (read : List ℕ) → IsAtFlag read
-      → Pair selective k lx x (f ∷ fs) y → drop (length (frames_of read)) (frames_of (read ++ octets_from y f)) ≡ found y f ∷ []
-  pub at_flag : (y : Station) (f : Frame) (read : List ℕ) → IsAtFlag (read ++ octets_from y f)
+      → IsStationPair selective k lx x (f ∷ fs) y → drop (length (frames_of read)) (frames_of (read ++ frame_octets_of_station y f)) ≡ found y f ∷ []
+  pub at_flag : (y : Station) (f : Frame) (read : List ℕ) → IsAtFlag (read ++ frame_octets_of_station y f)
 
 -- what a call tells of the phase behind it, and of the release
-pub record Tells (s t : Station) : Type 0 where
+pub record TellsStationPhaseAndRelease (s t : Station) : Type 0 where
   pub reason : (t.deed.released ≡ None) ⊎ (t.deed.released ≡ t.released)
   -- of a station that isn't up: it takes nothing, and tells that it came up
   pub asleep : is_up s.phase ≡ false → (t.deed.payload ≡ None) × (is_up t.phase ≡ true → t.deed.up ≡ true)
@@ -58,18 +58,18 @@ pub record Tells (s t : Station) : Type 0 where
   pub alone : (t.deed.released ≡ None) ⊎ ((t.deed.payload ≡ None) × (t.deed.up ≡ false))
 
 abbrev pub ReceivesTell : Type 0
-ReceivesTell = (selective : Bool) (now : ℕ) (verdict : Verdict) (s : Station) → s.deed ≡ no_deed → Tells s (receives_as selective now verdict s)
+ReceivesTell = (selective : Bool) (now : ℕ) (verdict : Verdict) (s : Station) → s.deed ≡ no_deed → TellsStationPhaseAndRelease s (receives_as selective now verdict s)
 
 -- what a frame that comes gives: what was handed down stays, what is told of payloads is what is taken, the release is told, and after a
 -- release nothing is done
-pub record Gives (s t : Station) : Type 0 where
+pub record TellsWhatStationTakes (s t : Station) : Type 0 where
   pub handed : t.handed ≡ s.handed
   pub taken : t.taken ≡ s.taken ++ (option_to_list t.deed.payload ++ t.deed.more)
   pub release : TellsRelease s t
   pub inert : is_down s.phase ≡ true → t ≡ s
 
 abbrev pub FramesGive : Type 0
-FramesGive = (selective : Bool) (now : ℕ) (verdict : Verdict) (s : Station) → s.deed ≡ no_deed → Gives s (receives_as selective now verdict s)
+FramesGive = (selective : Bool) (now : ℕ) (verdict : Verdict) (s : Station) → s.deed ≡ no_deed → TellsWhatStationTakes s (receives_as selective now verdict s)
 
 -- time doesn't bring a station up
 pub record TicksTell : Type 0 where

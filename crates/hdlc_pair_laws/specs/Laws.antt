@@ -5,8 +5,8 @@ use Rattle.er_base.specs.declared.release.Release.{Release}
 use Rattle.hdlc_station_model.specs.declared.phase.Phase.TheVariants.{Up}
 use Rattle.hdlc_station_model.specs.Frames.{modulo}
 use Rattle.hdlc_station_model.specs.Lines.{IsPrefix, IsLosingLineReason, station_bound}
-use Rattle.hdlc_pair_laws.specs.Links.{Link, line_of, opened}
-use Rattle.hdlc_pair_laws.specs.Steps.{LinkStep, Send, Pass, Lose, Repeat, Alter, Put, UserRelease, Drain, Tick, drained, happens, run}
+use Rattle.hdlc_pair_laws.specs.Links.{StationLink, frames_from_station, opened_station_link}
+use Rattle.hdlc_pair_laws.specs.Steps.{StationLinkStep, Send, Pass, Lose, Repeat, Alter, Put, UserRelease, Drain, Tick, drained, link_behind_step, station_link_run}
 
 -- the greatest window of a kind: one below the modulo, and with selective reject half of it, so that an old frame that comes again is never
 -- taken for a new one (ISO/IEC 13239)
@@ -15,7 +15,7 @@ IsNarrow true extended window = 2 * window ≤ modulo extended
 IsNarrow false extended window = window < modulo extended
 
 -- how a link is opened: the kind and the settings of both stations, and the moment
-pub record Opening : Type 0 where
+pub record StationLinkOpening : Type 0 where
   pub selective : Bool
   pub extended : Bool
   pub window : ℕ
@@ -26,15 +26,15 @@ pub record Opening : Type 0 where
   pub narrow : IsNarrow selective extended window
 
 -- the link behind a list of steps
-abbrev pub after : Opening → List LinkStep → Link
-after s steps = run (opened s.selective s.extended s.window s.n2 s.t1 s.moment) steps
+abbrev pub after : StationLinkOpening → List StationLinkStep → StationLink
+after s steps = station_link_run (opened_station_link s.selective s.extended s.window s.n2 s.t1 s.moment) steps
 
 -- ---- an order-keeping line: it may lose and repeat
 
 -- what an end took is a prefix of what was handed down at the other
 abbrev pub Prefix : Type 0
 Prefix =
-    (s : Opening) (steps : List LinkStep) → (after s steps).order_kept ≡ true
+    (s : StationLinkOpening) (steps : List StationLinkStep) → (after s steps).order_kept ≡ true
     → IsPrefix (after s steps).r.taken (after s steps).e.handed × IsPrefix (after s steps).e.taken (after s steps).r.handed
 
 -- where an end was released, it was for such a reason
@@ -44,20 +44,20 @@ IsLosingLineRelease (Some release) = IsLosingLineReason release
 
 abbrev pub LosingLineReasons : Type 0
 LosingLineReasons =
-    (s : Opening) (steps : List LinkStep) → (after s steps).order_kept ≡ true
+    (s : StationLinkOpening) (steps : List StationLinkStep) → (after s steps).order_kept ≡ true
     → IsLosingLineRelease (after s steps).e.released × IsLosingLineRelease (after s steps).r.released
 
 -- ---- deliveries
 
 -- a pass gives a frame, where one waits
-abbrev pub passed_of : List (List ℕ) → ℕ
-passed_of [] = 0
-passed_of (frame ∷ frames) = 1
+abbrev pub count_of_passed_frames : List (List ℕ) → ℕ
+count_of_passed_frames [] = 0
+count_of_passed_frames (frame ∷ frames) = 1
 
 -- the frames that a step gives
-abbrev pub deliveries_of : LinkStep → Link → ℕ
+abbrev pub deliveries_of : StationLinkStep → StationLink → ℕ
 deliveries_of (Send side payload) l = 0
-deliveries_of (Pass side) l = passed_of (line_of l side)
+deliveries_of (Pass side) l = count_of_passed_frames (frames_from_station l side)
 deliveries_of (Lose side) l = 0
 deliveries_of (Repeat side) l = 0
 deliveries_of (Alter side place mask) l = 0
@@ -67,23 +67,23 @@ deliveries_of (Drain most) l = (drained most (record { link = l; passes = 0 })).
 deliveries_of (Tick moment) l = 0
 
 -- and all steps of a list: a number that has no greatest value
-abbrev pub deliveries : Link → List LinkStep → ℕ
+abbrev pub deliveries : StationLink → List StationLinkStep → ℕ
 deliveries l [] = 0
-deliveries l (s ∷ rest) = deliveries_of s (record l { came = [] }) + deliveries (happens s l) rest
+deliveries l (s ∷ rest) = deliveries_of s (record l { came = [] }) + deliveries (link_behind_step s l) rest
 
 -- ---- a loss-free line
 
-abbrev pub IsEmpty : Link → Type 0
+abbrev pub IsEmpty : StationLink → Type 0
 IsEmpty l = (l.from_e ≡ []) × (l.from_r ≡ [])
 
 -- the greatest number of deliveries
-abbrev pub bound : Link → ℕ
+abbrev pub bound : StationLink → ℕ
 bound l = station_bound (length l.e.handed) (length l.r.handed)
 
 -- once it is empty, both stations are up, the called one took all payloads, and the calling one did where it handed down any itself
 abbrev pub Delivery : Type 0
 Delivery =
-    (s : Opening) (steps : List LinkStep) → (after s steps).loss_free ≡ true → IsEmpty (after s steps)
+    (s : StationLinkOpening) (steps : List StationLinkStep) → (after s steps).loss_free ≡ true → IsEmpty (after s steps)
     → (after s steps).e.phase ≡ Up
     × (after s steps).r.phase ≡ Up
     × (after s steps).r.taken ≡ (after s steps).e.handed
@@ -91,22 +91,22 @@ Delivery =
 
 abbrev pub DeliveryBound : Type 0
 DeliveryBound =
-    (s : Opening) (steps : List LinkStep) → (after s steps).loss_free ≡ true → (after s steps).passes ≤ bound (after s steps)
+    (s : StationLinkOpening) (steps : List StationLinkStep) → (after s steps).loss_free ≡ true → (after s steps).passes ≤ bound (after s steps)
 
 -- the same of the deliveries
 abbrev pub DeliveriesBound : Type 0
 DeliveriesBound =
-    (s : Opening) (steps : List LinkStep) → (after s steps).loss_free ≡ true
-    → deliveries (opened s.selective s.extended s.window s.n2 s.t1 s.moment) steps ≤ bound (after s steps)
+    (s : StationLinkOpening) (steps : List StationLinkStep) → (after s steps).loss_free ≡ true
+    → deliveries (opened_station_link s.selective s.extended s.window s.n2 s.t1 s.moment) steps ≤ bound (after s steps)
 
 -- never more than 254 frames wait in one direction: at modulo 128 at most 127 I frames, and an RR for each of the other direction
 abbrev pub FewWait : Type 0
 FewWait =
-    (s : Opening) (steps : List LinkStep) → (after s steps).loss_free ≡ true
+    (s : StationLinkOpening) (steps : List StationLinkStep) → (after s steps).loss_free ≡ true
     → (length (after s steps).from_e ≤ 254) × (length (after s steps).from_r ≤ 254)
 
 -- a drain of as many passes leaves no frame waiting
 abbrev pub DrainEmpties : Type 0
 DrainEmpties =
-    (s : Opening) (steps : List LinkStep) (most : ℕ) → (after s steps).loss_free ≡ true → bound (after s steps) ≤ most
+    (s : StationLinkOpening) (steps : List StationLinkStep) (most : ℕ) → (after s steps).loss_free ≡ true → bound (after s steps) ≤ most
     → IsEmpty (drained most (record { link = after s steps; passes = 0 })).link

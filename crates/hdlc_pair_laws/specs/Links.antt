@@ -12,25 +12,25 @@ use Rattle.hdlc_station_model.specs.Selective.{receives_as}
 use Rattle.hdlc_station_model.specs.Events.{said_octets, news}
 
 -- what comes of a step
-pub data Came : Type 0 where
+pub data StationLinkOutcome : Type 0 where
   -- the link came up at this end
-  CameUp : (side : Side) → Came
+  CameUp : (side : Side) → StationLinkOutcome
   -- this end took a payload
-  Accepted : (side : Side) (payload : List ℕ) → Came
+  Accepted : (side : Side) (payload : List ℕ) → StationLinkOutcome
   -- this end was released
-  WasReleased : (side : Side) (release : Release) → Came
+  WasReleased : (side : Side) (release : Release) → StationLinkOutcome
   -- this end sent a frame
-  Sent : (side : Side) (octets : List ℕ) → Came
+  Sent : (side : Side) (octets : List ℕ) → StationLinkOutcome
   -- a payload wasn't handed down: the end was released before, the length isn't from 1 to 1,026, so many payloads wait
-  RefusedReleased : (side : Side) (release : Release) → Came
-  RefusedLength RefusedFull : (side : Side) (found : ℕ) → Came
+  RefusedReleased : (side : Side) (release : Release) → StationLinkOutcome
+  RefusedLength RefusedFull : (side : Side) (found : ℕ) → StationLinkOutcome
   -- no frame of this end waits, or the first one has only so many octets: the step does nothing
-  NothingWaits : (side : Side) → Came
-  IsShort : (side : Side) (found : ℕ) → Came
+  NothingWaits : (side : Side) → StationLinkOutcome
+  IsShort : (side : Side) (found : ℕ) → StationLinkOutcome
   -- a drain made so many passes
-  Drained : (passes : ℕ) → Came
+  Drained : (passes : ℕ) → StationLinkOutcome
 
-pub record Link : Type 0 where
+pub record StationLink : Type 0 where
   -- whether both stations have selective reject
   pub selective : Bool
   pub e : Station
@@ -51,72 +51,72 @@ pub record Link : Type 0 where
   -- whether besides none was lost or repeated, no user released, and no tick found an expired timer
   pub loss_free : Bool
   -- what came of the newest step
-  pub came : List Came
+  pub came : List StationLinkOutcome
 
-abbrev pub station_of : Link → Side → Station
+abbrev pub station_of : StationLink → Side → Station
 station_of l E = l.e
 station_of l R = l.r
 
-abbrev pub line_of : Link → Side → List (List ℕ)
-line_of l E = l.from_e
-line_of l R = l.from_r
+abbrev pub frames_from_station : StationLink → Side → List (List ℕ)
+frames_from_station l E = l.from_e
+frames_from_station l R = l.from_r
 
-abbrev pub with_line : Side → List (List ℕ) → Link → Link
-with_line E frames l = record l { from_e = frames }
-with_line R frames l = record l { from_r = frames }
+abbrev pub with_frames_from_station : Side → List (List ℕ) → StationLink → StationLink
+with_frames_from_station E frames l = record l { from_e = frames }
+with_frames_from_station R frames l = record l { from_r = frames }
 
-abbrev pub read_of : Link → Side → List ℕ
-read_of l E = l.read_e
-read_of l R = l.read_r
+abbrev pub octets_read_by_side : StationLink → Side → List ℕ
+octets_read_by_side l E = l.read_e
+octets_read_by_side l R = l.read_r
 
-abbrev pub tells : List Came → Link → Link
-tells came l = record l { came = l.came ++ came }
+abbrev pub station_link_with_outcomes : List StationLinkOutcome → StationLink → StationLink
+station_link_with_outcomes came l = record l { came = l.came ++ came }
 
 -- ---- an event at an end
 
-abbrev pub if_up : Side → Bool → List Came
+abbrev pub if_up : Side → Bool → List StationLinkOutcome
 if_up side true = CameUp side ∷ []
 if_up side false = []
 
-abbrev pub if_accepted : Side → Option (List ℕ) → List Came
+abbrev pub if_accepted : Side → Option (List ℕ) → List StationLinkOutcome
 if_accepted side None = []
 if_accepted side (Some payload) = Accepted side payload ∷ []
 
-abbrev pub if_released : Side → Option Release → List Came
+abbrev pub if_released : Side → Option Release → List StationLinkOutcome
 if_released side None = []
 if_released side (Some release) = WasReleased side release ∷ []
 
 -- the payloads that a call took
-abbrev pub all_accepted : Side → Deed → List Came
+abbrev pub all_accepted : Side → Deed → List StationLinkOutcome
 all_accepted side d = if_accepted side d.payload ++ map (Accepted side) d.more
 
 -- what a call told, then the frames that it sent
-abbrev pub came_of : Side → Station → List Came
+abbrev pub came_of : Side → Station → List StationLinkOutcome
 came_of side s =
     ((if_up side s.deed.up ++ all_accepted side s.deed) ++ if_released side s.deed.released) ++ map (Sent side) (said_octets s)
 
 -- an end did this: its frames join those that wait
-abbrev pub did : Side → Station → Link → Link
+abbrev pub did : Side → Station → StationLink → StationLink
 did E s l = record l { e = settled s; from_e = l.from_e ++ said_octets s; came = l.came ++ came_of E s }
 did R s l = record l { r = settled s; from_r = l.from_r ++ said_octets s; came = l.came ++ came_of R s }
 
 -- ---- octets come to an end
 
 -- each is one event, and the answer that is still owed follows it
-abbrev pub hears_each : Side → List Verdict → Link → Link
+abbrev pub hears_each : Side → List Verdict → StationLink → StationLink
 hears_each side [] l = l
 hears_each side (verdict ∷ verdicts) l =
     hears_each side verdicts (did side (finishes (receives_as l.selective l.moment verdict (station_of l side))) l)
 
-abbrev pub reads : Side → List ℕ → Link → Link
-reads E octets l = hears_each E (news l.read_e octets) (record l { read_e = l.read_e ++ octets })
-reads R octets l = hears_each R (news l.read_r octets) (record l { read_r = l.read_r ++ octets })
+abbrev pub station_link_behind_octets : Side → List ℕ → StationLink → StationLink
+station_link_behind_octets E octets l = hears_each E (news l.read_e octets) (record l { read_e = l.read_e ++ octets })
+station_link_behind_octets R octets l = hears_each R (news l.read_r octets) (record l { read_r = l.read_r ++ octets })
 
 -- ---- a link that is opened
 
 -- two stations of one kind with the same settings, of which the calling one starts at this moment
-abbrev pub opened : (selective extended : Bool) (window n2 t1 moment : ℕ) → Link
-opened selective extended window n2 t1 moment =
+abbrev pub opened_station_link : (selective extended : Bool) (window n2 t1 moment : ℕ) → StationLink
+opened_station_link selective extended window n2 t1 moment =
     did E (finishes (starts moment (made true extended window n2 t1))) (record {
       selective = selective;
       e = made true extended window n2 t1;

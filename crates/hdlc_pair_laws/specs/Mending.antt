@@ -6,8 +6,8 @@ use Rattle.hdlc_station_model.specs.declared.phase.Phase.TheVariants.{Idle, Sett
 use Rattle.hdlc_station_model.specs.Frames.{Frame, Info, Rr, Rej, Srej, SetUp, Disc, Dm, Ua}
 use Rattle.hdlc_station_model.specs.Stations.{Station, is_up, is_down}
 use Rattle.hdlc_station_model.specs.Selective.{held_for, is_found}
-use Rattle.hdlc_pair_laws.specs.Invariant.{infos, numbers}
-use Rattle.hdlc_pair_laws.specs.Flowing.{Consecutive, Ends, Rests}
+use Rattle.hdlc_pair_laws.specs.Invariant.{infos, receive_numbers_in_frames}
+use Rattle.hdlc_pair_laws.specs.Flowing.{Consecutive, EndsAtNumber, HasNoPayloadToSend}
 
 -- ---- one station, at any moment
 
@@ -48,7 +48,7 @@ Own calling window lx x =
 
 -- behind a call: no payload may be sent, or none is left, and a station that isn't released owes no answer
 abbrev pub Rested : Station → Type 0
-Rested x = Rests x × (is_down x.phase ≡ false → x.owed ≡ false)
+Rested x = HasNoPayloadToSend x × (is_down x.phase ≡ false → x.owed ≡ false)
 
 -- of the calling station and the called one: this one is up before that one, and that one started
 abbrev pub HasBegun : (calling called : Station) → Type 0
@@ -67,14 +67,14 @@ Waits m [] = ⊥
 Waits m (f ∷ fs) = (f.0 ≡ m) ⊎ Waits m fs
 
 -- all that was sent comes: with go-back in its order; with selective reject each number is held or waits
-abbrev pub Comes : (selective : Bool) (next : ℕ) (held waits : List (ℕ × List ℕ)) (sent : ℕ) → Type 0
-Comes true next held waits sent = (m : ℕ) → next ≤ m → m < sent → (is_found (held_for m held) ≡ true) ⊎ Waits m waits
-Comes false next held waits sent = leads next waits ≡ sent
+abbrev pub HasAllSentComing : (selective : Bool) (next : ℕ) (held waits : List (ℕ × List ℕ)) (sent : ℕ) → Type 0
+HasAllSentComing true next held waits sent = (m : ℕ) → next ≤ m → m < sent → (is_found (held_for m held) ≡ true) ⊎ Waits m waits
+HasAllSentComing false next held waits sent = leads next waits ≡ sent
 
 -- of what x sends to y: and where no I frame waits, the last N(R) that waits is V(R), or y owes an answer
 abbrev pub Toward : (selective : Bool) → List (ℕ × List ℕ) → List ℕ → Station → Station → Type 0
 Toward selective waits shows x y =
-    Comes selective (length y.taken) y.held waits x.sent × (y.owed ≡ false → waits ≡ [] → Ends x.acked shows (length y.taken))
+    HasAllSentComing selective (length y.taken) y.held waits x.sent × (y.owed ≡ false → waits ≡ [] → EndsAtNumber x.acked shows (length y.taken))
 
 -- I frames, RR, REJ and SREJ alone wait
 abbrev pub IsExchange : Frame → Type 0
@@ -94,8 +94,8 @@ AllExchange (f ∷ fs) = IsExchange f × AllExchange fs
 -- without the answer of x
 abbrev pub Near : (selective : Bool) → List Frame → Station → List Frame → Station → Type 0
 Near selective lx x ly y =
-    Toward selective (infos lx) (numbers ly) x y
-    × Comes selective (length x.taken) x.held (infos ly) y.sent
+    Toward selective (infos lx) (receive_numbers_in_frames ly) x y
+    × HasAllSentComing selective (length x.taken) x.held (infos ly) y.sent
     × AllExchange lx
     × AllExchange ly
     × (x.phase ≡ Up)
@@ -104,7 +104,7 @@ Near selective lx x ly y =
 -- what waits in both directions leads to all that was sent, and to its acknowledgement
 abbrev pub Mends : (selective : Bool) → List Frame → Station → List Frame → Station → Type 0
 Mends selective lx x ly y =
-    Near selective lx x ly y × (x.owed ≡ false → infos ly ≡ [] → Ends y.acked (numbers lx) (length x.taken))
+    Near selective lx x ly y × (x.owed ≡ false → infos ly ≡ [] → EndsAtNumber y.acked (receive_numbers_in_frames lx) (length x.taken))
 
 -- ---- the tick, and the set-up where it was lost
 
@@ -114,19 +114,19 @@ AllAre n (x ∷ xs) = (x ≡ n) × AllAre n xs
 
 -- what a station sent at the tick: its I frames are all from V(A) to V(S) - 1, and each N(R) is V(R)
 abbrev pub Fires : List Frame → Station → Type 0
-Fires l x = Consecutive x.acked (infos l) x.sent × AllAre (length x.taken) (numbers l) × AllExchange l × (x.phase ≡ Up)
+Fires l x = Consecutive x.acked (infos l) x.sent × AllAre (length x.taken) (receive_numbers_in_frames l) × AllExchange l × (x.phase ≡ Up)
 
 -- of the calling station x and the called one y: no answer is owed, and nothing was taken
 abbrev pub IsUnused : Station → Station → Type 0
 IsUnused x y = (x.owed ≡ false) × (y.owed ≡ false) × (length y.taken ≡ 0)
 
 -- the set-up frame waits, and nothing else; it comes to a station that may have been set up before
-abbrev pub Asks : List Frame → Station → List Frame → Station → Type 0
-Asks lx x ly y = (x.phase ≡ Setting) × (lx ≡ SetUp ∷ []) × (ly ≡ []) × ((y.phase ≡ Idle) ⊎ (y.phase ≡ Up)) × IsUnused x y
+abbrev pub HasSetUpFrameWaiting : List Frame → Station → List Frame → Station → Type 0
+HasSetUpFrameWaiting lx x ly y = (x.phase ≡ Setting) × (lx ≡ SetUp ∷ []) × (ly ≡ []) × ((y.phase ≡ Idle) ⊎ (y.phase ≡ Up)) × IsUnused x y
 
 -- its answer waits, and nothing else
-abbrev pub Agrees : List Frame → Station → List Frame → Station → Type 0
-Agrees lx x ly y = (x.phase ≡ Setting) × (lx ≡ []) × (ly ≡ Ua true ∷ []) × (y.phase ≡ Up) × IsUnused x y
+abbrev pub HasSetUpAnswerWaiting : List Frame → Station → List Frame → Station → Type 0
+HasSetUpAnswerWaiting lx x ly y = (x.phase ≡ Setting) × (lx ≡ []) × (ly ≡ Ua true ∷ []) × (y.phase ≡ Up) × IsUnused x y
 
 -- ---- how far two stations are
 
@@ -139,10 +139,10 @@ pub data Progress : Type 0 where
 -- what that says of the frames that wait
 abbrev pub Reached : Progress → (selective c : Bool) → List Frame → Station → List Frame → Station → Type 0
 Reached Lossy selective c lx x ly y = Unit {0}
-Reached HalfTicked selective true lx x ly y = Asks lx x ly y ⊎ (Fires lx x × (ly ≡ []) × (y.phase ≡ Up))
-Reached HalfTicked selective false lx x ly y = Asks ly y lx x ⊎ (Fires ly y × (lx ≡ []) × (x.phase ≡ Up))
-Reached Ticked selective true lx x ly y = Asks lx x ly y ⊎ Agrees lx x ly y ⊎ Mends selective lx x ly y
-Reached Ticked selective false lx x ly y = Asks ly y lx x ⊎ Agrees ly y lx x ⊎ Mends selective lx x ly y
+Reached HalfTicked selective true lx x ly y = HasSetUpFrameWaiting lx x ly y ⊎ (Fires lx x × (ly ≡ []) × (y.phase ≡ Up))
+Reached HalfTicked selective false lx x ly y = HasSetUpFrameWaiting ly y lx x ⊎ (Fires ly y × (lx ≡ []) × (x.phase ≡ Up))
+Reached Ticked selective true lx x ly y = HasSetUpFrameWaiting lx x ly y ⊎ HasSetUpAnswerWaiting lx x ly y ⊎ Mends selective lx x ly y
+Reached Ticked selective false lx x ly y = HasSetUpFrameWaiting ly y lx x ⊎ HasSetUpAnswerWaiting ly y lx x ⊎ Mends selective lx x ly y
 
 -- a frame may come: not between the two ticks
 abbrev pub MayHear : Progress → Type 0
@@ -174,7 +174,7 @@ pub record Between (p : Progress) (selective c : Bool) (window : ℕ) (lx : List
 pub record Within (p : Progress) (selective c : Bool) (window : ℕ) (w : List Frame) (x : Station) (l : List Frame) (y : Station) : Type 0 where
   pub own : Own c window (w ++ x.said) x
   pub peers : Own (not c) window l y
-  pub rests : Rests x
+  pub rests : HasNoPayloadToSend x
   pub given : x.sent ≤ length x.handed
   pub peer_rests : Rested y
   pub began : Began c x y

@@ -4,12 +4,12 @@ use Rattle.std.specs.Prelude.{◌≡◌, ◌⊎◌, ℕ, ◌+◌, ◌*◌, ◌<�
 use Rattle.hdlc_station_model.specs.declared.phase.Phase.TheVariants.{Up}
 use Rattle.hdlc_station_model.specs.Stations.{is_down}
 use Rattle.hdlc_station_model.specs.Repeating.{MayRepeat, passes_bound}
-use Rattle.hdlc_pair_laws.specs.Links.{Link}
-use Rattle.hdlc_pair_laws.specs.Steps.{LinkStep, Send, Pass, Lose, Repeat, Alter, Put, UserRelease, Drain, Tick, drained, is_overfull}
-use Rattle.hdlc_pair_laws.specs.Laws.{Opening, after, deliveries, IsEmpty}
+use Rattle.hdlc_pair_laws.specs.Links.{StationLink}
+use Rattle.hdlc_pair_laws.specs.Steps.{StationLinkStep, Send, Pass, Lose, Repeat, Alter, Put, UserRelease, Drain, Tick, drained, is_overfull}
+use Rattle.hdlc_pair_laws.specs.Laws.{StationLinkOpening, after, deliveries, IsEmpty}
 
 -- all that the line does is to give frames
-abbrev pub IsPass : LinkStep → Type 0
+abbrev pub IsPass : StationLinkStep → Type 0
 IsPass (Send side payload) = ⊥
 IsPass (Pass side) = Unit {0}
 IsPass (Lose side) = ⊥
@@ -20,17 +20,17 @@ IsPass (UserRelease side sub) = ⊥
 IsPass (Drain most) = ⊥
 IsPass (Tick moment) = ⊥
 
-abbrev pub ArePasses : List LinkStep → Type 0
+abbrev pub ArePasses : List StationLinkStep → Type 0
 ArePasses [] = Unit {0}
 ArePasses (s ∷ steps) = IsPass s × ArePasses steps
 
 -- neither end was released
-abbrev pub AreLive : Link → Type 0
+abbrev pub AreLive : StationLink → Type 0
 AreLive l = (is_down l.e.phase ≡ false) × (is_down l.r.phase ≡ false)
 
 -- both stations are up, the called one took all payloads, and the calling one did where it handed down any itself, since the called station
 -- may not send before it took one
-pub record IsRecovered (l : Link) : Type 0 where
+pub record IsRecovered (l : StationLink) : Type 0 where
   pub e_up : l.e.phase ≡ Up
   pub r_up : l.r.phase ≡ Up
   pub at_r : l.r.taken ≡ l.e.handed
@@ -40,32 +40,32 @@ pub record IsRecovered (l : Link) : Type 0 where
 -- expired; then all that waits is given. With that each end took all that the other was handed
 abbrev pub Recovery : Type 0
 Recovery =
-    (s : Opening) (steps : List LinkStep) → (after s steps).order_kept ≡ true → AreLive (after s steps)
-    → (first : List LinkStep) → ArePasses first → IsEmpty (after s (steps ++ first))
+    (s : StationLinkOpening) (steps : List StationLinkStep) → (after s steps).order_kept ≡ true → AreLive (after s steps)
+    → (first : List StationLinkStep) → ArePasses first → IsEmpty (after s (steps ++ first))
     → (now : ℕ) → MayRepeat now (after s (steps ++ first)).e → MayRepeat now (after s (steps ++ first)).r
-    → (second : List LinkStep) → ArePasses second → IsEmpty (after s (steps ++ first ++ Tick now ∷ second))
+    → (second : List StationLinkStep) → ArePasses second → IsEmpty (after s (steps ++ first ++ Tick now ∷ second))
     → IsRecovered (after s (steps ++ first ++ Tick now ∷ second))
 
 -- while frames are given alone, no live end is released
 abbrev pub PassesRelease : Type 0
 PassesRelease =
-    (s : Opening) (steps : List LinkStep) → (after s steps).order_kept ≡ true → AreLive (after s steps)
-    → (passes : List LinkStep) → ArePasses passes → AreLive (after s (steps ++ passes))
+    (s : StationLinkOpening) (steps : List StationLinkStep) → (after s steps).order_kept ≡ true → AreLive (after s steps)
+    → (passes : List StationLinkStep) → ArePasses passes → AreLive (after s (steps ++ passes))
 
 -- ---- how many passes it takes
 
-abbrev pub bound_of : Opening → Link → ℕ
+abbrev pub bound_of : StationLinkOpening → StationLink → ℕ
 bound_of s l = passes_bound s.window (length l.from_e + length l.from_r) (length l.e.handed + length l.r.handed)
 
 -- while frames are given alone, there are no more deliveries than this, from any moment on
 abbrev pub PassesBound : Type 0
 PassesBound =
-    (s : Opening) (steps : List LinkStep) → (after s steps).order_kept ≡ true → AreLive (after s steps)
-    → (passes : List LinkStep) → ArePasses passes → deliveries (after s steps) passes ≤ bound_of s (after s steps)
+    (s : StationLinkOpening) (steps : List StationLinkStep) → (after s steps).order_kept ≡ true → AreLive (after s steps)
+    → (passes : List StationLinkStep) → ArePasses passes → deliveries (after s steps) passes ≤ bound_of s (after s steps)
 
 -- so a drain of as many passes leaves no frame waiting; it stops before where too many wait in one direction
 abbrev pub DrainEmptiesLive : Type 0
 DrainEmptiesLive =
-    (s : Opening) (steps : List LinkStep) (most : ℕ) → (after s steps).order_kept ≡ true → AreLive (after s steps) → bound_of s (after s steps) ≤ most
+    (s : StationLinkOpening) (steps : List StationLinkStep) (most : ℕ) → (after s steps).order_kept ≡ true → AreLive (after s steps) → bound_of s (after s steps) ≤ most
     → IsEmpty (drained most (record { link = after s steps; passes = 0 })).link
     ⊎ (is_overfull (drained most (record { link = after s steps; passes = 0 })).link ≡ true)

@@ -7,7 +7,7 @@ use Rattle.hdlc_station_model.specs.Frames.{Frame}
 use Rattle.hdlc_station_model.specs.Stations.{Station, no_deed, is_down, made, settled}
 use Rattle.hdlc_station_model.specs.Calls.{starts, hands, finishes, ticks, closes}
 use Rattle.hdlc_station_model.specs.Selective.{receives_as}
-use Rattle.hdlc_pair_laws.specs.Invariant.{Pair, Both}
+use Rattle.hdlc_pair_laws.specs.Invariant.{IsStationPair, Both}
 use Rattle.hdlc_pair_laws.specs.Keeping.{found}
 use Rattle.hdlc_station_model.specs.Repeating.{MayRepeat}
 use Rattle.hdlc_pair_laws.specs.Mending.{Progress, Lossy, HalfTicked, Ticked, MayHear, MaySpeak, Between, Within}
@@ -19,7 +19,7 @@ pub record MendKeeps : Type 0 where
   -- two stations that were just made, of which the calling one starts
   pub started : (selective extended : Bool) (window n2 t1 now : ℕ)
       → Within Lossy selective true window [] (starts now (settled (made true extended window n2 t1))) [] (made false extended window n2 t1)
-  pub begins : (p : Progress) (selective c : Bool) (k window : ℕ) (lx : List Frame) (x : Station) (ly : List Frame) (y : Station) → Pair selective k lx x ly y
+  pub begins : (p : Progress) (selective c : Bool) (k window : ℕ) (lx : List Frame) (x : Station) (ly : List Frame) (y : Station) → IsStationPair selective k lx x ly y
       → Between p selective c window lx x ly y → Within p selective c window lx (settled x) ly y
   -- with selective reject the greatest window is the window
   pub received : (p : Progress) (selective c : Bool) (k window : ℕ) (w : List Frame) (now : ℕ) (x : Station) (f : Frame) (fs : List Frame) (y : Station)
@@ -41,10 +41,10 @@ pub record MendKeeps : Type 0 where
       → Between Lossy selective c window lx x (f ∷ fs) y → Between Lossy selective c window lx x (f ∷ f ∷ fs) y
   -- ---- the tick: T1 doesn't run, or is found expired, and no frame waits
   pub calling_ticked : (selective : Bool) (k window : ℕ) (w : List Frame) (now : ℕ) (x : Station) (l : List Frame) (y : Station) → w ≡ [] → l ≡ []
-      → Pair selective k w x l y → Between Lossy selective true window w x l y → is_down x.phase ≡ false → is_down y.phase ≡ false → MayRepeat now x
+      → IsStationPair selective k w x l y → Between Lossy selective true window w x l y → is_down x.phase ≡ false → is_down y.phase ≡ false → MayRepeat now x
       → Within HalfTicked selective true window w (ticks now (settled x)) l y
   pub called_ticked : (selective : Bool) (k window : ℕ) (w : List Frame) (now : ℕ) (x : Station) (l : List Frame) (y : Station)
-      → Pair selective k w x l y → Between HalfTicked selective false window w x l y → MayRepeat now x
+      → IsStationPair selective k w x l y → Between HalfTicked selective false window w x l y → MayRepeat now x
       → Within Ticked selective false window w (ticks now (settled x)) l y
   -- ---- no release
   -- from the tick on no station is released
@@ -77,4 +77,4 @@ pub record IsMended (x y : Station) : Type 0 where
 abbrev pub MendEnds : Type 0
 MendEnds =
     (selective : Bool) (k window : ℕ) (lx : List Frame) (x : Station) (ly : List Frame) (y : Station) → 1 ≤ window → lx ≡ [] → ly ≡ []
-    → Pair selective k lx x ly y → Between Ticked selective true window lx x ly y → IsMended x y
+    → IsStationPair selective k lx x ly y → Between Ticked selective true window lx x ly y → IsMended x y

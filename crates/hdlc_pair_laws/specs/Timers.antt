@@ -8,9 +8,9 @@ use Rattle.hdlc_station_model.specs.Frames.{Frame, Info, Rr, Rej, Srej, SetUp, D
 use Rattle.hdlc_station_model.specs.Stations.{Station}
 use Rattle.hdlc_station_model.specs.Calls.{starts, hands, finishes, ticks, closes}
 use Rattle.hdlc_station_model.specs.Selective.{receives_as}
-use Rattle.hdlc_pair_laws.specs.Links.{Link}
-use Rattle.hdlc_pair_laws.specs.Steps.{LinkStep, Tick}
-use Rattle.hdlc_pair_laws.specs.Laws.{Opening, after, IsEmpty}
+use Rattle.hdlc_pair_laws.specs.Links.{StationLink}
+use Rattle.hdlc_pair_laws.specs.Steps.{StationLinkStep, Tick}
+use Rattle.hdlc_pair_laws.specs.Laws.{StationLinkOpening, after, IsEmpty}
 use Rattle.hdlc_pair_laws.specs.Recovery.{ArePasses, AreLive}
 use Rattle.hdlc_station_model.specs.Repeating.{MayRepeat}
 
@@ -23,11 +23,11 @@ TimedAt Down s = s.timer ≡ None
 
 abbrev pub TimersRun : Type 0
 TimersRun =
-    (s : Opening) (steps : List LinkStep) → (after s steps).order_kept ≡ true
+    (s : StationLinkOpening) (steps : List StationLinkStep) → (after s steps).order_kept ≡ true
     → TimedAt (after s steps).e.phase (after s steps).e × TimedAt (after s steps).r.phase (after s steps).r
 
 -- T1 runs at neither station, and no expiry is counted
-pub record IsRenewed (l : Link) : Type 0 where
+pub record IsRenewed (l : StationLink) : Type 0 where
   pub e_stopped : l.e.timer ≡ None
   pub r_stopped : l.r.timer ≡ None
   pub e_none : l.e.expiries ≡ 0
@@ -36,10 +36,10 @@ pub record IsRenewed (l : Link) : Type 0 where
 -- a recovery leaves nothing of the loss: all N2 expiries are left for the next one
 abbrev pub Renewal : Type 0
 Renewal =
-    (s : Opening) (steps : List LinkStep) → (after s steps).order_kept ≡ true → AreLive (after s steps)
-    → (first : List LinkStep) → ArePasses first → IsEmpty (after s (steps ++ first))
+    (s : StationLinkOpening) (steps : List StationLinkStep) → (after s steps).order_kept ≡ true → AreLive (after s steps)
+    → (first : List StationLinkStep) → ArePasses first → IsEmpty (after s (steps ++ first))
     → (now : ℕ) → MayRepeat now (after s (steps ++ first)).e → MayRepeat now (after s (steps ++ first)).r
-    → (second : List LinkStep) → ArePasses second → IsEmpty (after s (steps ++ first ++ Tick now ∷ second))
+    → (second : List StationLinkStep) → ArePasses second → IsEmpty (after s (steps ++ first ++ Tick now ∷ second))
     → IsRenewed (after s (steps ++ first ++ Tick now ∷ second))
 
 -- ---- when T1 expires, by what a call says

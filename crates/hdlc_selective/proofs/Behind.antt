@@ -5,8 +5,8 @@ use Rattle.std.specs.List.{filter}
 use Rattle.std.proofs.lemmas.Bool.{cases_Bool, cases_eq, cases_lt, leb-true, leb-false, eqb-false}
 use Rattle.std.proofs.lemmas.List.{get_or-set_other, get_or-set_same}
 use Rattle.hdlc_station_model.specs.Selective.{held_for, is_found, is_one_of, without_gap}
-use Rattle.hdlc_selective.specs.Places.{Place, no_place, cleared, held_in, held_at, asked_at, run_of}
-use Rattle.hdlc_selective.specs.Kept.{IsBehind, AreDistinct}
+use Rattle.hdlc_selective.specs.Places.{NumberPlace, no_place, cleared, held_in, held_at, asked_at, run_of}
+use Rattle.hdlc_selective.specs.Kept.{IsBehind, HaveDistinctNumbers}
 use Rattle.hdlc_selective.proofs.Runs.{held_dropped, asked_dropped, run_yes, run_no}
 
 -- ---- lists of the model
@@ -106,14 +106,14 @@ none_filtered p n (h ∷ held) none = elim (cases_Bool (h.0 == n)) [
       ]
 ]
 
-distinct_filtered : (p : ℕ × List ℕ → Bool) (held : List (ℕ × List ℕ)) → AreDistinct held → AreDistinct (filter p held)
+distinct_filtered : (p : ℕ × List ℕ → Bool) (held : List (ℕ × List ℕ)) → HaveDistinctNumbers held → HaveDistinctNumbers (filter p held)
 distinct_filtered p [] d = tt
 distinct_filtered p (h ∷ held) d = elim (cases_Bool (p h)) [
   | inl so ↦ rw so (none_filtered p h.0 held d.0, distinct_filtered p held d.1)
   | inr not_so ↦ rw not_so (distinct_filtered p held d.1)
 ]
 
-distinct_last : (n : ℕ) (p : List ℕ) (held : List (ℕ × List ℕ)) → AreDistinct held → held_for n held ≡ None → AreDistinct (held ++ (n, p) ∷ [])
+distinct_last : (n : ℕ) (p : List ℕ) (held : List (ℕ × List ℕ)) → HaveDistinctNumbers held → held_for n held ≡ None → HaveDistinctNumbers (held ++ (n, p) ∷ [])
 distinct_last n p [] d none = (refl, tt)
 distinct_last n p (h ∷ held) d none = elim (cases_Bool (h.0 == n)) [
   | inl same ↦ absurd (some_is_found (held_for n (h ∷ held)) h.1 (sym (held_here n h held same)) none)
@@ -147,7 +147,7 @@ others_fewer n p (h ∷ held) found = elim (cases_Bool (h.0 == n)) [
   | inr not_so ↦ rw not_so (omega (arith, others_fewer n p held (sym (held_there n h held not_so) ∙ found)))
 ]
 
-run_held : (places : List Place) (n : ℕ) (held : List (ℕ × List ℕ)) → ((up : ℕ) → held_for (n + up) held ≡ held_at places up) → length (run_of places) ≤ length held
+run_held : (places : List NumberPlace) (n : ℕ) (held : List (ℕ × List ℕ)) → ((up : ℕ) → held_for (n + up) held ≡ held_at places up) → length (run_of places) ≤ length held
 run_held [] n held says = omega arith
 run_held (p ∷ places) n held says = elim (cases_Bool p.held) [
   | inl so ↦
@@ -159,7 +159,7 @@ run_held (p ∷ places) n held says = elim (cases_Bool p.held) [
   | inr not_so ↦ let e = ap length (run_no p places not_so) in omega (arith, e)
 ]
 
-run_found : (places : List Place) (most n : ℕ) (held : List (ℕ × List ℕ)) → ((up : ℕ) → held_for (n + up) held ≡ held_at places up) → length (run_of places) ≤ most
+run_found : (places : List NumberPlace) (most n : ℕ) (held : List (ℕ × List ℕ)) → ((up : ℕ) → held_for (n + up) held ≡ held_at places up) → length (run_of places) ≤ most
     → without_gap most n held ≡ run_of places
 run_found places zero n held says enough = sym (none (run_of places) (omega (arith, enough)))
   where
@@ -180,19 +180,19 @@ run_found (p ∷ places) (suc most) n held says enough = elim (cases_Bool p.held
 ]
 
 -- the run behind V(R)
-pub run_is : (places : List Place) (r : ℕ) (held : List (ℕ × List ℕ)) (asked : List ℕ) → IsBehind places r held asked
+pub run_is : (places : List NumberPlace) (r : ℕ) (held : List (ℕ × List ℕ)) (asked : List ℕ) → IsBehind places r held asked
     → without_gap (length held) (r + 1) held ≡ run_of (drop 1 places)
 run_is places r held asked h =
     let says : (up : ℕ) → held_for (r + 1 + up) held ≡ held_at (drop 1 places) up =
     λ up. ap (λ (m : ℕ). held_for m held) (omega arith) ∙ h.is_held (1 + up) ∙ sym (after_one places up) in
     run_found (drop 1 places) (length held) (r + 1) held says (run_held (drop 1 places) (r + 1) held says)
   where
-    after_one : (xs : List Place) (up : ℕ) → held_at (drop 1 xs) up ≡ held_at xs (1 + up)
+    after_one : (xs : List NumberPlace) (up : ℕ) → held_at (drop 1 xs) up ≡ held_at xs (1 + up)
     after_one xs up = ap held_in (get_or-drop 1 xs up no_place)
 
 -- ---- what a part of a step does to the places
 
-module _ (places : List Place) (r : ℕ) (held : List (ℕ × List ℕ)) (asked : List ℕ) (h : IsBehind places r held asked) where
+module _ (places : List NumberPlace) (r : ℕ) (held : List (ℕ × List ℕ)) (asked : List ℕ) (h : IsBehind places r held asked) where
   -- a number is asked for
   pub behind_asked : (i : ℕ) → i < length places → IsBehind (set places i (record (get_or places i no_place) { asked = true })) r held (asked ++ (r + i) ∷ [])
   behind_asked i low = record {
@@ -205,11 +205,11 @@ module _ (places : List Place) (r : ℕ) (held : List (ℕ × List ℕ)) (asked 
     is_asked = λ up. elim (cases_eq up i) [
       | inl same ↦ ap (λ (m : ℕ). is_one_of (r + m) (asked ++ (r + i) ∷ [])) same
           ∙ asked_last (r + i) asked
-          ∙ sym (ap (λ (p : Place). p.asked) (get_or-set_same places i (record (get_or places i no_place) { asked = true }) no_place low))
+          ∙ sym (ap (λ (p : NumberPlace). p.asked) (get_or-set_same places i (record (get_or places i no_place) { asked = true }) no_place low))
           ∙ ap (asked_at (set places i (record (get_or places i no_place) { asked = true }))) (sym same)
       | inr other ↦ asked_others (r + up) (r + i) asked (λ e. other (omega (arith, e)))
           ∙ h.is_asked up
-          ∙ sym (ap (λ (p : Place). p.asked) (get_or-set_other places i up (record (get_or places i no_place) { asked = true }) no_place other))
+          ∙ sym (ap (λ (p : NumberPlace). p.asked) (get_or-set_other places i up (record (get_or places i no_place) { asked = true }) no_place other))
     ];
     none_held = h.none_held;
     none_asked = λ n below. asked_others n (r + i) asked (λ e. omega (arith, e, below)) ∙ h.none_asked n below;
@@ -220,7 +220,7 @@ module _ (places : List Place) (r : ℕ) (held : List (ℕ × List ℕ)) (asked 
   pub behind_held : (i : ℕ) (p : List ℕ) → i < length places → 1 ≤ i → held_for (r + i) held ≡ None
       → IsBehind (set places i (record (get_or places i no_place) { payload = p; held = true })) r (held ++ (r + i, p) ∷ []) asked
   behind_held i p low above none =
-      let x : Place = record (get_or places i no_place) { payload = p; held = true } in
+      let x : NumberPlace = record (get_or places i no_place) { payload = p; held = true } in
       record {
         is_held = λ up. elim (cases_eq up i) [
           | inl same ↦ ap (λ (m : ℕ). held_for (r + m) (held ++ (r + i, p) ∷ [])) same
@@ -233,9 +233,9 @@ module _ (places : List Place) (r : ℕ) (held : List (ℕ × List ℕ)) (asked 
         ];
         is_asked = λ up. h.is_asked up ∙ elim (cases_eq up i) [
           | inl same ↦ ap (asked_at places) same
-              ∙ sym (ap (λ (q : Place). q.asked) (get_or-set_same places i x no_place low))
+              ∙ sym (ap (λ (q : NumberPlace). q.asked) (get_or-set_same places i x no_place low))
               ∙ ap (asked_at (set places i x)) (sym same)
-          | inr other ↦ sym (ap (λ (q : Place). q.asked) (get_or-set_other places i up x no_place other))
+          | inr other ↦ sym (ap (λ (q : NumberPlace). q.asked) (get_or-set_other places i up x no_place other))
         ];
         none_held = λ n below. held_others n (r + i) p held (λ e. omega (arith, e, below, above)) ∙ h.none_held n below;
         none_asked = h.none_asked;
@@ -243,7 +243,7 @@ module _ (places : List Place) (r : ℕ) (held : List (ℕ × List ℕ)) (asked 
       }
 
   -- so many numbers are taken, of which the first stood in a place that was written
-  pub behind_taken : (t : ℕ) (x : Place) → 1 ≤ t → held_at places t ≡ None
+  pub behind_taken : (t : ℕ) (x : NumberPlace) → 1 ≤ t → held_at places t ≡ None
       → IsBehind (drop t (set places 0 x) ++ map cleared (take t (set places 0 x))) (r + t) (filter (λ g. nat_le (r + t) g.0) held) (filter (λ m. nat_le (r + t) m) asked)
   behind_taken t x some ends = record {
     is_held = λ up.
@@ -256,7 +256,7 @@ module _ (places : List Place) (r : ℕ) (held : List (ℕ × List ℕ)) (asked 
         asked_filtered (r + t) (r + t + up) asked (omega arith)
         ∙ ap (λ (m : ℕ). is_one_of m asked) (omega arith)
         ∙ h.is_asked (t + up)
-        ∙ sym (ap (λ (q : Place). q.asked) (get_or-set_other places 0 (t + up) x no_place (λ e. omega (arith, e, some))))
+        ∙ sym (ap (λ (q : NumberPlace). q.asked) (get_or-set_other places 0 (t + up) x no_place (λ e. omega (arith, e, some))))
         ∙ sym (asked_dropped (set places 0 x) t up);
     none_held = λ n below. elim (cases_lt n (r + t)) [
       | inl low ↦ held_left (r + t) n held low
@@ -269,7 +269,7 @@ module _ (places : List Place) (r : ℕ) (held : List (ℕ × List ℕ)) (asked 
   }
 
 -- all are forgotten
-pub behind_forgotten : (places : List Place) (n r : ℕ) → n ≡ length places → IsBehind (drop n places ++ map cleared (take n places)) r [] []
+pub behind_forgotten : (places : List NumberPlace) (n r : ℕ) → n ≡ length places → IsBehind (drop n places ++ map cleared (take n places)) r [] []
 behind_forgotten places n r all = record {
   is_held = λ up. sym (held_dropped places n up ∙ past_held places (n + up) (omega (arith, all)));
   is_asked = λ up. sym (asked_dropped places n up ∙ past_asked places (n + up) (omega (arith, all)));
@@ -278,12 +278,12 @@ behind_forgotten places n r all = record {
   distinct = tt;
 }
   where
-    past_held : (xs : List Place) (i : ℕ) → length xs ≤ i → held_at xs i ≡ None
+    past_held : (xs : List NumberPlace) (i : ℕ) → length xs ≤ i → held_at xs i ≡ None
     past_held [] i past = refl
     past_held (x ∷ xs) zero past = absurd (omega (arith, past))
     past_held (x ∷ xs) (suc i) past = past_held xs i (omega (arith, past))
 
-    past_asked : (xs : List Place) (i : ℕ) → length xs ≤ i → asked_at xs i ≡ false
+    past_asked : (xs : List NumberPlace) (i : ℕ) → length xs ≤ i → asked_at xs i ≡ false
     past_asked [] i past = refl
     past_asked (x ∷ xs) zero past = absurd (omega (arith, past))
     past_asked (x ∷ xs) (suc i) past = past_asked xs i (omega (arith, past))

@@ -10,8 +10,8 @@ use Rattle.hdlc_station_model.specs.declared.phase.Phase.{Phase}
 use Rattle.hdlc_station_model.specs.declared.phase.Phase.TheVariants.{Idle, Setting, Up, Down}
 use Rattle.hdlc_station_model.specs.Frames.{SetUp, Rr}
 use Rattle.hdlc_station_model.specs.Stations.{Station, is_down, sees, puts}
-use Rattle.hdlc_station_model.specs.Sending.{can_send, waiting, sends_next, sends_up_to, sends_waiting, sends_again, starts_timer, settles, releases, refuses_frame, gives_up, counts_expiry, expires_at, expires_if_due, is_due}
-use Rattle.hdlc_station_model.specs.Receiving.{strays, errs, named, acknowledges, acknowledging, by_number, marks_busy, agrees, row_idle}
+use Rattle.hdlc_station_model.specs.Sending.{can_send, waiting, sends_next, sends_up_to, sends_waiting, sends_again, starts_timer, settles, station_down_for_cause, refuses_frame, gives_up, counts_expiry, expires_at, expires_if_due, is_due}
+use Rattle.hdlc_station_model.specs.Receiving.{strays, errs, number_shown_as, acknowledges, acknowledging, by_number, marks_busy, agrees, row_idle}
 use Rattle.hdlc_station_model.specs.Selective.{repeats_at, repeats_one, selective_row_setting}
 use Rattle.hdlc_station_model.specs.Calls.{starts_at, starts, hands, finishes, ticks, closes_at, closes}
 
@@ -51,7 +51,7 @@ keeps_acknowledging None busy s = keeps_refuses s
 keeps_acknowledging (Some n) busy s = record { held = refl; asked = refl; taken = refl; gap = refl }
 
 pub keeps_ready : (nr : ℕ) (busy : Bool) (s : Station) → Keeps s (by_number nr (marks_busy busy) s)
-keeps_ready nr busy s = keeps_acknowledging (named s.extended s.acked (s.sent - s.acked) nr) busy s
+keeps_ready nr busy s = keeps_acknowledging (number_shown_as s.extended s.acked (s.sent - s.acked) nr) busy s
 
 pub keeps_acknowledges : (n : ℕ) (s : Station) → Keeps s (acknowledges n s)
 keeps_acknowledges n s = record { held = refl; asked = refl; taken = refl; gap = refl }
@@ -62,13 +62,13 @@ keeps_repeats (Some n) s = record { held = refl; asked = refl; taken = refl; gap
 
 pub keeps_repeat : (nr : ℕ) (s : Station) → Keeps s (repeats_one nr s)
 keeps_repeat nr s =
-    let o = named s.extended s.acked (s.sent - s.acked - 1) nr in
+    let o = number_shown_as s.extended s.acked (s.sent - s.acked - 1) nr in
     keeps_if (nat_lt s.acked s.sent) s (repeats_at o s) (strays s) (keeps_repeats o s) (keeps_strays s)
 
-pub keeps_disconnects : (poll : Bool) (s : Station) → Keeps s (releases cause.PeerDisconnected (agrees poll s))
+pub keeps_disconnects : (poll : Bool) (s : Station) → Keeps s (station_down_for_cause cause.PeerDisconnected (agrees poll s))
 keeps_disconnects poll s = record { held = refl; asked = refl; taken = refl; gap = refl }
 
-pub keeps_drops : (s : Station) → Keeps s (releases cause.PeerDisconnected s)
+pub keeps_drops : (s : Station) → Keeps s (station_down_for_cause cause.PeerDisconnected s)
 keeps_drops s = record { held = refl; asked = refl; taken = refl; gap = refl }
 
 pub keeps_idle : (s : Station) (c : Control) (information : List ℕ) → Keeps s (row_idle s c information)

@@ -7,22 +7,22 @@ use Rattle.hdlc_station_model.specs.declared.phase.Phase.{Phase}
 use Rattle.hdlc_station_model.specs.Frames.{Frame, Srej, Rr}
 use Rattle.hdlc_station_model.specs.Stations.{Station, Deed, no_deed, puts}
 use Rattle.hdlc_station_model.specs.Sending.{refuses_frame}
-use Rattle.hdlc_station_model.specs.Receiving.{named, acknowledges, acknowledging, by_number, accepts, agrees}
+use Rattle.hdlc_station_model.specs.Receiving.{number_shown_as, acknowledges, acknowledging, by_number, accepts, agrees}
 use Rattle.hdlc_station_model.specs.Selective.{held_for, is_found, is_one_of, without_gap, takes_run, holds, says_next, files_at, files}
 use Rattle.hdlc_station_core.specs.declared.deeds.Told.{Told}
 use Rattle.hdlc_station_core.specs.declared.deeds.Told.TheVariants.{Nothing, CameUp, Took, Released}
 use Rattle.hdlc_station_core.specs.declared.deeds.Heard.{Heard}
 use Rattle.hdlc_station_core.specs.declared.deeds.Reply.{Reply}
 use Rattle.hdlc_station_core.specs.declared.deeds.Reply.TheVariants as reply
-use Rattle.hdlc_station_core.specs.Replies.{reply_text, Hears}
+use Rattle.hdlc_station_core.specs.Replies.{reply_text, FollowsWithInformation}
 use Rattle.hdlc_station_core.specs.Saying.{silent, saying}
 use Rattle.hdlc_selective.specs.declared.deeds.SelectiveDeed.{SelectiveDeed}
 use Rattle.hdlc_selective.specs.declared.deeds.SelectiveHeard.{SelectiveHeard}
 use Rattle.hdlc_selective.specs.declared.deeds.SelectiveReply.{SelectiveReply}
 use Rattle.hdlc_selective.specs.declared.deeds.SelectiveReply.TheVariants.{Plain}
-use Rattle.hdlc_selective.specs.Replies.{IsWritten, HearsSo}
-use Rattle.hdlc_selective.specs.Places.{Place, no_place, cleared, held_in, held_at, asked_at, run_of, lent}
-use Rattle.hdlc_selective.specs.Kept.{Kept, kept_of, Stands, Follows, Tells, Within, IsBehind, SelectiveStands, Moves, Says}
+use Rattle.hdlc_selective.specs.Replies.{IsReplyWritten, HearsSo}
+use Rattle.hdlc_selective.specs.Places.{NumberPlace, no_place, cleared, held_in, held_at, asked_at, run_of, lent}
+use Rattle.hdlc_selective.specs.Kept.{KeptStation, kept_of, Stands, Follows, Tells, WritesFramesAtMost, IsBehind, SelectiveStands, Moves, TellsSelectiveDeed}
 use Rattle.hdlc_selective.specs.Told.{told_as, deed_of, untaken}
 use Rattle.hdlc_selective.specs.Steps.{asks_one, asks_below, takes_first}
 use Rattle.hdlc_selective.proofs.Runs.{lent_run, run_ends_at}
@@ -32,7 +32,7 @@ use Rattle.hdlc_selective.proofs.Keeping.{Keeps}
 
 -- ---- steps of the core, which leave the places alone
 
-pub lifts : (core core' : Kept) (places : List Place) (before : List ℕ) (out out' : Stored) (d d' : Deed) (s t : Station)
+pub lifts : (core core' : KeptStation) (places : List NumberPlace) (before : List ℕ) (out out' : Stored) (d d' : Deed) (s t : Station)
     → SelectiveStands core places before out d s → Stands core' before out' d' t → Keeps s t → SelectiveStands core' places before out' d' t
 lifts core core' places before out out' d d' s t h g k = record {
   stands = g;
@@ -40,7 +40,7 @@ lifts core core' places before out out' d d' s t h g k = record {
   no_gap = k.gap ∙ h.no_gap;
 }
 
-pub follows_moves : (old new : Kept) (places : List Place) (out out' : Stored) (step : Station → Station)
+pub follows_moves : (old new : KeptStation) (places : List NumberPlace) (out out' : Stored) (step : Station → Station)
     → Follows old out new out' step → ((s : Station) → Keeps s (step s)) → Moves old places out new places out' step
 follows_moves old new places out out' step f k = λ s before d h. lifts old new places before out out' d d s (step s) h (f s before d h.stands) (k s)
 
@@ -48,8 +48,8 @@ abbrev length_in : Option (List ℕ) → ℕ
 length_in None = 0
 length_in (Some p) = length p
 
-core_says : (old new : Kept) (places : List Place) (out out' : Stored) (told : Told) (step : Station → Station)
-    → ((information : List ℕ) → Tells old out new out' (told_as information told) step) → ((s : Station) → Keeps s (step s)) → Says old places out new places out' (untaken told) step
+core_says : (old new : KeptStation) (places : List NumberPlace) (out out' : Stored) (told : Told) (step : Station → Station)
+    → ((information : List ℕ) → Tells old out new out' (told_as information told) step) → ((s : Station) → Keeps s (step s)) → TellsSelectiveDeed old places out new places out' (untaken told) step
 core_says old new places out out' Nothing step f k = λ s before h. lifts old new places before out out' no_deed (untaken Nothing) s (step s) h (f [] s before h.stands) (k s)
 core_says old new places out out' CameUp step f k = λ s before h. lifts old new places before out out' no_deed (untaken CameUp) s (step s) h (f [] s before h.stands) (k s)
 core_says old new places out out' Took step f k = λ s before h.
@@ -60,91 +60,91 @@ core_says old new places out out' Took step f k = λ s before h.
 core_says old new places out out' (Released release) step f k = λ s before h. lifts old new places before out out' no_deed (untaken (Released release)) s (step s) h (f [] s before h.stands) (k s)
 
 -- a row that takes no payload
-pub row_says : (old new : Kept) (places : List Place) (out out' : Stored) (told : Told) (d : SelectiveDeed) (step : Station → Station)
-    → ((ps : List Place) → deed_of ps d ≡ untaken told) → ((information : List ℕ) → Tells old out new out' (told_as information told) step)
-    → ((s : Station) → Keeps s (step s)) → Says old places out new places out' (deed_of places d) step
+pub row_says : (old new : KeptStation) (places : List NumberPlace) (out out' : Stored) (told : Told) (d : SelectiveDeed) (step : Station → Station)
+    → ((ps : List NumberPlace) → deed_of ps d ≡ untaken told) → ((information : List ℕ) → Tells old out new out' (told_as information told) step)
+    → ((s : Station) → Keeps s (step s)) → TellsSelectiveDeed old places out new places out' (deed_of places d) step
 row_says old new places out out' told d step e f k = λ s before h.
     subst (λ (x : Deed). SelectiveStands new places before out' x (step s)) (sym (e places)) (core_says old new places out out' told step f k s before h)
 
 -- a rule of a station of either kind
-pub row_hears : (old new : Kept) (places : List Place) (heard : Heard) (x : SelectiveHeard) (step : Station → Station)
-    → ((ps : List Place) → deed_of ps x.deed ≡ untaken heard.told) → x.reply ≡ Plain heard.reply → Hears old new heard (λ information. step)
+pub row_hears : (old new : KeptStation) (places : List NumberPlace) (heard : Heard) (x : SelectiveHeard) (step : Station → Station)
+    → ((ps : List NumberPlace) → deed_of ps x.deed ≡ untaken heard.told) → x.reply ≡ Plain heard.reply → FollowsWithInformation old new heard (λ information. step)
     → ((s : Station) → Keeps s (step s)) → HearsSo old places new places x step
 row_hears old new places heard x step deed reply hears keeps = λ out out' after w s before h.
-    let v : IsWritten new places out (Plain heard.reply) after out' = subst (λ (r : SelectiveReply). IsWritten new places out r after out') reply w in
-    subst (λ (ps : List Place). SelectiveStands new ps before out' (deed_of ps x.deed) (step s)) (sym v.0)
+    let v : IsReplyWritten new places out (Plain heard.reply) after out' = subst (λ (r : SelectiveReply). IsReplyWritten new places out r after out') reply w in
+    subst (λ (ps : List NumberPlace). SelectiveStands new ps before out' (deed_of ps x.deed) (step s)) (sym v.0)
     (row_says old new places out out' heard.told x.deed step deed (λ information. hears information out out' v.1) keeps s before h)
 
 -- one that tells nothing and answers nothing
-pub quiet : (old new : Kept) (heard : Heard) (step : Station → Station) → heard ≡ record { told = Nothing; reply = reply.Nothing }
-    → ((out : Stored) → Follows old out new out step) → Hears old new heard (λ information. step)
-quiet old new heard step is follows = subst (λ (x : Heard). Hears old new x (λ information. step)) (sym is)
+pub quiet : (old new : KeptStation) (heard : Heard) (step : Station → Station) → heard ≡ record { told = Nothing; reply = reply.Nothing }
+    → ((out : Stored) → Follows old out new out step) → FollowsWithInformation old new heard (λ information. step)
+quiet old new heard step is follows = subst (λ (x : Heard). FollowsWithInformation old new x (λ information. step)) (sym is)
     (λ information out out' e s before h. silent new before out out' no_deed (step s) (follows out s before no_deed h) e)
 
 -- a rule that tells nothing
-pub answers_so : (old new : Kept) (places places' : List Place) (x : SelectiveHeard) (r : Reply) (step : Station → Station)
-    → ((ps : List Place) → deed_of ps x.deed ≡ no_deed) → x.reply ≡ Plain r
+pub answers_so : (old new : KeptStation) (places places' : List NumberPlace) (x : SelectiveHeard) (r : Reply) (step : Station → Station)
+    → ((ps : List NumberPlace) → deed_of ps x.deed ≡ no_deed) → x.reply ≡ Plain r
     → ((out out' : Stored) → out'.items ≡ out.items ++ reply_text new r → (s : Station) (before : List ℕ) → SelectiveStands old places before out no_deed s → SelectiveStands new places' before out' no_deed (step s))
     → HearsSo old places new places' x step
 answers_so old new places places' x r step deed same moves = λ out out' after w s before h.
-    let v : IsWritten new places' out (Plain r) after out' = subst (λ (q : SelectiveReply). IsWritten new places' out q after out') same w in
-    subst (λ (ps : List Place). SelectiveStands new ps before out' (deed_of ps x.deed) (step s)) (sym v.0)
+    let v : IsReplyWritten new places' out (Plain r) after out' = subst (λ (q : SelectiveReply). IsReplyWritten new places' out q after out') same w in
+    subst (λ (ps : List NumberPlace). SelectiveStands new ps before out' (deed_of ps x.deed) (step s)) (sym v.0)
     (subst (λ (d : Deed). SelectiveStands new places' before out' d (step s)) (sym (deed places')) (moves out out' v.1 s before h))
 
 -- RR says again which is the next one
-pub says_ready : (k : Kept) (places : List Place) (before : List ℕ) (out out' : Stored) (s : Station) → SelectiveStands k places before out no_deed s
+pub says_ready : (k : KeptStation) (places : List NumberPlace) (before : List ℕ) (out out' : Stored) (s : Station) → SelectiveStands k places before out no_deed s
     → out'.items ≡ out.items ++ reply_text k reply.Ready → SelectiveStands k places before out' no_deed (says_next s)
 says_ready k places before out out' s h e =
     lifts k k places before out out' no_deed no_deed s (says_next s) h (saying k before out out' no_deed s (Rr (length s.taken)) reply.Ready refl h.stands e)
     (record { held = refl; asked = refl; taken = refl; gap = refl })
 
 -- a part that tells nothing
-pub nothing_says : (core : Kept) (places : List Place) (before : List ℕ) (out : Stored) (d : SelectiveDeed) (t : Station)
-    → ((ps : List Place) → deed_of ps d ≡ no_deed) → SelectiveStands core places before out no_deed t → SelectiveStands core places before out (deed_of places d) t
+pub nothing_says : (core : KeptStation) (places : List NumberPlace) (before : List ℕ) (out : Stored) (d : SelectiveDeed) (t : Station)
+    → ((ps : List NumberPlace) → deed_of ps d ≡ no_deed) → SelectiveStands core places before out no_deed t → SelectiveStands core places before out (deed_of places d) t
 nothing_says core places before out d t e g = subst (λ (x : Deed). SelectiveStands core places before out x t) (sym (e places)) g
 
 -- nothing is written
-pub unwritten : (core : Kept) (places : List Place) (before : List ℕ) (out out' : Stored) (d : Deed) (s : Station) → SelectiveStands core places before out d s
+pub unwritten : (core : KeptStation) (places : List NumberPlace) (before : List ℕ) (out out' : Stored) (d : Deed) (s : Station) → SelectiveStands core places before out d s
     → out'.items ≡ out.items ++ [] → SelectiveStands core places before out' d s
 unwritten core places before out out' d s h e = record { stands = silent core before out out' d s h.stands e; behind = h.behind; no_gap = h.no_gap }
 
 -- ---- tests of the model
 
-pub when_so : (core : Kept) (places : List Place) (before : List ℕ) (out : Stored) (d : Deed) (b : Bool) (x y : Station)
+pub when_so : (core : KeptStation) (places : List NumberPlace) (before : List ℕ) (out : Stored) (d : Deed) (b : Bool) (x y : Station)
     → b ≡ true → SelectiveStands core places before out d x → SelectiveStands core places before out d (if b then x else y)
 when_so core places before out d b x y e h = subst (λ (c : Bool). SelectiveStands core places before out d (if c then x else y)) (sym e) h
 
-pub when_not : (core : Kept) (places : List Place) (before : List ℕ) (out : Stored) (d : Deed) (b : Bool) (x y : Station)
+pub when_not : (core : KeptStation) (places : List NumberPlace) (before : List ℕ) (out : Stored) (d : Deed) (b : Bool) (x y : Station)
     → b ≡ false → SelectiveStands core places before out d y → SelectiveStands core places before out d (if b then x else y)
 when_not core places before out d b x y e h = subst (λ (c : Bool). SelectiveStands core places before out d (if c then x else y)) (sym e) h
 
-pub phased : (step : Phase → Station → Station) (core : Kept) (places : List Place) (before : List ℕ) (out : Stored) (d : Deed) (s : Station) (p : Phase)
+pub phased : (step : Phase → Station → Station) (core : KeptStation) (places : List NumberPlace) (before : List ℕ) (out : Stored) (d : Deed) (s : Station) (p : Phase)
     → p ≡ s.phase → SelectiveStands core places before out d (step p s) → SelectiveStands core places before out d (step s.phase s)
 phased step core places before out d s p e h = subst (λ (q : Phase). SelectiveStands core places before out d (step q s)) e h
 
-pub numbered : (core : Kept) (places : List Place) (before : List ℕ) (out : Stored) (d : Deed) (s : Station) (r n : ℕ) (rest : Station → Station)
-    → named s.extended s.acked (s.sent - s.acked) r ≡ Some n → SelectiveStands core places before out d (rest (acknowledges n s))
+pub numbered : (core : KeptStation) (places : List NumberPlace) (before : List ℕ) (out : Stored) (d : Deed) (s : Station) (r n : ℕ) (rest : Station → Station)
+    → number_shown_as s.extended s.acked (s.sent - s.acked) r ≡ Some n → SelectiveStands core places before out d (rest (acknowledges n s))
     → SelectiveStands core places before out d (by_number r rest s)
 numbered core places before out d s r n rest e h = subst (λ (o : Option ℕ). SelectiveStands core places before out d (acknowledging o rest s)) (sym e) h
 
-pub absent : (core : Kept) (places : List Place) (before : List ℕ) (out : Stored) (d : Deed) (s : Station) (r : ℕ) (rest : Station → Station)
-    → named s.extended s.acked (s.sent - s.acked) r ≡ None → SelectiveStands core places before out d (refuses_frame s)
+pub absent : (core : KeptStation) (places : List NumberPlace) (before : List ℕ) (out : Stored) (d : Deed) (s : Station) (r : ℕ) (rest : Station → Station)
+    → number_shown_as s.extended s.acked (s.sent - s.acked) r ≡ None → SelectiveStands core places before out d (refuses_frame s)
     → SelectiveStands core places before out d (by_number r rest s)
 absent core places before out d s r rest e h = subst (λ (o : Option ℕ). SelectiveStands core places before out d (acknowledging o rest s)) (sym e) h
 
 -- N(S)
-pub filed : (core : Kept) (places : List Place) (before : List ℕ) (out : Stored) (d : Deed) (s : Station) (ns : ℕ) (payload : List ℕ) (o : Option ℕ)
-    → named s.extended (length s.taken) (s.window - 1) ns ≡ o → SelectiveStands core places before out d (files_at o payload s)
+pub filed : (core : KeptStation) (places : List NumberPlace) (before : List ℕ) (out : Stored) (d : Deed) (s : Station) (ns : ℕ) (payload : List ℕ) (o : Option ℕ)
+    → number_shown_as s.extended (length s.taken) (s.window - 1) ns ≡ o → SelectiveStands core places before out d (files_at o payload s)
     → SelectiveStands core places before out d (files ns payload s)
 filed core places before out d s ns payload o e h = subst (λ (q : Option ℕ). SelectiveStands core places before out d (files_at q payload s)) (sym e) h
 
 -- ---- places
 
-pub held_is : (places : List Place) (r up : ℕ) (held : List (ℕ × List ℕ)) (asked : List ℕ) → IsBehind places r held asked
+pub held_is : (places : List NumberPlace) (r up : ℕ) (held : List (ℕ × List ℕ)) (asked : List ℕ) → IsBehind places r held asked
     → (get_or places up no_place).held ≡ true → is_found (held_for (r + up) held) ≡ true
 held_is places r up held asked h e = ap is_found (h.is_held up ∙ ap (λ (b : Bool). if b then Some (get_or places up no_place).payload else None) e)
 
-pub free_is : (places : List Place) (r up : ℕ) (held : List (ℕ × List ℕ)) (asked : List ℕ) → IsBehind places r held asked
+pub free_is : (places : List NumberPlace) (r up : ℕ) (held : List (ℕ × List ℕ)) (asked : List ℕ) → IsBehind places r held asked
     → (get_or places up no_place).held ≡ false → held_for (r + up) held ≡ None
 free_is places r up held asked h e = h.is_held up ∙ ap (λ (b : Bool). if b then Some (get_or places up no_place).payload else None) e
 
@@ -153,14 +153,14 @@ or_true true = refl
 or_true false = refl
 
 -- a number that is held or was asked for isn't asked for
-pub known_stays : (core : Kept) (places : List Place) (before : List ℕ) (out : Stored) (d : Deed) (s : Station) (up : ℕ)
+pub known_stays : (core : KeptStation) (places : List NumberPlace) (before : List ℕ) (out : Stored) (d : Deed) (s : Station) (up : ℕ)
     → SelectiveStands core places before out d s → (get_or places up no_place).held ≡ true → SelectiveStands core places before out d (asks_one (length s.taken + up) s)
 known_stays core places before out d s up h e =
     let n = length s.taken + up in
     when_so core places before out d (is_found (held_for n s.held) || is_one_of n s.asked) s (record (puts (Srej n) s) { asked = s.asked ++ n ∷ [] })
     (ap (λ (b : Bool). b || is_one_of n s.asked) (held_is places (length s.taken) up s.held s.asked h.behind e)) h
 
-pub asked_stays : (core : Kept) (places : List Place) (before : List ℕ) (out : Stored) (d : Deed) (s : Station) (up : ℕ)
+pub asked_stays : (core : KeptStation) (places : List NumberPlace) (before : List ℕ) (out : Stored) (d : Deed) (s : Station) (up : ℕ)
     → SelectiveStands core places before out d s → (get_or places up no_place).asked ≡ true → SelectiveStands core places before out d (asks_one (length s.taken + up) s)
 asked_stays core places before out d s up h e =
     let n = length s.taken + up in
@@ -168,7 +168,7 @@ asked_stays core places before out d s up h e =
     (ap (λ (b : Bool). is_found (held_for n s.held) || b) (h.behind.is_asked up ∙ e) ∙ or_true (is_found (held_for n s.held))) h
 
 -- another is
-pub asked_moves : (core : Kept) (places : List Place) (before : List ℕ) (out out' : Stored) (d : Deed) (s : Station) (up : ℕ)
+pub asked_moves : (core : KeptStation) (places : List NumberPlace) (before : List ℕ) (out out' : Stored) (d : Deed) (s : Station) (up : ℕ)
     → SelectiveStands core places before out d s → Stands core before out' d (puts (Srej (length s.taken + up)) s) → up < length places
     → (get_or places up no_place).held ≡ false → (get_or places up no_place).asked ≡ false
     → SelectiveStands core (set places up (record (get_or places up no_place) { asked = true })) before out' d (asks_one (length s.taken + up) s)
@@ -183,7 +183,7 @@ asked_moves core places before out out' d s up h g low free new =
     })
 
 -- a frame is held, and then the numbers before it are asked for
-pub held_moves : (core : Kept) (places after : List Place) (before : List ℕ) (out out' : Stored) (d : Deed) (s : Station) (up : ℕ) (payload : List ℕ)
+pub held_moves : (core : KeptStation) (places after : List NumberPlace) (before : List ℕ) (out out' : Stored) (d : Deed) (s : Station) (up : ℕ) (payload : List ℕ)
     → SelectiveStands core places before out d s → up < length places → 1 ≤ up → (get_or places up no_place).held ≡ false
     → Moves core (set places up (record (get_or places up no_place) { payload = payload; held = true })) out core after out' (asks_below up)
     → SelectiveStands core after before out' d (holds (length s.taken + up) payload s)
@@ -199,7 +199,7 @@ held_moves core places after before out out' d s up payload h low above free ask
     subst (λ (x : Station). SelectiveStands core after before out' d x) (asked_behind up payload s) (asks t before d held)
 
 -- the next payload is taken, and those that are held behind it
-module _ (core core' : Kept) (places : List Place) (payload : List ℕ) (out : Stored) (before : List ℕ) (s : Station) (h : SelectiveStands core places before out no_deed s) where
+module _ (core core' : KeptStation) (places : List NumberPlace) (payload : List ℕ) (out : Stored) (before : List ℕ) (s : Station) (h : SelectiveStands core places before out no_deed s) where
   abbrev run : List (List ℕ)
   run = run_of (drop 1 places)
 
@@ -216,7 +216,7 @@ module _ (core core' : Kept) (places : List Place) (payload : List ℕ) (out : S
     text = g.text;
   }
 
-  pub took : (x : Place) (n : ℕ) (d : Deed) → n ≡ length run → 1 ≤ length places → x.payload ≡ payload
+  pub took : (x : NumberPlace) (n : ℕ) (d : Deed) → n ≡ length run → 1 ≤ length places → x.payload ≡ payload
       → ((payloads : List (List ℕ)) → length payloads ≡ n → Stands core' before out d (record (accepts payload s) { taken = (s.taken ++ payload ∷ []) ++ payloads }))
       → SelectiveStands core' (drop (n + 1) (set places 0 x) ++ map cleared (take (n + 1) (set places 0 x))) before out
       (deed_of (drop (n + 1) (set places 0 x) ++ map cleared (take (n + 1) (set places 0 x))) (record { up = false; taken = n + 1; released = None })) (takes_first payload s)
@@ -247,7 +247,7 @@ module _ (core core' : Kept) (places : List Place) (payload : List ℕ) (out : S
       rest (p ∷ ps) = ps
 
 -- the repeated set-up frame: nothing is held or asked for any more
-pub forgotten : (core : Kept) (places : List Place) (n : ℕ) (before : List ℕ) (out out' : Stored) (d : Deed) (poll : Bool) (s : Station)
+pub forgotten : (core : KeptStation) (places : List NumberPlace) (n : ℕ) (before : List ℕ) (out out' : Stored) (d : Deed) (poll : Bool) (s : Station)
     → SelectiveStands core places before out d s → n ≡ length places
     → ((t : Station) → Stands core before out d t → Stands core before out' d (agrees poll t))
     → SelectiveStands core (drop n places ++ map cleared (take n places)) before out' d (agrees poll (record s { held = []; asked = [] }))
@@ -267,7 +267,7 @@ some_taken s h = ne_eqb (length s.taken) 0 (λ e. let z : 0 < length s.taken = l
 
 -- ---- how much was written
 
-pub within_more : (k k' k'' : Kept) (out out' out'' : Stored) (n m : ℕ) → Within k out k' out' n → Within k' out' k'' out'' m → Within k out k'' out'' (n + m)
+pub within_more : (k k' k'' : KeptStation) (out out' out'' : Stored) (n m : ℕ) → WritesFramesAtMost k out k' out' n → WritesFramesAtMost k' out' k'' out'' m → WritesFramesAtMost k out k'' out'' (n + m)
 within_more k k' k'' out out' out'' n m h g = record {
   window = g.window ∙ h.window;
   near = g.near;

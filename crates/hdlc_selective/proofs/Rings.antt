@@ -3,7 +3,7 @@ use Rattle.std.proofs.Common.{◌≡◌, ◌≢◌, ℕ, ◌+◌, ◌-◌, ◌<�
 use Rattle.std.proofs.lemmas.List.{same_lists, get_or_append_left, get_or-append_right, get_or-set_other}
 use Rattle.std.proofs.lemmas.Bool.{cases_lt, cases_eq}
 use Rattle.std.proofs.lemmas.Grind.{get_or-set_at, get_or_after_one}
-use Rattle.hdlc_selective.specs.Places.{Place}
+use Rattle.hdlc_selective.specs.Places.{NumberPlace}
 use Rattle.hdlc_selective.specs.Rings.{spot, from_head}
 
 pub spot_is : (n k i : ℕ) → ((i < n - k) × (spot n k i ≡ k + i)) ⊎ ((n - k ≤ i) × (spot n k i ≡ i - (n - k)))
@@ -70,13 +70,13 @@ spot_last n k j head last = elim (spot_is n k 1) [
   ]
 ]
 
-pub length-from_head : (k : ℕ) (xs : List Place) → k < length xs → length (from_head k xs) ≡ length xs
+pub length-from_head : (k : ℕ) (xs : List NumberPlace) → k < length xs → length (from_head k xs) ≡ length xs
 length-from_head k xs head =
     let tail = length-drop k xs in
     let front = length-take-le k xs (omega (arith, head)) in
     length-append (drop k xs) (take k xs) ∙ omega (arith, tail, front, head)
 
-pub get_or-from_head : (k : ℕ) (xs : List Place) (i : ℕ) (d : Place) → k < length xs → i < length xs → get_or (from_head k xs) i d ≡ get_or xs (spot (length xs) k i) d
+pub get_or-from_head : (k : ℕ) (xs : List NumberPlace) (i : ℕ) (d : NumberPlace) → k < length xs → i < length xs → get_or (from_head k xs) i d ≡ get_or xs (spot (length xs) k i) d
 get_or-from_head k xs i d head within =
     let tail = length-drop k xs in
     elim (spot_is (length xs) k i) [
@@ -84,7 +84,7 @@ get_or-from_head k xs i d head within =
       | inr past ↦ get_or-append_right (drop k xs) (take k xs) (length xs - k) i d tail past.0 ∙ get_or-take k xs (i - (length xs - k)) d (omega (arith, head, within, past)) ∙ ap (λ j. get_or xs j d) (sym past.1)
     ]
 
-pub set_from_head : (k : ℕ) (xs : List Place) (i : ℕ) (x : Place) → k < length xs → i < length xs
+pub set_from_head : (k : ℕ) (xs : List NumberPlace) (i : ℕ) (x : NumberPlace) → k < length xs → i < length xs
     → from_head k (set xs (spot (length xs) k i) x) ≡ set (from_head k xs) i x
 set_from_head k xs i x head within =
     let at = spot (length xs) k i in
@@ -105,7 +105,7 @@ set_from_head k xs i x head within =
           ∙ sym (get_or-set_other (from_head k xs) i j x d other)
     ])
 
-pub gone_on : (k : ℕ) (xs : List Place) (y : Place) → k < length xs
+pub gone_on : (k : ℕ) (xs : List NumberPlace) (y : NumberPlace) → k < length xs
     → from_head (spot (length xs) k 1) (set xs k y) ≡ drop 1 (from_head k xs) ++ y ∷ []
 gone_on k xs y head =
     let ys = set xs k y in

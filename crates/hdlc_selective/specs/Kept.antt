@@ -5,44 +5,44 @@ use Rattle.er_base.specs.Stored.{Stored}
 use Rattle.hdlc_frames.specs.Framing as framing
 use Rattle.hdlc_station_model.specs.Stations.{Station, Deed, no_deed}
 use Rattle.hdlc_station_model.specs.Selective.{held_for, is_one_of}
-use Rattle.hdlc_selective.specs.Places.{Place, held_at, asked_at}
-pub use Rattle.hdlc_station_core.specs.Kept.{Kept, kept_of, texts, Stands, Follows, Tells, Shown, Within, Ranged}
+use Rattle.hdlc_selective.specs.Places.{NumberPlace, held_at, asked_at}
+pub use Rattle.hdlc_station_core.specs.Kept.{KeptStation, kept_of, octets_of_sent_frames, Stands, Follows, Tells, Shown, WritesFramesAtMost, Ranged}
 
 pub record SelectiveKept : Type 0 where
-  pub core : Kept
+  pub core : KeptStation
   -- the places of the numbers from V(R) on
-  pub places : List Place
+  pub places : List NumberPlace
   -- how many payloads the last frame brought
   pub taken : ℕ
 
 -- no number is held twice
-abbrev pub AreDistinct : List (ℕ × List ℕ) → Type 0
-AreDistinct [] = Unit {0}
-AreDistinct (h ∷ held) = (held_for h.0 held ≡ None) × AreDistinct held
+abbrev pub HaveDistinctNumbers : List (ℕ × List ℕ) → Type 0
+HaveDistinctNumbers [] = Unit {0}
+HaveDistinctNumbers (h ∷ held) = (held_for h.0 held ≡ None) × HaveDistinctNumbers held
 
 -- what is held and asked for, of the numbers from V(R) = r on: exactly what their places say, so none from r + window on; below r none is
 -- held or asked for, and r itself isn't held
-pub record IsBehind (places : List Place) (r : ℕ) (held : List (ℕ × List ℕ)) (asked : List ℕ) : Type 0 where
+pub record IsBehind (places : List NumberPlace) (r : ℕ) (held : List (ℕ × List ℕ)) (asked : List ℕ) : Type 0 where
   pub is_held : (up : ℕ) → held_for (r + up) held ≡ held_at places up
   pub is_asked : (up : ℕ) → is_one_of (r + up) asked ≡ asked_at places up
   pub none_held : (n : ℕ) → n ≤ r → held_for n held ≡ None
   pub none_asked : (n : ℕ) → n < r → is_one_of n asked ≡ false
-  pub distinct : AreDistinct held
+  pub distinct : HaveDistinctNumbers held
 
 -- within a call: the code keeps this core and these places, it had `before` when the call began, and told d so far
-pub record SelectiveStands (core : Kept) (places : List Place) (before : List ℕ) (out : Stored) (d : Deed) (s : Station) : Type 0 where
+pub record SelectiveStands (core : KeptStation) (places : List NumberPlace) (before : List ℕ) (out : Stored) (d : Deed) (s : Station) : Type 0 where
   pub stands : Stands core before out d s
   pub behind : IsBehind places (length s.taken) s.held s.asked
   pub no_gap : s.gap ≡ false
 
 -- a part of a call that does what a step of the model does, over the core and the places
-abbrev pub Moves : (core : Kept) (places : List Place) → Stored → (core' : Kept) (places' : List Place) → Stored → (Station → Station) → Type 0
+abbrev pub Moves : (core : KeptStation) (places : List NumberPlace) → Stored → (core' : KeptStation) (places' : List NumberPlace) → Stored → (Station → Station) → Type 0
 Moves core places out core' places' out' step =
     (s : Station) (before : List ℕ) (d : Deed) → SelectiveStands core places before out d s → SelectiveStands core' places' before out' d (step s)
 
 -- a part of a call that tells something, where nothing was told before
-abbrev pub Says : (core : Kept) (places : List Place) → Stored → (core' : Kept) (places' : List Place) → Stored → Deed → (Station → Station) → Type 0
-Says core places out core' places' out' told step =
+abbrev pub TellsSelectiveDeed : (core : KeptStation) (places : List NumberPlace) → Stored → (core' : KeptStation) (places' : List NumberPlace) → Stored → Deed → (Station → Station) → Type 0
+TellsSelectiveDeed core places out core' places' out' told step =
     (s : Station) (before : List ℕ) → SelectiveStands core places before out no_deed s → SelectiveStands core' places' before out' told (step s)
 
 -- the same of all that is kept
@@ -50,7 +50,7 @@ abbrev pub SelectiveFollows : SelectiveKept → Stored → SelectiveKept → Sto
 SelectiveFollows old out new out' step = Moves old.core old.places out new.core new.places out' step
 
 abbrev pub SelectiveTells : SelectiveKept → Stored → SelectiveKept → Stored → Deed → (Station → Station) → Type 0
-SelectiveTells old out new out' told step = Says old.core old.places out new.core new.places out' told step
+SelectiveTells old out new out' told step = TellsSelectiveDeed old.core old.places out new.core new.places out' told step
 
 -- what is kept of a station between two calls
 pub record IsKeptOf (k : SelectiveKept) (s : Station) : Type 0 where

@@ -1,7 +1,7 @@
 //! What a call of a station tells, and what it answers.
 
 ghost use Rattle.std.specs.Prelude.{◌≡◌, List, false, None};
-ghost use Rattle.hdlc_selective.specs.Places.{Place};
+ghost use Rattle.hdlc_selective.specs.Places.{NumberPlace};
 ghost use Rattle.hdlc_station_model.specs.Stations.{no_deed};
 
 use er_base::Release;
@@ -23,7 +23,7 @@ impl SelectiveDeed {
 
     // Nothing was told.
     pub(crate) fn nothing() -> SelectiveDeed
-        ensures deed { (places : List Place) → deed_of places result ≡ no_deed }
+        ensures deed { (places : List NumberPlace) → deed_of places result ≡ no_deed }
         ensures none { result.taken ≡ 0 }
     {
         SelectiveDeed {
@@ -35,7 +35,7 @@ impl SelectiveDeed {
 
     // What a rule told that takes no payload.
     pub(crate) fn of(told: Told) -> SelectiveDeed
-        ensures deed { (places : List Place) → deed_of places result ≡ untaken told }
+        ensures deed { (places : List NumberPlace) → deed_of places result ≡ untaken told }
         ensures none { result.taken ≡ 0 }
     {
         match told {
@@ -80,7 +80,7 @@ impl SelectiveHeard {
 
     // The frame brought nothing.
     pub(crate) fn answering(reply: SelectiveReply) -> SelectiveHeard
-        ensures deed { (places : List Place) → deed_of places result.deed ≡ no_deed }
+        ensures deed { (places : List NumberPlace) → deed_of places result.deed ≡ no_deed }
         ensures none { result.deed.taken ≡ 0 }
         ensures reply { result.reply ≡ reply }
     {
@@ -109,7 +109,7 @@ impl SelectiveHeard {
 
     // What a rule of a station of either kind did that takes no payload.
     pub(crate) fn of(heard: Heard) -> SelectiveHeard
-        ensures deed { (places : List Place) → deed_of places result.deed ≡ untaken heard.told }
+        ensures deed { (places : List NumberPlace) → deed_of places result.deed ≡ untaken heard.told }
         ensures none { result.deed.taken ≡ 0 }
         ensures reply { result.reply ≡ SelectiveReply.Plain heard.reply }
     {

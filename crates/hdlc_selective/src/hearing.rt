@@ -2,9 +2,9 @@
 
 ghost use Rattle.std.specs.Prelude.{◌≡◌, ◌+◌, ◌*◌, ◌<◌, ◌≤◌, length, Some, true, false};
 ghost use Rattle.er_base.specs.Stored.{Stored, HasRoom};
-ghost use Rattle.hdlc_frames.specs.Shown.{shown};
+ghost use Rattle.hdlc_frames.specs.Shown.{verdict_of_octets_found};
 ghost use Rattle.hdlc_station_model.specs.Receiving.{by_number};
-ghost use Rattle.hdlc_station_core.specs.Replies.{Hears};
+ghost use Rattle.hdlc_station_core.specs.Replies.{FollowsWithInformation};
 ghost use Rattle.hdlc_station_model.specs.Selective.{is_selective_error, files, repeats_one, sets_up_selective_again, selective_row_setting, selective_row_up, selective_row, selective_hears_control, selective_hears_frame, selective_hears, selective_receives};
 
 use crate::content::Content;
@@ -35,10 +35,10 @@ fn is_error(calling: bool, control: Control, information: &[u8]) -> bool
 }
 
 impl SelectiveCore {
-    ghost use Rattle.hdlc_selective.specs.Kept.{Within, Moves, Says, FitsPlace};
+    ghost use Rattle.hdlc_selective.specs.Kept.{WritesFramesAtMost, Moves, TellsSelectiveDeed, FitsPlace};
     ghost use Rattle.hdlc_selective.specs.Told.{deed_of};
     ghost use Rattle.hdlc_selective.specs.Steps.{asks_one, asks_below, takes_first};
-    ghost use Rattle.hdlc_selective.specs.Replies.{IsWritten, IsSendable, HearsSo};
+    ghost use Rattle.hdlc_selective.specs.Replies.{IsReplyWritten, IsSendable, HearsSo};
 
     // ---- N(S)
 
@@ -47,7 +47,7 @@ impl SelectiveCore {
         requires within { up < length self.old.places }
         requires room { HasRoom out.old 2064 }
         ensures moves { Moves self.old.station self.old.places out.old self.new.station self.new.places out.new (λ s. asks_one (length s.taken + up) s) }
-        ensures within { Within self.old.station out.old self.new.station out.new 1 }
+        ensures within { WritesFramesAtMost self.old.station out.old self.new.station out.new 1 }
         ensures same { self.new.station ≡ self.old.station }
     {
         self.station.bounds();
@@ -66,7 +66,7 @@ impl SelectiveCore {
         requires within { up ≤ length self.old.places }
         requires room { HasRoom out.old (up * 2064) }
         ensures moves { Moves self.old.station self.old.places out.old self.new.station self.new.places out.new (λ s. asks_below up s) }
-        ensures within { Within self.old.station out.old self.new.station out.new up }
+        ensures within { WritesFramesAtMost self.old.station out.old self.new.station out.new up }
         ensures same { self.new.station ≡ self.old.station }
     {
         self.station.bounds();
@@ -234,8 +234,8 @@ impl SelectiveCore {
 
     // What a deframer found.
     fn hear(&mut self, found: &Found<'_>) -> SelectiveHeard
-        requires { FitsPlace (shown found.now) }
-        ensures hears { HearsSo self.old.station self.old.places self.new.station self.new.places result (selective_hears (shown found.now)) }
+        requires { FitsPlace (verdict_of_octets_found found.now) }
+        ensures hears { HearsSo self.old.station self.old.places self.new.station self.new.places result (selective_hears (verdict_of_octets_found found.now)) }
         ensures sendable { IsSendable self.new.station result.reply }
         ensures window { self.new.station.window ≡ self.old.station.window }
         ensures few { result.deed.taken ≤ length self.new.places }
@@ -265,8 +265,8 @@ impl SelectiveCore {
     fn write(&mut self, reply: SelectiveReply, out: &mut Room)
         requires sendable { IsSendable self.old.station reply }
         requires room { HasRoom out.old (self.old.station.window * 2064) }
-        ensures written { IsWritten self.old.station self.old.places out.old reply self.new.places out.new }
-        ensures within { Within self.old.station out.old self.new.station out.new self.old.station.window }
+        ensures written { IsReplyWritten self.old.station self.old.places out.old reply self.new.places out.new }
+        ensures within { WritesFramesAtMost self.old.station out.old self.new.station out.new self.old.station.window }
         ensures same { self.new.station ≡ self.old.station }
         ensures count { length self.new.places ≡ length self.old.places }
     {
@@ -285,10 +285,10 @@ impl SelectiveCore {
         found: &Found<'_>,
         out: &mut Room,
     ) -> SelectiveDeed
-        requires fits { FitsPlace (shown found.now) }
+        requires fits { FitsPlace (verdict_of_octets_found found.now) }
         requires room { HasRoom out.old (2 * self.old.station.window * 2064) }
-        ensures says { Says self.old.station self.old.places out.old self.new.station self.new.places out.new (deed_of self.new.places result) (selective_receives now (shown found.now)) }
-        ensures within { Within self.old.station out.old self.new.station out.new (2 * self.old.station.window) }
+        ensures says { TellsSelectiveDeed self.old.station self.old.places out.old self.new.station self.new.places out.new (deed_of self.new.places result) (selective_receives now (verdict_of_octets_found found.now)) }
+        ensures within { WritesFramesAtMost self.old.station out.old self.new.station out.new (2 * self.old.station.window) }
         ensures few { result.taken ≤ length self.new.places }
     {
         self.station.bounds();
@@ -305,7 +305,7 @@ impl SelectiveCore {
 
 // A control at a station in Setting.
 fn hear_setting(station: &mut StationCore, control: Control) -> Heard
-    ensures hears { Hears station.old station.new result (λ information s. selective_row_setting s control information) }
+    ensures hears { FollowsWithInformation station.old station.new result (λ information s. selective_row_setting s control information) }
     ensures window { station.new.window ≡ station.old.window }
 {
     match control {

@@ -22,7 +22,7 @@ impl Model for Place {
     ghost use Rattle.std.specs.Prelude.{◌≤◌, take};
     ghost use Rattle.hdlc_selective.specs.Places as places;
 
-    ghost Value = { places.Place };
+    ghost Value = { places.NumberPlace };
 
     ghost view = { λ p. record { payload = take p.len p.octets; held = p.is_held; asked = p.is_asked } };
 

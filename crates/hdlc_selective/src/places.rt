@@ -20,10 +20,10 @@ pub(crate) struct Places {
 
 impl Model for Places {
     ghost use Rattle.std.specs.Prelude.{List, ◌<◌, vec_len};
-    ghost use Rattle.hdlc_selective.specs.Places.{Place};
+    ghost use Rattle.hdlc_selective.specs.Places.{NumberPlace};
     ghost use Rattle.hdlc_selective.specs.Rings.{from_head};
 
-    ghost Value = { List Place };
+    ghost Value = { List NumberPlace };
 
     ghost view = { λ r. from_head r.head r.places.items };
 

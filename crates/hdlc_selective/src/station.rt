@@ -2,7 +2,7 @@
 
 ghost use Rattle.std.specs.Prelude.{◌≡◌, ◌+◌, ◌-◌, ◌*◌, ◌<◌, ◌≤◌, ◌==◌, [], length, slice_index_or, IfOk, IfErr, true, false};
 ghost use Rattle.er_base.specs.Stored.{Stored, HasRoom};
-ghost use Rattle.hdlc_frames.specs.Shown.{shown};
+ghost use Rattle.hdlc_frames.specs.Shown.{verdict_of_octets_found};
 ghost use Rattle.hdlc_station_model.specs.Stations.{made};
 ghost use Rattle.hdlc_station_model.specs.Sending.{waiting};
 ghost use Rattle.hdlc_station_model.specs.Calls.{starts, hands, finishes, ticks, closes, may_send, deadline};
@@ -41,7 +41,7 @@ impl Model for SelectiveStation {
 
 impl SelectiveStation {
     ghost use Rattle.hdlc_selective.specs.Places.{lent};
-    ghost use Rattle.hdlc_selective.specs.Kept.{SelectiveFollows, SelectiveTells, Shown, Within, IsKeptOf, FitsPlace};
+    ghost use Rattle.hdlc_selective.specs.Kept.{SelectiveFollows, SelectiveTells, Shown, WritesFramesAtMost, IsKeptOf, FitsPlace};
     ghost use Rattle.hdlc_selective.specs.Told.{deed_of, released_as};
 
     /// The calling station of a link.
@@ -78,7 +78,7 @@ impl SelectiveStation {
         requires moment { now ≤ 1000000000000000 }
         requires room { HasRoom out.old 2064 }
         ensures follows { SelectiveFollows self.old out.old self.new out.new (starts now) }
-        ensures within { Within self.old.core out.old self.new.core out.new 1 }
+        ensures within { WritesFramesAtMost self.old.core out.old self.new.core out.new 1 }
         ensures taken { self.new.taken ≡ self.old.taken }
         ensures places { self.new.places ≡ self.old.places }
     {
@@ -90,10 +90,10 @@ impl SelectiveStation {
     /// are lent by [`SelectiveStation::payload`] until the next receive.
     pub fn receive(&mut self, now: u64, found: &Found<'_>, out: &mut Room) -> SelectiveDeed
         requires moment { now ≤ 1000000000000000 }
-        requires fits { FitsPlace (shown found.now) }
+        requires fits { FitsPlace (verdict_of_octets_found found.now) }
         requires room { HasRoom out.old (2 * self.old.core.window * 2064) }
-        ensures tells { SelectiveTells self.old out.old self.new out.new (deed_of self.new.places result) (selective_receives now (shown found.now)) }
-        ensures within { Within self.old.core out.old self.new.core out.new (2 * self.old.core.window) }
+        ensures tells { SelectiveTells self.old out.old self.new out.new (deed_of self.new.places result) (selective_receives now (verdict_of_octets_found found.now)) }
+        ensures within { WritesFramesAtMost self.old.core out.old self.new.core out.new (2 * self.old.core.window) }
         ensures taken { self.new.taken ≡ result.taken }
         ensures few { result.taken ≤ length self.new.places }
     {
@@ -123,7 +123,7 @@ impl SelectiveStation {
         ensures full { IfErr result (λ full. Shown self.old.core (λ s. (waiting s ≡ 16) × (full.waiting ≡ 16))) }
         ensures unchanged { IfErr result (λ full. self.new ≡ self.old) }
         ensures unwritten { IfErr result (λ full. out.new ≡ out.old) }
-        ensures within { Within self.old.core out.old self.new.core out.new self.old.core.window }
+        ensures within { WritesFramesAtMost self.old.core out.old self.new.core out.new self.old.core.window }
         ensures waited { IfErr result (λ full. length self.old.core.ring ≡ self.old.core.ahead + 16) }
         ensures grows { self.old.core.ahead ≤ self.new.core.ahead }
         ensures sent { length out.new.items + self.old.core.ahead * 2064 ≤ length out.old.items + self.new.core.ahead * 2064 }
@@ -139,7 +139,7 @@ impl SelectiveStation {
     pub fn finish(&mut self, out: &mut Room)
         requires { HasRoom out.old 2064 }
         ensures follows { SelectiveFollows self.old out.old self.new out.new finishes }
-        ensures within { Within self.old.core out.old self.new.core out.new 1 }
+        ensures within { WritesFramesAtMost self.old.core out.old self.new.core out.new 1 }
         ensures taken { self.new.taken ≡ self.old.taken }
         ensures places { self.new.places ≡ self.old.places }
     {
@@ -152,7 +152,7 @@ impl SelectiveStation {
         requires moment { now ≤ 1000000000000000 }
         requires room { HasRoom out.old ((self.old.core.window + 1) * 2064) }
         ensures tells { SelectiveTells self.old out.old self.new out.new (released_as result) (ticks now) }
-        ensures within { Within self.old.core out.old self.new.core out.new (self.old.core.window + 1) }
+        ensures within { WritesFramesAtMost self.old.core out.old self.new.core out.new (self.old.core.window + 1) }
         ensures taken { self.new.taken ≡ self.old.taken }
         ensures places { self.new.places ≡ self.old.places }
     {
@@ -164,7 +164,7 @@ impl SelectiveStation {
     pub fn close(&mut self, out: &mut Room)
         requires { HasRoom out.old 2064 }
         ensures follows { SelectiveFollows self.old out.old self.new out.new closes }
-        ensures within { Within self.old.core out.old self.new.core out.new 1 }
+        ensures within { WritesFramesAtMost self.old.core out.old self.new.core out.new 1 }
         ensures taken { self.new.taken ≡ self.old.taken }
         ensures places { self.new.places ≡ self.old.places }
     {

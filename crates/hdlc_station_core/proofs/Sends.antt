@@ -7,39 +7,39 @@ use Rattle.hdlc_station_model.specs.declared.phase.Phase.{Phase}
 use Rattle.hdlc_station_model.specs.Frames.{Frame}
 use Rattle.hdlc_station_model.specs.Stations.{Station, Deed, expiry_moment}
 use Rattle.hdlc_station_model.specs.Sending.{info_at, started, can_send, sends_next, sends_up_to, sends_again, counts_expiry}
-use Rattle.hdlc_station_core.specs.Kept.{Kept, kept_of, Stands, Within}
+use Rattle.hdlc_station_core.specs.Kept.{KeptStation, kept_of, Stands, WritesFramesAtMost}
 use Rattle.hdlc_station_core.specs.Replies.{info_text, info_texts}
 use Rattle.hdlc_station_core.specs.Saying.{put, info_said, says_again}
 
 -- ---- what doesn't write
 
 -- nothing is owed any more
-pub owed_settled : (k : Kept) (before : List ℕ) (out : Stored) (d : Deed) (s : Station) → Stands k before out d s
+pub owed_settled : (k : KeptStation) (before : List ℕ) (out : Stored) (d : Deed) (s : Station) → Stands k before out d s
     → Stands (record k { owed = false }) before out d (record s { owed = false })
-owed_settled k before out d s h = record { is = ap (λ (q : Kept). record q { owed = false }) h.is; order = h.order; given = h.given; deed = h.deed; text = h.text }
+owed_settled k before out d s h = record { is = ap (λ (q : KeptStation). record q { owed = false }) h.is; order = h.order; given = h.given; deed = h.deed; text = h.text }
 
-pub phased : (k : Kept) (before : List ℕ) (out : Stored) (d : Deed) (s : Station) (phase : Phase) → Stands k before out d s
+pub phased : (k : KeptStation) (before : List ℕ) (out : Stored) (d : Deed) (s : Station) (phase : Phase) → Stands k before out d s
     → Stands (record k { phase = phase }) before out d (record s { phase = phase })
-phased k before out d s phase h = record { is = ap (λ (q : Kept). record q { phase = phase }) h.is; order = h.order; given = h.given; deed = h.deed; text = h.text }
+phased k before out d s phase h = record { is = ap (λ (q : KeptStation). record q { phase = phase }) h.is; order = h.order; given = h.given; deed = h.deed; text = h.text }
 
-pub counted : (k : Kept) (before : List ℕ) (out : Stored) (d : Deed) (s : Station) → Stands k before out d s
+pub counted : (k : KeptStation) (before : List ℕ) (out : Stored) (d : Deed) (s : Station) → Stands k before out d s
     → Stands (record k { expiries = k.expiries + 1 }) before out d (counts_expiry s)
-counted k before out d s h = record { is = ap (λ (q : Kept). record q { expiries = q.expiries + 1 }) h.is; order = h.order; given = h.given; deed = h.deed; text = h.text }
+counted k before out d s h = record { is = ap (λ (q : KeptStation). record q { expiries = q.expiries + 1 }) h.is; order = h.order; given = h.given; deed = h.deed; text = h.text }
 
 -- ---- the next payload
 
-pub next_said : (k : Kept) (before : List ℕ) (out out' : Stored) (d : Deed) (s : Station) → Stands k before out d s → k.ahead < length k.ring
+pub next_said : (k : KeptStation) (before : List ℕ) (out out' : Stored) (d : Deed) (s : Station) → Stands k before out d s → k.ahead < length k.ring
     → out'.items ≡ out.items ++ info_texts k k.ahead 1
     → Stands (record k { ahead = k.ahead + 1; owed = false; timer = started k.timer (k.moment + k.t1) }) before out' d (sends_next s)
 next_said k before out out' d s h there e =
-    let ahead : k.ahead ≡ s.sent - s.acked = ap (λ (q : Kept). q.ahead) h.is in
-    let waits : length k.ring ≡ length s.handed - s.acked = ap (λ (q : Kept). length q.ring) h.is ∙ length-drop s.acked s.handed in
+    let ahead : k.ahead ≡ s.sent - s.acked = ap (λ (q : KeptStation). q.ahead) h.is in
+    let waits : length k.ring ≡ length s.handed - s.acked = ap (λ (q : KeptStation). length q.ring) h.is ∙ length-drop s.acked s.handed in
     let next : s.acked + k.ahead ≡ s.sent = omega (arith, h.order) in
     let said = put k before out out' d s (info_at s (s.acked + k.ahead)) h
     (e ∙ ap (λ (os : List ℕ). out.items ++ os) (ap (λ (i : ℕ). info_text k i) (omega arith) ∙ info_said k s k.ahead h.is)) in
     let sent = subst (λ (n : ℕ). Stands k before out' d (record s { said = s.said ++ info_at s n ∷ [] })) next said in
     record {
-      is = ap (λ (q : Kept). record q { ahead = q.ahead + 1; owed = false; timer = started q.timer (q.moment + q.t1) }) h.is
+      is = ap (λ (q : KeptStation). record q { ahead = q.ahead + 1; owed = false; timer = started q.timer (q.moment + q.t1) }) h.is
           ∙ ap (λ (n : ℕ). record (kept_of s) { ahead = n; owed = false; timer = started s.timer (expiry_moment s) }) (omega (arith, h.order));
       order = omega (arith, h.order);
       given = omega (arith, h.order, h.given);
@@ -78,26 +78,26 @@ started_some None m h = absurd cc
 started_some (Some running) m h = refl
 
 -- a payload counts as sent, where it may be
-pub next_counted : (k j : Kept) (timer : Option ℕ) (before : List ℕ) (out out' : Stored) (d : Deed) (s : Station) → j ≡ k → timer ≡ started j.timer (j.moment + j.t1)
+pub next_counted : (k j : KeptStation) (timer : Option ℕ) (before : List ℕ) (out out' : Stored) (d : Deed) (s : Station) → j ≡ k → timer ≡ started j.timer (j.moment + j.t1)
     → Stands k before out d s → k.ahead < length k.ring → out'.items ≡ out.items ++ info_texts k k.ahead (j.ahead + 1 - k.ahead) → can_send s ≡ true
     → Stands (record j { ahead = j.ahead + 1; owed = false; timer = timer }) before out' d (one_if_can s)
 next_counted k j timer before out out' d s same run h there e can =
-    let ahead = ap (λ (q : Kept). q.ahead) same in
+    let ahead = ap (λ (q : KeptStation). q.ahead) same in
     let one : j.ahead + 1 - k.ahead ≡ 1 = omega (arith, ahead) in
     let counted = next_said k before out out' d s h there (e ∙ ap (λ (n : ℕ). out.items ++ info_texts k k.ahead n) one) in
-    subst (λ (q : Kept). Stands q before out' d (one_if_can s))
+    subst (λ (q : KeptStation). Stands q before out' d (one_if_can s))
     (sym (ap (λ (t : Option ℕ). record j { ahead = j.ahead + 1; owed = false; timer = t }) run
-    ∙ ap (λ (q : Kept). record q { ahead = q.ahead + 1; owed = false; timer = started q.timer (q.moment + q.t1) }) same))
+    ∙ ap (λ (q : KeptStation). record q { ahead = q.ahead + 1; owed = false; timer = started q.timer (q.moment + q.t1) }) same))
     (subst (λ (b : Bool). Stands (record k { ahead = k.ahead + 1; owed = false; timer = started k.timer (k.moment + k.t1) }) before out' d (if b then sends_next s else s)) (sym can) counted)
 
 -- ---- frames that are sent again
 
-pub repeated : (k : Kept) (before : List ℕ) (out out' : Stored) (d : Deed) (s : Station) → Stands k before out d s → out'.items ≡ out.items ++ info_texts k 0 k.ahead
+pub repeated : (k : KeptStation) (before : List ℕ) (out out' : Stored) (d : Deed) (s : Station) → Stands k before out d s → out'.items ≡ out.items ++ info_texts k 0 k.ahead
     → Stands (record k { owed = if k.ahead == 0 then k.owed else false }) before out' d (sends_again s)
 repeated k before out out' d s h e =
     let said = says_again k before out out' d s h e in
     record {
-      is = ap (λ (q : Kept). record q { owed = if q.ahead == 0 then q.owed else false }) h.is;
+      is = ap (λ (q : KeptStation). record q { owed = if q.ahead == 0 then q.owed else false }) h.is;
       order = h.order;
       given = h.given;
       deed = h.deed;
@@ -106,7 +106,7 @@ repeated k before out out' d s h e =
 
 -- ---- how much was written
 
-pub within_more : (k k' k'' : Kept) (out out' out'' : Stored) (n m : ℕ) → Within k out k' out' n → Within k' out' k'' out'' m → Within k out k'' out'' (n + m)
+pub within_more : (k k' k'' : KeptStation) (out out' out'' : Stored) (n m : ℕ) → WritesFramesAtMost k out k' out' n → WritesFramesAtMost k' out' k'' out'' m → WritesFramesAtMost k out k'' out'' (n + m)
 within_more k k' k'' out out' out'' n m h g = record {
   window = g.window ∙ h.window;
   near = g.near;

@@ -8,7 +8,7 @@ use Rattle.hdlc_station_model.specs.declared.counts.Counts.{Counts}
 use Rattle.hdlc_station_model.specs.Frames.{Frame, modulo, sent_octets}
 use Rattle.hdlc_station_model.specs.Stations.{Station, Deed, no_deed}
 
-pub record Kept : Type 0 where
+pub record KeptStation : Type 0 where
   pub calling : Bool
   pub extended : Bool
   pub window : ℕ
@@ -34,7 +34,7 @@ pub record Kept : Type 0 where
   pub counts : Counts
 
 -- what the code keeps of a station
-abbrev pub kept_of : Station → Kept
+abbrev pub kept_of : Station → KeptStation
 kept_of s = record {
   calling = s.calling;
   extended = s.extended;
@@ -57,27 +57,27 @@ kept_of s = record {
 }
 
 -- the octets of frames that a station sent
-abbrev pub texts : (calling extended : Bool) → List Frame → List ℕ
-texts calling extended frames = flat_map (sent_octets calling extended) frames
+abbrev pub octets_of_sent_frames : (calling extended : Bool) → List Frame → List ℕ
+octets_of_sent_frames calling extended frames = flat_map (sent_octets calling extended) frames
 
 -- within a call: the code keeps k, it had `before` when the call began, and told d so far
-pub record Stands (k : Kept) (before : List ℕ) (out : Stored) (d : Deed) (s : Station) : Type 0 where
+pub record Stands (k : KeptStation) (before : List ℕ) (out : Stored) (d : Deed) (s : Station) : Type 0 where
   pub is : k ≡ kept_of s
   pub order : s.acked ≤ s.sent
   pub given : s.sent ≤ length s.handed
   pub deed : s.deed ≡ d
-  pub text : out.items ≡ before ++ texts k.calling k.extended s.said
+  pub text : out.items ≡ before ++ octets_of_sent_frames k.calling k.extended s.said
 
 -- a part of a call that does what a step of the model does
-abbrev pub Follows : Kept → Stored → Kept → Stored → (Station → Station) → Type 0
+abbrev pub Follows : KeptStation → Stored → KeptStation → Stored → (Station → Station) → Type 0
 Follows old out new out' step = (s : Station) (before : List ℕ) (d : Deed) → Stands old before out d s → Stands new before out' d (step s)
 
 -- a part of a call that tells something, where nothing was told before
-abbrev pub Tells : Kept → Stored → Kept → Stored → Deed → (Station → Station) → Type 0
+abbrev pub Tells : KeptStation → Stored → KeptStation → Stored → Deed → (Station → Station) → Type 0
 Tells old out new out' told step = (s : Station) (before : List ℕ) → Stands old before out no_deed s → Stands new before out' told (step s)
 
 -- what holds of each station of the model that the code keeps
-abbrev pub Shown : Kept → (Station → Type 0) → Type 0
+abbrev pub Shown : KeptStation → (Station → Type 0) → Type 0
 Shown k P = (s : Station) → k ≡ kept_of s → s.acked ≤ s.sent → s.sent ≤ length s.handed → P s
 
 -- the greatest number of octets of a frame on the line
@@ -85,14 +85,14 @@ abbrev pub frame_octets : ℕ
 frame_octets = 2064
 
 -- at most n frames were written
-pub record Within (old : Kept) (out : Stored) (new : Kept) (out' : Stored) (n : ℕ) : Type 0 where
+pub record WritesFramesAtMost (old : KeptStation) (out : Stored) (new : KeptStation) (out' : Stored) (n : ℕ) : Type 0 where
   pub window : new.window ≡ old.window
   pub near : new.ahead ≤ new.window
   pub capacity : out'.capacity ≡ out.capacity
   pub items : length out'.items ≤ length out.items + n * 2064
 
 -- what is known of each station that the code keeps
-pub record Ranged (k : Kept) : Type 0 where
+pub record Ranged (k : KeptStation) : Type 0 where
   pub small_va : k.va < modulo k.extended
   pub small_vr : k.vr < modulo k.extended
   pub none_vr : k.begun ≡ false → k.vr ≡ 0

@@ -6,8 +6,8 @@ ghost use Rattle.hdlc_frames.specs.ControlOctets.{control_of};
 ghost use Rattle.hdlc_frames.specs.Framing.{BadFcs, TooShort, TooLong, Aborted};
 ghost use Rattle.hdlc_station_model.specs.Frames.{modulo};
 ghost use Rattle.hdlc_station_model.specs.Stations.{no_deed, one_more};
-ghost use Rattle.hdlc_station_model.specs.Sending.{releases, refuses_frame};
-ghost use Rattle.hdlc_station_model.specs.Receiving.{strays, is_known_address, is_addressed, is_some_octets, errs, named, acknowledges, by_number, accepts, marks_busy, comes_up, agrees, row_idle, row_setting, hears};
+ghost use Rattle.hdlc_station_model.specs.Sending.{station_down_for_cause, refuses_frame};
+ghost use Rattle.hdlc_station_model.specs.Receiving.{strays, is_known_address, is_addressed, is_some_octets, errs, number_shown_as, acknowledges, by_number, accepts, marks_busy, comes_up, agrees, row_idle, row_setting, hears};
 
 use crate::deeds::{Heard, Reply, Told};
 use crate::sending::{address_of, modulo_of, number_above};
@@ -65,8 +65,8 @@ fn above(extended: bool, from: u8, to: u8) -> u8
 }
 
 impl StationCore {
-    ghost use Rattle.hdlc_station_core.specs.Kept.{Kept, kept_of, Follows, Tells, Shown};
-    ghost use Rattle.hdlc_station_core.specs.Replies.{Hears};
+    ghost use Rattle.hdlc_station_core.specs.Kept.{KeptStation, kept_of, Follows, Tells, Shown};
+    ghost use Rattle.hdlc_station_core.specs.Replies.{FollowsWithInformation};
     ghost use Rattle.hdlc_station_core.specs.Told.{told_as};
     ghost use Rattle.hdlc_station_model.specs.Stations.{Station as StationModel};
 
@@ -80,7 +80,7 @@ impl StationCore {
 
     // The station is Down for this cause.
     pub(crate) fn let_go(&mut self, cause: Cause) -> Release
-        ensures tells { (out : Stored) → Tells self.old out self.new out (record { up = false; payload = None; more = []; released = Some result }) (releases cause) }
+        ensures tells { (out : Stored) → Tells self.old out self.new out (record { up = false; payload = None; more = []; released = Some result }) (station_down_for_cause cause) }
         ensures same { self.new ≡ record self.old { phase = Phase.Down; timer = None } }
     {
         self.phase = Phase::Down;
@@ -90,7 +90,7 @@ impl StationCore {
 
     /// A frame that the station may not accept: it answers DM.
     pub fn refuse(&mut self) -> Heard
-        ensures hears { Hears self.old self.new result (λ information. refuses_frame) }
+        ensures hears { FollowsWithInformation self.old self.new result (λ information. refuses_frame) }
         ensures window { self.new.window ≡ self.old.window }
     {
         let release = self.let_go(Cause::FrameError);
@@ -102,7 +102,7 @@ impl StationCore {
 
     /// A frame that is an error at any phase, or whose control is unknown.
     pub fn err(&mut self) -> Heard
-        ensures hears { Hears self.old self.new result (λ information s. errs s.phase s) }
+        ensures hears { FollowsWithInformation self.old self.new result (λ information s. errs s.phase s) }
         ensures window { self.new.window ≡ self.old.window }
     {
         match self.phase {
@@ -114,7 +114,7 @@ impl StationCore {
     }
 
     fn err_idle(&mut self) -> Heard
-        ensures hears { Hears self.old self.new result (λ information. errs Phase.Idle) }
+        ensures hears { FollowsWithInformation self.old self.new result (λ information. errs Phase.Idle) }
         ensures window { self.new.window ≡ self.old.window }
     {
         if self.calling {
@@ -127,7 +127,7 @@ impl StationCore {
 
     /// How far above V(A) the number is that is shown as r, if it is one from V(A) to V(S).
     pub fn named(&self, r: u8) -> Option<u8>
-        ensures named { Shown self.now (λ s. named s.extended s.acked (s.sent - s.acked) r ≡ option_map (λ up. s.acked + up) result) }
+        ensures named { Shown self.now (λ s. number_shown_as s.extended s.acked (s.sent - s.acked) r ≡ option_map (λ up. s.acked + up) result) }
         ensures near { IfSome result (λ up. up ≤ self.now.ahead) }
     {
         if r >= modulo_of(self.extended) {
@@ -184,7 +184,7 @@ impl StationCore {
 
     /// How far above V(R) the number is that is shown as ns, if it is one of as many as the window from V(R) on.
     pub fn named_next(&self, ns: u8) -> Option<u8>
-        ensures named { Shown self.now (λ s. named s.extended (length s.taken) (s.window - 1) ns ≡ option_map (λ up. length s.taken + up) result) }
+        ensures named { Shown self.now (λ s. number_shown_as s.extended (length s.taken) (s.window - 1) ns ≡ option_map (λ up. length s.taken + up) result) }
         ensures near { IfSome result (λ up. up < self.now.window) }
     {
         if ns >= modulo_of(self.extended) {
@@ -214,7 +214,7 @@ impl StationCore {
 
     /// RR and RNR.
     pub fn hear_ready(&mut self, nr: u8, busy: bool) -> Heard
-        ensures hears { Hears self.old self.new result (λ information. by_number nr (marks_busy busy)) }
+        ensures hears { FollowsWithInformation self.old self.new result (λ information. by_number nr (marks_busy busy)) }
         ensures window { self.new.window ≡ self.old.window }
     {
         let Some(up) = self.named(nr) else {
@@ -227,7 +227,7 @@ impl StationCore {
 
     /// DISC is answered with UA.
     pub fn disconnect(&mut self, poll: bool) -> Heard
-        ensures hears { Hears self.old self.new result (λ information s. releases Cause.PeerDisconnected (agrees poll s)) }
+        ensures hears { FollowsWithInformation self.old self.new result (λ information s. station_down_for_cause Cause.PeerDisconnected (agrees poll s)) }
         ensures window { self.new.window ≡ self.old.window }
     {
         let release = self.let_go(Cause::PeerDisconnected);
@@ -239,7 +239,7 @@ impl StationCore {
 
     /// The peer disconnected.
     pub fn drop_link(&mut self) -> Heard
-        ensures hears { Hears self.old self.new result (λ information. releases Cause.PeerDisconnected) }
+        ensures hears { FollowsWithInformation self.old self.new result (λ information. station_down_for_cause Cause.PeerDisconnected) }
         ensures window { self.new.window ≡ self.old.window }
     {
         let release = self.let_go(Cause::PeerDisconnected);
@@ -251,7 +251,7 @@ impl StationCore {
 
     /// A stray frame.
     pub fn stray(&mut self) -> Heard
-        ensures hears { Hears self.old self.new result (λ information. strays) }
+        ensures hears { FollowsWithInformation self.old self.new result (λ information. strays) }
         ensures window { self.new.window ≡ self.old.window }
     {
         self.count_stray();
@@ -270,7 +270,7 @@ impl StationCore {
 
     // The set-up frame at a called station.
     fn set_up(&mut self, poll: bool) -> Heard
-        ensures hears { Hears self.old self.new result (λ information s. agrees poll (comes_up s)) }
+        ensures hears { FollowsWithInformation self.old self.new result (λ information s. agrees poll (comes_up s)) }
         ensures window { self.new.window ≡ self.old.window }
     {
         self.come_up();
@@ -282,7 +282,7 @@ impl StationCore {
 
     /// A control at a station in Idle.
     pub fn hear_idle(&mut self, control: Control) -> Heard
-        ensures hears { Hears self.old self.new result (λ information s. row_idle s control information) }
+        ensures hears { FollowsWithInformation self.old self.new result (λ information s. row_idle s control information) }
         ensures window { self.new.window ≡ self.old.window }
     {
         match control {
@@ -311,7 +311,7 @@ impl StationCore {
 
     /// UA at a calling station that asked for the set-up.
     pub fn agreed(&mut self) -> Heard
-        ensures hears { Hears self.old self.new result (λ information s. comes_up (record s { timer = None; expiries = 0 })) }
+        ensures hears { FollowsWithInformation self.old self.new result (λ information s. comes_up (record s { timer = None; expiries = 0 })) }
         ensures window { self.new.window ≡ self.old.window }
     {
         self.stop_timer();
@@ -324,7 +324,7 @@ impl StationCore {
 
     /// A control at a station in Setting.
     pub fn hear_setting(&mut self, control: Control) -> Heard
-        ensures hears { Hears self.old self.new result (λ information s. row_setting s control information) }
+        ensures hears { FollowsWithInformation self.old self.new result (λ information s. row_setting s control information) }
         ensures window { self.new.window ≡ self.old.window }
     {
         match control {

@@ -53,8 +53,8 @@ fn set_up(extended: bool) -> Control
 }
 
 impl StationCore {
-    ghost use Rattle.hdlc_station_core.specs.Kept.{Kept, kept_of, Follows, Shown, Within};
-    ghost use Rattle.hdlc_station_core.specs.Replies.{info_text, info_texts, reply_text, frames_in, Answers};
+    ghost use Rattle.hdlc_station_core.specs.Kept.{KeptStation, kept_of, Follows, Shown, WritesFramesAtMost};
+    ghost use Rattle.hdlc_station_core.specs.Replies.{info_text, info_texts, reply_text, frame_count_of_reply, FollowsWithReply};
 
     // Sends a frame without information: its control with the P/F bit.
     fn send(&self, address: u8, control: Control, bit: bool, out: &mut Room)
@@ -76,9 +76,9 @@ impl StationCore {
 
     /// Writes a reply.
     pub fn write(&self, reply: Reply, out: &mut Room)
-        requires { HasRoom out.old (frames_in self.now reply * 2064) }
+        requires { HasRoom out.old (frame_count_of_reply self.now reply * 2064) }
         ensures appends { Appends out.old out.new (reply_text self.now reply) }
-        ensures within { Within self.now out.old self.now out.new (frames_in self.now reply) }
+        ensures within { WritesFramesAtMost self.now out.old self.now out.new (frame_count_of_reply self.now reply) }
     {
         let sender = address_of(self.calling);
         let receiver = address_of(!self.calling);
@@ -103,7 +103,7 @@ impl StationCore {
         requires there { i < length self.now.ring }
         requires room { HasRoom out.old 2064 }
         ensures appends { Appends out.old out.new (info_text self.now i) }
-        ensures within { Within self.now out.old self.now out.new 1 }
+        ensures within { WritesFramesAtMost self.now out.old self.now out.new 1 }
     {
         control_length();
         frame_length();
@@ -126,7 +126,7 @@ impl StationCore {
         requires there { first + count ≤ length self.now.ring }
         requires room { HasRoom out.old (count * 2064) }
         ensures appends { Appends out.old out.new (info_texts self.now first count) }
-        ensures within { Within self.now out.old self.now out.new count }
+        ensures within { WritesFramesAtMost self.now out.old self.now out.new count }
     {
         let _ = &self.calling;
         for i in 0..count {
@@ -225,7 +225,7 @@ impl StationCore {
     pub fn send_waiting(&mut self, out: &mut Room)
         requires { HasRoom out.old ((self.old.window - self.old.ahead) * 2064) }
         ensures follows { Follows self.old out.old self.new out.new sends_waiting }
-        ensures within { Within self.old out.old self.new out.new (self.new.ahead - self.old.ahead) }
+        ensures within { WritesFramesAtMost self.old out.old self.new out.new (self.new.ahead - self.old.ahead) }
         ensures grows { self.old.ahead ≤ self.new.ahead }
     {
         let first = self.ahead;
@@ -257,9 +257,9 @@ impl StationCore {
 
     // The answer that is owed.
     pub(crate) fn settle(&mut self) -> Reply
-        ensures answers { Answers self.old self.new result settles }
+        ensures answers { FollowsWithReply self.old self.new result settles }
         ensures same { self.new ≡ record self.old { owed = false } }
-        ensures few { frames_in self.new result ≤ 1 }
+        ensures few { frame_count_of_reply self.new result ≤ 1 }
     {
         if self.owed {
             self.owed = false;

@@ -44,9 +44,9 @@ pub struct StationCore {
 
 impl Model for StationCore {
     ghost use Rattle.std.specs.Prelude.{length};
-    ghost use Rattle.hdlc_station_core.specs.Kept.{Kept, InRange};
+    ghost use Rattle.hdlc_station_core.specs.Kept.{KeptStation, InRange};
 
-    ghost Value = { Kept };
+    ghost Value = { KeptStation };
 
     ghost view = { λ s. record {
       calling = s.calling;
@@ -74,9 +74,9 @@ impl Model for StationCore {
 }
 
 impl StationCore {
-    ghost use Rattle.hdlc_station_core.specs.Kept.{kept_of, Ranged, Follows, Tells, Shown, Within};
+    ghost use Rattle.hdlc_station_core.specs.Kept.{kept_of, Ranged, Follows, Tells, Shown, WritesFramesAtMost};
     ghost use Rattle.hdlc_station_core.specs.Told.{released_as};
-    ghost use Rattle.hdlc_station_core.specs.Replies.{frames_in, Answers};
+    ghost use Rattle.hdlc_station_core.specs.Replies.{frame_count_of_reply, FollowsWithReply};
 
     /// A station that was just made: the calling one of a link, or the called one.
     pub fn new(alloc: Global, calling: bool, settings: &Settings) -> Result<StationCore, NoMemory>
@@ -116,9 +116,9 @@ impl StationCore {
     /// was started before, sends nothing and only sees the moment; one that was released does nothing at all. The call
     /// doesn't tell which it was.
     pub fn start(&mut self, now: Moment) -> Reply
-        ensures answers { Answers self.old self.new result (starts now) }
+        ensures answers { FollowsWithReply self.old self.new result (starts now) }
         ensures window { self.new.window ≡ self.old.window }
-        ensures few { frames_in self.new result ≤ 1 }
+        ensures few { frame_count_of_reply self.new result ≤ 1 }
     {
         if self.is_down() {
             return Reply::Nothing;
@@ -137,7 +137,7 @@ impl StationCore {
         ensures full { IfErr result (λ full. Shown self.old (λ s. (waiting s ≡ 16) × (full.waiting ≡ 16))) }
         ensures unchanged { IfErr result (λ full. self.new ≡ self.old) }
         ensures unwritten { IfErr result (λ full. out.new ≡ out.old) }
-        ensures within { Within self.old out.old self.new out.new self.old.window }
+        ensures within { WritesFramesAtMost self.old out.old self.new out.new self.old.window }
         ensures waited { IfErr result (λ full. length self.old.ring ≡ self.old.ahead + 16) }
         ensures grows { self.old.ahead ≤ self.new.ahead }
         ensures sent { length out.new.items + self.old.ahead * 2064 ≤ length out.old.items + self.new.ahead * 2064 }
@@ -169,9 +169,9 @@ impl StationCore {
 
     /// Answers with what is still owed for I frames that were taken. It follows each event.
     pub fn finish(&mut self) -> Reply
-        ensures answers { Answers self.old self.new result finishes }
+        ensures answers { FollowsWithReply self.old self.new result finishes }
         ensures window { self.new.window ≡ self.old.window }
-        ensures few { frames_in self.new result ≤ 1 }
+        ensures few { frame_count_of_reply self.new result ≤ 1 }
     {
         if self.is_down() {
             return Reply::Nothing;
@@ -183,7 +183,7 @@ impl StationCore {
     pub fn tick(&mut self, now: Moment, out: &mut Room) -> Option<Release>
         requires { HasRoom out.old ((self.old.window + 1) * 2064) }
         ensures tells { Tells self.old out.old self.new out.new (released_as result) (ticks now) }
-        ensures within { Within self.old out.old self.new out.new (self.old.window + 1) }
+        ensures within { WritesFramesAtMost self.old out.old self.new out.new (self.old.window + 1) }
     {
         let _ = &self.calling;
         if self.is_down() {
@@ -200,9 +200,9 @@ impl StationCore {
     /// The layer above ends the link: DISC where it was being set up or is up, and the station is Down. It tells no release:
     /// that is the caller's own.
     pub fn close(&mut self) -> Reply
-        ensures answers { Answers self.old self.new result closes }
+        ensures answers { FollowsWithReply self.old self.new result closes }
         ensures window { self.new.window ≡ self.old.window }
-        ensures few { frames_in self.new result ≤ 1 }
+        ensures few { frame_count_of_reply self.new result ≤ 1 }
     {
         if self.is_down() {
             return Reply::Nothing;
@@ -249,9 +249,9 @@ impl StationCore {
     pub fn bounds(&self)
         ensures ranged { Ranged self.now }
         ensures near { self.now.ahead ≤ self.now.window }
-        ensures within { (out : Stored) (n : ℕ) → Within self.now out self.now out n }
-        ensures frames { (reply : Reply) → frames_in self.now reply ≤ self.now.ahead + 1 }
-        ensures few { (reply : Reply) → frames_in self.now reply ≤ self.now.window }
+        ensures within { (out : Stored) (n : ℕ) → WritesFramesAtMost self.now out self.now out n }
+        ensures frames { (reply : Reply) → frame_count_of_reply self.now reply ≤ self.now.ahead + 1 }
+        ensures few { (reply : Reply) → frame_count_of_reply self.now reply ≤ self.now.window }
     {
         let _ = &self.calling;
     }

@@ -14,7 +14,7 @@ use hdlc_station_model::Phase;
 
 impl StationCore {
     ghost use Rattle.hdlc_station_core.specs.Kept.{Follows};
-    ghost use Rattle.hdlc_station_core.specs.Replies.{frames_in, Answers, Expires};
+    ghost use Rattle.hdlc_station_core.specs.Replies.{frame_count_of_reply, FollowsWithReply, FollowsTimerExpiry};
 
     /// A moment; one below the last one counts as the last one.
     pub fn see(&mut self, now: Moment)
@@ -38,7 +38,7 @@ impl StationCore {
 
     // The station gives up.
     fn give_up(&mut self, cause: Cause) -> Expired
-        ensures expires { Expires self.old self.new result (gives_up cause) }
+        ensures expires { FollowsTimerExpiry self.old self.new result (gives_up cause) }
         ensures window { self.new.window ≡ self.old.window }
         ensures ahead { self.new.ahead ≡ self.old.ahead }
     {
@@ -50,7 +50,7 @@ impl StationCore {
     }
 
     fn expire_setting(&mut self) -> Expired
-        ensures expires { Expires self.old self.new result (expires_at Phase.Setting) }
+        ensures expires { FollowsTimerExpiry self.old self.new result (expires_at Phase.Setting) }
         ensures window { self.new.window ≡ self.old.window }
         ensures ahead { self.new.ahead ≡ self.old.ahead }
     {
@@ -65,7 +65,7 @@ impl StationCore {
     }
 
     fn expire_up(&mut self) -> Expired
-        ensures expires { Expires self.old self.new result (expires_at Phase.Up) }
+        ensures expires { FollowsTimerExpiry self.old self.new result (expires_at Phase.Up) }
         ensures window { self.new.window ≡ self.old.window }
         ensures ahead { self.new.ahead ≡ self.old.ahead }
     {
@@ -82,7 +82,7 @@ impl StationCore {
 
     // T1 expired.
     fn expire(&mut self) -> Expired
-        ensures expires { Expires self.old self.new result expires }
+        ensures expires { FollowsTimerExpiry self.old self.new result expires }
         ensures window { self.new.window ≡ self.old.window }
         ensures ahead { self.new.ahead ≡ self.old.ahead }
     {
@@ -105,7 +105,7 @@ impl StationCore {
     }
 
     pub(crate) fn expire_if_due(&mut self) -> Expired
-        ensures expires { Expires self.old self.new result expires_if_due }
+        ensures expires { FollowsTimerExpiry self.old self.new result expires_if_due }
         ensures window { self.new.window ≡ self.old.window }
         ensures ahead { self.new.ahead ≡ self.old.ahead }
     {
@@ -117,9 +117,9 @@ impl StationCore {
 
     // A calling station sends the set-up frame, and T1 starts.
     fn start_idle(&mut self) -> Reply
-        ensures answers { Answers self.old self.new result (starts_at Phase.Idle) }
+        ensures answers { FollowsWithReply self.old self.new result (starts_at Phase.Idle) }
         ensures window { self.new.window ≡ self.old.window }
-        ensures few { frames_in self.new result ≤ 1 }
+        ensures few { frame_count_of_reply self.new result ≤ 1 }
     {
         if !self.calling {
             return Reply::Nothing;
@@ -130,9 +130,9 @@ impl StationCore {
     }
 
     pub(crate) fn start_at(&mut self) -> Reply
-        ensures answers { Answers self.old self.new result (λ s. starts_at s.phase s) }
+        ensures answers { FollowsWithReply self.old self.new result (λ s. starts_at s.phase s) }
         ensures window { self.new.window ≡ self.old.window }
-        ensures few { frames_in self.new result ≤ 1 }
+        ensures few { frame_count_of_reply self.new result ≤ 1 }
     {
         match self.phase {
             Phase::Idle => self.start_idle(),
@@ -144,8 +144,8 @@ impl StationCore {
 
     // The last frame of a station that is closed.
     pub(crate) fn close_at(&self) -> Reply
-        ensures answers { Answers self.now self.now result (λ s. closes_at s.phase s) }
-        ensures few { frames_in self.now result ≤ 1 }
+        ensures answers { FollowsWithReply self.now self.now result (λ s. closes_at s.phase s) }
+        ensures few { frame_count_of_reply self.now result ≤ 1 }
     {
         match self.phase {
             Phase::Idle => Reply::Nothing,

@@ -18,10 +18,10 @@ use Rattle.hdlc_station_model.specs.declared.phase.Phase.TheVariants.{Idle, Sett
 use Rattle.hdlc_station_model.specs.Frames.{Rr as Rr_sent, Rej as Rej_sent, SetUp, modulo}
 use Rattle.hdlc_station_model.specs.Stations.{Station, Deed, is_down, sees, puts}
 use Rattle.hdlc_station_model.specs.Sending.{can_send, waiting, sends_next, sends_up_to, sends_waiting, sends_again, starts_timer, settles, refuses_frame, gives_up, counts_expiry, expires_at, expires, expires_if_due, is_due}
-use Rattle.hdlc_station_model.specs.Receiving.{strays, is_known_address, is_addressed, is_error, is_some_octets, errs, named, acknowledges, acknowledging, accepts, rejects, takes, marks_busy, repeats_rejected, agrees, sets_up_again, row, hears, hears_control}
+use Rattle.hdlc_station_model.specs.Receiving.{strays, is_known_address, is_addressed, is_error, is_some_octets, errs, number_shown_as, acknowledges, acknowledging, accepts, rejects, takes, marks_busy, repeats_rejected, agrees, sets_up_again, row_of_phase, hears, hears_control}
 use Rattle.hdlc_station_model.specs.Calls.{starts_at, closes_at, closes, receives, ticks}
 use Rattle.hdlc_station_model.specs.Timing.{IsExpired}
-use Rattle.hdlc_station_model.specs.Causes.{Comes, Names, TakesErrors, IsFrameError, HasUnknownControl, IsSelectiveReject, HasInformation, SetsUpCaller, SetsUpAgain, NamesNone, IsPeersEnd, Disconnects, IsDisconnected, RejectsFrame, FrameCause, IsError, IsByPeer, TimeCause, IsUnanswered, IsStuck, IsOfOctets, ReleasesOnly, OthersTellNone}
+use Rattle.hdlc_station_model.specs.Causes.{Comes, IsValidReceiveNumber, TakesErrors, IsFrameError, HasUnknownControl, IsSelectiveReject, HasInformation, SetsUpCaller, SetsUpAgain, NamesNone, IsPeersEnd, Disconnects, IsDisconnected, RejectsFrame, FrameCause, IsError, IsByPeer, TimeCause, IsUnanswered, IsStuck, IsOfOctets, ReleasesOnly, OthersTellNone}
 use Rattle.hdlc_station_model.proofs.Timing.{expired}
 use Rattle.hdlc_station_model.proofs.Numbers.{names_none, either, addressed, has_none}
 
@@ -102,37 +102,37 @@ has_no : (i : List ℕ) → is_some_octets i ≡ false → i ≡ []
 has_no [] e = refl
 has_no (o ∷ os) e = absurd (let few = ltb-false 0 (length (o ∷ os)) e in omega arith)
 
-idle_met : (now : ℕ) (s : Station) (a : ℕ) (b : List ℕ) (c : Control) (i : List ℕ) → s.deed.released ≡ None → MetBy s a b (row Idle (sees now s) c i)
-idle_met now s a b (Info ns nr) i d = calm s a b (row Idle (sees now s) (Info ns nr) i) d
-idle_met now s a b (Rr nr) i d = calm s a b (row Idle (sees now s) (Rr nr) i) d
-idle_met now s a b (Rnr nr) i d = calm s a b (row Idle (sees now s) (Rnr nr) i) d
-idle_met now s a b (Rej nr) i d = calm s a b (row Idle (sees now s) (Rej nr) i) d
-idle_met now s a b (Srej nr) i d = calm s a b (row Idle (sees now s) (Srej nr) i) d
-idle_met now s a b (Sabm poll) i d = calm s a b (row Idle (sees now s) (Sabm poll) i) refl
-idle_met now s a b (Sabme poll) i d = calm s a b (row Idle (sees now s) (Sabme poll) i) refl
-idle_met now s a b (Disc poll) i d = calm s a b (row Idle (sees now s) (Disc poll) i) d
-idle_met now s a b Ua i d = calm s a b (row Idle (sees now s) Ua i) d
-idle_met now s a b Dm i d = calm s a b (row Idle (sees now s) Dm i) d
-idle_met now s a b Frmr i d = calm s a b (row Idle (sees now s) Frmr i) d
+idle_met : (now : ℕ) (s : Station) (a : ℕ) (b : List ℕ) (c : Control) (i : List ℕ) → s.deed.released ≡ None → MetBy s a b (row_of_phase Idle (sees now s) c i)
+idle_met now s a b (Info ns nr) i d = calm s a b (row_of_phase Idle (sees now s) (Info ns nr) i) d
+idle_met now s a b (Rr nr) i d = calm s a b (row_of_phase Idle (sees now s) (Rr nr) i) d
+idle_met now s a b (Rnr nr) i d = calm s a b (row_of_phase Idle (sees now s) (Rnr nr) i) d
+idle_met now s a b (Rej nr) i d = calm s a b (row_of_phase Idle (sees now s) (Rej nr) i) d
+idle_met now s a b (Srej nr) i d = calm s a b (row_of_phase Idle (sees now s) (Srej nr) i) d
+idle_met now s a b (Sabm poll) i d = calm s a b (row_of_phase Idle (sees now s) (Sabm poll) i) refl
+idle_met now s a b (Sabme poll) i d = calm s a b (row_of_phase Idle (sees now s) (Sabme poll) i) refl
+idle_met now s a b (Disc poll) i d = calm s a b (row_of_phase Idle (sees now s) (Disc poll) i) d
+idle_met now s a b Ua i d = calm s a b (row_of_phase Idle (sees now s) Ua i) d
+idle_met now s a b Dm i d = calm s a b (row_of_phase Idle (sees now s) Dm i) d
+idle_met now s a b Frmr i d = calm s a b (row_of_phase Idle (sees now s) Frmr i) d
 
 setting_met : (now : ℕ) (s : Station) (a : ℕ) (b : List ℕ) (c : Control) (i : List ℕ) → s.deed.released ≡ None → s.phase ≡ Setting → Comes s a b c i
-    → is_error s.calling c i ≡ false → MetBy s a b (row Setting (sees now s) c i)
-setting_met now s a b (Info ns nr) i d phase x e = calm s a b (row Setting (sees now s) (Info ns nr) i) d
-setting_met now s a b (Rr nr) i d phase x e = calm s a b (row Setting (sees now s) (Rr nr) i) d
-setting_met now s a b (Rnr nr) i d phase x e = calm s a b (row Setting (sees now s) (Rnr nr) i) d
-setting_met now s a b (Rej nr) i d phase x e = calm s a b (row Setting (sees now s) (Rej nr) i) d
+    → is_error s.calling c i ≡ false → MetBy s a b (row_of_phase Setting (sees now s) c i)
+setting_met now s a b (Info ns nr) i d phase x e = calm s a b (row_of_phase Setting (sees now s) (Info ns nr) i) d
+setting_met now s a b (Rr nr) i d phase x e = calm s a b (row_of_phase Setting (sees now s) (Rr nr) i) d
+setting_met now s a b (Rnr nr) i d phase x e = calm s a b (row_of_phase Setting (sees now s) (Rnr nr) i) d
+setting_met now s a b (Rej nr) i d phase x e = calm s a b (row_of_phase Setting (sees now s) (Rej nr) i) d
 setting_met now s a b (Srej nr) i d phase x e = absurd (true≢false e)
 setting_met now s a b (Sabm poll) i d phase x e = in_error s a b (sees now s) (SetsUpCaller (Sabm poll) i (inl (inl phase)) x tt (inr phase))
 setting_met now s a b (Sabme poll) i d phase x e = in_error s a b (sees now s) (SetsUpCaller (Sabme poll) i (inl (inl phase)) x tt (inr phase))
 setting_met now s a b (Disc poll) i d phase x e =
-    by_peer s a b (row Setting (sees now s) (Disc poll) i) refl (Disconnects poll (inl phase) (subst (λ (j : List ℕ). Comes s a b (Disc poll) j) (has_no i e) x))
-setting_met now s a b Ua i d phase x e = calm s a b (row Setting (sees now s) Ua i) refl
+    by_peer s a b (row_of_phase Setting (sees now s) (Disc poll) i) refl (Disconnects poll (inl phase) (subst (λ (j : List ℕ). Comes s a b (Disc poll) j) (has_no i e) x))
+setting_met now s a b Ua i d phase x e = calm s a b (row_of_phase Setting (sees now s) Ua i) refl
 setting_met now s a b Dm i d phase x e =
-    by_peer s a b (row Setting (sees now s) Dm i) refl (IsDisconnected (inl phase) (subst (λ (j : List ℕ). Comes s a b Dm j) (has_no i e) x))
-setting_met now s a b Frmr i d phase x e = by_peer s a b (row Setting (sees now s) Frmr i) refl (RejectsFrame i (inl phase) x)
+    by_peer s a b (row_of_phase Setting (sees now s) Dm i) refl (IsDisconnected (inl phase) (subst (λ (j : List ℕ). Comes s a b Dm j) (has_no i e) x))
+setting_met now s a b Frmr i d phase x e = by_peer s a b (row_of_phase Setting (sees now s) Frmr i) refl (RejectsFrame i (inl phase) x)
 
-numbered : (now : ℕ) (s : Station) (a : ℕ) (b : List ℕ) (nr : ℕ) (o : Option ℕ) (rest : Station → Station) → named s.extended s.acked (s.sent - s.acked) nr ≡ o
-    → ((Names s nr → ⊥) → IsFrameError s a b) → ((n : ℕ) → (rest (acknowledges n (sees now s))).deed.released ≡ None)
+numbered : (now : ℕ) (s : Station) (a : ℕ) (b : List ℕ) (nr : ℕ) (o : Option ℕ) (rest : Station → Station) → number_shown_as s.extended s.acked (s.sent - s.acked) nr ≡ o
+    → ((IsValidReceiveNumber s nr → ⊥) → IsFrameError s a b) → ((n : ℕ) → (rest (acknowledges n (sees now s))).deed.released ≡ None)
     → MetBy s a b (acknowledging o rest (sees now s))
 numbered now s a b nr None rest is error goes_on = in_error s a b (sees now s) (error (names_none s nr is))
 numbered now s a b nr (Some n) rest is error goes_on = calm s a b (rest (acknowledges n (sees now s))) (goes_on n)
@@ -161,29 +161,29 @@ again_met now s a b poll d error =
     (λ e. in_error s a b (sees now s) (error (some_taken (length s.taken) e)))
 
 up_met : (now : ℕ) (s : Station) (a : ℕ) (b : List ℕ) (c : Control) (i : List ℕ) → s.deed.released ≡ None → s.phase ≡ Up → Comes s a b c i
-    → is_error s.calling c i ≡ false → MetBy s a b (row Up (sees now s) c i)
+    → is_error s.calling c i ≡ false → MetBy s a b (row_of_phase Up (sees now s) c i)
 up_met now s a b (Info ns nr) i d phase x e =
-    numbered now s a b nr (named s.extended s.acked (s.sent - s.acked) nr) (takes ns i) refl (NamesNone (Info ns nr) i nr phase x refl)
+    numbered now s a b nr (number_shown_as s.extended s.acked (s.sent - s.acked) nr) (takes ns i) refl (NamesNone (Info ns nr) i nr phase x refl)
     (λ n. takes_none ns i (acknowledges n (sees now s)) d)
 up_met now s a b (Rr nr) i d phase x e =
-    numbered now s a b nr (named s.extended s.acked (s.sent - s.acked) nr) (marks_busy false) refl (NamesNone (Rr nr) i nr phase x refl) (λ n. d)
+    numbered now s a b nr (number_shown_as s.extended s.acked (s.sent - s.acked) nr) (marks_busy false) refl (NamesNone (Rr nr) i nr phase x refl) (λ n. d)
 up_met now s a b (Rnr nr) i d phase x e =
-    numbered now s a b nr (named s.extended s.acked (s.sent - s.acked) nr) (marks_busy true) refl (NamesNone (Rnr nr) i nr phase x refl) (λ n. d)
+    numbered now s a b nr (number_shown_as s.extended s.acked (s.sent - s.acked) nr) (marks_busy true) refl (NamesNone (Rnr nr) i nr phase x refl) (λ n. d)
 up_met now s a b (Rej nr) i d phase x e =
-    numbered now s a b nr (named s.extended s.acked (s.sent - s.acked) nr) (λ t. repeats_rejected (marks_busy false t)) refl
+    numbered now s a b nr (number_shown_as s.extended s.acked (s.sent - s.acked) nr) (λ t. repeats_rejected (marks_busy false t)) refl
     (NamesNone (Rej nr) i nr phase x refl) (λ n. repeats_none (marks_busy false (acknowledges n (sees now s))) d)
 up_met now s a b (Srej nr) i d phase x e = absurd (true≢false e)
 up_met now s a b (Sabm poll) i d phase x e = again_met now s a b poll d (SetsUpAgain (Sabm poll) i phase x tt)
 up_met now s a b (Sabme poll) i d phase x e = again_met now s a b poll d (SetsUpAgain (Sabme poll) i phase x tt)
 up_met now s a b (Disc poll) i d phase x e =
-    by_peer s a b (row Up (sees now s) (Disc poll) i) refl (Disconnects poll (inr phase) (subst (λ (j : List ℕ). Comes s a b (Disc poll) j) (has_no i e) x))
-up_met now s a b Ua i d phase x e = calm s a b (row Up (sees now s) Ua i) d
+    by_peer s a b (row_of_phase Up (sees now s) (Disc poll) i) refl (Disconnects poll (inr phase) (subst (λ (j : List ℕ). Comes s a b (Disc poll) j) (has_no i e) x))
+up_met now s a b Ua i d phase x e = calm s a b (row_of_phase Up (sees now s) Ua i) d
 up_met now s a b Dm i d phase x e =
-    by_peer s a b (row Up (sees now s) Dm i) refl (IsDisconnected (inr phase) (subst (λ (j : List ℕ). Comes s a b Dm j) (has_no i e) x))
-up_met now s a b Frmr i d phase x e = by_peer s a b (row Up (sees now s) Frmr i) refl (RejectsFrame i (inr phase) x)
+    by_peer s a b (row_of_phase Up (sees now s) Dm i) refl (IsDisconnected (inr phase) (subst (λ (j : List ℕ). Comes s a b Dm j) (has_no i e) x))
+up_met now s a b Frmr i d phase x e = by_peer s a b (row_of_phase Up (sees now s) Frmr i) refl (RejectsFrame i (inr phase) x)
 
 row_met : (now : ℕ) (s : Station) (a : ℕ) (b : List ℕ) (p : Phase) (c : Control) (i : List ℕ) → s.deed.released ≡ None → s.phase ≡ p → Comes s a b c i
-    → is_error s.calling c i ≡ false → MetBy s a b (row p (sees now s) c i)
+    → is_error s.calling c i ≡ false → MetBy s a b (row_of_phase p (sees now s) c i)
 row_met now s a b Idle c i d phase x e = idle_met now s a b c i d
 row_met now s a b Setting c i d phase x e = setting_met now s a b c i d phase x e
 row_met now s a b Up c i d phase x e = up_met now s a b c i d phase x e
@@ -197,11 +197,11 @@ control_met law now s a b None octets d known is =
     errs_met now s a b s.phase d refl (λ t. HasUnknownControl t (either s.calling a known) (has_none law (modulo s.extended) b octets is))
 control_met law now s a b (Some read) octets d known is =
     cond_both (is_addressed s.calling a read.0)
-    (if is_error s.calling read.0 read.1 then errs s.phase (sees now s) else row s.phase (sees now s) read.0 read.1) (strays (sees now s)) (MetBy s a b)
+    (if is_error s.calling read.0 read.1 then errs s.phase (sees now s) else row_of_phase s.phase (sees now s) read.0 read.1) (strays (sees now s)) (MetBy s a b)
     (λ at.
     let x : Comes s a b read.0 read.1 =
     record { reads = (law (modulo s.extended) b octets read.0 read.1).0 is; addressed = addressed s.calling a read.0 known at } in
-    cond_both (is_error s.calling read.0 read.1) (errs s.phase (sees now s)) (row s.phase (sees now s) read.0 read.1) (MetBy s a b)
+    cond_both (is_error s.calling read.0 read.1) (errs s.phase (sees now s)) (row_of_phase s.phase (sees now s) read.0 read.1) (MetBy s a b)
     (λ e. errs_met now s a b s.phase d refl (error_is s a b read.0 read.1 x e))
     (λ e. row_met now s a b s.phase read.0 read.1 d refl x e))
     (λ at. calm s a b (strays (sees now s)) d)

@@ -13,7 +13,7 @@ use Rattle.hdlc_station_model.specs.declared.phase.Phase.TheVariants.{Idle, Sett
 use Rattle.hdlc_station_model.specs.Frames.{Rr, Rej, SetUp, modulo}
 use Rattle.hdlc_station_model.specs.Stations.{Station, Deed, no_deed, is_down, sees, puts}
 use Rattle.hdlc_station_model.specs.Sending.{can_send, waiting, sends_next, sends_up_to, sends_waiting, sends_again, starts_timer, settles, gives_up, counts_expiry, expires_at, expires, expires_if_due, is_due, refuses_frame}
-use Rattle.hdlc_station_model.specs.Receiving.{strays, is_known_address, is_addressed, is_error, errs, named, acknowledges, acknowledging, accepts, rejects, takes, marks_busy, repeats_rejected, agrees, sets_up_again, row, hears, hears_control}
+use Rattle.hdlc_station_model.specs.Receiving.{strays, is_known_address, is_addressed, is_error, errs, number_shown_as, acknowledges, acknowledging, accepts, rejects, takes, marks_busy, repeats_rejected, agrees, sets_up_again, row_of_phase, hears, hears_control}
 use Rattle.hdlc_station_model.specs.Calls.{starts_at, closes_at}
 use Rattle.hdlc_station_model.specs.Laws.{LeavesPayloads, Received, Ticked, ReceivesGive, TicksGive, HandsKeep, OthersKeep, ReleasedAreInert}
 
@@ -86,7 +86,7 @@ set_up poll x d = cond_both (length x.taken == 0) (agrees poll (record x { gap =
 strayed : (x : Station) → x.deed ≡ no_deed → Received x (strays x)
 strayed x d = still x (strays x) refl refl d
 
-rowed : (p : Phase) (c : Control) (information : List ℕ) (x : Station) → x.deed ≡ no_deed → Received x (row p x c information)
+rowed : (p : Phase) (c : Control) (information : List ℕ) (x : Station) → x.deed ≡ no_deed → Received x (row_of_phase p x c information)
 rowed Idle (control.Info ns nr) information x d = strayed x d
 rowed Idle (control.Rr nr) information x d = strayed x d
 rowed Idle (control.Rnr nr) information x d = strayed x d
@@ -110,13 +110,13 @@ rowed Setting control.Ua information x d = came_up x _ refl refl refl
 rowed Setting control.Dm information x d = record { handed = refl; taken = sym (append-nil x.taken); single = refl; released = inr (inr refl) }
 rowed Setting control.Frmr information x d = record { handed = refl; taken = sym (append-nil x.taken); single = refl; released = inr (inr refl) }
 rowed Up (control.Info ns nr) information x d =
-    numbered (named x.extended x.acked (x.sent - x.acked) nr) (takes ns information) x (λ n. took ns information x (acknowledges n x) refl refl d)
+    numbered (number_shown_as x.extended x.acked (x.sent - x.acked) nr) (takes ns information) x (λ n. took ns information x (acknowledges n x) refl refl d)
 rowed Up (control.Rr nr) information x d =
-    numbered (named x.extended x.acked (x.sent - x.acked) nr) (marks_busy false) x (λ n. still x (marks_busy false (acknowledges n x)) refl refl d)
+    numbered (number_shown_as x.extended x.acked (x.sent - x.acked) nr) (marks_busy false) x (λ n. still x (marks_busy false (acknowledges n x)) refl refl d)
 rowed Up (control.Rnr nr) information x d =
-    numbered (named x.extended x.acked (x.sent - x.acked) nr) (marks_busy true) x (λ n. still x (marks_busy true (acknowledges n x)) refl refl d)
+    numbered (number_shown_as x.extended x.acked (x.sent - x.acked) nr) (marks_busy true) x (λ n. still x (marks_busy true (acknowledges n x)) refl refl d)
 rowed Up (control.Rej nr) information x d =
-    numbered (named x.extended x.acked (x.sent - x.acked) nr) (λ t. repeats_rejected (marks_busy false t)) x
+    numbered (number_shown_as x.extended x.acked (x.sent - x.acked) nr) (λ t. repeats_rejected (marks_busy false t)) x
     (λ n. repeated x (marks_busy false (acknowledges n x)) refl refl d)
 rowed Up (control.Srej nr) information x d = refused x
 rowed Up (control.Sabm poll) information x d = set_up poll x d
@@ -136,8 +136,8 @@ erred Down x d = still x x refl refl d
 heard_control : (address : ℕ) (o : Option (Control × List ℕ)) (x : Station) → x.deed ≡ no_deed → Received x (hears_control address o x)
 heard_control address None x d = erred x.phase x d
 heard_control address (Some read) x d =
-    cond_both (is_addressed x.calling address read.0) (if is_error x.calling read.0 read.1 then errs x.phase x else row x.phase x read.0 read.1) (strays x) (Received x)
-    (λ e. cond_both (is_error x.calling read.0 read.1) (errs x.phase x) (row x.phase x read.0 read.1) (Received x)
+    cond_both (is_addressed x.calling address read.0) (if is_error x.calling read.0 read.1 then errs x.phase x else row_of_phase x.phase x read.0 read.1) (strays x) (Received x)
+    (λ e. cond_both (is_error x.calling read.0 read.1) (errs x.phase x) (row_of_phase x.phase x read.0 read.1) (Received x)
     (λ e. erred x.phase x d) (λ e. rowed x.phase read.0 read.1 x d))
     (λ e. strayed x d)
 

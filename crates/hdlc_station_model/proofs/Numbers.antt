@@ -11,22 +11,22 @@ use Rattle.hdlc_frames.specs.ControlOctets.{control_of}
 use Rattle.hdlc_frames.specs.Laws.{ControlIsTable}
 use Rattle.hdlc_station_model.specs.Frames.{modulo, address_of}
 use Rattle.hdlc_station_model.specs.Stations.{Station}
-use Rattle.hdlc_station_model.specs.Receiving.{is_known_address, is_addressed, named}
-use Rattle.hdlc_station_model.specs.Causes.{Kind, Command, Response, Either, kind_of, IsAddressOf, Names}
+use Rattle.hdlc_station_model.specs.Receiving.{is_known_address, is_addressed, number_shown_as}
+use Rattle.hdlc_station_model.specs.Causes.{FrameKind, Command, Response, Either, command_or_response, IsAddressOf, IsValidReceiveNumber}
 
 -- ---- N(R)
 
 -- where no number is found, none from a to a + k is shown as r
-names_none_at : (e : Bool) (a k r : ℕ) → named e a k r ≡ None → (n : ℕ) → a ≤ n → n ≤ a + k → n % modulo e ≡ r → ⊥
+names_none_at : (e : Bool) (a k r : ℕ) → number_shown_as e a k r ≡ None → (n : ℕ) → a ≤ n → n ≤ a + k → n % modulo e ≡ r → ⊥
 names_none_at e a zero r none n low high shown =
     let same : n ≡ a = omega arith in
     let is : (a % modulo e == r) ≡ true = eq-eqb (a % modulo e) r (ap (λ (m : ℕ). m % modulo e) (sym same) ∙ shown) in
     none-some a (sym none ∙ ap (λ (b : Bool). if b then Some a else None) is)
 names_none_at e a (suc k) r none n low high shown =
     elim (cases_Bool (a % modulo e == r)) [
-      | inl is ↦ none-some a (sym none ∙ ap (λ (b : Bool). if b then Some a else named e (a + 1) k r) is)
+      | inl is ↦ none-some a (sym none ∙ ap (λ (b : Bool). if b then Some a else number_shown_as e (a + 1) k r) is)
       | inr isnt ↦
-          let rest : named e (a + 1) k r ≡ None = sym (ap (λ (b : Bool). if b then Some a else named e (a + 1) k r) isnt) ∙ none in
+          let rest : number_shown_as e (a + 1) k r ≡ None = sym (ap (λ (b : Bool). if b then Some a else number_shown_as e (a + 1) k r) isnt) ∙ none in
           elim (cases_lt a n) [
             | inl above ↦ names_none_at e (a + 1) k r rest n (omega arith) (omega arith) shown
             | inr below ↦
@@ -51,19 +51,19 @@ within_of a s n low high =
       | inr below ↦ inl (omega arith)
     ]
 
-pub names_none : (s : Station) (r : ℕ) → named s.extended s.acked (s.sent - s.acked) r ≡ None → Names s r → ⊥
+pub names_none : (s : Station) (r : ℕ) → number_shown_as s.extended s.acked (s.sent - s.acked) r ≡ None → IsValidReceiveNumber s r → ⊥
 names_none s r none x =
     names_none_at s.extended s.acked (s.sent - s.acked) r none x.number (low_of s.acked s.sent x.number x.within) (high_of s.acked s.sent x.number x.within) x.shown
 
-none_named_at : (e : Bool) (a k r : ℕ) → ((n : ℕ) → a ≤ n → n ≤ a + k → n % modulo e ≡ r → ⊥) → named e a k r ≡ None
+none_named_at : (e : Bool) (a k r : ℕ) → ((n : ℕ) → a ≤ n → n ≤ a + k → n % modulo e ≡ r → ⊥) → number_shown_as e a k r ≡ None
 none_named_at e a zero r never =
     cond_both (a % modulo e == r) (Some a) None (λ o. o ≡ None) (λ is. absurd (never a (omega arith) (omega arith) (eqb-true (a % modulo e) r is))) (λ isnt. refl)
 none_named_at e a (suc k) r never =
-    cond_both (a % modulo e == r) (Some a) (named e (a + 1) k r) (λ o. o ≡ None)
+    cond_both (a % modulo e == r) (Some a) (number_shown_as e (a + 1) k r) (λ o. o ≡ None)
     (λ is. absurd (never a (omega arith) (omega arith) (eqb-true (a % modulo e) r is)))
     (λ isnt. none_named_at e (a + 1) k r (λ n low high shown. never n (omega arith) (omega arith) shown))
 
-pub none_named : (s : Station) (r : ℕ) → (Names s r → ⊥) → named s.extended s.acked (s.sent - s.acked) r ≡ None
+pub none_named : (s : Station) (r : ℕ) → (IsValidReceiveNumber s r → ⊥) → number_shown_as s.extended s.acked (s.sent - s.acked) r ≡ None
 none_named s r never =
     none_named_at s.extended s.acked (s.sent - s.acked) r
     (λ n low high shown. never (record { number = n; within = within_of s.acked s.sent n low high; shown = shown }))
@@ -83,7 +83,7 @@ either false address known =
     ]
 
 pub addressed : (calling : Bool) (address : ℕ) (c : Control) → is_known_address address ≡ true → is_addressed calling address c ≡ true
-    → IsAddressOf (kind_of c) calling address
+    → IsAddressOf (command_or_response c) calling address
 addressed calling address (Info ns nr) known is = eqb-true address (address_of calling) is
 addressed calling address (Rr nr) known is = either calling address known
 addressed calling address (Rnr nr) known is = either calling address known
@@ -100,13 +100,13 @@ own_known : (calling : Bool) → is_known_address (address_of calling) ≡ true
 own_known true = refl
 own_known false = refl
 
-pub is_known : (k : Kind) (calling : Bool) (address : ℕ) → IsAddressOf k calling address → is_known_address address ≡ true
+pub is_known : (k : FrameKind) (calling : Bool) (address : ℕ) → IsAddressOf k calling address → is_known_address address ≡ true
 is_known Command calling address at = ap is_known_address at ∙ own_known calling
 is_known Response calling address at = ap is_known_address at ∙ own_known (not calling)
 is_known Either calling address (inl at) = ap is_known_address at ∙ own_known calling
 is_known Either calling address (inr at) = ap is_known_address at ∙ own_known (not calling)
 
-pub may_bear : (calling : Bool) (address : ℕ) (c : Control) → IsAddressOf (kind_of c) calling address → is_addressed calling address c ≡ true
+pub may_bear : (calling : Bool) (address : ℕ) (c : Control) → IsAddressOf (command_or_response c) calling address → is_addressed calling address c ≡ true
 may_bear calling address (Info ns nr) at = eq-eqb address (address_of calling) at
 may_bear calling address (Rr nr) at = refl
 may_bear calling address (Rnr nr) at = refl

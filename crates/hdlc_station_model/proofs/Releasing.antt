@@ -15,11 +15,11 @@ use Rattle.hdlc_station_model.specs.declared.phase.Phase.{Phase}
 use Rattle.hdlc_station_model.specs.declared.phase.Phase.TheVariants.{Idle, Setting, Up, Down}
 use Rattle.hdlc_station_model.specs.Frames.{SetUp, Disc as Disc_sent, Dm as Dm_sent, modulo}
 use Rattle.hdlc_station_model.specs.Stations.{Station, is_down, sees, puts}
-use Rattle.hdlc_station_model.specs.Sending.{can_send, waiting, sends_next, sends_up_to, sends_waiting, sends_again, starts_timer, releases, refuses_frame, gives_up, counts_expiry, expires_at, expires, expires_if_due}
-use Rattle.hdlc_station_model.specs.Receiving.{strays, is_error, is_some_octets, errs, named, acknowledging, takes, marks_busy, repeats_rejected, agrees, sets_up_again, row, hears, hears_control}
+use Rattle.hdlc_station_model.specs.Sending.{can_send, waiting, sends_next, sends_up_to, sends_waiting, sends_again, starts_timer, station_down_for_cause, refuses_frame, gives_up, counts_expiry, expires_at, expires, expires_if_due}
+use Rattle.hdlc_station_model.specs.Receiving.{strays, is_error, is_some_octets, errs, number_shown_as, acknowledging, takes, marks_busy, repeats_rejected, agrees, sets_up_again, row_of_phase, hears, hears_control}
 use Rattle.hdlc_station_model.specs.Calls.{receives, ticks, closes_at, closes}
 use Rattle.hdlc_station_model.specs.Timing.{IsExpired}
-use Rattle.hdlc_station_model.specs.Causes.{Either, Comes, kind_of, IsSetUp, IsBare, nr_of, Names, IsBegun, TakesErrors, IsFrameError, HasUnknownControl, IsSelectiveReject, HasInformation, SetsUpCaller, SetsUpAgain, NamesNone, IsPeersEnd, Disconnects, IsDisconnected, RejectsFrame, FrameCause, IsError, IsByPeer, TimeCause, IsUnanswered, IsStuck, IsReleasedFor, IsOfOctets, CauseReleases}
+use Rattle.hdlc_station_model.specs.Causes.{Either, Comes, command_or_response, IsSetUp, IsBare, nr_of, IsValidReceiveNumber, IsBegun, TakesErrors, IsFrameError, HasUnknownControl, IsSelectiveReject, HasInformation, SetsUpCaller, SetsUpAgain, NamesNone, IsPeersEnd, Disconnects, IsDisconnected, RejectsFrame, FrameCause, IsError, IsByPeer, TimeCause, IsUnanswered, IsStuck, IsReleasedFor, IsOfOctets, CauseReleases}
 use Rattle.hdlc_station_model.specs.LastFrames.{answer_to, LastFrames}
 use Rattle.hdlc_station_model.proofs.Timing.{late_is}
 use Rattle.hdlc_station_model.proofs.Numbers.{none_named, is_known, may_bear, reads_none}
@@ -30,15 +30,15 @@ stays : (n : ℕ) (x : Station) → can_send x ≡ false → sends_up_to n x ≡
 stays zero x cannot = refl
 stays (suc n) x cannot = ap (λ (b : Bool). if b then sends_up_to n (sends_next x) else x) cannot
 
-ends_as : (why : Cause) (y : Station) → sends_waiting (releases why y) ≡ releases why y
-ends_as why y = stays (waiting (releases why y)) (releases why y) refl
+ends_as : (why : Cause) (y : Station) → sends_waiting (station_down_for_cause why y) ≡ station_down_for_cause why y
+ends_as why y = stays (waiting (station_down_for_cause why y)) (station_down_for_cause why y) refl
 
-released_by : (why : Cause) (y t : Station) → t ≡ releases why y → IsReleasedFor why t
+released_by : (why : Cause) (y t : Station) → t ≡ station_down_for_cause why y → IsReleasedFor why t
 released_by why y t is = subst (IsReleasedFor why) (sym is) (record { down = refl; released = refl; deed = refl })
 
 -- what comes leads to a release
-heard_is : (now : ℕ) (v : Verdict) (s y : Station) (why : Cause) → is_down s.phase ≡ false → hears v (sees now s) ≡ releases why y
-    → receives now v s ≡ releases why y
+heard_is : (now : ℕ) (v : Verdict) (s y : Station) (why : Cause) → is_down s.phase ≡ false → hears v (sees now s) ≡ station_down_for_cause why y
+    → receives now v s ≡ station_down_for_cause why y
 heard_is now v s y why live is =
     ap (λ (b : Bool). if b then s else sends_waiting (hears v (sees now s))) live ∙ ap sends_waiting is ∙ ends_as why y
 
@@ -60,13 +60,13 @@ errs_refuses now s (inr e) =
 
 -- a frame that is read comes to its error or its row
 comes_to : ControlIsTable → (now : ℕ) (s : Station) (a : ℕ) (b : List ℕ) (c : Control) (i : List ℕ) → AreOctets b → Comes s a b c i
-    → hears (Frame a b) (sees now s) ≡ (if is_error s.calling c i then errs s.phase (sees now s) else row s.phase (sees now s) c i)
+    → hears (Frame a b) (sees now s) ≡ (if is_error s.calling c i then errs s.phase (sees now s) else row_of_phase s.phase (sees now s) c i)
 comes_to law now s a b c i octets x =
-    let known = is_known (kind_of c) s.calling a x.addressed in
+    let known = is_known (command_or_response c) s.calling a x.addressed in
     let reads : control_of (modulo s.extended) b ≡ Some (c, i) = (law (modulo s.extended) b octets c i).1 x.reads in
     ap (λ (t : Bool). if t then hears_control a (control_of (modulo s.extended) b) (sees now s) else strays (sees now s)) known
     ∙ ap (λ (o : Option (Control × List ℕ)). hears_control a o (sees now s)) reads
-    ∙ ap (λ (t : Bool). if t then (if is_error s.calling c i then errs s.phase (sees now s) else row s.phase (sees now s) c i) else strays (sees now s))
+    ∙ ap (λ (t : Bool). if t then (if is_error s.calling c i then errs s.phase (sees now s) else row_of_phase s.phase (sees now s) c i) else strays (sees now s))
     (may_bear s.calling a c x.addressed)
 
 -- one that is an error at any phase
@@ -74,16 +74,16 @@ error_refuses : ControlIsTable → (now : ℕ) (s : Station) (a : ℕ) (b : List
     → is_error s.calling c i ≡ true → hears (Frame a b) (sees now s) ≡ refuses_frame (sees now s)
 error_refuses law now s a b c i octets takes_them x is =
     comes_to law now s a b c i octets x
-    ∙ ap (λ (t : Bool). if t then errs s.phase (sees now s) else row s.phase (sees now s) c i) is
+    ∙ ap (λ (t : Bool). if t then errs s.phase (sees now s) else row_of_phase s.phase (sees now s) c i) is
     ∙ errs_refuses now s takes_them
 
 -- one that is an error in Up: at that phase an error at any phase is one too
 up_refuses : ControlIsTable → (now : ℕ) (s : Station) (a : ℕ) (b : List ℕ) (c : Control) (i : List ℕ) → AreOctets b → s.phase ≡ Up → Comes s a b c i
-    → row Up (sees now s) c i ≡ refuses_frame (sees now s) → hears (Frame a b) (sees now s) ≡ refuses_frame (sees now s)
+    → row_of_phase Up (sees now s) c i ≡ refuses_frame (sees now s) → hears (Frame a b) (sees now s) ≡ refuses_frame (sees now s)
 up_refuses law now s a b c i octets up x is =
     comes_to law now s a b c i octets x
-    ∙ ap (λ (p : Phase). if is_error s.calling c i then errs p (sees now s) else row p (sees now s) c i) up
-    ∙ cond_both (is_error s.calling c i) (refuses_frame (sees now s)) (row Up (sees now s) c i) (λ t. t ≡ refuses_frame (sees now s)) (λ e. refl) (λ e. is)
+    ∙ ap (λ (p : Phase). if is_error s.calling c i then errs p (sees now s) else row_of_phase p (sees now s) c i) up
+    ∙ cond_both (is_error s.calling c i) (refuses_frame (sees now s)) (row_of_phase Up (sees now s) c i) (λ t. t ≡ refuses_frame (sees now s)) (λ e. refl) (λ e. is)
 
 some : (i : List ℕ) → 1 ≤ length i → is_some_octets i ≡ true
 some i one = lt-ltb 0 (length i) (omega arith)
@@ -119,7 +119,7 @@ set_up_error calling Dm i set e = absurd set
 set_up_error calling Frmr i set e = absurd set
 
 -- the set-up frame in Setting
-setting_row : (c : Control) (i : List ℕ) (x : Station) → IsSetUp c → row Setting x c i ≡ refuses_frame x
+setting_row : (c : Control) (i : List ℕ) (x : Station) → IsSetUp c → row_of_phase Setting x c i ≡ refuses_frame x
 setting_row (Info ns nr) i x set = absurd set
 setting_row (Rr nr) i x set = absurd set
 setting_row (Rnr nr) i x set = absurd set
@@ -136,8 +136,8 @@ setting_refuses : ControlIsTable → (now : ℕ) (s : Station) (a : ℕ) (b : Li
     → Comes s a b c i → IsSetUp c → hears (Frame a b) (sees now s) ≡ refuses_frame (sees now s)
 setting_refuses law now s a b c i octets phase x set =
     comes_to law now s a b c i octets x
-    ∙ ap (λ (p : Phase). if is_error s.calling c i then errs p (sees now s) else row p (sees now s) c i) phase
-    ∙ cond_both (is_error s.calling c i) (refuses_frame (sees now s)) (row Setting (sees now s) c i) (λ t. t ≡ refuses_frame (sees now s)) (λ e. refl)
+    ∙ ap (λ (p : Phase). if is_error s.calling c i then errs p (sees now s) else row_of_phase p (sees now s) c i) phase
+    ∙ cond_both (is_error s.calling c i) (refuses_frame (sees now s)) (row_of_phase Setting (sees now s) c i) (λ t. t ≡ refuses_frame (sees now s)) (λ e. refl)
     (λ e. setting_row c i (sees now s) set)
 
 again : (poll : Bool) (x : Station) → 1 ≤ length x.taken → sets_up_again poll x ≡ refuses_frame x
@@ -145,7 +145,7 @@ again poll x one =
     cond_both (length x.taken == 0) (agrees poll (record x { gap = false })) (refuses_frame x) (λ t. t ≡ refuses_frame x)
     (λ e. absurd (let none = eqb-true (length x.taken) 0 e in omega arith)) (λ e. refl)
 
-again_row : (c : Control) (i : List ℕ) (x : Station) → IsSetUp c → 1 ≤ length x.taken → row Up x c i ≡ refuses_frame x
+again_row : (c : Control) (i : List ℕ) (x : Station) → IsSetUp c → 1 ≤ length x.taken → row_of_phase Up x c i ≡ refuses_frame x
 again_row (Info ns nr) i x set one = absurd set
 again_row (Rr nr) i x set one = absurd set
 again_row (Rnr nr) i x set one = absurd set
@@ -159,14 +159,14 @@ again_row Dm i x set one = absurd set
 again_row Frmr i x set one = absurd set
 
 -- an N(R) that names no number
-unnamed : (x : Station) (m nr : ℕ) (rest : Station → Station) → Some m ≡ Some nr → (Names x nr → ⊥)
-    → acknowledging (named x.extended x.acked (x.sent - x.acked) m) rest x ≡ refuses_frame x
+unnamed : (x : Station) (m nr : ℕ) (rest : Station → Station) → Some m ≡ Some nr → (IsValidReceiveNumber x nr → ⊥)
+    → acknowledging (number_shown_as x.extended x.acked (x.sent - x.acked) m) rest x ≡ refuses_frame x
 unnamed x m nr rest same never =
     let is : m ≡ nr = cc in
-    ap (λ (r : ℕ). acknowledging (named x.extended x.acked (x.sent - x.acked) r) rest x) is
+    ap (λ (r : ℕ). acknowledging (number_shown_as x.extended x.acked (x.sent - x.acked) r) rest x) is
     ∙ ap (λ (o : Option ℕ). acknowledging o rest x) (none_named x nr never)
 
-unnamed_row : (c : Control) (i : List ℕ) (x : Station) (nr : ℕ) → nr_of c ≡ Some nr → (Names x nr → ⊥) → row Up x c i ≡ refuses_frame x
+unnamed_row : (c : Control) (i : List ℕ) (x : Station) (nr : ℕ) → nr_of c ≡ Some nr → (IsValidReceiveNumber x nr → ⊥) → row_of_phase Up x c i ≡ refuses_frame x
 unnamed_row (Info ns m) i x nr same never = unnamed x m nr (takes ns i) same never
 unnamed_row (Rr m) i x nr same never = unnamed x m nr (marks_busy false) same never
 unnamed_row (Rnr m) i x nr same never = unnamed x m nr (marks_busy true) same never
@@ -180,7 +180,7 @@ unnamed_row Dm i x nr same never = absurd (none-some nr same)
 unnamed_row Frmr i x nr same never = absurd (none-some nr same)
 
 -- a number that a station with a moment names is one that it names
-seen_names : (now : ℕ) (s : Station) (nr : ℕ) → (Names s nr → ⊥) → Names (sees now s) nr → ⊥
+seen_names : (now : ℕ) (s : Station) (nr : ℕ) → (IsValidReceiveNumber s nr → ⊥) → IsValidReceiveNumber (sees now s) nr → ⊥
 seen_names now s nr never x = never (record { number = x.number; within = x.within; shown = x.shown })
 
 refused : (now : ℕ) (s : Station) (a : ℕ) (b : List ℕ) → is_down s.phase ≡ false → hears (Frame a b) (sees now s) ≡ refuses_frame (sees now s)
@@ -212,15 +212,15 @@ error_refused law now s a b octets (NamesNone c i nr up x has never) =
 -- a frame that is no error comes to the same row in Setting and in Up
 ends : ControlIsTable → (now : ℕ) (s y : Station) (a : ℕ) (b : List ℕ) (c : Control) (i : List ℕ) → AreOctets b → IsBegun s → Comes s a b c i
     → is_error s.calling c i ≡ false
-    → row Setting (sees now s) c i ≡ releases cause.PeerDisconnected y → row Up (sees now s) c i ≡ releases cause.PeerDisconnected y
-    → receives now (Frame a b) s ≡ releases cause.PeerDisconnected y
+    → row_of_phase Setting (sees now s) c i ≡ station_down_for_cause cause.PeerDisconnected y → row_of_phase Up (sees now s) c i ≡ station_down_for_cause cause.PeerDisconnected y
+    → receives now (Frame a b) s ≡ station_down_for_cause cause.PeerDisconnected y
 ends law now s y a b c i octets begun x isnt setting up =
     heard_is now (Frame a b) s y cause.PeerDisconnected (begun_lives s begun)
     (comes_to law now s a b c i octets x
-    ∙ ap (λ (t : Bool). if t then errs s.phase (sees now s) else row s.phase (sees now s) c i) isnt
+    ∙ ap (λ (t : Bool). if t then errs s.phase (sees now s) else row_of_phase s.phase (sees now s) c i) isnt
     ∙ elim begun [
-      | inl e ↦ ap (λ (p : Phase). row p (sees now s) c i) e ∙ setting
-      | inr e ↦ ap (λ (p : Phase). row p (sees now s) c i) e ∙ up
+      | inl e ↦ ap (λ (p : Phase). row_of_phase p (sees now s) c i) e ∙ setting
+      | inr e ↦ ap (λ (p : Phase). row_of_phase p (sees now s) c i) e ∙ up
     ])
 
 -- the station before its release: it answered
@@ -230,7 +230,7 @@ answered (IsDisconnected begun x) y = y
 answered (RejectsFrame i begun x) y = y
 
 pub end_released : ControlIsTable → (now : ℕ) (s : Station) (a : ℕ) (b : List ℕ) → AreOctets b → (end : IsPeersEnd s a b)
-    → receives now (Frame a b) s ≡ releases cause.PeerDisconnected (answered end (sees now s))
+    → receives now (Frame a b) s ≡ station_down_for_cause cause.PeerDisconnected (answered end (sees now s))
 end_released law now s a b octets (Disconnects poll begun x) = ends law now s (agrees poll (sees now s)) a b (Disc poll) [] octets begun x refl refl refl
 end_released law now s a b octets (IsDisconnected begun x) = ends law now s (sees now s) a b Dm [] octets begun x refl refl refl
 end_released law now s a b octets (RejectsFrame i begun x) = ends law now s (sees now s) a b Frmr i octets begun x refl refl refl

@@ -12,7 +12,7 @@ use Rattle.hdlc_station_model.specs.declared.phase.Phase.TheVariants.{Idle, Sett
 use Rattle.hdlc_station_model.specs.Frames.{Rr, Rej, SetUp, modulo}
 use Rattle.hdlc_station_model.specs.Stations.{Station, Deed, no_deed, is_down, sees, puts}
 use Rattle.hdlc_station_model.specs.Sending.{can_send, waiting, sends_next, sends_up_to, sends_waiting, sends_again, starts_timer, settles, gives_up, counts_expiry, expires_at, expires, expires_if_due, is_due, refuses_frame}
-use Rattle.hdlc_station_model.specs.Receiving.{strays, is_known_address, is_addressed, is_error, errs, named, acknowledges, acknowledging, accepts, rejects, takes, marks_busy, repeats_rejected, agrees, sets_up_again, row, hears, hears_control}
+use Rattle.hdlc_station_model.specs.Receiving.{strays, is_known_address, is_addressed, is_error, errs, number_shown_as, acknowledges, acknowledging, accepts, rejects, takes, marks_busy, repeats_rejected, agrees, sets_up_again, row_of_phase, hears, hears_control}
 use Rattle.hdlc_station_model.specs.Calls.{starts_at}
 use Rattle.hdlc_station_model.specs.Reports.{newer, is_release, TellsRelease, ReleasesAreTold, KeepsRelease, FinishKeepsRelease}
 
@@ -81,7 +81,7 @@ set_up poll x live d =
     cond_both (length x.taken == 0) (agrees poll (record x { gap = false })) (refuses_frame x) (Told x)
     (λ e. calm x (agrees poll (record x { gap = false })) live refl refl d) (λ e. refused x)
 
-rowed : (p : Phase) (c : Control) (information : List ℕ) (x : Station) → is_down x.phase ≡ false → x.deed ≡ no_deed → Told x (row p x c information)
+rowed : (p : Phase) (c : Control) (information : List ℕ) (x : Station) → is_down x.phase ≡ false → x.deed ≡ no_deed → Told x (row_of_phase p x c information)
 rowed Idle (control.Info ns nr) information x live d = strayed x live d
 rowed Idle (control.Rr nr) information x live d = strayed x live d
 rowed Idle (control.Rnr nr) information x live d = strayed x live d
@@ -105,13 +105,13 @@ rowed Setting control.Ua information x live d = record { released = refl; down =
 rowed Setting control.Dm information x live d = record { released = refl; down = refl }
 rowed Setting control.Frmr information x live d = record { released = refl; down = refl }
 rowed Up (control.Info ns nr) information x live d =
-    numbered (named x.extended x.acked (x.sent - x.acked) nr) (takes ns information) x (λ n. took ns information x (acknowledges n x) live refl refl d)
+    numbered (number_shown_as x.extended x.acked (x.sent - x.acked) nr) (takes ns information) x (λ n. took ns information x (acknowledges n x) live refl refl d)
 rowed Up (control.Rr nr) information x live d =
-    numbered (named x.extended x.acked (x.sent - x.acked) nr) (marks_busy false) x (λ n. calm x (marks_busy false (acknowledges n x)) live refl refl d)
+    numbered (number_shown_as x.extended x.acked (x.sent - x.acked) nr) (marks_busy false) x (λ n. calm x (marks_busy false (acknowledges n x)) live refl refl d)
 rowed Up (control.Rnr nr) information x live d =
-    numbered (named x.extended x.acked (x.sent - x.acked) nr) (marks_busy true) x (λ n. calm x (marks_busy true (acknowledges n x)) live refl refl d)
+    numbered (number_shown_as x.extended x.acked (x.sent - x.acked) nr) (marks_busy true) x (λ n. calm x (marks_busy true (acknowledges n x)) live refl refl d)
 rowed Up (control.Rej nr) information x live d =
-    numbered (named x.extended x.acked (x.sent - x.acked) nr) (λ t. repeats_rejected (marks_busy false t)) x
+    numbered (number_shown_as x.extended x.acked (x.sent - x.acked) nr) (λ t. repeats_rejected (marks_busy false t)) x
     (λ n. repeated x (marks_busy false (acknowledges n x)) live refl refl d)
 rowed Up (control.Srej nr) information x live d = refused x
 rowed Up (control.Sabm poll) information x live d = set_up poll x live d
@@ -131,8 +131,8 @@ erred Down x live d = calm x x live refl refl d
 heard_control : (address : ℕ) (o : Option (Control × List ℕ)) (x : Station) → is_down x.phase ≡ false → x.deed ≡ no_deed → Told x (hears_control address o x)
 heard_control address None x live d = erred x.phase x live d
 heard_control address (Some read) x live d =
-    cond_both (is_addressed x.calling address read.0) (if is_error x.calling read.0 read.1 then errs x.phase x else row x.phase x read.0 read.1) (strays x) (Told x)
-    (λ e. cond_both (is_error x.calling read.0 read.1) (errs x.phase x) (row x.phase x read.0 read.1) (Told x)
+    cond_both (is_addressed x.calling address read.0) (if is_error x.calling read.0 read.1 then errs x.phase x else row_of_phase x.phase x read.0 read.1) (strays x) (Told x)
+    (λ e. cond_both (is_error x.calling read.0 read.1) (errs x.phase x) (row_of_phase x.phase x read.0 read.1) (Told x)
     (λ e. erred x.phase x live d) (λ e. rowed x.phase read.0 read.1 x live d))
     (λ e. strayed x live d)
 

@@ -12,7 +12,7 @@ use Rattle.hdlc_station_model.specs.declared.phase.Phase.TheVariants.{Idle, Sett
 use Rattle.hdlc_station_model.specs.Frames.{Rr, Rej, SetUp, modulo}
 use Rattle.hdlc_station_model.specs.Stations.{Station, is_up, is_down, sees, puts}
 use Rattle.hdlc_station_model.specs.Sending.{can_send, waiting, sends_next, sends_up_to, sends_waiting, sends_again, starts_timer, settles, gives_up, counts_expiry, expires_at, expires, expires_if_due, is_due, refuses_frame}
-use Rattle.hdlc_station_model.specs.Receiving.{strays, is_known_address, is_addressed, is_error, errs, named, acknowledges, acknowledging, accepts, rejects, takes, marks_busy, repeats_rejected, agrees, sets_up_again, row, hears, hears_control}
+use Rattle.hdlc_station_model.specs.Receiving.{strays, is_known_address, is_addressed, is_error, errs, number_shown_as, acknowledges, acknowledging, accepts, rejects, takes, marks_busy, repeats_rejected, agrees, sets_up_again, row_of_phase, hears, hears_control}
 use Rattle.hdlc_station_model.specs.Calls.{starts_at, closes_at, closes}
 use Rattle.hdlc_station_model.specs.Events.{quits, is_late}
 use Rattle.hdlc_station_model.specs.Timing.{IsExpired, LateExactly, StopsWhenDown, TimersStop}
@@ -96,7 +96,7 @@ again_stops poll x live =
 strays_stops : (x : Station) → is_down x.phase ≡ false → StopsWhenDown (strays x)
 strays_stops x live = lives x (strays x) live refl
 
-row_stops : (p : Phase) (c : Control) (i : List ℕ) (x : Station) → is_down x.phase ≡ false → StopsWhenDown (row p x c i)
+row_stops : (p : Phase) (c : Control) (i : List ℕ) (x : Station) → is_down x.phase ≡ false → StopsWhenDown (row_of_phase p x c i)
 row_stops Idle (control.Info ns nr) i x live = strays_stops x live
 row_stops Idle (control.Rr nr) i x live = strays_stops x live
 row_stops Idle (control.Rnr nr) i x live = strays_stops x live
@@ -120,13 +120,13 @@ row_stops Setting control.Ua i x live = λ down. absurd (true≢false (sym down)
 row_stops Setting control.Dm i x live = λ down. refl
 row_stops Setting control.Frmr i x live = λ down. refl
 row_stops Up (control.Info ns nr) i x live =
-    numbered (named x.extended x.acked (x.sent - x.acked) nr) (takes ns i) x (λ n. takes_stops ns i (acknowledges n x) live)
+    numbered (number_shown_as x.extended x.acked (x.sent - x.acked) nr) (takes ns i) x (λ n. takes_stops ns i (acknowledges n x) live)
 row_stops Up (control.Rr nr) i x live =
-    numbered (named x.extended x.acked (x.sent - x.acked) nr) (marks_busy false) x (λ n. (λ down. absurd (true≢false (sym down ∙ live))))
+    numbered (number_shown_as x.extended x.acked (x.sent - x.acked) nr) (marks_busy false) x (λ n. (λ down. absurd (true≢false (sym down ∙ live))))
 row_stops Up (control.Rnr nr) i x live =
-    numbered (named x.extended x.acked (x.sent - x.acked) nr) (marks_busy true) x (λ n. (λ down. absurd (true≢false (sym down ∙ live))))
+    numbered (number_shown_as x.extended x.acked (x.sent - x.acked) nr) (marks_busy true) x (λ n. (λ down. absurd (true≢false (sym down ∙ live))))
 row_stops Up (control.Rej nr) i x live =
-    numbered (named x.extended x.acked (x.sent - x.acked) nr) (λ t. repeats_rejected (marks_busy false t)) x
+    numbered (number_shown_as x.extended x.acked (x.sent - x.acked) nr) (λ t. repeats_rejected (marks_busy false t)) x
     (λ n. repeats_stops (marks_busy false (acknowledges n x)) live)
 row_stops Up (control.Srej nr) i x live = λ down. refl
 row_stops Up (control.Sabm poll) i x live = again_stops poll x live
@@ -146,8 +146,8 @@ errs_stops Down x live = lives x x live refl
 control_stops : (address : ℕ) (o : Option (Control × List ℕ)) (x : Station) → is_down x.phase ≡ false → StopsWhenDown (hears_control address o x)
 control_stops address None x live = errs_stops x.phase x live
 control_stops address (Some read) x live =
-    cond_both (is_addressed x.calling address read.0) (if is_error x.calling read.0 read.1 then errs x.phase x else row x.phase x read.0 read.1) (strays x) StopsWhenDown
-    (λ e. cond_both (is_error x.calling read.0 read.1) (errs x.phase x) (row x.phase x read.0 read.1) StopsWhenDown
+    cond_both (is_addressed x.calling address read.0) (if is_error x.calling read.0 read.1 then errs x.phase x else row_of_phase x.phase x read.0 read.1) (strays x) StopsWhenDown
+    (λ e. cond_both (is_error x.calling read.0 read.1) (errs x.phase x) (row_of_phase x.phase x read.0 read.1) StopsWhenDown
     (λ e. errs_stops x.phase x live) (λ e. row_stops x.phase read.0 read.1 x live))
     (λ e. strays_stops x live)
 

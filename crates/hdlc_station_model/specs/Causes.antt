@@ -19,25 +19,25 @@ use Rattle.hdlc_station_model.specs.Timing.{IsExpired}
 
 -- ---- what a frame is
 
-pub data Kind : Type 0 where
-  Command Response Either : Kind
+pub data FrameKind : Type 0 where
+  Command Response Either : FrameKind
 
 -- I, the set-up frame and DISC are commands; UA, DM and FRMR are responses; RR, RNR, REJ and SREJ come as either
-abbrev pub kind_of : Control → Kind
-kind_of (Info ns nr) = Command
-kind_of (Rr nr) = Either
-kind_of (Rnr nr) = Either
-kind_of (Rej nr) = Either
-kind_of (Srej nr) = Either
-kind_of (Sabm poll) = Command
-kind_of (Sabme poll) = Command
-kind_of (Disc poll) = Command
-kind_of Ua = Response
-kind_of Dm = Response
-kind_of Frmr = Response
+abbrev pub command_or_response : Control → FrameKind
+command_or_response (Info ns nr) = Command
+command_or_response (Rr nr) = Either
+command_or_response (Rnr nr) = Either
+command_or_response (Rej nr) = Either
+command_or_response (Srej nr) = Either
+command_or_response (Sabm poll) = Command
+command_or_response (Sabme poll) = Command
+command_or_response (Disc poll) = Command
+command_or_response Ua = Response
+command_or_response Dm = Response
+command_or_response Frmr = Response
 
 -- a command bears the address of the station to which it comes, a response that of its peer
-abbrev pub IsAddressOf : Kind → (calling : Bool) (address : ℕ) → Type 0
+abbrev pub IsAddressOf : FrameKind → (calling : Bool) (address : ℕ) → Type 0
 IsAddressOf Command calling address = address ≡ address_of calling
 IsAddressOf Response calling address = address ≡ address_of (not calling)
 IsAddressOf Either calling address = (address ≡ address_of calling) ⊎ (address ≡ address_of (not calling))
@@ -45,7 +45,7 @@ IsAddressOf Either calling address = (address ≡ address_of calling) ⊎ (addre
 -- a frame comes with this control and information, under an address of its kind
 pub record Comes (s : Station) (address : ℕ) (body : List ℕ) (control : Control) (information : List ℕ) : Type 0 where
   pub reads : HasControl (modulo s.extended) body control information
-  pub addressed : IsAddressOf (kind_of control) s.calling address
+  pub addressed : IsAddressOf (command_or_response control) s.calling address
 
 abbrev pub IsSetUp : Control → Type 0
 IsSetUp (Info ns nr) = ⊥
@@ -89,7 +89,7 @@ nr_of Dm = None
 nr_of Frmr = None
 
 -- N(R) names a number: V(A), or one behind it up to V(S)
-pub record Names (s : Station) (nr : ℕ) : Type 0 where
+pub record IsValidReceiveNumber (s : Station) (nr : ℕ) : Type 0 where
   pub number : ℕ
   pub within : (number ≡ s.acked) ⊎ ((s.acked < number) × (number ≤ s.sent))
   pub shown : number % modulo s.extended ≡ nr
@@ -120,7 +120,7 @@ pub data IsFrameError (s : Station) (address : ℕ) (body : List ℕ) : Type 0 w
       → 1 ≤ length s.taken → IsFrameError s address body
   -- an N(R) that names no number
   NamesNone : (control : Control) (information : List ℕ) (nr : ℕ) → s.phase ≡ Up → Comes s address body control information → nr_of control ≡ Some nr
-      → (Names s nr → ⊥) → IsFrameError s address body
+      → (IsValidReceiveNumber s nr → ⊥) → IsFrameError s address body
 
 -- the peer ends the link or refuses a frame
 pub data IsPeersEnd (s : Station) (address : ℕ) (body : List ℕ) : Type 0 where

@@ -74,8 +74,8 @@ quits_called = (refl, refl)
 pub nexts : (next_of ((1 ∷ []) ∷ []) ((2 ∷ []) ∷ []) ≡ Some E) × (next_of [] ((2 ∷ []) ∷ []) ≡ Some R) × (next_of [] [] ≡ None)
 nexts = (refl, refl, refl)
 
-pub changed : altered (0x01 ∷ 0x3f ∷ 0xeb ∷ []) 1 0x0f ≡ 0x01 ∷ 0x30 ∷ 0xeb ∷ []
-changed = refl
+pub frame_changed_by_mask : altered (0x01 ∷ 0x3f ∷ 0xeb ∷ []) 1 0x0f ≡ 0x01 ∷ 0x30 ∷ 0xeb ∷ []
+frame_changed_by_mask = refl
 
 -- five payloads were handed down at e, two at r
 pub most : station_bound 5 2 ≡ 16

@@ -10,7 +10,7 @@ use Rattle.hdlc_station_model.specs.declared.phase.Phase.{Phase}
 use Rattle.hdlc_station_model.specs.declared.phase.Phase.TheVariants.{Idle, Setting, Up, Down}
 use Rattle.hdlc_station_model.specs.Frames.{Rr, Rej, Ua, modulo, address_of}
 use Rattle.hdlc_station_model.specs.Stations.{Station, puts, one_more, expiry_moment}
-use Rattle.hdlc_station_model.specs.Sending.{releases, refuses_frame, sends_again, starts_timer}
+use Rattle.hdlc_station_model.specs.Sending.{station_down_for_cause, refuses_frame, sends_again, starts_timer}
 
 -- ---- frames that are counted and ignored
 
@@ -65,9 +65,9 @@ errs Down s = s
 -- ---- N(R)
 
 -- the number from a to a + n that is shown as r
-abbrev pub named : Bool → ℕ → ℕ → ℕ → Option ℕ
-named extended a zero r = if a % modulo extended == r then Some a else None
-named extended a (suc n) r = if a % modulo extended == r then Some a else named extended (a + 1) n r
+abbrev pub number_shown_as : Bool → ℕ → ℕ → ℕ → Option ℕ
+number_shown_as extended a zero r = if a % modulo extended == r then Some a else None
+number_shown_as extended a (suc n) r = if a % modulo extended == r then Some a else number_shown_as extended (a + 1) n r
 
 -- N(R) names a number from V(A) to V(S), which becomes V(A). A rise is progress: T1 starts anew where frames stay unacknowledged, and
 -- stops where none does
@@ -84,7 +84,7 @@ acknowledging None rest s = refuses_frame s
 acknowledging (Some n) rest s = rest (acknowledges n s)
 
 abbrev pub by_number : ℕ → (Station → Station) → Station → Station
-by_number nr rest s = acknowledging (named s.extended s.acked (s.sent - s.acked) nr) rest s
+by_number nr rest s = acknowledging (number_shown_as s.extended s.acked (s.sent - s.acked) nr) rest s
 
 -- ---- N(S)
 
@@ -147,10 +147,10 @@ row_setting s (control.Rej nr) information = strays s
 row_setting s (control.Srej nr) information = refuses_frame s
 row_setting s (control.Sabm poll) information = refuses_frame s
 row_setting s (control.Sabme poll) information = refuses_frame s
-row_setting s (control.Disc poll) information = releases PeerDisconnected (agrees poll s)
+row_setting s (control.Disc poll) information = station_down_for_cause PeerDisconnected (agrees poll s)
 row_setting s control.Ua information = comes_up (record s { timer = None; expiries = 0 })
-row_setting s control.Dm information = releases PeerDisconnected s
-row_setting s control.Frmr information = releases PeerDisconnected s
+row_setting s control.Dm information = station_down_for_cause PeerDisconnected s
+row_setting s control.Frmr information = station_down_for_cause PeerDisconnected s
 
 abbrev pub row_up : Station → Control → List ℕ → Station
 row_up s (control.Info ns nr) payload = by_number nr (takes ns payload) s
@@ -160,16 +160,16 @@ row_up s (control.Rej nr) information = by_number nr (λ t. repeats_rejected (ma
 row_up s (control.Srej nr) information = refuses_frame s
 row_up s (control.Sabm poll) information = sets_up_again poll s
 row_up s (control.Sabme poll) information = sets_up_again poll s
-row_up s (control.Disc poll) information = releases PeerDisconnected (agrees poll s)
+row_up s (control.Disc poll) information = station_down_for_cause PeerDisconnected (agrees poll s)
 row_up s control.Ua information = strays s
-row_up s control.Dm information = releases PeerDisconnected s
-row_up s control.Frmr information = releases PeerDisconnected s
+row_up s control.Dm information = station_down_for_cause PeerDisconnected s
+row_up s control.Frmr information = station_down_for_cause PeerDisconnected s
 
-abbrev pub row : Phase → Station → Control → List ℕ → Station
-row Idle s c information = row_idle s c information
-row Setting s c information = row_setting s c information
-row Up s c information = row_up s c information
-row Down s c information = s
+abbrev pub row_of_phase : Phase → Station → Control → List ℕ → Station
+row_of_phase Idle s c information = row_idle s c information
+row_of_phase Setting s c information = row_setting s c information
+row_of_phase Up s c information = row_up s c information
+row_of_phase Down s c information = s
 
 -- ---- a frame that comes
 
@@ -178,7 +178,7 @@ abbrev pub hears_control : ℕ → Option (Control × List ℕ) → Station → 
 hears_control address None s = errs s.phase s
 hears_control address (Some read) s =
     if is_addressed s.calling address read.0
-    then (if is_error s.calling read.0 read.1 then errs s.phase s else row s.phase s read.0 read.1)
+    then (if is_error s.calling read.0 read.1 then errs s.phase s else row_of_phase s.phase s read.0 read.1)
     else strays s
 
 abbrev pub hears_frame : ℕ → List ℕ → Station → Station

@@ -12,9 +12,9 @@ use Rattle.hdlc_station_model.specs.declared.phase.Phase.{Phase}
 use Rattle.hdlc_station_model.specs.declared.phase.Phase.TheVariants.{Idle, Setting, Up, Down}
 use Rattle.hdlc_station_model.specs.Frames.{Rr, Srej, modulo}
 use Rattle.hdlc_station_model.specs.Stations.{Station, is_down, sees, puts, one_more}
-use Rattle.hdlc_station_model.specs.Sending.{releases, refuses_frame, info_at, sends_waiting, starts_timer}
+use Rattle.hdlc_station_model.specs.Sending.{station_down_for_cause, refuses_frame, info_at, sends_waiting, starts_timer}
 use Rattle.hdlc_station_model.specs.Calls.{receives}
-use Rattle.hdlc_station_model.specs.Receiving.{strays, is_known_address, is_addressed, is_some_octets, errs, named, by_number, marks_busy, comes_up, agrees, row_idle}
+use Rattle.hdlc_station_model.specs.Receiving.{strays, is_known_address, is_addressed, is_some_octets, errs, number_shown_as, by_number, marks_busy, comes_up, agrees, row_idle}
 
 -- ---- frames that are an error at any phase
 
@@ -101,7 +101,7 @@ files_at (Some n) payload s =
 
 -- N(S) is looked for from V(R) on, within the window
 abbrev pub files : ℕ → List ℕ → Station → Station
-files ns payload s = files_at (named s.extended (length s.taken) (s.window - 1) ns) payload s
+files ns payload s = files_at (number_shown_as s.extended (length s.taken) (s.window - 1) ns) payload s
 
 -- ---- SREJ
 
@@ -112,7 +112,7 @@ repeats_at (Some n) s = starts_timer (record (puts (info_at s n) s) { owed = fal
 
 -- it asks for a frame from V(A) to V(S) - 1
 abbrev pub repeats_one : ℕ → Station → Station
-repeats_one nr s = if nat_lt s.acked s.sent then repeats_at (named s.extended s.acked (s.sent - s.acked - 1) nr) s else strays s
+repeats_one nr s = if nat_lt s.acked s.sent then repeats_at (number_shown_as s.extended s.acked (s.sent - s.acked - 1) nr) s else strays s
 
 -- ---- the rows
 
@@ -128,10 +128,10 @@ selective_row_setting s (control.Rej nr) information = refuses_frame s
 selective_row_setting s (control.Srej nr) information = strays s
 selective_row_setting s (control.Sabm poll) information = refuses_frame s
 selective_row_setting s (control.Sabme poll) information = refuses_frame s
-selective_row_setting s (control.Disc poll) information = releases PeerDisconnected (agrees poll s)
+selective_row_setting s (control.Disc poll) information = station_down_for_cause PeerDisconnected (agrees poll s)
 selective_row_setting s control.Ua information = comes_up (record s { timer = None; expiries = 0 })
-selective_row_setting s control.Dm information = releases PeerDisconnected s
-selective_row_setting s control.Frmr information = releases PeerDisconnected s
+selective_row_setting s control.Dm information = station_down_for_cause PeerDisconnected s
+selective_row_setting s control.Frmr information = station_down_for_cause PeerDisconnected s
 
 abbrev pub selective_row_up : Station → Control → List ℕ → Station
 selective_row_up s (control.Info ns nr) payload = by_number nr (files ns payload) s
@@ -141,10 +141,10 @@ selective_row_up s (control.Rej nr) information = refuses_frame s
 selective_row_up s (control.Srej nr) information = repeats_one nr s
 selective_row_up s (control.Sabm poll) information = sets_up_selective_again poll s
 selective_row_up s (control.Sabme poll) information = sets_up_selective_again poll s
-selective_row_up s (control.Disc poll) information = releases PeerDisconnected (agrees poll s)
+selective_row_up s (control.Disc poll) information = station_down_for_cause PeerDisconnected (agrees poll s)
 selective_row_up s control.Ua information = strays s
-selective_row_up s control.Dm information = releases PeerDisconnected s
-selective_row_up s control.Frmr information = releases PeerDisconnected s
+selective_row_up s control.Dm information = station_down_for_cause PeerDisconnected s
+selective_row_up s control.Frmr information = station_down_for_cause PeerDisconnected s
 
 abbrev pub selective_row : Phase → Station → Control → List ℕ → Station
 selective_row Idle s c information = row_idle s c information

@@ -12,8 +12,8 @@ use Rattle.hdlc_station_model.specs.Stations.{Station, is_up, expiry_moment, put
 -- ---- releases
 
 -- the station is Down for this cause
-abbrev pub releases : Cause → Station → Station
-releases cause s = record s {
+abbrev pub station_down_for_cause : Cause → Station → Station
+station_down_for_cause cause s = record s {
   phase = Down;
   timer = None;
   released = Some (release_of cause);
@@ -22,7 +22,7 @@ releases cause s = record s {
 
 -- a frame that the station may not accept: it answers DM
 abbrev pub refuses_frame : Station → Station
-refuses_frame s = releases FrameError (puts Dm s)
+refuses_frame s = station_down_for_cause FrameError (puts Dm s)
 
 -- ---- I frames
 
@@ -87,7 +87,7 @@ is_due (Some expiry) now = nat_le expiry now
 
 -- after N2 expiries in a row the station gives up and sends DISC
 abbrev pub gives_up : Cause → Station → Station
-gives_up cause s = releases cause (puts Disc s)
+gives_up cause s = station_down_for_cause cause (puts Disc s)
 
 abbrev pub counts_expiry : Station → Station
 counts_expiry s = record s { expiries = s.expiries + 1 }

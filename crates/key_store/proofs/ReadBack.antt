@@ -11,9 +11,9 @@ use Rattle.er_base.specs.LineTexts.{WordsAreReadBack}
 use Rattle.er_base.specs.OctetLaws.{IsSpelling, JoinsOctets}
 use Rattle.er_base.specs.Octets.{eight, number_in, AreOctets}
 use Rattle.des_block.specs.declared.triple_key.TripleKey.{TripleKey}
-use Rattle.safety_automaton.specs.Keys.{Entry, AreDistinct}
+use Rattle.safety_automaton.specs.Keys.{KmacEntry, AreKmacEntriesApart}
 use Rattle.key_store.specs.declared.version.Version.TheVariants.{Two}
-use Rattle.key_store.specs.KeyFiles.{document_of, version_of, are_tables, number_in_field, three_keys, kmac_spelled, kmac_in_field, moments_in, entry_in, entries_in, keys_of}
+use Rattle.key_store.specs.KeyFiles.{document_of, version_of, are_tables, number_in_field, three_keys, kmac_spelled, kmac_in_field, moments_in, entry_in, key_entries_in_items, keys_of}
 use Rattle.key_store.specs.Ranges.{IsKey, IsInRange, AreInRange}
 use Rattle.key_store.specs.Written.{key_octets, key_digits, entry_members, entry_items, file_members}
 use Rattle.key_store.proofs.Twices.{none_where_distinct}
@@ -71,22 +71,22 @@ kmac_read laws key h =
     rw (digits laws key, laws.words.exact 24 (key_octets key) (octets laws key h) (long laws key))
     (ap (λ (k : TripleKey). Some k) (three_read laws key h))
 
-entry_read : (laws : Laws) (k : ℕ) (e : Entry) → IsInRange e → entry_in Two k (table (entry_members e)) ≡ Ok e
+entry_read : (laws : Laws) (k : ℕ) (e : KmacEntry) → IsInRange e → entry_in Two k (table (entry_members e)) ≡ Ok e
 unfolding entry_in number_in_field kmac_in_field moments_in
 entry_read laws k e h =
     rw (le-leb e.engine 16777215 (omega (arith, h.engine)), le-leb e.rbc 16777215 (omega (arith, h.rbc)), kmac_read laws e.kmac h.kmac, le-leb e.first 1000000000000000 (omega (arith, h.moments, h.last)), le-leb e.last 1000000000000000 h.last, le-ltb e.last e.first h.moments)
     refl
 
-entries_read : (laws : Laws) (before : ℕ) (es : List Entry) → AreInRange es → entries_in Two before (entry_items es) ≡ Ok es
-unfolding entries_in
+entries_read : (laws : Laws) (before : ℕ) (es : List KmacEntry) → AreInRange es → key_entries_in_items Two before (entry_items es) ≡ Ok es
+unfolding key_entries_in_items
 entries_read laws before [] h = refl
 entries_read laws before (e ∷ es) h = rw (entry_read laws (before + 1) e h.0, entries_read laws (before + 1) es h.1) refl
 
-all_tables : (es : List Entry) → are_tables (entry_items es) ≡ true
+all_tables : (es : List KmacEntry) → are_tables (entry_items es) ≡ true
 all_tables [] = refl
 all_tables (e ∷ es) = all_tables es
 
-pub file_read : (laws : Laws) (text : List ℕ) (es : List Entry) → AreInRange es → AreDistinct es
+pub file_read : (laws : Laws) (text : List ℕ) (es : List KmacEntry) → AreInRange es → AreKmacEntriesApart es
     → document_of text ≡ Some (table (file_members es)) → keys_of text ≡ Ok es
 unfolding keys_of version_of
 file_read laws text es h distinct is =

@@ -10,11 +10,11 @@ use Rattle.std.proofs.lemmas.List.Sorted.{All-permutation, IsPermutation-sym}
 use Rattle.std.proofs.lemmas.Bool.Decides.{nat_tests}
 use Rattle.std.proofs.lemmas.Map.Keys.{IsDistinct-IsPermutation}
 use Rattle.std.proofs.lemmas.List.{take-map, get_or-map, length-map, length-append}
-use Rattle.safety_automaton.specs.Keys.{Entry, IsApartFrom, AreDistinct}
+use Rattle.safety_automaton.specs.Keys.{KmacEntry, IsApartFrom, AreKmacEntriesApart}
 use Rattle.key_store.specs.KeyFiles.{is_at_once, place_at_once, first_twice}
 use Rattle.key_store.specs.Ranges.{IsInRange, AreInRange}
-use Rattle.key_store.specs.Spans.{span_of, span_cmp, runs_into, apart_behind, are_apart, IsInOrder, are_once}
-use Rattle.key_store.specs.Kept.{entry_of}
+use Rattle.key_store.specs.Spans.{span_of, span_cmp, runs_into, apart_behind, are_apart, AreSpansInOrder, are_once}
+use Rattle.key_store.specs.Kept.{key_entry_of}
 use Rattle.key_store.specs.declared.key_entry.KeyEntry.{KeyEntry}
 use Rattle.key_store.proofs.Twices.{at_once_tells, tells_at_once, distinct_where_none, none_where_distinct, no_twice_or}
 
@@ -42,7 +42,7 @@ IsSpan x = x.1 ≤ x.2
 pairs_same : (e r f s : ℕ) → r < 4294967296 → s < 4294967296 → (e * 4294967296 + r == f * 4294967296 + s) ≡ (e == f) && (r == s)
 pairs_same e r f s p q = grind (arith, nat_tests)
 
-meet_is : (a b : Entry) → IsInRange a → IsInRange b → meet (span_of a) (span_of b) ≡ is_at_once a b
+meet_is : (a b : KmacEntry) → IsInRange a → IsInRange b → meet (span_of a) (span_of b) ≡ is_at_once a b
 meet_is a b p q =
     rw (pairs_same a.engine a.rbc b.engine b.rbc (let z : a.rbc < 4294967296 = omega (arith, p.rbc) in z) (let z : b.rbc < 4294967296 = omega (arith, q.rbc) in z)) refl
 
@@ -138,16 +138,16 @@ rises x (y ∷ ys) up = (
 
 -- ---- entries and when they hold
 
-spans_are : (es : List Entry) → AreInRange es → AllByRecursion IsSpan (map span_of es)
+spans_are : (es : List KmacEntry) → AreInRange es → AllByRecursion IsSpan (map span_of es)
 spans_are [] p = tt
 spans_are (e ∷ es) p = (p.0.moments, spans_are es p.1)
 
-apart_from : (e : Entry) (es : List Entry) → IsInRange e → AreInRange es → AllByRecursion (λ z. meet (span_of e) z ≡ false) (map span_of es) → IsApartFrom e es
+apart_from : (e : KmacEntry) (es : List KmacEntry) → IsInRange e → AreInRange es → AllByRecursion (λ z. meet (span_of e) z ≡ false) (map span_of es) → IsApartFrom e es
 apart_from e [] p ps h = tt
 apart_from e (f ∷ fs) p ps h =
     ((λ both. false≢true (sym h.0 ∙ meet_is e f p ps.0 ∙ at_once_tells e f both)), apart_from e fs p ps.1 h.1)
 
-apart_to : (e : Entry) (es : List Entry) → IsInRange e → AreInRange es → IsApartFrom e es → AllByRecursion (λ z. meet (span_of e) z ≡ false) (map span_of es)
+apart_to : (e : KmacEntry) (es : List KmacEntry) → IsInRange e → AreInRange es → IsApartFrom e es → AllByRecursion (λ z. meet (span_of e) z ≡ false) (map span_of es)
 apart_to e [] p ps h = tt
 apart_to e (f ∷ fs) p ps h =
     (meet_is e f p ps.0 ∙ not_so (is_at_once e f) (λ t. h.0 (tells_at_once e f p ps.0 t)), apart_to e fs p ps.1 h.1)
@@ -156,12 +156,12 @@ apart_to e (f ∷ fs) p ps h =
     not_so true never = absurd (never refl)
     not_so false never = refl
 
-distinct_from : (es : List Entry) → AreInRange es → IsDistinct meet (map span_of es) → AreDistinct es
+distinct_from : (es : List KmacEntry) → AreInRange es → IsDistinct meet (map span_of es) → AreKmacEntriesApart es
 unfolding IsDistinct
 distinct_from [] p d = tt
 distinct_from (e ∷ es) p d = (apart_from e es p.0 p.1 d.0, distinct_from es p.1 d.1)
 
-distinct_to : (es : List Entry) → AreInRange es → AreDistinct es → IsDistinct meet (map span_of es)
+distinct_to : (es : List KmacEntry) → AreInRange es → AreKmacEntriesApart es → IsDistinct meet (map span_of es)
 unfolding IsDistinct
 distinct_to [] p d = tt
 distinct_to (e ∷ es) p d = (apart_to e es p.0 p.1 d.0, distinct_to es p.1 d.1)
@@ -177,7 +177,7 @@ sorted_distinct : (xs : List (ℕ × ℕ × ℕ)) → AllByRecursion IsSpan xs �
 sorted_distinct [] ss up d = refl
 sorted_distinct (x ∷ xs) ss up d = apart_where_distinct x xs ss.1 (rises x xs up) d
 
-pub apart_is_once : (es : List Entry) (xs : List (ℕ × ℕ × ℕ)) → AreInRange es → IsInOrder es xs → are_apart xs ≡ is_none (first_twice [] es)
+pub apart_is_once : (es : List KmacEntry) (xs : List (ℕ × ℕ × ℕ)) → AreInRange es → AreSpansInOrder es xs → are_apart xs ≡ is_none (first_twice [] es)
 apart_is_once es xs p o =
     let ss = recursion_from_All IsSpan xs (All-permutation IsSpan (map span_of es) xs o.same (All-from_recursion IsSpan (map span_of es) (spans_are es p))) in
     elim (cases_Bool (are_apart xs)) [
@@ -194,7 +194,7 @@ apart_is_once es xs p o =
 
 -- ---- the first entry that comes twice
 
-first_from : (earlier es : List Entry) (n : ℕ) (d : Entry) (p : ℕ) → first_twice earlier (take n es) ≡ None → n < length es
+first_from : (earlier es : List KmacEntry) (n : ℕ) (d : KmacEntry) (p : ℕ) → first_twice earlier (take n es) ≡ None → n < length es
     → place_at_once 0 (earlier ++ take n es) (get_or es n d) ≡ Some p → first_twice earlier es ≡ Some (p, length earlier + (n + 1))
 unfolding first_twice
 first_from earlier [] n d p none low there = absurd (let z : ⊥ = omega (arith, low) in z)
@@ -209,7 +209,7 @@ first_from earlier (e ∷ es) (suc n) d p none low there =
     let same : length (earlier ++ e ∷ []) + (n + 1) ≡ length earlier + (suc n + 1) = omega (arith, long) in
     rw parts.0 (more ∙ ap (λ z. Some (p, z)) same)
 
-none_more : (earlier es : List Entry) (n : ℕ) (d : Entry) → first_twice earlier (take n es) ≡ None → n < length es
+none_more : (earlier es : List KmacEntry) (n : ℕ) (d : KmacEntry) → first_twice earlier (take n es) ≡ None → n < length es
     → place_at_once 0 (earlier ++ take n es) (get_or es n d) ≡ None → first_twice earlier (take (suc n) es) ≡ None
 unfolding first_twice
 none_more earlier [] n d none low there = absurd (let z : ⊥ = omega (arith, low) in z)
@@ -228,41 +228,41 @@ none_of (Some x) p = absurd (false≢true p)
 
 -- of entries as the code keeps them: so many are once, one more isn't, and this is the place of the first that is so with that one
 pub first_is : (es : List KeyEntry) (n : ℕ) (d : KeyEntry) (place : Option ℕ) → are_once (take n es) ≡ true → are_once (take (n + 1) es) ≡ false → n < length es
-    → place ≡ place_at_once 0 (map entry_of (take n es)) (entry_of (get_or es n d))
-    → option_map (λ first. (first, n + 1)) place ≡ first_twice [] (map entry_of es)
+    → place ≡ place_at_once 0 (map key_entry_of (take n es)) (key_entry_of (get_or es n d))
+    → option_map (λ first. (first, n + 1)) place ≡ first_twice [] (map key_entry_of es)
 first_is es n d place once twice low there = by_place place at
   where
-    before : take n (map entry_of es) ≡ map entry_of (take n es)
-    before = take-map entry_of n es
+    before : take n (map key_entry_of es) ≡ map key_entry_of (take n es)
+    before = take-map key_entry_of n es
 
-    none : first_twice [] (take n (map entry_of es)) ≡ None
-    none = none_of (first_twice [] (take n (map entry_of es))) (ap (λ z. is_none (first_twice [] z)) before ∙ once)
+    none : first_twice [] (take n (map key_entry_of es)) ≡ None
+    none = none_of (first_twice [] (take n (map key_entry_of es))) (ap (λ z. is_none (first_twice [] z)) before ∙ once)
 
-    fits : n < length (map entry_of es)
-    fits = let long = length-map es entry_of in omega (arith, low, long)
+    fits : n < length (map key_entry_of es)
+    fits = let long = length-map es key_entry_of in omega (arith, low, long)
 
-    item : get_or (map entry_of es) n (entry_of d) ≡ entry_of (get_or es n d)
-    item = get_or-map entry_of es n d (entry_of d) low
+    item : get_or (map key_entry_of es) n (key_entry_of d) ≡ key_entry_of (get_or es n d)
+    item = get_or-map key_entry_of es n d (key_entry_of d) low
 
-    at : place_at_once 0 (take n (map entry_of es)) (get_or (map entry_of es) n (entry_of d)) ≡ place
-    at = ap (λ z. place_at_once 0 z (get_or (map entry_of es) n (entry_of d))) before ∙ ap (λ z. place_at_once 0 (map entry_of (take n es)) z) item ∙ sym there
+    at : place_at_once 0 (take n (map key_entry_of es)) (get_or (map key_entry_of es) n (key_entry_of d)) ≡ place
+    at = ap (λ z. place_at_once 0 z (get_or (map key_entry_of es) n (key_entry_of d))) before ∙ ap (λ z. place_at_once 0 (map key_entry_of (take n es)) z) item ∙ sym there
 
-    by_place : (o : Option ℕ) → place_at_once 0 (take n (map entry_of es)) (get_or (map entry_of es) n (entry_of d)) ≡ o
-        → option_map (λ first. (first, n + 1)) o ≡ first_twice [] (map entry_of es)
+    by_place : (o : Option ℕ) → place_at_once 0 (take n (map key_entry_of es)) (get_or (map key_entry_of es) n (key_entry_of d)) ≡ o
+        → option_map (λ first. (first, n + 1)) o ≡ first_twice [] (map key_entry_of es)
     by_place None p =
         let more : n + 1 ≡ suc n = omega arith in
-        absurd (false≢true (sym twice ∙ ap (λ z. is_none (first_twice [] z)) (sym (take-map entry_of (n + 1) es))
-        ∙ ap (λ z. is_none (first_twice [] (take z (map entry_of es)))) more ∙ ap is_none (none_more [] (map entry_of es) n (entry_of d) none fits p)))
+        absurd (false≢true (sym twice ∙ ap (λ z. is_none (first_twice [] z)) (sym (take-map key_entry_of (n + 1) es))
+        ∙ ap (λ z. is_none (first_twice [] (take z (map key_entry_of es)))) more ∙ ap is_none (none_more [] (map key_entry_of es) n (key_entry_of d) none fits p)))
     by_place (Some first) p =
         let same : n + 1 ≡ 0 + (n + 1) = omega arith in
-        ap (λ z. Some (first, z)) same ∙ sym (first_from [] (map entry_of es) n (entry_of d) first none fits p)
+        ap (λ z. Some (first, z)) same ∙ sym (first_from [] (map key_entry_of es) n (key_entry_of d) first none fits p)
 
 pub some_entry : (es : List KeyEntry) → are_once es ≡ false → 0 < length es
 unfolding first_twice
 some_entry [] p = absurd (false≢true (sym p))
 some_entry (e ∷ es) p = (let z : 0 < length (e ∷ es) = omega arith in z)
 
-pub range_of_first : (n : ℕ) (es : List KeyEntry) → AreInRange (map entry_of es) → AreInRange (map entry_of (take n es))
+pub range_of_first : (n : ℕ) (es : List KeyEntry) → AreInRange (map key_entry_of es) → AreInRange (map key_entry_of (take n es))
 range_of_first zero es p = tt
 range_of_first (suc n) [] p = tt
 range_of_first (suc n) (e ∷ es) p = (p.0, range_of_first n es p.1)

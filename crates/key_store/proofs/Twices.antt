@@ -2,12 +2,12 @@
 use Rattle.std.proofs.Common.{arith, ◌≡◌, ℕ, ◌+◌, ◌==◌, ◌&&◌, nat_le, max, true, List, [], ◌∷◌, ◌++◌, length, Option, Some, None, refl, sym, eq-eqb, ◌∙◌, inl, inr}
 use Rattle.std.proofs.lemmas.Bool.{cases_Bool, eqb-true, and_parts, and_from, leb-true, le-leb, false≢true}
 use Rattle.std.proofs.lemmas.Option.{none-some}
-use Rattle.safety_automaton.specs.Keys.{Entry, AreAtOnce, IsApartFrom, AreDistinct}
+use Rattle.safety_automaton.specs.Keys.{KmacEntry, AreAtOnce, IsApartFrom, AreKmacEntriesApart}
 use Rattle.key_store.specs.KeyFiles.{is_at_once, place_at_once, twice_or, first_twice}
 use Rattle.key_store.specs.Ranges.{IsInRange, AreInRange}
 
 -- two that are so are found so
-pub at_once_tells : (a b : Entry) → AreAtOnce a b → is_at_once a b ≡ true
+pub at_once_tells : (a b : KmacEntry) → AreAtOnce a b → is_at_once a b ≡ true
 at_once_tells a b h =
     and_from ((a.engine == b.engine) && (a.rbc == b.rbc) && nat_le a.first b.last) (nat_le b.first a.last)
     (and_from ((a.engine == b.engine) && (a.rbc == b.rbc)) (nat_le a.first b.last)
@@ -16,7 +16,7 @@ at_once_tells a b h =
     (le-leb b.first a.last (omega (arith, h.from_first, h.to_last)))
 
 -- and two that are found so are so: at the later one of their first moments
-pub tells_at_once : (a b : Entry) → IsInRange a → IsInRange b → is_at_once a b ≡ true → AreAtOnce a b
+pub tells_at_once : (a b : KmacEntry) → IsInRange a → IsInRange b → is_at_once a b ≡ true → AreAtOnce a b
 tells_at_once a b p q h =
     let three = and_parts ((a.engine == b.engine) && (a.rbc == b.rbc) && nat_le a.first b.last) (nat_le b.first a.last) h in
     let two = and_parts ((a.engine == b.engine) && (a.rbc == b.rbc)) (nat_le a.first b.last) three.0 in
@@ -32,16 +32,16 @@ tells_at_once a b p q h =
     }
 
 -- none of these is so with an entry
-abbrev NoneWith : List Entry → Entry → Type 0
+abbrev NoneWith : List KmacEntry → KmacEntry → Type 0
 NoneWith [] entry = Unit {0}
 NoneWith (other ∷ others) entry = (AreAtOnce other entry → ⊥) × NoneWith others entry
 
 -- each of these is apart from all of those
-abbrev AreApart : List Entry → List Entry → Type 0
+abbrev AreApart : List KmacEntry → List KmacEntry → Type 0
 AreApart [] rest = Unit {0}
 AreApart (other ∷ others) rest = IsApartFrom other rest × AreApart others rest
 
-none_found : (before : ℕ) (earlier : List Entry) (entry : Entry) → place_at_once before earlier entry ≡ None → NoneWith earlier entry
+none_found : (before : ℕ) (earlier : List KmacEntry) (entry : KmacEntry) → place_at_once before earlier entry ≡ None → NoneWith earlier entry
 unfolding place_at_once
 none_found before [] entry h = tt
 none_found before (other ∷ others) entry h =
@@ -50,7 +50,7 @@ none_found before (other ∷ others) entry h =
       | inr f ↦ (λ both. false≢true (sym f ∙ at_once_tells other entry both), none_found (before + 1) others entry (rw f at h))
     ]
 
-not_found : (before : ℕ) (earlier : List Entry) (entry : Entry) → AreInRange earlier → IsInRange entry → NoneWith earlier entry
+not_found : (before : ℕ) (earlier : List KmacEntry) (entry : KmacEntry) → AreInRange earlier → IsInRange entry → NoneWith earlier entry
     → place_at_once before earlier entry ≡ None
 unfolding place_at_once
 not_found before [] entry p q h = refl
@@ -60,23 +60,23 @@ not_found before (other ∷ others) entry p q h =
       | inr f ↦ rw f (not_found (before + 1) others entry p.1 q h.1)
     ]
 
-apart_none : (earlier : List Entry) → AreApart earlier []
+apart_none : (earlier : List KmacEntry) → AreApart earlier []
 apart_none [] = tt
 apart_none (other ∷ others) = (tt, apart_none others)
 
-apart_more : (earlier : List Entry) (entry : Entry) (entries : List Entry) → NoneWith earlier entry → AreApart (earlier ++ entry ∷ []) entries
+apart_more : (earlier : List KmacEntry) (entry : KmacEntry) (entries : List KmacEntry) → NoneWith earlier entry → AreApart (earlier ++ entry ∷ []) entries
     → AreApart earlier (entry ∷ entries) × IsApartFrom entry entries
 apart_more [] entry entries h k = (tt, k.0)
 apart_more (other ∷ others) entry entries h k =
     let rest = apart_more others entry entries h.1 k.1 in
     (((h.0, k.0), rest.0), rest.1)
 
-apart_less : (earlier : List Entry) (entry : Entry) (entries : List Entry) → AreApart earlier (entry ∷ entries) → IsApartFrom entry entries
+apart_less : (earlier : List KmacEntry) (entry : KmacEntry) (entries : List KmacEntry) → AreApart earlier (entry ∷ entries) → IsApartFrom entry entries
     → AreApart (earlier ++ entry ∷ []) entries
 apart_less [] entry entries h k = (k, tt)
 apart_less (other ∷ others) entry entries h k = (h.0.1, apart_less others entry entries h.1 k)
 
-none_with : (earlier : List Entry) (entry : Entry) (entries : List Entry) → AreApart earlier (entry ∷ entries) → NoneWith earlier entry
+none_with : (earlier : List KmacEntry) (entry : KmacEntry) (entries : List KmacEntry) → AreApart earlier (entry ∷ entries) → NoneWith earlier entry
 none_with [] entry entries h = tt
 none_with (other ∷ others) entry entries h = (h.0.0, none_with others entry entries h.1)
 
@@ -84,7 +84,7 @@ pub no_twice_or : (place : Option ℕ) (second : ℕ) (further : Option (ℕ × 
 no_twice_or None second further h = (refl, h)
 no_twice_or (Some first) second further h = absurd (none-some (first, second) (sym h))
 
-apart_all : (earlier entries : List Entry) → first_twice earlier entries ≡ None → AreApart earlier entries × AreDistinct entries
+apart_all : (earlier entries : List KmacEntry) → first_twice earlier entries ≡ None → AreApart earlier entries × AreKmacEntriesApart entries
 unfolding first_twice
 apart_all earlier [] h = (apart_none earlier, tt)
 apart_all earlier (entry ∷ entries) h =
@@ -93,14 +93,14 @@ apart_all earlier (entry ∷ entries) h =
     let here = apart_more earlier entry entries (none_found 0 earlier entry parts.0) rest.0 in
     (here.0, (here.1, rest.1))
 
-pub distinct_where_none : (entries : List Entry) → first_twice [] entries ≡ None → AreDistinct entries
+pub distinct_where_none : (entries : List KmacEntry) → first_twice [] entries ≡ None → AreKmacEntriesApart entries
 distinct_where_none entries h = (apart_all [] entries h).1
 
-pub range_more : (front : List Entry) (entry : Entry) → AreInRange front → IsInRange entry → AreInRange (front ++ entry ∷ [])
+pub range_more : (front : List KmacEntry) (entry : KmacEntry) → AreInRange front → IsInRange entry → AreInRange (front ++ entry ∷ [])
 range_more [] entry h k = (k, tt)
 range_more (first ∷ front) entry h k = (h.0, range_more front entry h.1 k)
 
-none_from : (earlier entries : List Entry) → AreInRange earlier → AreInRange entries → AreApart earlier entries → AreDistinct entries
+none_from : (earlier entries : List KmacEntry) → AreInRange earlier → AreInRange entries → AreApart earlier entries → AreKmacEntriesApart entries
     → first_twice earlier entries ≡ None
 unfolding first_twice
 none_from earlier [] p q h k = refl
@@ -108,5 +108,5 @@ none_from earlier (entry ∷ entries) p q h k =
     rw (not_found 0 earlier entry p q.0 (none_with earlier entry entries h))
     (none_from (earlier ++ entry ∷ []) entries (range_more earlier entry p q.0) q.1 (apart_less earlier entry entries h k.0) k.1)
 
-pub none_where_distinct : (entries : List Entry) → AreInRange entries → AreDistinct entries → first_twice [] entries ≡ None
+pub none_where_distinct : (entries : List KmacEntry) → AreInRange entries → AreKmacEntriesApart entries → first_twice [] entries ≡ None
 none_where_distinct entries p h = none_from [] entries tt p tt h

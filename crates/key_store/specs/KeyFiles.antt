@@ -8,7 +8,7 @@ use Rattle.toml.specs.Parse.{parse_document}
 use Rattle.er_base.specs.Arguments.{exact_argument}
 use Rattle.er_base.specs.Octets.{number_in}
 use Rattle.des_block.specs.declared.triple_key.TripleKey.{TripleKey}
-use Rattle.safety_automaton.specs.Keys.{Entry}
+use Rattle.safety_automaton.specs.Keys.{KmacEntry}
 use Rattle.key_store.specs.declared.field_name.FieldName.{FieldName}
 use Rattle.key_store.specs.declared.field_name.FieldName.TheVariants as field
 use Rattle.key_store.specs.declared.key_file_fault.KeyFileFault.{KeyFileFault}
@@ -98,7 +98,7 @@ moments_in Two entry key = do
   if nat_lt last first then Err (Range entry) else Ok (first, last)
 
 -- what an entry says, by its fields from engine to moments; other fields are ignored
-unfoldable pub entry_in : Form → (entry : ℕ) → Data → Result Entry KeyFileFault
+unfoldable pub entry_in : Form → (entry : ℕ) → Data → Result KmacEntry KeyFileFault
 entry_in form entry key = do
   engine ← number_in_field entry field.Engine 16777215 key
   rbc ← number_in_field entry field.Rbc 16777215 key
@@ -107,21 +107,21 @@ entry_in form entry key = do
   Ok (record { engine = engine; rbc = rbc; kmac = kmac; first = moments.0; last = moments.1 })
 
 -- all entries, where so many stand before them
-unfoldable pub entries_in : Form → (before : ℕ) → Items → Result (List Entry) KeyFileFault
-entries_in form before no_items = Ok []
-entries_in form before (item key keys) = do
+unfoldable pub key_entries_in_items : Form → (before : ℕ) → Items → Result (List KmacEntry) KeyFileFault
+key_entries_in_items form before no_items = Ok []
+key_entries_in_items form before (item key keys) = do
   entry ← entry_in form (before + 1) key
-  entries ← entries_in form (before + 1) keys
+  entries ← key_entries_in_items form (before + 1) keys
   Ok (entry ∷ entries)
 
 -- ---- entries of one pair
 
 -- two entries are of one pair, and have a moment in common
-abbrev pub is_at_once : Entry → Entry → Bool
+abbrev pub is_at_once : KmacEntry → KmacEntry → Bool
 is_at_once a b = (a.engine == b.engine) && (a.rbc == b.rbc) && nat_le a.first b.last && nat_le b.first a.last
 
 -- the place of the first entry that is so with another one, where so many stand before these
-unfoldable pub place_at_once : (before : ℕ) → List Entry → Entry → Option ℕ
+unfoldable pub place_at_once : (before : ℕ) → List KmacEntry → KmacEntry → Option ℕ
 place_at_once before [] entry = None
 place_at_once before (other ∷ others) entry =
     if is_at_once other entry then Some (before + 1) else place_at_once (before + 1) others entry
@@ -132,22 +132,22 @@ twice_or None second further = further
 twice_or (Some first) second further = Some (first, second)
 
 -- the first entry that has an earlier one of its pair with a moment in common, behind the first such earlier one
-unfoldable pub first_twice : (earlier : List Entry) → List Entry → Option (ℕ × ℕ)
+unfoldable pub first_twice : (earlier : List KmacEntry) → List KmacEntry → Option (ℕ × ℕ)
 first_twice earlier [] = None
 first_twice earlier (entry ∷ entries) =
     twice_or (place_at_once 0 earlier entry) (length earlier + 1) (first_twice (earlier ++ entry ∷ []) entries)
 
-abbrev pub once : List Entry → Option (ℕ × ℕ) → Result (List Entry) KeyFileFault
-once entries None = Ok entries
-once entries (Some places) = Err (Twice places.0 places.1)
+abbrev pub entries_unless_twice : List KmacEntry → Option (ℕ × ℕ) → Result (List KmacEntry) KeyFileFault
+entries_unless_twice entries None = Ok entries
+entries_unless_twice entries (Some places) = Err (Twice places.0 places.1)
 
 -- ---- the file
 
 -- the entries of a key file, in their order, or its first fault
-unfoldable pub keys_of : List ℕ → Result (List Entry) KeyFileFault
+unfoldable pub keys_of : List ℕ → Result (List KmacEntry) KeyFileFault
 keys_of octets = do
   document ← some_or Document (document_of octets)
   form ← version_of document
   keys ← listed (get (field_word field.Key) document)
-  entries ← entries_in form 0 keys
-  once entries (first_twice [] entries)
+  entries ← key_entries_in_items form 0 keys
+  entries_unless_twice entries (first_twice [] entries)

@@ -3,13 +3,13 @@ use Rattle.std.specs.Prelude.{ℕ, ◌+◌, ◌*◌, ◌==◌, ◌&&◌, nat_le,
 use Rattle.std.specs.List.Sorted.{IsPermutation, IsSorted}
 use Rattle.std.specs.declared.cmp.Ordering.{Ordering}
 use Rattle.std.specs.Ordering.{nat_cmp, ordering_then}
-use Rattle.safety_automaton.specs.Keys.{Entry}
+use Rattle.safety_automaton.specs.Keys.{KmacEntry}
 use Rattle.key_store.specs.KeyFiles.{first_twice}
-use Rattle.key_store.specs.Kept.{entry_of}
+use Rattle.key_store.specs.Kept.{key_entry_of}
 use Rattle.key_store.specs.declared.key_entry.KeyEntry.{KeyEntry}
 
 -- a pair as one number, the first moment and the last one
-abbrev pub span_of : Entry → ℕ × ℕ × ℕ
+abbrev pub span_of : KmacEntry → ℕ × ℕ × ℕ
 span_of e = (e.engine * 4294967296 + e.rbc, e.first, e.last)
 
 abbrev pub span_cmp : ℕ × ℕ × ℕ → ℕ × ℕ × ℕ → Ordering
@@ -29,10 +29,10 @@ are_apart [] = true
 are_apart (span ∷ spans) = apart_behind span spans
 
 -- when these entries hold, in the order of pairs and first moments
-pub record IsInOrder (entries : List Entry) (spans : List (ℕ × ℕ × ℕ)) : Type 0 where
+pub record AreSpansInOrder (entries : List KmacEntry) (spans : List (ℕ × ℕ × ℕ)) : Type 0 where
   pub same : IsPermutation (map span_of entries) spans
   pub sorted : IsSorted span_cmp spans
 
 -- no two of these entries are of one pair and have a moment in common
 abbrev pub are_once : List KeyEntry → Bool
-are_once entries = is_none (first_twice [] (map entry_of entries))
+are_once entries = is_none (first_twice [] (map key_entry_of entries))

@@ -6,7 +6,7 @@ use Rattle.toml.specs.Data.{Data, string, integer, array, table, Items, no_items
 use Rattle.hex.specs.Hex.{encode_lower}
 use Rattle.er_base.specs.Octets.{eight}
 use Rattle.des_block.specs.declared.triple_key.TripleKey.{TripleKey}
-use Rattle.safety_automaton.specs.Keys.{Entry}
+use Rattle.safety_automaton.specs.Keys.{KmacEntry}
 
 -- a member put among others
 abbrev pub put_member : List ℕ → Data → Members → Members
@@ -21,16 +21,16 @@ key_octets key = eight key.first ++ (eight key.second ++ eight key.third)
 unfoldable pub key_digits : TripleKey → List ℕ
 key_digits key = encode_lower (key_octets key)
 
-abbrev pub entry_members : Entry → Members
+abbrev pub entry_members : KmacEntry → Members
 entry_members e =
     member (codes "engine") (integer (pos e.engine))
     (member (codes "from") (integer (pos e.first))
     (member (codes "kmac") (string (key_digits e.kmac))
     (member (codes "rbc") (integer (pos e.rbc)) (member (codes "to") (integer (pos e.last)) no_members))))
 
-abbrev pub entry_items : List Entry → Items
+abbrev pub entry_items : List KmacEntry → Items
 entry_items [] = no_items
 entry_items (e ∷ es) = item (table (entry_members e)) (entry_items es)
 
-abbrev pub file_members : List Entry → Members
+abbrev pub file_members : List KmacEntry → Members
 file_members es = member (codes "key") (array (entry_items es)) (member (codes "version") (integer (pos 2)) no_members)

@@ -7,7 +7,7 @@ ghost use Rattle.key_store.specs.declared.key_file_fault.KeyFileFault.TheVariant
 ghost use Rattle.key_store.specs.declared.field_name.FieldName.TheVariants as field;
 ghost use Rattle.key_store.specs.Fields.{field_word};
 ghost use Rattle.key_store.specs.KeyFiles.{some_or, document_of, version_of, listed, are_tables};
-ghost use Rattle.key_store.specs.Kept.{Gives};
+ghost use Rattle.key_store.specs.Kept.{AnswersAsDefinitionSays};
 
 use crate::field_name::FieldName;
 use crate::key_file_fault::KeyFileFault;
@@ -19,7 +19,7 @@ use toml::Value;
 /// The document that the octets are.
 #[tactic(auto, unfolding(crate::specs::KeyFiles::document_of))]
 pub fn read_document(alloc: Global, octets: &[u8]) -> Result<Value, KeyFileFault>
-    ensures { Gives view result (some_or fault.Document (document_of octets.now)) }
+    ensures { AnswersAsDefinitionSays view result (some_or fault.Document (document_of octets.now)) }
 {
     match toml::table_from_slice(alloc, octets) {
         Ok(table) => Ok(Value::from(table)),
@@ -66,7 +66,7 @@ fn are_all_tables(values: &[Value]) -> bool
 
 /// The entries that the document lists; none where it has no such list.
 pub fn listed_keys(document: &Value) -> Result<&[Value], KeyFileFault>
-    ensures { Gives (λ keys. items_view keys.now) result (listed (get (field_word field.Key) (view document.now))) }
+    ensures { AnswersAsDefinitionSays (λ keys. items_view keys.now) result (listed (get (field_word field.Key) (view document.now))) }
 {
     let field = KeyFileFault::Field {
         entry: 0,

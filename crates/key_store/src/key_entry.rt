@@ -3,7 +3,7 @@
 ghost use Rattle.std.specs.Prelude.{◌≡◌, true};
 ghost use Rattle.safety_automaton.specs.Keys.{is_of};
 ghost use Rattle.key_store.specs.KeyFiles.{is_at_once};
-ghost use Rattle.key_store.specs.Kept.{entry_of};
+ghost use Rattle.key_store.specs.Kept.{key_entry_of};
 ghost use Rattle.key_store.specs.Ranges.{IsInRange};
 ghost use Rattle.key_store.specs.Lists.{is_in_range};
 
@@ -28,8 +28,8 @@ pub struct KeyEntry {
 impl KeyEntry {
     /// Whether its numbers are in their ranges, and its first moment isn't behind its last one.
     pub fn is_in_range(&self) -> bool
-        ensures value { result ≡ is_in_range (entry_of self.now) }
-        ensures range { result ≡ true → IsInRange (entry_of self.now) }
+        ensures value { result ≡ is_in_range (key_entry_of self.now) }
+        ensures range { result ≡ true → IsInRange (key_entry_of self.now) }
     {
         // the ranges of the KMAC's numbers, which its type gives
         let _first = self.kmac.first;
@@ -49,14 +49,14 @@ impl KeyEntry {
 
     /// Whether it is that of a pair and holds at a moment.
     pub fn is_of(&self, engine: u32, rbc: u32, now: u64) -> bool
-        ensures { result ≡ is_of now engine rbc (entry_of self.now) }
+        ensures { result ≡ is_of now engine rbc (key_entry_of self.now) }
     {
         self.engine == engine && self.rbc == rbc && self.first <= now && now <= self.last
     }
 
     /// Whether another one is of the same pair and holds at a moment at which it holds.
     pub fn is_at_once(&self, other: &KeyEntry) -> bool
-        ensures { result ≡ is_at_once (entry_of self.now) (entry_of other.now) }
+        ensures { result ≡ is_at_once (key_entry_of self.now) (key_entry_of other.now) }
     {
         self.engine == other.engine
             && self.rbc == other.rbc

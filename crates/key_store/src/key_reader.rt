@@ -3,9 +3,9 @@
 ghost use Rattle.std.specs.Prelude.{true, ◌≡◌, ◌+◌, ◌<◌, ◌≤◌, [], ◌∷◌, ◌++◌, map, IfOk, OnOk};
 ghost use Rattle.toml.specs.View.{view, items_view};
 ghost use Rattle.key_store.specs.declared.key_file_fault.KeyFileFault.TheVariants as fault;
-ghost use Rattle.key_store.specs.KeyFiles.{some_or, number_in_field, kmac_spelled, kmac_in_field, moments_in, entry_in, entries_in, three_keys};
+ghost use Rattle.key_store.specs.KeyFiles.{some_or, number_in_field, kmac_spelled, kmac_in_field, moments_in, entry_in, key_entries_in_items, three_keys};
 ghost use Rattle.key_store.specs.Ranges.{IsKey, IsInRange, AreInRange};
-ghost use Rattle.key_store.specs.Kept.{entry_of, Gives};
+ghost use Rattle.key_store.specs.Kept.{key_entry_of, AnswersAsDefinitionSays};
 ghost use Rattle.key_store.specs.Lists.{are_in_range};
 
 use crate::field_name::FieldName;
@@ -63,7 +63,7 @@ fn keys(octets: &[u8; KEY_OCTETS]) -> TripleKey
 // The KMAC that a string spells.
 #[tactic(auto, unfolding(crate::specs::KeyFiles::kmac_spelled))]
 fn kmac_of(alloc: Global, entry: usize, word: &str) -> Result<TripleKey, KeyFileFault>
-    ensures said { Gives (λ kmac. kmac) result (some_or (fault.Hex entry) (kmac_spelled word.now)) }
+    ensures said { AnswersAsDefinitionSays (λ kmac. kmac) result (some_or (fault.Hex entry) (kmac_spelled word.now)) }
     ensures range { IfOk result (λ kmac. IsKey kmac) }
 {
     match read_exact(alloc, word.as_bytes(), KEY_OCTETS) {
@@ -76,7 +76,7 @@ fn kmac_of(alloc: Global, entry: usize, word: &str) -> Result<TripleKey, KeyFile
 // A KMAC of 48 hexadecimal digits.
 #[tactic(auto, unfolding(crate::specs::KeyFiles::kmac_in_field))]
 fn read_kmac(alloc: Global, entry: usize, key: &Value) -> Result<TripleKey, KeyFileFault>
-    ensures said { Gives (λ kmac. kmac) result (kmac_in_field entry (view key.now)) }
+    ensures said { AnswersAsDefinitionSays (λ kmac. kmac) result (kmac_in_field entry (view key.now)) }
     ensures range { IfOk result (λ kmac. IsKey kmac) }
 {
     let name = FieldName::Kmac;
@@ -116,8 +116,8 @@ fn read_entry(
     entry: usize,
     key: &Value,
 ) -> Result<KeyEntry, KeyFileFault>
-    ensures said { Gives entry_of result (entry_in version entry (view key.now)) }
-    ensures range { IfOk result (λ entry. IsInRange (entry_of entry)) }
+    ensures said { AnswersAsDefinitionSays key_entry_of result (entry_in version entry (view key.now)) }
+    ensures range { IfOk result (λ entry. IsInRange (key_entry_of entry)) }
 {
     let engine = read_number(entry, FieldName::Engine, MOST_NUMBER, key)? as u32;
     let rbc = read_number(entry, FieldName::Rbc, MOST_NUMBER, key)? as u32;
@@ -139,14 +139,14 @@ fn push(entries: &mut Vec<KeyEntry>, entry: KeyEntry) -> Result<(), NoMemory>
 }
 
 /// All entries, in their order, or the first one's fault that has one.
-#[tactic(auto, unfolding(crate::specs::KeyFiles::entries_in))]
+#[tactic(auto, unfolding(crate::specs::KeyFiles::key_entries_in_items))]
 pub fn read_entries(
     alloc: Global,
     version: Version,
     keys: &[Value],
 ) -> Result<Vec<KeyEntry>, KeyFileFault>
-    ensures said { Gives (λ entries. map entry_of entries.items) result (entries_in version 0 (items_view keys.now)) }
-    ensures range { IfOk result (λ entries. AreInRange (map entry_of entries.items)) }
+    ensures said { AnswersAsDefinitionSays (λ entries. map key_entry_of entries.items) result (key_entries_in_items version 0 (items_view keys.now)) }
+    ensures range { IfOk result (λ entries. AreInRange (map key_entry_of entries.items)) }
 {
     let mut entries = Vec::new(alloc);
     for (before, key) in keys.iter().enumerate() {
@@ -158,8 +158,8 @@ pub fn read_entries(
 
 /// Whether the numbers of each entry are in their ranges.
 pub fn are_in_range(entries: &[KeyEntry]) -> bool
-    ensures value { result ≡ are_in_range (map entry_of entries.now) }
-    ensures range { result ≡ true → AreInRange (map entry_of entries.now) }
+    ensures value { result ≡ are_in_range (map key_entry_of entries.now) }
+    ensures range { result ≡ true → AreInRange (map key_entry_of entries.now) }
 {
     for entry in entries {
         if !entry.is_in_range() {

@@ -1,6 +1,6 @@
 ghost use Rattle.std.specs.Prelude.{◌≡◌, Ok, IfOk, map};
 ghost use Rattle.key_store.specs.KeyFiles.{keys_of};
-ghost use Rattle.key_store.specs.Answers.{Answers};
+ghost use Rattle.key_store.specs.Answers.{AnswersAsKeyFileSays};
 ghost use Rattle.key_store.specs.Lists.{as_entry, listed_keys};
 
 use crate::document::{listed_keys, read_document, read_version};
@@ -24,15 +24,15 @@ pub struct KeyStore {
 
 impl Model for KeyStore {
     ghost use Rattle.std.specs.Prelude.{List, map};
-    ghost use Rattle.safety_automaton.specs.Keys.{Entry, AreDistinct};
+    ghost use Rattle.safety_automaton.specs.Keys.{KmacEntry, AreKmacEntriesApart};
     ghost use Rattle.key_store.specs.Ranges.{AreInRange};
-    ghost use Rattle.key_store.specs.Kept.{entry_of};
+    ghost use Rattle.key_store.specs.Kept.{key_entry_of};
 
-    ghost Value = { List Entry };
+    ghost Value = { List KmacEntry };
 
-    ghost view = { λ s. map entry_of s.entries.items };
+    ghost view = { λ s. map key_entry_of s.entries.items };
 
-    ghost invariant = { λ s. AreDistinct (map entry_of s.entries.items) × AreInRange (map entry_of s.entries.items) };
+    ghost invariant = { λ s. AreKmacEntriesApart (map key_entry_of s.entries.items) × AreInRange (map key_entry_of s.entries.items) };
 }
 
 impl KeyStore {
@@ -42,7 +42,7 @@ impl KeyStore {
     /// fields in their order, at last two entries of one pair that have a moment in common.
     #[tactic(auto, unfolding(crate::specs::KeyFiles::keys_of))]
     pub fn from_bytes(alloc: Global, bytes: &[u8]) -> Result<KeyStore, KeyFileFault>
-        ensures exact { Answers result (keys_of bytes.now) }
+        ensures exact { AnswersAsKeyFileSays result (keys_of bytes.now) }
     {
         let document = read_document(alloc, bytes)?;
         let version = read_version(&document)?;

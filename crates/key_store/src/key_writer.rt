@@ -6,9 +6,9 @@ ghost use Rattle.toml.specs.View.{view, table_view, items_view};
 ghost use Rattle.key_store.specs.Fields.{field_word};
 ghost use Rattle.key_store.specs.KeyFiles.{keys_of};
 ghost use Rattle.key_store.specs.Ranges.{IsInRange, AreInRange};
-ghost use Rattle.key_store.specs.Kept.{entry_of};
+ghost use Rattle.key_store.specs.Kept.{key_entry_of};
 ghost use Rattle.key_store.specs.Written.{put_member, key_digits, entry_members, entry_items, file_members};
-ghost use Rattle.safety_automaton.specs.Keys.{AreDistinct};
+ghost use Rattle.safety_automaton.specs.Keys.{AreKmacEntriesApart};
 
 use crate::field_name::FieldName;
 use crate::key_entry::KeyEntry;
@@ -42,8 +42,8 @@ fn kmac_text(alloc: Global, kmac: &TripleKey) -> Result<String, NoMemory>
 
 // The table of one entry.
 fn entry_table(alloc: Global, entry: &KeyEntry) -> Result<Value, NoMemory>
-    requires { IsInRange (entry_of entry.now) }
-    ensures { IfOk result (λ value. view value ≡ table (entry_members (entry_of entry.now))) }
+    requires { IsInRange (key_entry_of entry.now) }
+    ensures { IfOk result (λ value. view value ≡ table (entry_members (key_entry_of entry.now))) }
 {
     let mut table = Table::new(alloc);
     let kmac = kmac_text(alloc, &entry.kmac)?;
@@ -78,8 +78,8 @@ fn push(list: &mut Vec<Value>, value: Value) -> Result<(), NoMemory>
 
 // The tables of all entries.
 fn entry_tables(alloc: Global, entries: &RangedEntries) -> Result<Vec<Value>, NoMemory>
-    ensures made { IfOk result (λ list. items_view list.items ≡ entry_items (map entry_of entries.now)) }
-    ensures range { AreInRange (map entry_of entries.now) }
+    ensures made { IfOk result (λ list. items_view list.items ≡ entry_items (map key_entry_of entries.now)) }
+    ensures range { AreInRange (map key_entry_of entries.now) }
 {
     let all = entries.list();
     let mut list = Vec::new(alloc);
@@ -92,8 +92,8 @@ fn entry_tables(alloc: Global, entries: &RangedEntries) -> Result<Vec<Value>, No
 
 // The table of the whole file.
 fn file_table(alloc: Global, entries: &RangedEntries) -> Result<Table, NoMemory>
-    ensures made { IfOk result (λ made. table_view made ≡ file_members (map entry_of entries.now)) }
-    ensures range { AreInRange (map entry_of entries.now) }
+    ensures made { IfOk result (λ made. table_view made ≡ file_members (map key_entry_of entries.now)) }
+    ensures range { AreInRange (map key_entry_of entries.now) }
 {
     let mut table = Table::new(alloc);
     let keys = entry_tables(alloc, entries)?;
@@ -104,8 +104,8 @@ fn file_table(alloc: Global, entries: &RangedEntries) -> Result<Table, NoMemory>
 
 /// The text of a key file of version 2 with these entries.
 pub fn key_text(alloc: Global, entries: &RangedEntries) -> Result<Vec<u8>, NoMemory>
-    requires { AreDistinct (map entry_of entries.now) }
-    ensures { IfOk result (λ text. keys_of text.items ≡ Ok (map entry_of entries.now)) }
+    requires { AreKmacEntriesApart (map key_entry_of entries.now) }
+    ensures { IfOk result (λ text. keys_of text.items ≡ Ok (map key_entry_of entries.now)) }
 {
     er_base::laws::printed_words();
     er_base::laws::octets_of_numbers();

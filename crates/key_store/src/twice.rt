@@ -6,8 +6,8 @@
 ghost use Rattle.std.specs.Prelude.{◌≡◌, ◌<◌, ◌+◌, [], true, false, length, map, take, not, IfOk, OnOk};
 ghost use Rattle.std.specs.List.Sorted.{IsPermutation};
 ghost use Rattle.key_store.specs.KeyFiles.{place_at_once, first_twice};
-ghost use Rattle.key_store.specs.Kept.{entry_of};
-ghost use Rattle.key_store.specs.Spans.{span_of, runs_into, are_apart, are_once, IsInOrder};
+ghost use Rattle.key_store.specs.Kept.{key_entry_of};
+ghost use Rattle.key_store.specs.Spans.{span_of, runs_into, are_apart, are_once, AreSpansInOrder};
 
 use crate::key_entry::KeyEntry;
 use crate::ranged_entries::RangedEntries;
@@ -20,7 +20,7 @@ type Span = (u64, u64, u64);
 // The place, from 1, of the first of these entries that is of one pair with another and has a moment in common with it.
 #[tactic(auto, unfolding(crate::specs::KeyFiles::place_at_once))]
 fn place_at_once(entries: &[KeyEntry], entry: &KeyEntry) -> Option<usize>
-    ensures { result ≡ place_at_once 0 (map entry_of entries.now) (entry_of entry.now) }
+    ensures { result ≡ place_at_once 0 (map key_entry_of entries.now) (key_entry_of entry.now) }
 {
     for (before, other) in entries.iter().enumerate() {
         if other.is_at_once(entry) {
@@ -32,7 +32,7 @@ fn place_at_once(entries: &[KeyEntry], entry: &KeyEntry) -> Option<usize>
 
 // When an entry holds.
 fn span_of(entry: &KeyEntry) -> Span
-    ensures { result ≡ span_of (entry_of entry.now) }
+    ensures { result ≡ span_of (key_entry_of entry.now) }
 {
     let pair = entry.engine as u64 * 4_294_967_296 + entry.rbc as u64;
     (pair, entry.first, entry.last)
@@ -65,7 +65,7 @@ fn are_apart(spans: &[Span]) -> bool
 
 // When these entries hold, in order.
 fn put_in_order(entries: &[KeyEntry], spans: &mut Vec<Span>) -> Result<(), NoMemory>
-    ensures { OnOk result (IsInOrder (map entry_of entries.now) spans.new.items) }
+    ensures { OnOk result (AreSpansInOrder (map key_entry_of entries.now) spans.new.items) }
 {
     spans.clear();
     for entry in entries {
@@ -108,7 +108,7 @@ pub fn first_twice(
     alloc: Global,
     entries: &RangedEntries,
 ) -> Result<Option<(usize, usize)>, NoMemory>
-    ensures { IfOk result (λ places. places ≡ first_twice [] (map entry_of entries.now)) }
+    ensures { IfOk result (λ places. places ≡ first_twice [] (map key_entry_of entries.now)) }
 {
     let list = entries.list();
     let mut spans = Vec::with_capacity(alloc, list.len())?;

@@ -10,16 +10,16 @@ use Rattle.er_tap.specs.declared.tap_line.TapLine.{TapLine}
 use Rattle.er_tap.specs.declared.tap_step.TapStep.{TapStep}
 use Rattle.er_tap.specs.declared.tap_step.TapStep.TheVariants.{Link, Octets}
 use Rattle.tap_model.specs.Lines.{is_side, piece_of, stream_of}
-use Rattle.link_audit.specs.Marks.{mark_of, mark_in, marks_in}
+use Rattle.link_audit.specs.Marks.{mark_of_link_side, mark_in, marks_in}
 
 -- octets of another mark are another's
-other_side : (link m : ℕ) (side of : Side) (text : List ℕ) → m ≡ link → (mark_of m of ≡ mark_of link side → ⊥) → (if is_side side of then text else []) ≡ []
-other_side link m E E text same other = absurd (other (ap (λ n. mark_of n E) same))
+other_side : (link m : ℕ) (side of : Side) (text : List ℕ) → m ≡ link → (mark_of_link_side m of ≡ mark_of_link_side link side → ⊥) → (if is_side side of then text else []) ≡ []
+other_side link m E E text same other = absurd (other (ap (λ n. mark_of_link_side n E) same))
 other_side link m E R text same other = refl
 other_side link m R E text same other = refl
-other_side link m R R text same other = absurd (other (ap (λ n. mark_of n R) same))
+other_side link m R R text same other = absurd (other (ap (λ n. mark_of_link_side n R) same))
 
-other_piece : (link : ℕ) (side : Side) (step : TapStep) → (mark_in step ≡ mark_of link side → ⊥) → piece_of link side step ≡ []
+other_piece : (link : ℕ) (side : Side) (step : TapStep) → (mark_in step ≡ mark_of_link_side link side → ⊥) → piece_of link side step ≡ []
 other_piece link side (Link m engine rbc moment) other = refl
 other_piece link side (Octets m of text) other =
     elim (cases_Bool (m == link)) [
@@ -29,7 +29,7 @@ other_piece link side (Octets m of text) other =
 
 -- lines of other marks bring nothing
 skipped : (link : ℕ) (side : Side) (lines : List TapLine) (count : ℕ) → count ≤ length lines
-    → ((k : ℕ) → k < count → get_or (marks_in lines) k 0 ≡ mark_of link side → ⊥) → stream_of link side lines ≡ stream_of link side (drop count lines)
+    → ((k : ℕ) → k < count → get_or (marks_in lines) k 0 ≡ mark_of_link_side link side → ⊥) → stream_of link side lines ≡ stream_of link side (drop count lines)
 unfolding stream_of marks_in
 skipped link side lines zero within none = refl
 skipped link side [] (suc count) within none = absurd (omega arith)
@@ -42,11 +42,11 @@ module _ (link : ℕ) (side : Side) (lines : List TapLine) (marks : List ℕ) (a
   unfolding marks_in
   same_length = ap length are ∙ length-map lines (λ x. mark_in x.step)
 
-  not_at : (k : ℕ) → ((get_or marks k 0 == mark_of link side) ≡ true → ⊥) → get_or (marks_in lines) k 0 ≡ mark_of link side → ⊥
-  not_at k other same = other (eq-eqb (get_or marks k 0) (mark_of link side) (ap (λ (l : List ℕ). get_or l k 0) are ∙ same))
+  not_at : (k : ℕ) → ((get_or marks k 0 == mark_of_link_side link side) ≡ true → ⊥) → get_or (marks_in lines) k 0 ≡ mark_of_link_side link side → ⊥
+  not_at k other same = other (eq-eqb (get_or marks k 0) (mark_of_link_side link side) (ap (λ (l : List ℕ). get_or l k 0) are ∙ same))
 
   -- where a search for the mark stops
-  pub searched : (r : Option ℕ) → IsFirstByte (is_byte (mark_of link side)) marks r
+  pub searched : (r : Option ℕ) → IsFirstByte (is_byte (mark_of_link_side link side)) marks r
       → MatchOption r (stream_of link side lines ≡ []) (λ count. stream_of link side lines ≡ stream_of link side (drop count lines))
       × IfSome r (λ count. count < length lines)
   unfolding stream_of

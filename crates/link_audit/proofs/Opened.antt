@@ -8,12 +8,12 @@ use Rattle.er_tap.specs.declared.tap_line.TapLine.{TapLine}
 use Rattle.er_tap.specs.declared.tap_step.TapStep.TheVariants as step
 use Rattle.er_base.specs.declared.side.Side.{Side}
 use Rattle.er_tap.specs.Ranges.{IsInRange, AreInRange}
-use Rattle.tap_model.specs.Lines.{TapOpening, TapFault, NoLinkAt, TwiceAt, has, fault_at, opened_by, fault_from, fault_of, opens_link, first_opening, opening_of}
+use Rattle.tap_model.specs.Lines.{TapOpening, TapFault, NoLinkAt, TwiceAt, has, fault_at, links_opened_behind, fault_from, fault_of_tap_lines, opens_link, first_opening, tap_opening_of_link}
 use Rattle.link_audit.specs.declared.opening.Opening.{Opening}
 use Rattle.link_audit.specs.declared.openings.Openings.{Openings}
 use Rattle.tap_model.specs.declared.audit_fault.AuditFault.{AuditFault}
 use Rattle.tap_model.specs.declared.audit_fault.AuditFault.TheVariants.{NoLink, LinkTwice, Sink, NoMemory}
-use Rattle.link_audit.specs.Openings.{shown, shown_of, opening_at, Stands, Passes, Takes, Checks}
+use Rattle.link_audit.specs.Openings.{tap_opening_of_kept, shown_of, opening_at, StandsForOpenedLinks, Passes, TakesTapLine, Checks}
 
 -- ---- what is kept
 
@@ -39,7 +39,7 @@ module _ (o : Openings) (m : ℕ) (x : Opening) where
   abbrev pub with_one : Openings
   with_one = record { links = slice_set o.links (m - 1) (Some x) }
 
-  this_one : length o.links ≡ 64 → 1 ≤ m → m ≤ 64 → opening_at with_one m ≡ Some (shown x)
+  this_one : length o.links ≡ 64 → 1 ≤ m → m ≤ 64 → opening_at with_one m ≡ Some (tap_opening_of_kept x)
   unfolding opening_at
   this_one long least most = ap shown_of (get_or-set_same o.links (m - 1) (Some x) None (omega arith))
 
@@ -64,13 +64,13 @@ unopened None e = refl
 unopened (Some o) e = absurd cc
 
 -- of a link that isn't opened
-has_none : (opened : List ℕ) (o : Openings) (m : ℕ) → Stands opened o → 1 ≤ m → m ≤ 64 → is_some (opening_at o m) ≡ false → has m opened ≡ false
+has_none : (opened : List ℕ) (o : Openings) (m : ℕ) → StandsForOpenedLinks opened o → 1 ≤ m → m ≤ 64 → is_some (opening_at o m) ≡ false → has m opened ≡ false
 has_none opened o m stands least most none = stands m least most ∙ none
 
-has_one : (opened : List ℕ) (o : Openings) (m : ℕ) → Stands opened o → 1 ≤ m → m ≤ 64 → is_some (opening_at o m) ≡ true → has m opened ≡ true
+has_one : (opened : List ℕ) (o : Openings) (m : ℕ) → StandsForOpenedLinks opened o → 1 ≤ m → m ≤ 64 → is_some (opening_at o m) ≡ true → has m opened ≡ true
 has_one opened o m stands least most one = stands m least most ∙ one
 
-stands_more : (opened : List ℕ) (o : Openings) (m : ℕ) (x : Opening) → length o.links ≡ 64 → 1 ≤ m → m ≤ 64 → Stands opened o → Stands (m ∷ opened) (with_one o m x)
+stands_more : (opened : List ℕ) (o : Openings) (m : ℕ) (x : Opening) → length o.links ≡ 64 → 1 ≤ m → m ≤ 64 → StandsForOpenedLinks opened o → StandsForOpenedLinks (m ∷ opened) (with_one o m x)
 unfolding has
 stands_more opened o m x long least most stands n one more = elim (cases_eq n m) [
   | inl same ↦ rw (same, eq_self m, this_one o m x long least most) refl
@@ -98,7 +98,7 @@ link_passes o x m engine rbc at is long ranged none =
     }
 
 pub link_twice : (o : Openings) (x : TapLine) (m engine rbc at : ℕ) → x.step ≡ step.Link m engine rbc at → IsInRange x.step
-    → is_some (opening_at o m) ≡ true → (opened : List ℕ) → Stands opened o → fault_at opened x.line x.step ≡ Some (TwiceAt x.line m)
+    → is_some (opening_at o m) ≡ true → (opened : List ℕ) → StandsForOpenedLinks opened o → fault_at opened x.line x.step ≡ Some (TwiceAt x.line m)
 link_twice o x m engine rbc at is ranged one opened stands =
     let range = rw is at ranged in
     rw (is, has_one opened o m stands range.0.0 range.0.1 one) refl
@@ -113,7 +113,7 @@ octets_pass o x m side text is ranged one =
     }
 
 pub no_link : (o : Openings) (x : TapLine) (m : ℕ) (side : Side) (text : List ℕ) → x.step ≡ step.Octets m side text → IsInRange x.step
-    → is_some (opening_at o m) ≡ false → (opened : List ℕ) → Stands opened o → fault_at opened x.line x.step ≡ Some (NoLinkAt x.line m)
+    → is_some (opening_at o m) ≡ false → (opened : List ℕ) → StandsForOpenedLinks opened o → fault_at opened x.line x.step ≡ Some (NoLinkAt x.line m)
 no_link o x m side text is ranged none opened stands =
     let range = rw is at ranged in
     rw (is, has_none opened o m stands range.0.0 range.0.1 none) refl
@@ -123,9 +123,9 @@ no_link o x m side text is ranged none opened stands =
 -- lines passed, and these are left
 pub record Checked (lines left : List TapLine) (o : Openings) : Type 0 where
   pub opened : List ℕ
-  pub stands : Stands opened o
-  pub faults : fault_from opened left ≡ fault_of lines
-  pub openings : (n : ℕ) → 1 ≤ n → n ≤ 64 → first_opening (opening_at o n) (opening_of n left) ≡ opening_of n lines
+  pub stands : StandsForOpenedLinks opened o
+  pub faults : fault_from opened left ≡ fault_of_tap_lines lines
+  pub openings : (n : ℕ) → 1 ≤ n → n ≤ 64 → first_opening (opening_at o n) (tap_opening_of_link n left) ≡ tap_opening_of_link n lines
 
 pub none_checked : (lines : List TapLine) (o : Openings) → ((n : ℕ) → 1 ≤ n → n ≤ 64 → opening_at o n ≡ None) → Checked lines lines o
 unfolding has
@@ -141,21 +141,21 @@ first_assoc None b c = refl
 first_assoc (Some o) b c = refl
 
 pub one_checked : (lines rest : List TapLine) (x : TapLine) (old new : Openings) → Checked lines (x ∷ rest) old → Passes old new x → Checked lines rest new
-unfolding fault_from opening_of
+unfolding fault_from tap_opening_of_link
 one_checked lines rest x old new was passes =
     let stood = passes.stands was.opened was.stands in
     record {
-      opened = opened_by x.step was.opened;
+      opened = links_opened_behind x.step was.opened;
       stands = stood.1;
       faults = rw stood.0 at was.faults;
       openings = λ n least most.
-          ap (λ (a : Option TapOpening). first_opening a (opening_of n rest)) (passes.openings n least most)
-          ∙ first_assoc (opening_at old n) (opens_link n x.step) (opening_of n rest)
+          ap (λ (a : Option TapOpening). first_opening a (tap_opening_of_link n rest)) (passes.openings n least most)
+          ∙ first_assoc (opening_at old n) (opens_link n x.step) (tap_opening_of_link n rest)
           ∙ was.openings n least most;
     }
 
 pub one_refused : (lines rest : List TapLine) (x : TapLine) (o : Openings) (fault : TapFault) → Checked lines (x ∷ rest) o
-    → ((opened : List ℕ) → Stands opened o → fault_at opened x.line x.step ≡ Some fault) → fault_of lines ≡ Some fault
+    → ((opened : List ℕ) → StandsForOpenedLinks opened o → fault_at opened x.line x.step ≡ Some fault) → fault_of_tap_lines lines ≡ Some fault
 unfolding fault_from
 one_refused lines rest x o fault was refused =
     let here = refused was.opened was.stands in
@@ -163,13 +163,13 @@ one_refused lines rest x o fault was refused =
     sym (rw here at all)
 
 pub all_checked : (lines : List TapLine) (o : Openings) → Checked lines [] o
-    → (fault_of lines ≡ None) × ((n : ℕ) → 1 ≤ n → n ≤ 64 → opening_at o n ≡ opening_of n lines)
-unfolding fault_from opening_of
+    → (fault_of_tap_lines lines ≡ None) × ((n : ℕ) → 1 ≤ n → n ≤ 64 → opening_at o n ≡ tap_opening_of_link n lines)
+unfolding fault_from tap_opening_of_link
 all_checked lines o was = (sym was.faults, λ n least most. sym (first_none (opening_at o n)) ∙ was.openings n least most)
 
 -- what is refused of a line is refused of all
 pub refused_checks : (lines left : List TapLine) (n : ℕ) (x : TapLine) (old new : Openings) (fault : AuditFault) → left ≡ x ∷ drop (n + 1) lines
-    → Checked lines left old → Takes old new x (Err fault) → Checks lines (Err fault)
+    → Checked lines left old → TakesTapLine old new x (Err fault) → Checks lines (Err fault)
 refused_checks lines left n x old new (NoLink line m) is was refused =
     one_refused lines (drop (n + 1) lines) x old (NoLinkAt line m) (subst (λ (l : List TapLine). Checked lines l old) is was) refused
 refused_checks lines left n x old new (LinkTwice line m) is was refused =
@@ -183,7 +183,7 @@ passed_checked lines left n x old new is was passes =
     one_checked lines (drop (n + 1) lines) x old new (subst (λ (l : List TapLine). Checked lines l old) is was) passes
 
 pub end_checked : (lines : List TapLine) (n : ℕ) (o : Openings) → length lines ≤ n → Checked lines (drop n lines) o
-    → (fault_of lines ≡ None) × ((n : ℕ) → 1 ≤ n → n ≤ 64 → opening_at o n ≡ opening_of n lines)
+    → (fault_of_tap_lines lines ≡ None) × ((n : ℕ) → 1 ≤ n → n ≤ 64 → opening_at o n ≡ tap_opening_of_link n lines)
 end_checked lines n o past was = all_checked lines o (subst (λ (l : List TapLine). Checked lines l o) (drop_all n lines past) was)
 
 -- ---- ranges

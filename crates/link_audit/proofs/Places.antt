@@ -3,15 +3,15 @@ use Rattle.std.proofs.Common.{arith, ◌≡◌, ℕ, ◌+◌, ◌≤◌, ◌==�
 use Rattle.std.proofs.lemmas.Bool.{ne_eqb, le-leb}
 use Rattle.er_base.specs.declared.side.Side.{Side}
 use Rattle.er_base.specs.declared.side.Side.TheVariants.{E, R}
-use Rattle.sapdu.specs.Spelling.{Pdu, Au1, Au2, Au3, Ar, Dt, Di, read_of}
+use Rattle.sapdu.specs.Spelling.{SafetyPdu, Au1, Au2, Au3, Ar, Dt, Di, read_of}
 use Rattle.safety_automaton.specs.Safety.{same_flag}
 use Rattle.tap_model.specs.declared.audit_verdict.AuditVerdict.TheVariants.{Flag, Unexpected}
-use Rattle.tap_model.specs.Verdicts.{Known, Read, unless, side_flag, is_expected, feature_rule, identity_rule, mac_in, key_rule, mac_rule, first_of, verdict_on, judged_from}
+use Rattle.tap_model.specs.Verdicts.{Known, Read, verdict_where_broken, side_flag, is_sapdu_expected, feature_rule, identity_rule, mac_in, key_rule, mac_rule, first_verdict_of, audit_verdict_on_item, judged_from}
 
 other_place : (k m n : ℕ) → k ≤ 1 → 2 ≤ m → 2 ≤ n → (m == k) ≡ (n == k)
 other_place k m n few late later = ne_eqb m k (λ e. omega (arith, e, few, late)) ∙ sym (ne_eqb n k (λ e. omega (arith, e, few, later)))
 
-expected_late : (side : Side) (m n : ℕ) (pdu : Pdu) → 2 ≤ m → 2 ≤ n → is_expected side m pdu ≡ is_expected side n pdu
+expected_late : (side : Side) (m n : ℕ) (pdu : SafetyPdu) → 2 ≤ m → 2 ≤ n → is_sapdu_expected side m pdu ≡ is_sapdu_expected side n pdu
 expected_late E m n (Au1 id feature rb) late later = other_place 0 m n (omega arith) late later
 expected_late R m n (Au1 id feature rb) late later = refl
 expected_late E m n (Au2 id feature ra mac) late later = refl
@@ -25,12 +25,12 @@ expected_late R m n (Dt user mac) late later = le-leb 2 m late ∙ sym (le-leb 2
 expected_late E m n (Di reason sub) late later = refl
 expected_late R m n (Di reason sub) late later = refl
 
-verdict_late : (known : Known) (side : Side) (m n : ℕ) (read : Read) → 2 ≤ m → 2 ≤ n → verdict_on known side m read ≡ verdict_on known side n read
-unfolding verdict_on
+verdict_late : (known : Known) (side : Side) (m n : ℕ) (read : Read) → 2 ≤ m → 2 ≤ n → audit_verdict_on_item known side m read ≡ audit_verdict_on_item known side n read
+unfolding audit_verdict_on_item
 verdict_late known side m n (Err fault) late later = refl
 verdict_late known side m n (Ok read) late later =
     ap (λ (b : Bool).
-    first_of (unless (same_flag read.1 (side_flag side)) Flag ∷ unless b Unexpected ∷ feature_rule read.0 ∷ identity_rule known read.0
+    first_verdict_of (verdict_where_broken (same_flag read.1 (side_flag side)) Flag ∷ verdict_where_broken b Unexpected ∷ feature_rule read.0 ∷ identity_rule known read.0
     ∷ key_rule known.session (mac_in read.0) ∷ mac_rule known side read.0 read.1 known.session (mac_in read.0) ∷ []))
     (expected_late side m n read.0 late later)
 

@@ -10,7 +10,7 @@ use Rattle.tap_model.specs.Audits.{Audits}
 use Rattle.tap_model.specs.declared.audit_fault.AuditFault.{AuditFault}
 use Rattle.tap_model.specs.declared.audit_fault.AuditFault.TheVariants.{NoLink, LinkTwice, Sink, NoMemory}
 use Rattle.link_trait.specs.Outside.{Grew, GrewPart}
-use Rattle.tap_model.specs.Lines.{fault_of, opening_of}
+use Rattle.tap_model.specs.Lines.{fault_of_tap_lines, tap_opening_of_link}
 use Rattle.tap_model.specs.Texts.{item_words, side_text, link_text, links_text, audit_text}
 use Rattle.link_audit.specs.declared.openings.Openings.{Openings}
 use Rattle.link_audit.specs.Openings.{opening_at, links_opened}
@@ -89,17 +89,17 @@ links_none finds lines o n past =
     rw none refl
 
 -- by the lines, where the links were opened as those say
-pub opened_by_lines : (finds : Finds) (lines : List TapLine) (o : Openings) → ((n : ℕ) → 1 ≤ n → n ≤ 64 → opening_at o n ≡ opening_of n lines)
+pub opened_by_lines : (finds : Finds) (lines : List TapLine) (o : Openings) → ((n : ℕ) → 1 ≤ n → n ≤ 64 → opening_at o n ≡ tap_opening_of_link n lines)
     → (n count : ℕ) → 1 ≤ n → n + count ≤ 65 → links_opened finds lines o n count ≡ links_text finds lines n count
 unfolding links_opened links_text
 opened_by_lines finds lines o same n zero least most = refl
 opened_by_lines finds lines o same n (suc count) least most =
     rw (same n least (omega arith))
-    (ap (λ (t : List ℕ). link_text finds lines n (opening_of n lines) ++ t) (opened_by_lines finds lines o same (n + 1) count (omega arith) (omega arith)))
+    (ap (λ (t : List ℕ). link_text finds lines n (tap_opening_of_link n lines) ++ t) (opened_by_lines finds lines o same (n + 1) count (omega arith) (omega arith)))
 
 -- what was written of all links is what an audit writes
 pub audited : (finds : Finds) (lines : List TapLine) (text : List ℕ) (before now : Option (List ℕ)) (f g : ℕ) (result : Result (Unit {0}) AuditFault)
-    → text ≡ audit_text finds lines → fault_of lines ≡ None → Writes before now f g text result → Audits finds lines before now f g result
+    → text ≡ audit_text finds lines → fault_of_tap_lines lines ≡ None → Writes before now f g text result → Audits finds lines before now f g result
 audited finds lines text before now f g (Ok done) is none w = (none, subst (λ (t : List ℕ). Grew before now t) is w)
 audited finds lines text before now f g (Err (NoLink line n)) is none w = absurd w
 audited finds lines text before now f g (Err (LinkTwice line n)) is none w = absurd w

@@ -6,10 +6,10 @@ use Rattle.er_base.specs.declared.side.Side.{Side}
 use Rattle.hdlc_frames.specs.declared.controls.Control.{Control}
 use Rattle.hdlc_frames.specs.Framing.{Verdict, Frame, BadFcs, TooShort, TooLong, Aborted}
 use Rattle.hdlc_frames.specs.ControlOctets.{control_of}
-use Rattle.x224_tpdu.specs.Spelling.{Pdu, connection_request, connection_confirm, disconnect_request, disconnect_confirm, data_tpdu, acknowledgement, tpdu_error}
+use Rattle.x224_tpdu.specs.Spelling.{TransportPdu, connection_request, connection_confirm, disconnect_request, disconnect_confirm, data_tpdu, acknowledgement, tpdu_error}
 use Rattle.sapdu.specs.Messages.{most_octets}
 use Rattle.tap_model.specs.Hearing.{ReadFrame, read_as, frames_read, Sort, Carries, SetsUp, Agrees, Disconnects, Leaves, Passes, sort_of, has_number, is_next, in_sequence, before_end, pdus_in, tpdus_from, Hearing, silence, with_text, texts_from}
-use Rattle.tap_model.specs.Ears.{Ear, hears_if, hears, Turn, GoesOn, Says, Parts, Ends, turn, behind_turn, HearingTurns}
+use Rattle.tap_model.specs.Ears.{Ear, hears_if, hearing_of_frames, TapFrameTurn, GoesOn, Says, Parts, Ends, turn_of_tap_frame, behind_turn, HearingTurns}
 use Rattle.link_audit.specs.Turns.{reduced, reduced_turn, frames_found, turn_at_frames}
 
 -- ---- I frames
@@ -45,7 +45,7 @@ texts_if false true last text a b c d p q = refl
 texts_if false false true text a b c d p q = ap (with_text text) p
 texts_if false false false text a b c d p q = q
 
-texts_same : (m n : ℕ) (begun : List ℕ) (pdus : List Pdu) → m % 128 ≡ n % 128 → texts_from m begun pdus ≡ texts_from n begun pdus
+texts_same : (m n : ℕ) (begun : List ℕ) (pdus : List TransportPdu) → m % 128 ≡ n % 128 → texts_from m begun pdus ≡ texts_from n begun pdus
 unfolding texts_from
 texts_same m n begun [] e = refl
 texts_same m n begun (connection_request credit dst src size user ∷ pdus) e = ap (with_text user) (texts_same m n begun pdus e)
@@ -68,11 +68,11 @@ if_reduced true side k fs =
     ∙ ap (λ (l : List (List ℕ)). texts_from k.dts k.begun (pdus_in (tpdus_from k.held l))) (sequence_same side (k.count % 8) k.count (before_end side fs) (mod-mod k.count 8))
 if_reduced false side k fs = refl
 
-reduced_hears : (side : Side) (k : Ear) (fs : List ReadFrame) → hears side (reduced k) fs ≡ hears side k fs
-unfolding hears
+reduced_hears : (side : Side) (k : Ear) (fs : List ReadFrame) → hearing_of_frames side (reduced k) fs ≡ hearing_of_frames side k fs
+unfolding hearing_of_frames
 reduced_hears side k fs = if_reduced k.opened side k fs
 
-reduced_behind : (side : Side) (t : Turn) (fs : List ReadFrame) → behind_turn t (λ next. hears side next fs) ≡ behind_turn (reduced_turn t) (λ next. hears side next fs)
+reduced_behind : (side : Side) (t : TapFrameTurn) (fs : List ReadFrame) → behind_turn t (λ next. hearing_of_frames side next fs) ≡ behind_turn (reduced_turn t) (λ next. hearing_of_frames side next fs)
 reduced_behind side (GoesOn next) fs = sym (reduced_hears side next fs)
 reduced_behind side (Says text next) fs = ap (with_text text) (sym (reduced_hears side next fs))
 reduced_behind side (Parts text) fs = refl
@@ -82,14 +82,14 @@ reduced_behind side Ends fs = refl
 
 module _ (turns : HearingTurns) where
   one_read : (side : Side) (k : Ear) (address : ℕ) (read : Option (Control × List ℕ)) (fs : List ReadFrame)
-      → hears side k (read_as address read ++ fs) ≡ behind_turn (turn_at_frames side k (read_as address read)) (λ next. hears side next fs)
+      → hearing_of_frames side k (read_as address read ++ fs) ≡ behind_turn (turn_at_frames side k (read_as address read)) (λ next. hearing_of_frames side next fs)
   one_read side k address None fs = refl
   one_read side k address (Some read) fs =
       turns.goes_on side k (record { address = address; control = read.0; information = read.1 }) fs
-      ∙ reduced_behind side (turn side k (record { address = address; control = read.0; information = read.1 })) fs
+      ∙ reduced_behind side (turn_of_tap_frame side k (record { address = address; control = read.0; information = read.1 })) fs
 
   pub found_hears : (side : Side) (k : Ear) (found : Option Verdict) (verdicts : List Verdict)
-      → hears side k (frames_read (option_to_list found ++ verdicts)) ≡ behind_turn (turn_at_frames side k (frames_found found)) (λ next. hears side next (frames_read verdicts))
+      → hearing_of_frames side k (frames_read (option_to_list found ++ verdicts)) ≡ behind_turn (turn_at_frames side k (frames_found found)) (λ next. hearing_of_frames side next (frames_read verdicts))
   unfolding frames_read
   found_hears side k None verdicts = refl
   found_hears side k (Some (Frame address body)) verdicts = one_read side k address (control_of 8 body) (frames_read verdicts)

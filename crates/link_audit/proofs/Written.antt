@@ -3,7 +3,7 @@ use Rattle.std.proofs.Common.{◌≡◌, ◌≤◌, ℕ, List, [], ◌++◌, Opt
 use Rattle.link_trait.specs.Outside.{Grew, GrewPart, Rose}
 use Rattle.tap_model.specs.declared.audit_fault.AuditFault.{AuditFault}
 use Rattle.tap_model.specs.declared.audit_fault.AuditFault.TheVariants.{NoLink, LinkTwice, Sink, NoMemory}
-use Rattle.link_audit.specs.Writes.{Writes, Leads}
+use Rattle.link_audit.specs.Writes.{Writes, LeadsToSameWriting}
 
 pub grew_nothing : {A : Type 0} (a : Option (List A)) → Grew a a []
 grew_nothing None = tt
@@ -54,8 +54,8 @@ writes_part a b f g xs ys (NoMemory want) q = part_more a b xs ys q
 
 -- ---- what is left leads to the end
 
-module _ (a : Option (List ℕ)) (f : ℕ) (all : List ℕ) (here : Option (List ℕ)) (h : ℕ) (xs ys left : List ℕ) (is : left ≡ xs ++ ys) (l : Leads a f all here h left) where
-  pub leads_then : (mid : Option (List ℕ)) (m : ℕ) → h ≤ m → Grew here mid xs → Leads a f all mid m ys
+module _ (a : Option (List ℕ)) (f : ℕ) (all : List ℕ) (here : Option (List ℕ)) (h : ℕ) (xs ys left : List ℕ) (is : left ≡ xs ++ ys) (l : LeadsToSameWriting a f all here h left) where
+  pub leads_then : (mid : Option (List ℕ)) (m : ℕ) → h ≤ m → Grew here mid xs → LeadsToSameWriting a f all mid m ys
   leads_then mid m later p = record {
     leads = λ now g result w. l.leads now g result (rw is (writes_then here mid now h m g xs ys result later p w));
     later = let first = l.later in omega (arith, first, later);
@@ -65,5 +65,5 @@ module _ (a : Option (List ℕ)) (f : ℕ) (all : List ℕ) (here : Option (List
   leads_fault now g fault w =
       l.leads now g (Err fault) (subst (λ (t : List ℕ). Writes here now h g t (Err fault)) (sym is) (writes_part here now h g xs ys fault w))
 
-pub leads_end : (a : Option (List ℕ)) (f : ℕ) (all : List ℕ) (here : Option (List ℕ)) (h : ℕ) (left : List ℕ) → left ≡ [] → Leads a f all here h left → Grew a here all
+pub leads_end : (a : Option (List ℕ)) (f : ℕ) (all : List ℕ) (here : Option (List ℕ)) (h : ℕ) (left : List ℕ) → left ≡ [] → LeadsToSameWriting a f all here h left → Grew a here all
 leads_end a f all here h left is l = l.leads here h (Ok tt) (rw is (grew_nothing here))

@@ -7,13 +7,13 @@ use Rattle.er_tap.specs.declared.tap_step.TapStep.{TapStep}
 use Rattle.er_tap.specs.declared.tap_step.TapStep.TheVariants.{Link, Octets}
 
 -- the mark of the octets of a side of a link: lines of two sides, or of two links up to 64, have two marks
-abbrev pub mark_of : ℕ → Side → ℕ
-mark_of link E = (link * 2) % 256
-mark_of link R = (link * 2 + 1) % 256
+abbrev pub mark_of_link_side : ℕ → Side → ℕ
+mark_of_link_side link E = (link * 2) % 256
+mark_of_link_side link R = (link * 2 + 1) % 256
 
 abbrev pub mark_in : TapStep → ℕ
 mark_in (Link link engine rbc moment) = 0
-mark_in (Octets link side text) = mark_of link side
+mark_in (Octets link side text) = mark_of_link_side link side
 
 unfoldable pub marks_in : List TapLine → List ℕ
 marks_in lines = map (λ x. mark_in x.step) lines

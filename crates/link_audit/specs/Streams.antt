@@ -4,7 +4,7 @@ use Rattle.hdlc_frames.specs.Framing.{frames_of}
 use Rattle.hdlc_frames.specs.Deframing as deframing
 use Rattle.er_tap.specs.declared.tap_line.TapLine.{TapLine}
 use Rattle.tap_model.specs.Hearing.{frames_read, items}
-use Rattle.tap_model.specs.Ears.{hears}
+use Rattle.tap_model.specs.Ears.{hearing_of_frames}
 use Rattle.tap_model.specs.Lines as lines
 use Rattle.link_audit.specs.declared.turned.Turned.{Turned}
 use Rattle.link_audit.specs.declared.turned.Turned.TheVariants as it
@@ -16,7 +16,7 @@ pub record KStream : Type 0 where
   pub piece : List ℕ
   pub link : ℕ
   pub over : Bool
-  pub kept : deframing.Kept
+  pub kept : deframing.KeptDeframer
   pub ear : KEar
 
 -- the octets that are left
@@ -27,7 +27,7 @@ octets_left s = s.piece ++ lines.stream_of s.link s.ear.side s.lines
 unfoldable pub items_left : KStream → List (List ℕ)
 items_left s =
     if s.over then []
-    else items (hears s.ear.side s.ear.ear (frames_read (frames_of (deframing.stream_of s.kept ++ octets_left s))))
+    else items (hearing_of_frames s.ear.side s.ear.ear (frames_read (frames_of (deframing.stream_behind_kept s.kept ++ octets_left s))))
 
 -- with the one that was heard last, where it counts still
 unfoldable pub pending : (has_item : Bool) → KStream → List (List ℕ)

@@ -2,11 +2,11 @@
 use Rattle.std.specs.Prelude.{ℕ, ◌≡◌, ◌+◌, ◌%◌, ◌==◌, nat_lt, Bool, true, false, not, if◌then◌else◌, List, [], ◌∷◌, ◌++◌, length, Option, Some, None, Result, Ok, Err}
 use Rattle.er_base.specs.declared.side.Side.{Side}
 use Rattle.x224_tpdu.specs.declared.fault.TpFault.{TpFault}
-use Rattle.x224_tpdu.specs.Spelling.{Pdu, connection_request, connection_confirm, disconnect_request, disconnect_confirm, data_tpdu, acknowledgement, tpdu_error}
+use Rattle.x224_tpdu.specs.Spelling.{TransportPdu, connection_request, connection_confirm, disconnect_request, disconnect_confirm, data_tpdu, acknowledgement, tpdu_error}
 use Rattle.sapdu.specs.Messages.{most_octets}
 use Rattle.hdlc_frames.specs.Framing.{Verdict}
 use Rattle.tap_model.specs.Hearing.{ReadFrame, read_frame}
-use Rattle.tap_model.specs.Ears.{Ear, Turn, GoesOn, Says, Parts, Ends, turn}
+use Rattle.tap_model.specs.Ears.{Ear, TapFrameTurn, GoesOn, Says, Parts, Ends, turn_of_tap_frame}
 use Rattle.link_audit.specs.declared.turned.Turned.{Turned}
 use Rattle.link_audit.specs.declared.turned.Turned.TheVariants as it
 
@@ -35,7 +35,7 @@ text_turn_at_data dts begun last number user =
     else if last then Tells (begun ++ user) ((dts + 1) % 128) []
     else Waits ((dts + 1) % 128) (begun ++ user)
 
-abbrev pub text_turn : (dts : ℕ) (begun : List ℕ) → Result Pdu TpFault → TextTurn
+abbrev pub text_turn : (dts : ℕ) (begun : List ℕ) → Result TransportPdu TpFault → TextTurn
 text_turn dts begun (Ok (connection_request credit dst src size user)) = Tells user dts begun
 text_turn dts begun (Ok (connection_confirm credit dst src size user)) = Tells user dts begun
 text_turn dts begun (Ok (disconnect_request dst src reason user)) = Closes user
@@ -69,7 +69,7 @@ IsFresh false count held dts begun = (count ≡ 0) × ((held ≡ []) × ((dts �
 abbrev pub reduced : Ear → Ear
 reduced k = record k { count = k.count % 8; dts = k.dts % 128 }
 
-abbrev pub reduced_turn : Turn → Turn
+abbrev pub reduced_turn : TapFrameTurn → TapFrameTurn
 reduced_turn (GoesOn next) = GoesOn (reduced next)
 reduced_turn (Says text next) = Says text (reduced next)
 reduced_turn (Parts text) = Parts text
@@ -81,12 +81,12 @@ frames_found None = []
 frames_found (Some verdict) = read_frame verdict
 
 -- what they come to
-abbrev pub turn_at_frames : Side → Ear → List ReadFrame → Turn
+abbrev pub turn_at_frames : Side → Ear → List ReadFrame → TapFrameTurn
 turn_at_frames side k [] = GoesOn k
-turn_at_frames side k (f ∷ fs) = reduced_turn (turn side k f)
+turn_at_frames side k (f ∷ fs) = reduced_turn (turn_of_tap_frame side k f)
 
 -- the same by what the code answers and keeps then
-abbrev pub turned : Turned → KEar → Turn
+abbrev pub turned : Turned → KEar → TapFrameTurn
 turned it.GoesOn k = GoesOn k.ear
 turned it.Says k = Says k.text k.ear
 turned it.Parts k = Parts k.text

@@ -13,6 +13,6 @@ Writes before now f g text (Err Sink) = GrewPart before now text × Rose f g
 Writes before now f g text (Err (NoMemory want)) = GrewPart before now text
 
 -- what is left leads from here to where all leads from the beginning
-pub record Leads (before : Option (List ℕ)) (f : ℕ) (all : List ℕ) (here : Option (List ℕ)) (h : ℕ) (left : List ℕ) : Type 0 where
+pub record LeadsToSameWriting (before : Option (List ℕ)) (f : ℕ) (all : List ℕ) (here : Option (List ℕ)) (h : ℕ) (left : List ℕ) : Type 0 where
   pub leads : (now : Option (List ℕ)) (g : ℕ) (result : Result (Unit {0}) AuditFault) → Writes here now h g left result → Writes before now f g all result
   pub later : f ≤ h

@@ -2,9 +2,9 @@
 
 ghost use Rattle.std.specs.Prelude.{◌≡◌, ◌<◌, true, option_map};
 ghost use Rattle.hdlc_frames.specs.Framing as framing;
-ghost use Rattle.hdlc_frames.specs.Shown.{shown};
-ghost use Rattle.tap_model.specs.Hearing.{address_of, sort_of, has_number, opens, ends, read_frame};
-ghost use Rattle.tap_model.specs.Ears.{new_ear, turn, turn_at_piece};
+ghost use Rattle.hdlc_frames.specs.Shown.{verdict_of_octets_found};
+ghost use Rattle.tap_model.specs.Hearing.{address_of_side, sort_of, has_number, is_link_opening, ends, read_frame};
+ghost use Rattle.tap_model.specs.Ears.{new_ear, turn_of_tap_frame, turn_at_piece};
 ghost use Rattle.link_audit.specs.Turns.{turned, reduced_turn, frames_found, turn_at_frames};
 
 use crate::texts::Texts;
@@ -46,7 +46,7 @@ impl Model for Ear {
 
 // The address of a side.
 fn address_of(side: Side) -> u8
-    ensures { result ≡ address_of side }
+    ensures { result ≡ address_of_side side }
 {
     match side {
         Side::E => CALLING,
@@ -56,7 +56,7 @@ fn address_of(side: Side) -> u8
 
 // Whether a frame opens the link: the set-up frame of the engine's side, which has no information, or the agreement of the other.
 fn opens(side: Side, address: u8, control: Control, information: &[u8]) -> bool
-    ensures { result ≡ opens side (record { address = address; control = control; information = information.now }) }
+    ensures { result ≡ is_link_opening side (record { address = address; control = control; information = information.now }) }
 {
     if address != CALLED {
         return false;
@@ -120,7 +120,7 @@ impl Ear {
 
     /// What a deframer found comes.
     pub fn hear(&mut self, found: &Option<Found<'_>>) -> Turned
-        ensures turn { turned result self.new ≡ turn_at_frames self.old.side self.old.ear (frames_found (option_map shown found.now)) }
+        ensures turn { turned result self.new ≡ turn_at_frames self.old.side self.old.ear (frames_found (option_map verdict_of_octets_found found.now)) }
         ensures side { self.new.side ≡ self.old.side }
     {
         match found {
@@ -141,10 +141,10 @@ impl Ear {
     }
 
     // A frame whose control was read.
-    #[tactic(auto, using(crate::proofs::Turning::reduced_same), unfolding(tap_model::specs::Ears::turn))]
+    #[tactic(auto, using(crate::proofs::Turning::reduced_same), unfolding(tap_model::specs::Ears::turn_of_tap_frame))]
     fn read(&mut self, address: u8, control: Control, information: &[u8]) -> Turned
         ensures turn { turned result self.new
-            ≡ reduced_turn (turn self.old.side self.old.ear (record { address = address; control = control; information = information.now })) }
+            ≡ reduced_turn (turn_of_tap_frame self.old.side self.old.ear (record { address = address; control = control; information = information.now })) }
         ensures side { self.new.side ≡ self.old.side }
     {
         if !self.opened {

@@ -2,7 +2,7 @@
 
 ghost use Rattle.std.specs.Prelude.{◌≡◌, ◌<◌, [], ◌∷◌, Ok};
 ghost use Rattle.sapdu.specs.Reading.{view};
-ghost use Rattle.tap_model.specs.Verdicts.{side_flag, is_expected, mac_in, receiver_of, key_rule, mac_rule, first_of, verdict_on};
+ghost use Rattle.tap_model.specs.Verdicts.{side_flag, is_sapdu_expected, mac_in, receiver_of, key_rule, mac_rule, first_verdict_of, audit_verdict_on_item};
 ghost use Rattle.link_audit.specs.Judging.{has_feature, has_identity};
 
 use crate::known::Known;
@@ -23,7 +23,7 @@ fn flag_of(side: Side) -> bool
 
 // Whether an SaPDU is expected of a side at a place, of which 2 stands for all behind too.
 fn is_expected(side: Side, place: u8, pdu: &SaPdu<'_>) -> bool
-    ensures { result ≡ is_expected side place (view pdu.now) }
+    ensures { result ≡ is_sapdu_expected side place (view pdu.now) }
 {
     match (side, pdu) {
         (Side::E, SaPdu::Au1 { .. }) => place == 0,
@@ -84,7 +84,7 @@ fn receiver_of(known: &Known, side: Side) -> EtcsNumber
 // The verdict by the MAC alone, where an SaPDU has one.
 fn judge_mac(known: &Known, side: Side, read: &ReadPdu<'_>) -> AuditVerdict
     ensures { result
-        ≡ first_of (key_rule known.now.session (mac_in read.now.0)
+        ≡ first_verdict_of (key_rule known.now.session (mac_in read.now.0)
         ∷ mac_rule known.now side read.now.0 read.now.1 known.now.session (mac_in read.now.0) ∷ []) }
 {
     let Some(mac) = mac_in(&read.pdu) else {
@@ -102,9 +102,9 @@ fn judge_mac(known: &Known, side: Side, read: &ReadPdu<'_>) -> AuditVerdict
 }
 
 // The verdict on an SaPDU.
-#[tactic(auto, unfolding(tap_model::specs::Verdicts::verdict_on))]
+#[tactic(auto, unfolding(tap_model::specs::Verdicts::audit_verdict_on_item))]
 fn judge_pdu(known: &Known, side: Side, place: u8, read: &ReadPdu<'_>) -> AuditVerdict
-    ensures { result ≡ verdict_on known.now side place (Ok read.now) }
+    ensures { result ≡ audit_verdict_on_item known.now side place (Ok read.now) }
 {
     if read.flag != flag_of(side) {
         return AuditVerdict::Flag;
@@ -122,14 +122,14 @@ fn judge_pdu(known: &Known, side: Side, place: u8, read: &ReadPdu<'_>) -> AuditV
 }
 
 /// The verdict on what an item at this place is read as.
-#[tactic(auto, unfolding(tap_model::specs::Verdicts::verdict_on))]
+#[tactic(auto, unfolding(tap_model::specs::Verdicts::audit_verdict_on_item))]
 pub fn judge(
     known: &Known,
     side: Side,
     place: u8,
     read: &Result<ReadPdu<'_>, SaFault>,
 ) -> AuditVerdict
-    ensures { result ≡ verdict_on known.now side place read.now }
+    ensures { result ≡ audit_verdict_on_item known.now side place read.now }
 {
     match read {
         Ok(pdu) => judge_pdu(known, side, place, pdu),

@@ -3,7 +3,7 @@
 ghost use Rattle.std.specs.Prelude.{◌≡◌};
 ghost use Rattle.sapdu.specs.Spelling.{read_of};
 ghost use Rattle.safety_automaton.specs.Keys.{key_at};
-ghost use Rattle.tap_model.specs.Verdicts.{ra_in, rb_in, number_of, first_number, session_with, known_of};
+ghost use Rattle.tap_model.specs.Verdicts.{ra_in, rb_in, random_number_in_item, first_number, session_with, known_of};
 
 use crate::items::Items;
 use crate::opening::Opening;
@@ -25,7 +25,7 @@ pub struct Session {
 impl Model for Session {
     ghost use Rattle.tap_model.specs.Verdicts as verdicts;
 
-    ghost Value = { verdicts.Session };
+    ghost Value = { verdicts.SafetySession };
 
     ghost view = { λ s. record { ra = s.ra; rb = s.rb; keys = s.keys } };
 }
@@ -48,7 +48,7 @@ impl Model for Known {
 
 // Ra of an item that reads as AU2.
 fn ra_of(item: &[u8]) -> Option<u64>
-    ensures { result ≡ number_of ra_in (read_of item.now) }
+    ensures { result ≡ random_number_in_item ra_in (read_of item.now) }
 {
     match read(item) {
         Ok((SaPdu::Au2 { ra, .. }, _)) => Some(ra),
@@ -58,7 +58,7 @@ fn ra_of(item: &[u8]) -> Option<u64>
 
 // Rb of an item that reads as AU1.
 fn rb_of(item: &[u8]) -> Option<u64>
-    ensures { result ≡ number_of rb_in (read_of item.now) }
+    ensures { result ≡ random_number_in_item rb_in (read_of item.now) }
 {
     match read(item) {
         Ok((SaPdu::Au1 { rb, .. }, _)) => Some(rb),

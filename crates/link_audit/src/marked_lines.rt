@@ -2,7 +2,7 @@
 
 ghost use Rattle.std.specs.Prelude.{◌≡◌, ◌<◌, [], ◌++◌, drop, length, IfOk, IfSome, IsNone, MatchOption};
 ghost use Rattle.tap_model.specs.Lines.{is_side, piece_of, stream_of};
-ghost use Rattle.link_audit.specs.Marks.{mark_of, mark_in, marks_in};
+ghost use Rattle.link_audit.specs.Marks.{mark_of_link_side, mark_in, marks_in};
 
 use er_base::{NoMemory, Side};
 use er_tap::{TapLine, TapStep};
@@ -12,7 +12,7 @@ use std::marker::Model;
 
 // The mark of the octets of a side of a link.
 fn mark_of(link: u8, side: Side) -> u8
-    ensures { result ≡ mark_of link side }
+    ensures { result ≡ mark_of_link_side link side }
 {
     match side {
         Side::E => link.wrapping_mul(2),

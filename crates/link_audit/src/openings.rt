@@ -2,7 +2,7 @@
 
 ghost use Rattle.std.specs.Prelude.{ℕ, ◌≡◌, ◌≤◌, None};
 ghost use Rattle.er_tap.specs.Ranges.{AreInRange, IsInRange};
-ghost use Rattle.link_audit.specs.Openings.{shown_of, opening_at, Takes, Checks};
+ghost use Rattle.link_audit.specs.Openings.{shown_of, opening_at, TakesTapLine, Checks};
 
 use crate::opening::Opening;
 use er_base::{EtcsNumber, Moment};
@@ -41,7 +41,7 @@ impl Openings {
     // A line that opens a link wants one that isn't opened, any other one that is.
     fn take(&mut self, line: &TapLine) -> Result<(), AuditFault>
         requires { IsInRange line.now.step }
-        ensures { Takes self.old self.new line.now result }
+        ensures { TakesTapLine self.old self.new line.now result }
     {
         match &line.step {
             TapStep::Link {

@@ -7,7 +7,7 @@ ghost use Rattle.er_base.specs.LineTexts.{line_text};
 ghost use Rattle.er_base.specs.Sides.{side_word};
 ghost use Rattle.sapdu.specs.Reading.{view};
 ghost use Rattle.tap_model.specs.VerdictWords.{verdict_word};
-ghost use Rattle.tap_model.specs.Texts.{kind_of, item_words};
+ghost use Rattle.tap_model.specs.Texts.{sapdu_kind_word, item_words};
 
 use crate::digits::put_digits;
 use crate::read_pdu::ReadPdu;
@@ -18,7 +18,7 @@ use tap_model::AuditVerdict;
 
 // The word of a kind.
 fn kind_word(pdu: &SaPdu<'_>) -> &'static [u8]
-    ensures { result.now ≡ kind_of (view pdu.now) }
+    ensures { result.now ≡ sapdu_kind_word (view pdu.now) }
 {
     match pdu {
         SaPdu::Au1 { .. } => b"au1",

@@ -16,9 +16,9 @@ pub struct ReadPdu<'i> {
 impl<'i> Model for ReadPdu<'i> {
     ghost use Rattle.std.specs.Prelude.{Bool};
     ghost use Rattle.sapdu.specs.Reading as reading;
-    ghost use Rattle.sapdu.specs.Spelling.{Pdu, Fits};
+    ghost use Rattle.sapdu.specs.Spelling.{SafetyPdu, Fits};
 
-    ghost Value = { Pdu × Bool };
+    ghost Value = { SafetyPdu × Bool };
 
     ghost view = { λ r. (reading.view r.pdu, r.flag) };
 

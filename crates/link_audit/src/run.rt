@@ -7,7 +7,7 @@ ghost use Rattle.safety_automaton.specs.Keys.{key_at};
 ghost use Rattle.tap_model.specs.Verdicts.{judged, judged_from};
 ghost use Rattle.tap_model.specs.Texts.{item_words, side_text, link_text};
 ghost use Rattle.tap_model.specs.Audits.{Audits};
-ghost use Rattle.link_audit.specs.Openings.{shown, opening_at, links_opened};
+ghost use Rattle.link_audit.specs.Openings.{tap_opening_of_kept, opening_at, links_opened};
 ghost use Rattle.link_audit.specs.Writes.{Writes};
 
 use crate::items::Items;
@@ -86,7 +86,7 @@ fn audit_link<K: KeyFinder, S: Sink>(
     sink: &mut S,
 ) -> Result<(), AuditFault>
     ensures writes { Writes (S.state sink.old).held (S.state sink.new).held (S.state sink.old).faults (S.state sink.new).faults
-        (link_text (key_at (K.entries keys.now)) lines.now link (Some (shown opening.now))) result }
+        (link_text (key_at (K.entries keys.now)) lines.now link (Some (tap_opening_of_kept opening.now))) result }
     ensures later { (S.state sink.old).faults ≤ (S.state sink.new).faults }
 {
     let mut of_e = Items::new(lines, link, Side::E);

@@ -25,7 +25,7 @@ pub struct Stream<'t> {
 }
 
 impl<'t> Model for Stream<'t> {
-    ghost use Rattle.hdlc_frames.specs.Deframing.{IsKept};
+    ghost use Rattle.hdlc_frames.specs.Deframing.{IsKeptOfStream};
     ghost use Rattle.link_audit.specs.Streams.{KStream};
 
     ghost Value = { KStream };
@@ -39,7 +39,7 @@ impl<'t> Model for Stream<'t> {
       ear = s.ear;
     } };
 
-    ghost invariant = { λ s. IsKept s.deframer };
+    ghost invariant = { λ s. IsKeptOfStream s.deframer };
 }
 
 impl<'t> Stream<'t> {

@@ -9,7 +9,7 @@ use Rattle.link_memory.specs.declared.memory_wires.Coming.{Coming}
 use Rattle.link_trait.specs.declared.wires.Conn.{Conn}
 use Rattle.link_trait.specs.declared.wires.Happening.TheVariants as happening
 use Rattle.link_memory.specs.WiresMemory.{KeptWires, open_at, line_at, first_open, first_act, happening_of, comes, coming, changed_at}
-use Rattle.link_memory.specs.KeptCalls.{IsComing, StaysOpen, advanced, opening, act_of, put_in}
+use Rattle.link_memory.specs.KeptCalls.{IsComing, StaysOpen, advanced, wires_behind_happening, act_of, put_in}
 use Rattle.link_memory.proofs.KeptLists.{if_open_some}
 
 -- a change as it is found
@@ -47,7 +47,7 @@ act_happens lines (act.Shut conn) = refl
 act_happens lines act.Quiet = refl
 
 act_state : (s : KeptWires) (passed count : ℕ) (one : Act)
-    → opening (act_of s.lines one).0 (advanced s (by_act s passed count one)) ≡ (coming s (passed, None) (count, Some one)).state
+    → wires_behind_happening (act_of s.lines one).0 (advanced s (by_act s passed count one)) ≡ (coming s (passed, None) (count, Some one)).state
 act_state s passed count act.Accept = refl
 act_state s passed count (act.Bring conn octets) = refl
 act_state s passed count (act.Room conn room) =

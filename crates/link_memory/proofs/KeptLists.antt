@@ -8,8 +8,8 @@ use Rattle.link_memory.specs.declared.act.Act.{Act}
 use Rattle.link_memory.specs.declared.memory_line.MemoryLine.{MemoryLine}
 use Rattle.link_memory.specs.declared.call_record.KeptCall.{KeptCall}
 use Rattle.link_memory.specs.declared.call_record.CallRecord.{CallRecord}
-use Rattle.link_trait.specs.Wires.{Call, Reading, Gave, NotNow, End, Failed, Reads, taken_of, taken_by, given_of, given_by}
-use Rattle.link_memory.specs.KeptCalls.{told, total, opens, call_of, Sound, Keeps, Stands, StaysOpen, IsUntouched}
+use Rattle.link_trait.specs.Wires.{Call, Reading, Gave, NotNow, End, Failed, Reads, taken_of, octets_taken_by_call, given_of, given_by}
+use Rattle.link_memory.specs.KeptCalls.{calls_with_octets, octet_count_of_calls, count_of_open_connections, call_of, IsCallRecordSound, KeepsCallInRecord, IsCallRecordInOrder, StaysOpen, IsUntouched}
 use Rattle.link_memory.specs.WiresMemory.{KeptWires, fits, open_at, line_at, if_open}
 use Rattle.link_memory.specs.declared.call_record.Note.{Note}
 
@@ -20,21 +20,21 @@ true_false : true ≡ false → ⊥
 true_false is = cc is
 
 -- one call more
-pub total-more : (ks : List KeptCall) (k : KeptCall) → total (ks ++ k ∷ []) ≡ total ks + k.octets
-unfolding total
+pub total-more : (ks : List KeptCall) (k : KeptCall) → octet_count_of_calls (ks ++ k ∷ []) ≡ octet_count_of_calls ks + k.octets
+unfolding octet_count_of_calls
 total-more [] k = omega arith
 total-more (x ∷ ks) k = ap (λ n. x.octets + n) (total-more ks k) ∙ omega arith
 
-pub told-more : (acts : List Act) (ks : List KeptCall) (os : List ℕ) (k : KeptCall) (xs : List ℕ) → length os ≡ total ks → k.octets ≡ length xs
-    → told acts (ks ++ k ∷ []) (os ++ xs) ≡ told acts ks os ++ call_of acts xs k.note ∷ []
-unfolding told total
+pub told-more : (acts : List Act) (ks : List KeptCall) (os : List ℕ) (k : KeptCall) (xs : List ℕ) → length os ≡ octet_count_of_calls ks → k.octets ≡ length xs
+    → calls_with_octets acts (ks ++ k ∷ []) (os ++ xs) ≡ calls_with_octets acts ks os ++ call_of acts xs k.note ∷ []
+unfolding calls_with_octets octet_count_of_calls
 told-more acts [] [] k xs all own = ap (λ ys. call_of acts ys k.note ∷ []) (take_all k.octets xs (omega (arith, own)))
 told-more acts [] (o ∷ os) k xs all own = absurd (omega (arith, all))
 told-more acts (x ∷ ks) os k xs all own =
     let within : x.octets ≤ length os = omega (arith, all) in
-    let rest : length (drop x.octets os) ≡ total ks = omega (arith, all, length-drop x.octets os) in
-    ap (λ ys. call_of acts ys x.note ∷ told acts (ks ++ k ∷ []) (drop x.octets (os ++ xs))) (take-append-le x.octets os xs within)
-    ∙ ap (λ ys. call_of acts (take x.octets os) x.note ∷ told acts (ks ++ k ∷ []) ys) (drop-append-le x.octets os xs within)
+    let rest : length (drop x.octets os) ≡ octet_count_of_calls ks = omega (arith, all, length-drop x.octets os) in
+    ap (λ ys. call_of acts ys x.note ∷ calls_with_octets acts (ks ++ k ∷ []) (drop x.octets (os ++ xs))) (take-append-le x.octets os xs within)
+    ∙ ap (λ ys. call_of acts (take x.octets os) x.note ∷ calls_with_octets acts (ks ++ k ∷ []) ys) (drop-append-le x.octets os xs within)
     ∙ ap (λ cs. call_of acts (take x.octets os) x.note ∷ cs) (told-more acts ks (drop x.octets os) k xs rest own)
 
 pub given_of-more : (conn : ℕ) (calls : List Call) (call : Call) → given_of conn (calls ++ call ∷ []) ≡ given_of conn calls ++ given_by conn call
@@ -42,23 +42,23 @@ unfolding given_of
 given_of-more conn [] call = append-nil (given_by conn call)
 given_of-more conn (x ∷ calls) call = ap (λ ys. given_by conn x ++ ys) (given_of-more conn calls call) ∙ sym (append_assoc (given_by conn x) (given_of conn calls) (given_by conn call))
 
-pub taken_of-more : (conn : ℕ) (calls : List Call) (call : Call) → taken_of conn (calls ++ call ∷ []) ≡ taken_of conn calls ++ taken_by conn call
+pub taken_of-more : (conn : ℕ) (calls : List Call) (call : Call) → taken_of conn (calls ++ call ∷ []) ≡ taken_of conn calls ++ octets_taken_by_call conn call
 unfolding taken_of
-taken_of-more conn [] call = append-nil (taken_by conn call)
-taken_of-more conn (x ∷ calls) call = ap (λ ys. taken_by conn x ++ ys) (taken_of-more conn calls call) ∙ sym (append_assoc (taken_by conn x) (taken_of conn calls) (taken_by conn call))
+taken_of-more conn [] call = append-nil (octets_taken_by_call conn call)
+taken_of-more conn (x ∷ calls) call = ap (λ ys. octets_taken_by_call conn x ++ ys) (taken_of-more conn calls call) ∙ sym (append_assoc (octets_taken_by_call conn x) (taken_of conn calls) (octets_taken_by_call conn call))
 
 -- how many are open with one connection more, and with another one in the place of an open one
 abbrev pub one_of : MemoryLine → ℕ
 one_of line = if is_some line.closed then 0 else 1
 
-pub opens-more : (lines : List MemoryLine) (line : MemoryLine) → opens (lines ++ line ∷ []) ≡ opens lines + one_of line
-unfolding opens
+pub opens-more : (lines : List MemoryLine) (line : MemoryLine) → count_of_open_connections (lines ++ line ∷ []) ≡ count_of_open_connections lines + one_of line
+unfolding count_of_open_connections
 opens-more [] line = omega arith
 opens-more (x ∷ lines) line = ap (λ n. one_of x + n) (opens-more lines line) ∙ omega arith
 
 pub opens-set : (lines : List MemoryLine) (place : ℕ) (line other : MemoryLine) → slice_get lines place ≡ Some line → is_some line.closed ≡ false
-    → opens (slice_set lines place other) + 1 ≡ opens lines + one_of other
-unfolding opens
+    → count_of_open_connections (slice_set lines place other) + 1 ≡ count_of_open_connections lines + one_of other
+unfolding count_of_open_connections
 opens-set [] place line other there is_open = absurd (none_some there)
 opens-set (x ∷ lines) zero line other there is_open =
     let same : x ≡ line = cc there in
@@ -67,10 +67,10 @@ opens-set (x ∷ lines) zero line other there is_open =
 opens-set (x ∷ lines) (suc place) line other there is_open = omega (arith, opens-set lines place line other there is_open)
 
 -- a record with one call more: `after` connections are open then
-pub sound_more : (r now : CallRecord) (call : Note) (xs : List ℕ) (before after places : ℕ) → Sound r before → Keeps r now call xs places
-    → 1 + after ≡ before + places → r.places + places ≤ r.call_places → vec_len r.octets + length xs ≤ r.octet_places → Sound now after
+pub sound_more : (r now : CallRecord) (call : Note) (xs : List ℕ) (before after places : ℕ) → IsCallRecordSound r before → KeepsCallInRecord r now call xs places
+    → 1 + after ≡ before + places → r.places + places ≤ r.call_places → vec_len r.octets + length xs ≤ r.octet_places → IsCallRecordSound now after
 sound_more r now call xs before after places sound keeps turn room octet_fits = record {
-  octets = omega (arith, sound.octets, ap length keeps.octet_list, length-append r.octets.items xs, ap total keeps.calls, total-more r.kept.items (record { note = call; octets = length xs }));
+  octets = omega (arith, sound.octets, ap length keeps.octet_list, length-append r.octets.items xs, ap octet_count_of_calls keeps.calls, total-more r.kept.items (record { note = call; octets = length xs }));
   octet_room = omega (arith, keeps.octet_count, octet_fits, keeps.octet_places);
   octet_capacity = omega (arith, sound.octet_capacity, keeps.octet_capacity, keeps.octet_places);
   places = omega (arith, sound.places, keeps.call_count, keeps.taken, turn);
@@ -78,67 +78,67 @@ sound_more r now call xs before after places sound keeps turn room octet_fits = 
   call_capacity = omega (arith, sound.call_capacity, keeps.call_capacity, keeps.call_places);
 }
 
-pub told_keep : (acts : List Act) (r now : CallRecord) (call : Note) (xs : List ℕ) (before places : ℕ) → Sound r before → Keeps r now call xs places
-    → told acts now.kept.items now.octets.items ≡ told acts r.kept.items r.octets.items ++ call_of acts xs call ∷ []
+pub told_keep : (acts : List Act) (r now : CallRecord) (call : Note) (xs : List ℕ) (before places : ℕ) → IsCallRecordSound r before → KeepsCallInRecord r now call xs places
+    → calls_with_octets acts now.kept.items now.octets.items ≡ calls_with_octets acts r.kept.items r.octets.items ++ call_of acts xs call ∷ []
 told_keep acts r now call xs before places sound keeps =
-    ap (λ ks. told acts ks now.octets.items) keeps.calls ∙ ap (λ os. told acts (r.kept.items ++ record { note = call; octets = length xs } ∷ []) os) keeps.octet_list
+    ap (λ ks. calls_with_octets acts ks now.octets.items) keeps.calls ∙ ap (λ os. calls_with_octets acts (r.kept.items ++ record { note = call; octets = length xs } ∷ []) os) keeps.octet_list
     ∙ told-more acts r.kept.items r.octets.items (record { note = call; octets = length xs }) xs sound.octets refl
 
 -- a connection stays untouched at a call that neither takes from it nor gives to it
-untouched_more : (acts : List Act) (r now : CallRecord) (call : Note) (xs : List ℕ) (before places conn : ℕ) → Sound r before → Keeps r now call xs places
-    → IsUntouched conn (told acts r.kept.items r.octets.items) → taken_by conn (call_of acts xs call) ≡ [] → given_by conn (call_of acts xs call) ≡ []
-    → IsUntouched conn (told acts now.kept.items now.octets.items)
+untouched_more : (acts : List Act) (r now : CallRecord) (call : Note) (xs : List ℕ) (before places conn : ℕ) → IsCallRecordSound r before → KeepsCallInRecord r now call xs places
+    → IsUntouched conn (calls_with_octets acts r.kept.items r.octets.items) → octets_taken_by_call conn (call_of acts xs call) ≡ [] → given_by conn (call_of acts xs call) ≡ []
+    → IsUntouched conn (calls_with_octets acts now.kept.items now.octets.items)
 untouched_more acts r now call xs before places conn sound keeps none no_taking no_giving =
-    let calls : told acts now.kept.items now.octets.items ≡ told acts r.kept.items r.octets.items ++ call_of acts xs call ∷ [] =
+    let calls : calls_with_octets acts now.kept.items now.octets.items ≡ calls_with_octets acts r.kept.items r.octets.items ++ call_of acts xs call ∷ [] =
     told_keep acts r now call xs before places sound keeps in
     record {
-      taken = ap (taken_of conn) calls ∙ taken_of-more conn (told acts r.kept.items r.octets.items) (call_of acts xs call)
-          ∙ ap (λ os. os ++ taken_by conn (call_of acts xs call)) none.taken ∙ no_taking;
-      given = ap (given_of conn) calls ∙ given_of-more conn (told acts r.kept.items r.octets.items) (call_of acts xs call)
+      taken = ap (taken_of conn) calls ∙ taken_of-more conn (calls_with_octets acts r.kept.items r.octets.items) (call_of acts xs call)
+          ∙ ap (λ os. os ++ octets_taken_by_call conn (call_of acts xs call)) none.taken ∙ no_taking;
+      given = ap (given_of conn) calls ∙ given_of-more conn (calls_with_octets acts r.kept.items r.octets.items) (call_of acts xs call)
           ∙ ap (λ os. os ++ given_by conn (call_of acts xs call)) none.given ∙ no_giving;
     }
 
 -- a call that takes one place was kept
 pub stands_keep : {Y Z : Type 0} (acts : List Act) (r now : CallRecord) (lines : Vec MemoryLine Y) (again : Vec ℕ Z) (call : Note) (xs : List ℕ)
-    → Stands acts r lines again → Keeps r now call xs 1 → r.places + 1 ≤ r.call_places → vec_len r.octets + length xs ≤ r.octet_places
-    → ((conn : ℕ) → length lines.items < conn → taken_by conn (call_of acts xs call) ≡ [])
-    → ((conn : ℕ) → length lines.items < conn → given_by conn (call_of acts xs call) ≡ []) → Stands acts now lines again
+    → IsCallRecordInOrder acts r lines again → KeepsCallInRecord r now call xs 1 → r.places + 1 ≤ r.call_places → vec_len r.octets + length xs ≤ r.octet_places
+    → ((conn : ℕ) → length lines.items < conn → octets_taken_by_call conn (call_of acts xs call) ≡ [])
+    → ((conn : ℕ) → length lines.items < conn → given_by conn (call_of acts xs call) ≡ []) → IsCallRecordInOrder acts now lines again
 stands_keep acts r now lines again call xs stands keeps room octet_fits no_taking no_giving = record {
-  sound = sound_more r now call xs (opens lines.items) (opens lines.items) 1 stands.sound keeps (omega arith) room octet_fits;
+  sound = sound_more r now call xs (count_of_open_connections lines.items) (count_of_open_connections lines.items) 1 stands.sound keeps (omega arith) room octet_fits;
   line_count = omega (arith, stands.line_count, keeps.call_count);
   line_room = omega (arith, stands.line_room, keeps.call_places);
   again_count = omega (arith, stands.again_count, keeps.call_count);
   again_room = omega (arith, stands.again_room, keeps.call_places);
   untouched = λ conn above.
-      untouched_more acts r now call xs (opens lines.items) 1 conn stands.sound keeps (stands.untouched conn above) (no_taking conn above) (no_giving conn above);
+      untouched_more acts r now call xs (count_of_open_connections lines.items) 1 conn stands.sound keeps (stands.untouched conn above) (no_taking conn above) (no_giving conn above);
 }
 
 -- a call that opens a connection was kept
 pub stands_open : {Y Z : Type 0} (acts : List Act) (r now : CallRecord) (lines more : Vec MemoryLine Y) (again : Vec ℕ Z) (call : Note) (xs : List ℕ) (line : MemoryLine)
-    → Stands acts r lines again → Keeps r now call xs 2 → r.places + 2 ≤ r.call_places → vec_len r.octets + length xs ≤ r.octet_places
+    → IsCallRecordInOrder acts r lines again → KeepsCallInRecord r now call xs 2 → r.places + 2 ≤ r.call_places → vec_len r.octets + length xs ≤ r.octet_places
     → more.items ≡ lines.items ++ line ∷ [] → vec_len more ≡ vec_len lines + 1 → vec_capacity lines ≤ vec_capacity more → line.closed ≡ None
-    → ((conn : ℕ) → taken_by conn (call_of acts xs call) ≡ []) → ((conn : ℕ) → given_by conn (call_of acts xs call) ≡ []) → Stands acts now more again
+    → ((conn : ℕ) → octets_taken_by_call conn (call_of acts xs call) ≡ []) → ((conn : ℕ) → given_by conn (call_of acts xs call) ≡ []) → IsCallRecordInOrder acts now more again
 stands_open acts r now lines more again call xs line stands keeps room octet_fits grew count memory is_open no_taking no_giving =
     let one : one_of line ≡ 1 = ap (λ c. if is_some c then 0 else 1) is_open in
-    let turn : opens more.items ≡ opens lines.items + 1 = ap opens grew ∙ opens-more lines.items line ∙ ap (λ n. opens lines.items + n) one in
+    let turn : count_of_open_connections more.items ≡ count_of_open_connections lines.items + 1 = ap count_of_open_connections grew ∙ opens-more lines.items line ∙ ap (λ n. count_of_open_connections lines.items + n) one in
     let longer : length more.items ≡ length lines.items + 1 = ap length grew ∙ length-append lines.items (line ∷ []) in
     record {
-      sound = sound_more r now call xs (opens lines.items) (opens more.items) 2 stands.sound keeps (omega (arith, turn)) room octet_fits;
+      sound = sound_more r now call xs (count_of_open_connections lines.items) (count_of_open_connections more.items) 2 stands.sound keeps (omega (arith, turn)) room octet_fits;
       line_count = omega (arith, stands.line_count, keeps.call_count, count);
       line_room = omega (arith, stands.line_room, keeps.call_places, memory);
       again_count = omega (arith, stands.again_count, keeps.call_count);
       again_room = omega (arith, stands.again_room, keeps.call_places);
       untouched = λ conn above.
-          untouched_more acts r now call xs (opens lines.items) 2 conn stands.sound keeps (stands.untouched conn (omega (arith, longer, above))) (no_taking conn) (no_giving conn);
+          untouched_more acts r now call xs (count_of_open_connections lines.items) 2 conn stands.sound keeps (stands.untouched conn (omega (arith, longer, above))) (no_taking conn) (no_giving conn);
     }
 
 -- the connection that it opens is untouched
 pub opened_untouched : {Y Z : Type 0} (acts : List Act) (r now : CallRecord) (lines : Vec MemoryLine Y) (again : Vec ℕ Z) (call : Note) (xs : List ℕ)
-    → Stands acts r lines again → Keeps r now call xs 2
-    → ((conn : ℕ) → taken_by conn (call_of acts xs call) ≡ []) → ((conn : ℕ) → given_by conn (call_of acts xs call) ≡ [])
-    → IsUntouched (length lines.items + 1) (told acts now.kept.items now.octets.items)
+    → IsCallRecordInOrder acts r lines again → KeepsCallInRecord r now call xs 2
+    → ((conn : ℕ) → octets_taken_by_call conn (call_of acts xs call) ≡ []) → ((conn : ℕ) → given_by conn (call_of acts xs call) ≡ [])
+    → IsUntouched (length lines.items + 1) (calls_with_octets acts now.kept.items now.octets.items)
 opened_untouched acts r now lines again call xs stands keeps no_taking no_giving =
-    untouched_more acts r now call xs (opens lines.items) 2 (length lines.items + 1) stands.sound keeps (stands.untouched (length lines.items + 1) (omega arith))
+    untouched_more acts r now call xs (count_of_open_connections lines.items) 2 (length lines.items + 1) stands.sound keeps (stands.untouched (length lines.items + 1) (omega arith))
     (no_taking (length lines.items + 1)) (no_giving (length lines.items + 1))
 
 -- an open connection by its number
@@ -170,15 +170,15 @@ is_open_by lines conn line there =
 
 -- an open connection became another one that is open, or was closed
 pub stands_put : {Y Z : Type 0} (acts : List Act) (r : CallRecord) (lines now : Vec MemoryLine Y) (again : Vec ℕ Z) (conn : ℕ) (line other : MemoryLine)
-    → Stands acts r lines again → open_at lines.items conn ≡ Some line → is_some other.closed ≡ false
-    → now.items ≡ slice_set lines.items (conn - 1) other → vec_len now ≡ vec_len lines → vec_capacity now ≡ vec_capacity lines → Stands acts r now again
+    → IsCallRecordInOrder acts r lines again → open_at lines.items conn ≡ Some line → is_some other.closed ≡ false
+    → now.items ≡ slice_set lines.items (conn - 1) other → vec_len now ≡ vec_len lines → vec_capacity now ≡ vec_capacity lines → IsCallRecordInOrder acts r now again
 stands_put acts r lines now again conn line other stands there is_open put count memory =
     let here : IsOpen lines.items conn line = is_open_by lines.items conn line there in
     let one : one_of other ≡ 1 = ap (λ b. if b then 0 else 1) is_open in
-    let same : opens now.items ≡ opens lines.items = omega (arith, ap opens put, opens-set lines.items (conn - 1) line other here.get here.is_open, one) in
+    let same : count_of_open_connections now.items ≡ count_of_open_connections lines.items = omega (arith, ap count_of_open_connections put, opens-set lines.items (conn - 1) line other here.get here.is_open, one) in
     let long : length now.items ≡ length lines.items = ap length put ∙ length-set lines.items (conn - 1) other in
     record {
-      sound = subst (Sound r) (sym same) stands.sound;
+      sound = subst (IsCallRecordSound r) (sym same) stands.sound;
       line_count = omega (arith, stands.line_count, count);
       line_room = omega (arith, stands.line_room, memory);
       again_count = stands.again_count;
@@ -187,22 +187,22 @@ stands_put acts r lines now again conn line other stands there is_open put count
     }
 
 pub stands_close : {Y Z : Type 0} (acts : List Act) (r kept : CallRecord) (lines now : Vec MemoryLine Y) (again : Vec ℕ Z) (conn : ℕ) (line other : MemoryLine) (call : Note)
-    → Stands acts r lines again → open_at lines.items conn ≡ Some line → is_some other.closed ≡ true → Keeps r kept call [] 0
+    → IsCallRecordInOrder acts r lines again → open_at lines.items conn ≡ Some line → is_some other.closed ≡ true → KeepsCallInRecord r kept call [] 0
     → now.items ≡ slice_set lines.items (conn - 1) other → vec_len now ≡ vec_len lines → vec_capacity now ≡ vec_capacity lines
-    → ((conn : ℕ) → taken_by conn (call_of acts [] call) ≡ []) → ((conn : ℕ) → given_by conn (call_of acts [] call) ≡ []) → Stands acts kept now again
+    → ((conn : ℕ) → octets_taken_by_call conn (call_of acts [] call) ≡ []) → ((conn : ℕ) → given_by conn (call_of acts [] call) ≡ []) → IsCallRecordInOrder acts kept now again
 stands_close acts r kept lines now again conn line other call stands there is_closed keeps put count memory no_taking no_giving =
     let here : IsOpen lines.items conn line = is_open_by lines.items conn line there in
     let none : one_of other ≡ 0 = ap (λ b. if b then 0 else 1) is_closed in
-    let less : opens now.items + 1 ≡ opens lines.items = omega (arith, ap opens put, opens-set lines.items (conn - 1) line other here.get here.is_open, none) in
+    let less : count_of_open_connections now.items + 1 ≡ count_of_open_connections lines.items = omega (arith, ap count_of_open_connections put, opens-set lines.items (conn - 1) line other here.get here.is_open, none) in
     let long : length now.items ≡ length lines.items = ap length put ∙ length-set lines.items (conn - 1) other in
     record {
-      sound = sound_more r kept call [] (opens lines.items) (opens now.items) 0 stands.sound keeps (omega (arith, less)) (omega (arith, stands.sound.call_room)) (omega (arith, stands.sound.octet_room));
+      sound = sound_more r kept call [] (count_of_open_connections lines.items) (count_of_open_connections now.items) 0 stands.sound keeps (omega (arith, less)) (omega (arith, stands.sound.call_room)) (omega (arith, stands.sound.octet_room));
       line_count = omega (arith, stands.line_count, count, keeps.call_count);
       line_room = omega (arith, stands.line_room, memory, keeps.call_places);
       again_count = omega (arith, stands.again_count, keeps.call_count);
       again_room = omega (arith, stands.again_room, keeps.call_places);
       untouched = λ at above.
-          untouched_more acts r kept call [] (opens lines.items) 0 at stands.sound keeps (stands.untouched at (omega (arith, long, above))) (no_taking at) (no_giving at);
+          untouched_more acts r kept call [] (count_of_open_connections lines.items) 0 at stands.sound keeps (stands.untouched at (omega (arith, long, above))) (no_taking at) (no_giving at);
     }
 
 not_below : (m n : ℕ) → not (nat_lt m n) ≡ true → n ≤ m
@@ -218,27 +218,27 @@ fits_room s places octets test =
     (not_below s.call_places (s.places + places) parts.0, not_below s.octet_places (s.octets + octets) parts.1)
 
 stands_stay_at : {Y Z : Type 0} (acts : List Act) (r : CallRecord) (lines now : Vec MemoryLine Y) (again : Vec ℕ Z) (conn : ℕ) (other : MemoryLine) (found : Option MemoryLine)
-    → open_at lines.items conn ≡ found → Stands acts r lines again → StaysOpen lines.items conn other
-    → now.items ≡ slice_set lines.items (conn - 1) other → vec_len now ≡ vec_len lines → vec_capacity now ≡ vec_capacity lines → Stands acts r now again
+    → open_at lines.items conn ≡ found → IsCallRecordInOrder acts r lines again → StaysOpen lines.items conn other
+    → now.items ≡ slice_set lines.items (conn - 1) other → vec_len now ≡ vec_len lines → vec_capacity now ≡ vec_capacity lines → IsCallRecordInOrder acts r now again
 stands_stay_at acts r lines now again conn other None there stands stays put count memory = absurd (true_false (sym (sym (ap is_some there) ∙ stays.open_before)))
 stands_stay_at acts r lines now again conn other (Some line) there stands stays put count memory =
     stands_put acts r lines now again conn line other stands there stays.open_after put count memory
 
 -- a line in the place of one that is open
 pub stands_stay : {Y Z : Type 0} (acts : List Act) (r : CallRecord) (lines now : Vec MemoryLine Y) (again : Vec ℕ Z) (conn : ℕ) (other : MemoryLine)
-    → Stands acts r lines again → StaysOpen lines.items conn other
-    → now.items ≡ slice_set lines.items (conn - 1) other → vec_len now ≡ vec_len lines → vec_capacity now ≡ vec_capacity lines → Stands acts r now again
+    → IsCallRecordInOrder acts r lines again → StaysOpen lines.items conn other
+    → now.items ≡ slice_set lines.items (conn - 1) other → vec_len now ≡ vec_len lines → vec_capacity now ≡ vec_capacity lines → IsCallRecordInOrder acts r now again
 stands_stay acts r lines now again conn other stands stays put count memory =
     stands_stay_at acts r lines now again conn other (open_at lines.items conn) refl stands stays put count memory
 
-pub length-told : (acts : List Act) (ks : List KeptCall) (os : List ℕ) → length (told acts ks os) ≡ length ks
-unfolding told
+pub length-told : (acts : List Act) (ks : List KeptCall) (os : List ℕ) → length (calls_with_octets acts ks os) ≡ length ks
+unfolding calls_with_octets
 length-told acts [] os = refl
 length-told acts (k ∷ ks) os = ap suc (length-told acts ks (drop k.octets os))
 
 -- a connection joined those whose reads left octets
 pub stands_leave : {Y Z : Type 0} (acts : List Act) (r : CallRecord) (lines : Vec MemoryLine Y) (again more : Vec ℕ Z)
-    → Stands acts r lines again → vec_len again + 1 ≤ vec_len r.kept → vec_len more ≡ vec_len again + 1 → vec_capacity again ≤ vec_capacity more → Stands acts r lines more
+    → IsCallRecordInOrder acts r lines again → vec_len again + 1 ≤ vec_len r.kept → vec_len more ≡ vec_len again + 1 → vec_capacity again ≤ vec_capacity more → IsCallRecordInOrder acts r lines more
 stands_leave acts r lines again more stands room count memory = record {
   sound = stands.sound;
   line_count = stands.line_count;
@@ -250,7 +250,7 @@ stands_leave acts r lines again more stands room count memory = record {
 
 -- an open connection has a place that its close can take
 pub close_fits : {Y Z : Type 0} (acts : List Act) (r : CallRecord) (lines : Vec MemoryLine Y) (again : Vec ℕ Z) (conn : ℕ) (line : MemoryLine)
-    → Stands acts r lines again → open_at lines.items conn ≡ Some line → vec_len r.kept + 1 ≤ vec_capacity r.kept
+    → IsCallRecordInOrder acts r lines again → open_at lines.items conn ≡ Some line → vec_len r.kept + 1 ≤ vec_capacity r.kept
 close_fits acts r lines again conn line stands there =
     let here : IsOpen lines.items conn line = is_open_by lines.items conn line there in
     let other : MemoryLine = record line { closed = Some 0 } in
@@ -263,27 +263,27 @@ open_place lines conn line there =
     (omega (arith, here.some), slice_get_within lines (conn - 1) line here.get)
 
 -- an empty record
-pub told_new : (acts : List Act) (ks : List KeptCall) (os : List ℕ) → ks ≡ [] → told acts ks os ≡ []
-unfolding told
-told_new acts ks os none = ap (λ xs. told acts xs os) none
+pub told_new : (acts : List Act) (ks : List KeptCall) (os : List ℕ) → ks ≡ [] → calls_with_octets acts ks os ≡ []
+unfolding calls_with_octets
+told_new acts ks os none = ap (λ xs. calls_with_octets acts xs os) none
 
 none_untouched : (conn : ℕ) (calls : List Call) → calls ≡ [] → IsUntouched conn calls
 unfolding given_of taken_of
 none_untouched conn calls none = record { taken = ap (taken_of conn) none; given = ap (given_of conn) none }
 
-none_open : (lines : List MemoryLine) → lines ≡ [] → opens lines ≡ 0
-unfolding opens
-none_open lines none = ap opens none
+none_open : (lines : List MemoryLine) → lines ≡ [] → count_of_open_connections lines ≡ 0
+unfolding count_of_open_connections
+none_open lines none = ap count_of_open_connections none
 
-pub stands_new : {Y Z : Type 0} (acts : List Act) (r : CallRecord) (lines : Vec MemoryLine Y) (again : Vec ℕ Z) → Sound r 0 → r.kept.items ≡ [] → lines.items ≡ []
-    → vec_len lines ≡ 0 → vec_len again ≡ 0 → r.call_places ≤ vec_capacity lines → r.call_places ≤ vec_capacity again → Stands acts r lines again
+pub stands_new : {Y Z : Type 0} (acts : List Act) (r : CallRecord) (lines : Vec MemoryLine Y) (again : Vec ℕ Z) → IsCallRecordSound r 0 → r.kept.items ≡ [] → lines.items ≡ []
+    → vec_len lines ≡ 0 → vec_len again ≡ 0 → r.call_places ≤ vec_capacity lines → r.call_places ≤ vec_capacity again → IsCallRecordInOrder acts r lines again
 stands_new acts r lines again sound calls none line_count again_count line_room again_room = record {
-  sound = subst (Sound r) (sym (none_open lines.items none)) sound;
+  sound = subst (IsCallRecordSound r) (sym (none_open lines.items none)) sound;
   line_count = omega (arith, line_count);
   line_room = line_room;
   again_count = omega (arith, again_count);
   again_room = again_room;
-  untouched = λ conn above. none_untouched conn (told acts r.kept.items r.octets.items) (told_new acts r.kept.items r.octets.items calls);
+  untouched = λ conn above. none_untouched conn (calls_with_octets acts r.kept.items r.octets.items) (told_new acts r.kept.items r.octets.items calls);
 }
 
 differs : (m n : ℕ) → m < n → (m == n) ≡ false
@@ -302,7 +302,7 @@ open_found lines conn (Some line) there = (if_open_some (line_at lines conn) lin
 pub given_to_other : (newest conn other n : ℕ) (piece : List ℕ) → conn ≤ newest → newest < other → (if conn == other then take n piece else []) ≡ []
 given_to_other newest conn other n piece opened later = cond-false (conn == other) (take n piece) [] (differs conn other (omega arith))
 
-pub taken_from_other : (newest conn other size waits : ℕ) (reading : Reading) → conn ≤ newest → newest < other → taken_by other (Reads conn size waits reading) ≡ []
+pub taken_from_other : (newest conn other size waits : ℕ) (reading : Reading) → conn ≤ newest → newest < other → octets_taken_by_call other (Reads conn size waits reading) ≡ []
 taken_from_other newest conn other size waits (Gave octets) opened later = cond-false (conn == other) octets [] (differs conn other (omega arith))
 taken_from_other newest conn other size waits NotNow opened later = refl
 taken_from_other newest conn other size waits End opened later = refl

@@ -6,7 +6,7 @@ use Rattle.link_memory.specs.declared.memory_line.MemoryLine.{MemoryLine}
 use Rattle.link_trait.specs.declared.wires.ReadAnswer.{ReadAnswer}
 use Rattle.link_trait.specs.declared.wires.ReadAnswer.TheVariants as read_answer
 use Rattle.link_trait.specs.Wires.{Reads, Gave}
-use Rattle.link_memory.specs.WiresMemory.{KeptWires, fits, kept, called, is_to_fail, open_at, waits_at, read_in, read_done, gives, after_read}
+use Rattle.link_memory.specs.WiresMemory.{KeptWires, fits, wires_with_call_kept, wires_with_call_counted, is_to_fail, open_at, waits_at, read_in, read_done, gives, after_read}
 
 -- how many octets wait, and which were copied
 pub counted_waits : (size count taken : ℕ) (whole waits : List ℕ) → waits ≡ drop taken whole → count ≡ min size (length whole - taken) → count ≡ min size (length waits)
@@ -38,28 +38,28 @@ read_answers s conn size count waiting line room unlisted there waits some count
 
 read_state : (s : KeptWires) (conn size count waiting : ℕ) (line : MemoryLine) → fits s 1 0 ≡ true → is_to_fail s ≡ false → open_at s.lines conn ≡ Some line
     → waiting ≡ length (waits_at s conn) → 0 < waiting → count ≡ min size (length (waits_at s conn))
-    → after_read s conn size ≡ record (kept (called s) (Reads conn size (length (waits_at s conn)) (Gave (take count (waits_at s conn)))) 1 0) {
+    → after_read s conn size ≡ record (wires_with_call_kept (wires_with_call_counted s) (Reads conn size (length (waits_at s conn)) (Gave (take count (waits_at s conn)))) 1 0) {
       lines = slice_set s.lines (conn - 1) (record line { taken = line.taken + count });
       again = if nat_lt count (length (waits_at s conn)) then s.again ++ conn ∷ [] else s.again;
     }
 read_state s conn size count waiting line room unlisted there waits some counted =
     let answer : read_in s conn size ≡ read_answer.Some count = sym (read_answers s conn size count waiting line room unlisted there waits some counted) in
-    let done : after_read s conn size ≡ read_done (kept (called s) (Reads conn size (length (waits_at s conn)) (gives (read_in s conn size) (waits_at s conn))) 1 0) conn (length (waits_at s conn)) (read_in s conn size) =
+    let done : after_read s conn size ≡ read_done (wires_with_call_kept (wires_with_call_counted s) (Reads conn size (length (waits_at s conn)) (gives (read_in s conn size) (waits_at s conn))) 1 0) conn (length (waits_at s conn)) (read_in s conn size) =
     cond-true (fits s 1 0) _ _ room in
     done
-    ∙ ap {A = ReadAnswer} (λ a. read_done (kept (called s) (Reads conn size (length (waits_at s conn)) (gives a (waits_at s conn))) 1 0) conn (length (waits_at s conn)) a) answer
+    ∙ ap {A = ReadAnswer} (λ a. read_done (wires_with_call_kept (wires_with_call_counted s) (Reads conn size (length (waits_at s conn)) (gives a (waits_at s conn))) 1 0) conn (length (waits_at s conn)) a) answer
     ∙ rw (there) refl
 
 kept_with : (s : KeptWires) (conn size count waiting : ℕ) (line : MemoryLine) → waiting ≡ length (waits_at s conn)
-    → record (kept (called s) (Reads conn size waiting (Gave (take count (waits_at s conn)))) 1 0) { lines = slice_set s.lines (conn - 1) (record line { taken = line.taken + count }) }
-    ≡ record (kept (called s) (Reads conn size (length (waits_at s conn)) (Gave (take count (waits_at s conn)))) 1 0) { lines = slice_set s.lines (conn - 1) (record line { taken = line.taken + count }) }
+    → record (wires_with_call_kept (wires_with_call_counted s) (Reads conn size waiting (Gave (take count (waits_at s conn)))) 1 0) { lines = slice_set s.lines (conn - 1) (record line { taken = line.taken + count }) }
+    ≡ record (wires_with_call_kept (wires_with_call_counted s) (Reads conn size (length (waits_at s conn)) (Gave (take count (waits_at s conn)))) 1 0) { lines = slice_set s.lines (conn - 1) (record line { taken = line.taken + count }) }
 kept_with s conn size count waiting line waits =
-    ap (λ n. record (kept (called s) (Reads conn size n (Gave (take count (waits_at s conn)))) 1 0) { lines = slice_set s.lines (conn - 1) (record line { taken = line.taken + count }) }) waits
+    ap (λ n. record (wires_with_call_kept (wires_with_call_counted s) (Reads conn size n (Gave (take count (waits_at s conn)))) 1 0) { lines = slice_set s.lines (conn - 1) (record line { taken = line.taken + count }) }) waits
 
 -- the state, where octets are left and where none is
 pub read_leaves : (s now kept_now : KeptWires) (conn size count waiting : ℕ) (line : MemoryLine) → fits s 1 0 ≡ true → is_to_fail s ≡ false → open_at s.lines conn ≡ Some line
     → waiting ≡ length (waits_at s conn) → 0 < waiting → count ≡ min size (length (waits_at s conn)) → count < waiting
-    → kept_now ≡ record (kept (called s) (Reads conn size waiting (Gave (take count (waits_at s conn)))) 1 0) { lines = slice_set s.lines (conn - 1) (record line { taken = line.taken + count }) }
+    → kept_now ≡ record (wires_with_call_kept (wires_with_call_counted s) (Reads conn size waiting (Gave (take count (waits_at s conn)))) 1 0) { lines = slice_set s.lines (conn - 1) (record line { taken = line.taken + count }) }
     → now ≡ record kept_now { again = kept_now.again ++ conn ∷ [] } → now ≡ after_read s conn size
 read_leaves s now kept_now conn size count waiting line room unlisted there waits some counted left kept_is now_is =
     let below : nat_lt count (length (waits_at s conn)) ≡ true = lt-ltb count (length (waits_at s conn)) (omega (arith, waits, left)) in
@@ -67,7 +67,7 @@ read_leaves s now kept_now conn size count waiting line room unlisted there wait
 
 pub read_takes_all : (s now : KeptWires) (conn size count waiting : ℕ) (line : MemoryLine) → fits s 1 0 ≡ true → is_to_fail s ≡ false → open_at s.lines conn ≡ Some line
     → waiting ≡ length (waits_at s conn) → 0 < waiting → count ≡ min size (length (waits_at s conn)) → waiting ≤ count
-    → now ≡ record (kept (called s) (Reads conn size waiting (Gave (take count (waits_at s conn)))) 1 0) { lines = slice_set s.lines (conn - 1) (record line { taken = line.taken + count }) }
+    → now ≡ record (wires_with_call_kept (wires_with_call_counted s) (Reads conn size waiting (Gave (take count (waits_at s conn)))) 1 0) { lines = slice_set s.lines (conn - 1) (record line { taken = line.taken + count }) }
     → now ≡ after_read s conn size
 read_takes_all s now conn size count waiting line room unlisted there waits some counted none now_is =
     let past : nat_lt count (length (waits_at s conn)) ≡ false = not_below count (length (waits_at s conn)) (omega (arith, waits, none)) in

@@ -13,16 +13,16 @@ use Rattle.link_trait.specs.declared.wires.ReadAnswer.TheVariants as read_answer
 use Rattle.link_trait.specs.declared.wires.WriteAnswer.{WriteAnswer}
 use Rattle.link_trait.specs.declared.wires.WriteAnswer.TheVariants as write_answer
 use Rattle.link_trait.specs.Outside.{Grew}
-use Rattle.link_trait.specs.Wires.{Call, Listens, Dials, Turns, Reads, Writes, Closes, Gave, NotNow, End, Failed, Lines, Told, AllStay, OnlyAdds, KeepsOctets, IsNew, Takes, Gives, StaysAtRead, StaysAtWrite, waiting, reading_of, taken_of, taken_by, given_of, given_by}
+use Rattle.link_trait.specs.Wires.{Call, Listens, Dials, Turns, Reads, Writes, Closes, Gave, NotNow, End, Failed, Lines, Told, AllStay, OnlyAdds, KeepsOctets, IsNew, Takes, GivesWrittenOctets, StaysAtRead, StaysAtWrite, count_waiting_at_connection, reading_of, taken_of, octets_taken_by_call, given_of, given_by}
 use Rattle.link_memory.specs.KeptCalls.{IsUntouched}
-use Rattle.link_memory.specs.WiresMemory.{KeptWires, is_to_fail, fits, places_of, octets_to, between, brought, line_at, open_at, changed, waits_of, waits_at, gives, line_told, told_lines, told_calls, room_of, shut_of, called, kept, comes, coming, first_open, first_act, after_listen, after_dial, after_turn, after_read, after_write_to, after_close, reads_of, read_in, read_done, writes_of, written_in, write_done, new_line}
+use Rattle.link_memory.specs.WiresMemory.{KeptWires, is_to_fail, fits, places_of, octets_to, between, brought, line_at, open_at, memory_lines_with_change, waits_of, waits_at, gives, line_of_connection, told_lines, told_calls, room_of, shut_of, wires_with_call_counted, wires_with_call_kept, comes, coming, first_open, first_act, after_listen, after_dial, after_turn, after_read, after_write_to, after_close, answer_to_read, read_in, read_done, writes_of, written_in, write_done, new_line}
 use Rattle.link_memory.proofs.ToldLines.{told_still, told_spent, told_if, line_at-more, line_at-changed, line_at-changed_other, line_at-open, changed_here, changed_any, drop_twice, taken_stays, given_stays, line_kept, line_stays, Grows, grows_same, next_grows}
 use Rattle.link_memory.proofs.KeptLists.{taken_of-more, given_of-more}
 
 -- a call that neither takes nor gives was kept, and the lines stay
 stay : (s t : KeptWires) (call : Call) → t.spent ≡ s.spent → t.calls ≡ s.calls ++ call ∷ [] → t.acts ≡ s.acts → t.done ≡ s.done
     → ((conn : ℕ) → conn ≤ length s.lines → line_at t.lines conn ≡ line_at s.lines conn)
-    → ((conn : ℕ) → taken_by conn call ≡ []) → ((conn : ℕ) → given_by conn call ≡ []) → Told (told_lines s) (told_lines t) (λ before now. AllStay (length s.lines) before now)
+    → ((conn : ℕ) → octets_taken_by_call conn call ≡ []) → ((conn : ℕ) → given_by conn call ≡ []) → Told (told_lines s) (told_lines t) (λ before now. AllStay (length s.lines) before now)
 stay s t call spent calls acts done lines no_taking no_giving =
     told_still s t (λ before now. AllStay (length s.lines) before now) (λ is. spent ∙ is)
     (λ conn within. line_stays s t call conn calls acts done (lines conn within) (no_taking conn) (no_giving conn))
@@ -56,8 +56,8 @@ dial_spent s address =
     spent_if (is_to_fail s) s _ _ (spent_if (fits s 1 (length address)) s _ _ (λ is. is) (λ is. refl)) (spent_if (fits s 2 (length address)) s _ _ (λ is. is) (λ is. refl))
 
 -- a connection that is untouched is new
-is_new : (t : KeptWires) (conn : ℕ) → IsUntouched conn t.calls → IsNew (line_told t conn)
-unfolding line_told
+is_new : (t : KeptWires) (conn : ℕ) → IsUntouched conn t.calls → IsNew (line_of_connection t conn)
+unfolding line_of_connection
 is_new t conn untouched = record { taken = untouched.taken; given = untouched.given }
 
 pub dial_new : {E : Type 0} (s t : KeptWires) (address : List ℕ) (result : Result Conn E) → t ≡ after_dial s address → IfOk result (λ conn. IsUntouched conn.0 t.calls)
@@ -69,7 +69,7 @@ dial_new s t address (Err fault) is untouched =
 
 -- ---- turn
 
-next_spent : (s : KeptWires) (first : ℕ × Option ℕ) (next : ℕ × Option Act) → s.spent ≡ true → (coming (called s) first next).state.spent ≡ true
+next_spent : (s : KeptWires) (first : ℕ × Option ℕ) (next : ℕ × Option Act) → s.spent ≡ true → (coming (wires_with_call_counted s) first next).state.spent ≡ true
 next_spent s (passed, Some at) next is = is
 next_spent s (passed, None) (count, one) is = is
 
@@ -81,12 +81,12 @@ turn_grows s until =
     told_if (is_to_fail s) s _ _ (λ before now. GrowsAll (length s.lines) before now)
     (told_if (fits s 1 0) s _ _ (λ before now. GrowsAll (length s.lines) before now)
     (told_still s _ (λ before now. GrowsAll (length s.lines) before now) (λ is. is)
-    (λ conn within. grows_same (line_told s conn) _ (line_stays s _ (Turns until happening.Failed) conn refl refl refl refl refl refl)))
+    (λ conn within. grows_same (line_of_connection s conn) _ (line_stays s _ (Turns until happening.Failed) conn refl refl refl refl refl refl)))
     (told_spent s _ _ refl))
-    (told_if (fits s (places_of (comes (called s)).happening) 0) s _ _ (λ before now. GrowsAll (length s.lines) before now)
+    (told_if (fits s (places_of (comes (wires_with_call_counted s)).happening) 0) s _ _ (λ before now. GrowsAll (length s.lines) before now)
     (told_still s _ (λ before now. GrowsAll (length s.lines) before now) (next_spent s (first_open s.lines (drop s.heard s.again)) (first_act s.listening (drop s.done s.acts)))
     (λ conn within. next_grows s (first_open s.lines (drop s.heard s.again)) (first_act s.listening (drop s.done s.acts))
-    (Turns until (comes (called s)).happening) (places_of (comes (called s)).happening) conn within refl refl))
+    (Turns until (comes (wires_with_call_counted s)).happening) (places_of (comes (wires_with_call_counted s)).happening) conn within refl refl))
     (told_spent s _ _ refl))
 
 told_weaker : (a b : Option Lines) (Strong Weak : Lines → Lines → Type 0) → ((before now : Lines) → Strong before now → Weak before now) → Told a b Strong → Told a b Weak
@@ -110,7 +110,7 @@ turn_keeps s until =
 turn_spent : (s : KeptWires) (until : Option ℕ) → s.spent ≡ true → (after_turn s until).spent ≡ true
 turn_spent s until =
     spent_if (is_to_fail s) s _ _ (spent_if (fits s 1 0) s _ _ (λ is. is) (λ is. refl))
-    (spent_if (fits s (places_of (comes (called s)).happening) 0) s _ _
+    (spent_if (fits s (places_of (comes (wires_with_call_counted s)).happening) 0) s _ _
     (next_spent s (first_open s.lines (drop s.heard s.again)) (first_act s.listening (drop s.done s.acts))) (λ is. refl))
 
 pub turn_new : (s t : KeptWires) (until : Option ℕ) (result : Happening) → t ≡ after_turn s until
@@ -136,7 +136,7 @@ gave_by false shut size waits n is =
     omega (arith, same)
 
 gave_some : (room listed : Bool) (found : Option MemoryLine) (waits size n : ℕ)
-    → (if room then (if listed then read_answer.Failed else reads_of found waits size) else read_answer.Failed) ≡ read_answer.Some n → GaveSome found waits n
+    → (if room then (if listed then read_answer.Failed else answer_to_read found waits size) else read_answer.Failed) ≡ read_answer.Some n → GaveSome found waits n
 gave_some true true found waits size n is = absurd (cc is)
 gave_some true false None waits size n is = absurd (cc is)
 gave_some true false (Some line) waits size n is = record { line = line; there = refl; waited = gave_by (waits == 0) line.is_shut size waits n is }
@@ -160,7 +160,7 @@ end_by true false n is = absurd (cc is)
 end_by false shut n is = absurd (cc is)
 
 gave_not_now : (room listed : Bool) (found : Option MemoryLine) (waits size : ℕ)
-    → (if room then (if listed then read_answer.Failed else reads_of found waits size) else read_answer.Failed) ≡ read_answer.NotNow → GaveNone found waits false
+    → (if room then (if listed then read_answer.Failed else answer_to_read found waits size) else read_answer.Failed) ≡ read_answer.NotNow → GaveNone found waits false
 gave_not_now true true found waits size is = absurd (cc is)
 gave_not_now true false None waits size is = absurd (cc is)
 gave_not_now true false (Some line) waits size is =
@@ -169,7 +169,7 @@ gave_not_now true false (Some line) waits size is =
 gave_not_now false listed found waits size is = absurd (cc is)
 
 gave_end : (room listed : Bool) (found : Option MemoryLine) (waits size : ℕ)
-    → (if room then (if listed then read_answer.Failed else reads_of found waits size) else read_answer.Failed) ≡ read_answer.End → GaveNone found waits true
+    → (if room then (if listed then read_answer.Failed else answer_to_read found waits size) else read_answer.Failed) ≡ read_answer.End → GaveNone found waits true
 gave_end true true found waits size is = absurd (cc is)
 gave_end true false None waits size is = absurd (cc is)
 gave_end true false (Some line) waits size is =
@@ -181,13 +181,13 @@ if_either : (b : Bool) (f : Lines) (Holds : Lines → Type 0) → Holds f → If
 if_either true f Holds holds = tt
 if_either false f Holds holds = holds
 
-if_told : (s : KeptWires) (Holds : Lines → Type 0) → Holds (line_told s) → IfSome (told_lines s) Holds
+if_told : (s : KeptWires) (Holds : Lines → Type 0) → Holds (line_of_connection s) → IfSome (told_lines s) Holds
 unfolding told_lines
-if_told s Holds holds = if_either s.spent (line_told s) Holds holds
+if_told s Holds holds = if_either s.spent (line_of_connection s) Holds holds
 
 found_none : (s : KeptWires) (conn : ℕ) (shut : Bool) → GaveNone (open_at s.lines conn) (length (waits_at s conn)) shut
     → IfSome (told_lines s) (λ before. ((before conn).waits ≡ []) × ((before conn).shut ≡ shut))
-unfolding line_told
+unfolding line_of_connection
 found_none s conn shut gave =
     if_told s (λ before. ((before conn).waits ≡ []) × ((before conn).shut ≡ shut))
     (nil_from_length (waits_at s conn) gave.none, ap shut_of (line_at-open s.lines conn gave.line gave.there) ∙ gave.shut)
@@ -204,7 +204,7 @@ read_end s conn size result answer is =
 
 -- what a read changes, for each of its answers
 abbrev read_by : KeptWires → ℕ → ℕ → ℕ → ReadAnswer → KeptWires
-read_by s conn size waits answer = read_done (kept (called s) (Reads conn size waits (gives answer (waits_at s conn))) 1 0) conn waits answer
+read_by s conn size waits answer = read_done (wires_with_call_kept (wires_with_call_counted s) (Reads conn size waits (gives answer (waits_at s conn))) 1 0) conn waits answer
 
 took_else : (conn other : ℕ) (octets : List ℕ) → other ≢ conn → (if conn == other then octets else []) ≡ []
 took_else conn other octets differs = cond-false (conn == other) octets [] (ne_eqb conn other (λ same. differs (sym same)))
@@ -214,7 +214,7 @@ took_here conn octets = cond-true (conn == conn) octets [] (eq-eqb conn conn ref
 
 stays_by : (s : KeptWires) (conn size waits : ℕ) (answer : ReadAnswer)
     → Told (told_lines s) (told_lines (read_by s conn size waits answer)) (λ before now. StaysAtRead answer (length s.lines) conn before now)
-unfolding line_told
+unfolding line_of_connection
 stays_by s conn size waits (read_answer.Some n) =
     told_still s _ (λ before now. StaysAtRead (read_answer.Some n) (length s.lines) conn before now) (λ is. is) (
       λ other within differs.
@@ -245,7 +245,7 @@ same_octets xs ys same = cc same
 takes_by : (s : KeptWires) (conn size waits : ℕ) (into : List ℕ) (answer : ReadAnswer)
     → ((n : ℕ) → answer ≡ read_answer.Some n → GaveSome (open_at s.lines conn) (length (waits_at s conn)) n) → reading_of answer into ≡ gives answer (waits_at s conn)
     → Told (told_lines s) (told_lines (read_by s conn size waits answer)) (λ before now. Takes answer (before conn) (now conn) into)
-unfolding line_told
+unfolding line_of_connection
 takes_by s conn size waits into (read_answer.Some n) some gave =
     let found : GaveSome (open_at s.lines conn) (length (waits_at s conn)) n = some n refl in
     told_still s _ (λ before now. Takes (read_answer.Some n) (before conn) (now conn) into) (λ is. is) (record {
@@ -302,19 +302,19 @@ done_spent s conn waits read_answer.NotNow = refl
 done_spent s conn waits read_answer.End = refl
 done_spent s conn waits read_answer.Failed = refl
 
-waiting_told : (s : KeptWires) (conn : ℕ) → s.spent ≡ false → waiting (told_lines s) conn ≡ length (waits_at s conn)
-unfolding told_lines line_told
-waiting_told s conn tells = ap (λ told. waiting told conn) (cond-false s.spent None (Some (line_told s)) tells)
+waiting_told : (s : KeptWires) (conn : ℕ) → s.spent ≡ false → count_waiting_at_connection (told_lines s) conn ≡ length (waits_at s conn)
+unfolding told_lines line_of_connection
+waiting_told s conn tells = ap (λ told. count_waiting_at_connection told conn) (cond-false s.spent None (Some (line_of_connection s)) tells)
 
 pub read_told : (s t : KeptWires) (conn size : ℕ) (into : List ℕ) (result : ReadAnswer) → result ≡ read_in s conn size → t ≡ after_read s conn size
     → reading_of result into ≡ gives result (waits_at s conn)
-    → Grew (told_calls s) (told_calls t) (Reads conn size (waiting (told_lines s) conn) (reading_of result into) ∷ [])
+    → Grew (told_calls s) (told_calls t) (Reads conn size (count_waiting_at_connection (told_lines s) conn) (reading_of result into) ∷ [])
 read_told s t conn size into result answer state gave =
-    let call : Call = Reads conn size (waiting (told_lines s) conn) (reading_of result into) in
+    let call : Call = Reads conn size (count_waiting_at_connection (told_lines s) conn) (reading_of result into) in
     let same : s.spent ≡ false → Reads conn size (length (waits_at s conn)) (gives (read_in s conn size) (waits_at s conn)) ≡ call =
     λ tells. ap (λ a. Reads conn size (length (waits_at s conn)) (gives a (waits_at s conn))) (sym answer) ∙ ap (Reads conn size (length (waits_at s conn))) (sym gave)
     ∙ ap (λ n. Reads conn size n (reading_of result into)) (sym (waiting_told s conn tells)) in
-    let before : KeptWires = kept (called s) (Reads conn size (length (waits_at s conn)) (gives (read_in s conn size) (waits_at s conn))) 1 0 in
+    let before : KeptWires = wires_with_call_kept (wires_with_call_counted s) (Reads conn size (length (waits_at s conn)) (gives (read_in s conn size) (waits_at s conn))) 1 0 in
     subst (λ u. Grew (told_calls s) (told_calls u) (call ∷ [])) (sym state)
     (grew_if (fits s 1 0) s _ _ (call ∷ [])
     (grew_by s.spent (read_done before conn (length (waits_at s conn)) (read_in s conn size)).spent s.calls (read_done before conn (length (waits_at s conn)) (read_in s conn size)).calls (call ∷ [])
@@ -356,18 +356,18 @@ wrote_none false listed found size is = absurd (cc is)
 
 pub write_not_now : (s : KeptWires) (conn size : ℕ) (result : WriteAnswer) → result ≡ written_in s conn size → result ≡ write_answer.NotNow
     → IfSome (told_lines s) (λ before. (before conn).room ≡ 0)
-unfolding line_told
+unfolding line_of_connection
 write_not_now s conn size result answer is =
     let none : WroteSome (open_at s.lines conn) 0 × (room_of (open_at s.lines conn) ≡ 0) =
     wrote_none (fits s 1 size) (is_to_fail s) (open_at s.lines conn) size (sym answer ∙ is) in
     if_told s (λ before. (before conn).room ≡ 0) (ap room_of (line_at-open s.lines conn none.0.line none.0.there) ∙ ap room_of (sym none.0.there) ∙ none.1)
 
 abbrev write_by : KeptWires → ℕ → List ℕ → WriteAnswer → KeptWires
-write_by s conn piece answer = write_done (kept (called s) (Writes conn piece answer) 1 (length piece)) conn answer
+write_by s conn piece answer = write_done (wires_with_call_kept (wires_with_call_counted s) (Writes conn piece answer) 1 (length piece)) conn answer
 
 stays_at : (s : KeptWires) (conn : ℕ) (piece : List ℕ) (answer : WriteAnswer)
     → Told (told_lines s) (told_lines (write_by s conn piece answer)) (λ before now. StaysAtWrite answer (length s.lines) conn before now)
-unfolding line_told
+unfolding line_of_connection
 stays_at s conn piece (write_answer.Some n) =
     told_still s _ (λ before now. StaysAtWrite (write_answer.Some n) (length s.lines) conn before now) (λ is. is) (
       λ other within differs.
@@ -393,14 +393,14 @@ write_stays s t conn piece result answer state =
     (subst (λ a. Told (told_lines s) (told_lines (after_write_to s conn piece)) (λ before now. StaysAtWrite a (length s.lines) conn before now)) (sym answer) all)
 
 gives_by : (s : KeptWires) (conn : ℕ) (piece : List ℕ) (answer : WriteAnswer) → ((n : ℕ) → answer ≡ write_answer.Some n → WroteSome (open_at s.lines conn) n)
-    → Told (told_lines s) (told_lines (write_by s conn piece answer)) (λ before now. Gives answer (before conn) (now conn) piece)
-unfolding line_told
+    → Told (told_lines s) (told_lines (write_by s conn piece answer)) (λ before now. GivesWrittenOctets answer (before conn) (now conn) piece)
+unfolding line_of_connection
 gives_by s conn piece (write_answer.Some n) some =
     let found : WroteSome (open_at s.lines conn) n = some n refl in
     let before : room_of (line_at s.lines conn) ≡ found.line.room = ap room_of (line_at-open s.lines conn found.line found.there) in
-    let after : room_of (line_at (changed s.lines conn (λ line. record line { room = line.room - n })) conn) ≡ found.line.room - n =
+    let after : room_of (line_at (memory_lines_with_change s.lines conn (λ line. record line { room = line.room - n })) conn) ≡ found.line.room - n =
     ap room_of (line_at-changed s.lines conn (λ line. record line { room = line.room - n }) found.line found.there) in
-    told_still s _ (λ before now. Gives (write_answer.Some n) (before conn) (now conn) piece) (λ is. is) (record {
+    told_still s _ (λ before now. GivesWrittenOctets (write_answer.Some n) (before conn) (now conn) piece) (λ is. is) (record {
       given = given_of-more conn s.calls (Writes conn piece (write_answer.Some n)) ∙ ap (λ os. given_of conn s.calls ++ os) (took_here conn (take n piece));
       room = omega (arith, before, after, found.room);
     })
@@ -408,14 +408,14 @@ gives_by s conn piece write_answer.NotNow some = told_still s _ (λ before now. 
 gives_by s conn piece write_answer.Failed some = told_still s _ (λ before now. Unit {0}) (λ is. is) tt
 
 pub write_gives : (s t : KeptWires) (conn : ℕ) (piece : List ℕ) (result : WriteAnswer) → result ≡ written_in s conn (length piece) → t ≡ after_write_to s conn piece
-    → Told (told_lines s) (told_lines t) (λ before now. Gives result (before conn) (now conn) piece)
+    → Told (told_lines s) (told_lines t) (λ before now. GivesWrittenOctets result (before conn) (now conn) piece)
 write_gives s t conn piece result answer state =
-    let all : Told (told_lines s) (told_lines (after_write_to s conn piece)) (λ before now. Gives (written_in s conn (length piece)) (before conn) (now conn) piece) =
-    told_if (fits s 1 (length piece)) s _ _ (λ before now. Gives (written_in s conn (length piece)) (before conn) (now conn) piece)
+    let all : Told (told_lines s) (told_lines (after_write_to s conn piece)) (λ before now. GivesWrittenOctets (written_in s conn (length piece)) (before conn) (now conn) piece) =
+    told_if (fits s 1 (length piece)) s _ _ (λ before now. GivesWrittenOctets (written_in s conn (length piece)) (before conn) (now conn) piece)
     (gives_by s conn piece (written_in s conn (length piece))
     (λ n is. wrote_some (fits s 1 (length piece)) (is_to_fail s) (open_at s.lines conn) (length piece) n is)) (told_spent s _ _ refl) in
-    subst (λ u. Told (told_lines s) (told_lines u) (λ before now. Gives result (before conn) (now conn) piece)) (sym state)
-    (subst (λ a. Told (told_lines s) (told_lines (after_write_to s conn piece)) (λ before now. Gives a (before conn) (now conn) piece)) (sym answer) all)
+    subst (λ u. Told (told_lines s) (told_lines u) (λ before now. GivesWrittenOctets result (before conn) (now conn) piece)) (sym state)
+    (subst (λ a. Told (told_lines s) (told_lines (after_write_to s conn piece)) (λ before now. GivesWrittenOctets a (before conn) (now conn) piece)) (sym answer) all)
 
 -- ---- close
 
@@ -432,7 +432,7 @@ pub close_stays : (s : KeptWires) (conn : ℕ) → Told (told_lines s) (told_lin
 close_stays s conn =
     told_if (is_some (open_at s.lines conn)) s _ _ (λ before now. AllStay (length s.lines) before now)
     (told_still s _ (λ before now. AllStay (length s.lines) before now) (λ is. is) (λ at within.
-    let same : SameLine s.acts s.done at (line_at s.lines at) (line_at (changed s.lines conn (λ line. record line { closed = Some s.done })) at) =
+    let same : SameLine s.acts s.done at (line_at s.lines at) (line_at (memory_lines_with_change s.lines conn (λ line. record line { closed = Some s.done })) at) =
     changed_any (SameLine s.acts s.done at) s.lines conn at (λ line. record line { closed = Some s.done })
     (λ line. record { waits = refl; room = refl; shut = refl })
     (λ line is_open. record {

@@ -7,8 +7,8 @@ use Rattle.std.proofs.Math.Seq.{take-add}
 use Rattle.link_memory.specs.declared.act.Act.{Act}
 use Rattle.link_memory.specs.declared.act.Act.TheVariants as act
 use Rattle.link_memory.specs.declared.memory_line.MemoryLine.{MemoryLine}
-use Rattle.link_trait.specs.Wires.{Call, Line, Lines, Told, taken_of, taken_by, given_of, given_by, OnlyAdds, KeepsOctets}
-use Rattle.link_memory.specs.WiresMemory.{KeptWires, octets_to, brought_by, between, waits_of, line_at, open_at, changed, changed_at, line_told, told_lines, room_of, shut_of, lines_after, new_line, coming, kept, called}
+use Rattle.link_trait.specs.Wires.{Call, Line, Lines, Told, taken_of, octets_taken_by_call, given_of, given_by, OnlyAdds, KeepsOctets}
+use Rattle.link_memory.specs.WiresMemory.{KeptWires, octets_to, brought_by, between, waits_of, line_at, open_at, memory_lines_with_change, changed_at, line_of_connection, told_lines, room_of, shut_of, lines_after, new_line, coming, wires_with_call_kept, wires_with_call_counted}
 use Rattle.link_memory.proofs.KeptLists.{taken_of-more, given_of-more, if_open_some, open_place}
 
 -- ---- what is told, where a capacity was found spent and where it wasn't
@@ -27,15 +27,15 @@ told_never before false f g Holds spent = absurd (cc spent)
 told_never false true f g Holds spent = tt
 
 -- it is told still
-pub told_still : (s t : KeptWires) (Holds : Lines → Lines → Type 0) → (s.spent ≡ true → t.spent ≡ true) → Holds (line_told s) (line_told t)
+pub told_still : (s t : KeptWires) (Holds : Lines → Lines → Type 0) → (s.spent ≡ true → t.spent ≡ true) → Holds (line_of_connection s) (line_of_connection t)
     → Told (told_lines s) (told_lines t) Holds
 unfolding told_lines
-told_still s t Holds later holds = told_later s.spent t.spent (line_told s) (line_told t) Holds later holds
+told_still s t Holds later holds = told_later s.spent t.spent (line_of_connection s) (line_of_connection t) Holds later holds
 
 -- it is told no more
 pub told_spent : (s t : KeptWires) (Holds : Lines → Lines → Type 0) → t.spent ≡ true → Told (told_lines s) (told_lines t) Holds
 unfolding told_lines
-told_spent s t Holds spent = told_never s.spent t.spent (line_told s) (line_told t) Holds spent
+told_spent s t Holds spent = told_never s.spent t.spent (line_of_connection s) (line_of_connection t) Holds spent
 
 pub told_if : (b : Bool) (s x y : KeptWires) (Holds : Lines → Lines → Type 0) → Told (told_lines s) (told_lines x) Holds → Told (told_lines s) (told_lines y) Holds
     → Told (told_lines s) (told_lines (if b then x else y)) Holds
@@ -96,12 +96,12 @@ other_when : (lines : List MemoryLine) (conn other : ℕ) (change : MemoryLine �
 other_when lines conn other change None there differs = refl
 other_when lines conn other change (Some line) there differs = line_at-other lines (change line) conn other (open_place lines conn line there).0 differs
 
-pub line_at-changed_other : (lines : List MemoryLine) (conn other : ℕ) (change : MemoryLine → MemoryLine) → other ≢ conn → line_at (changed lines conn change) other ≡ line_at lines other
+pub line_at-changed_other : (lines : List MemoryLine) (conn other : ℕ) (change : MemoryLine → MemoryLine) → other ≢ conn → line_at (memory_lines_with_change lines conn change) other ≡ line_at lines other
 line_at-changed_other lines conn other change differs = other_when lines conn other change (open_at lines conn) refl differs
 
 -- and one that is open is changed
 pub line_at-changed : (lines : List MemoryLine) (conn : ℕ) (change : MemoryLine → MemoryLine) (line : MemoryLine) → open_at lines conn ≡ Some line
-    → line_at (changed lines conn change) conn ≡ Some (change line)
+    → line_at (memory_lines_with_change lines conn change) conn ≡ Some (change line)
 line_at-changed lines conn change line there =
     ap (λ found. line_at (changed_at lines conn change found) conn) there
     ∙ line_at-put lines (change line) conn (open_place lines conn line there).0 (open_place lines conn line there).1
@@ -120,14 +120,14 @@ changed_when P lines conn change (Some line) there same other =
 
 pub changed_here : (P : Option MemoryLine → Option MemoryLine → Type 0) (lines : List MemoryLine) (conn : ℕ) (change : MemoryLine → MemoryLine)
     → ((line : Option MemoryLine) → P line line) → ((line : MemoryLine) → is_some line.closed ≡ false → P (Some line) (Some (change line)))
-    → P (line_at lines conn) (line_at (changed lines conn change) conn)
+    → P (line_at lines conn) (line_at (memory_lines_with_change lines conn change) conn)
 changed_here P lines conn change same other = changed_when P lines conn change (open_at lines conn) refl same other
 
 pub changed_any : (P : Option MemoryLine → Option MemoryLine → Type 0) (lines : List MemoryLine) (conn at : ℕ) (change : MemoryLine → MemoryLine)
     → ((line : Option MemoryLine) → P line line) → ((line : MemoryLine) → is_some line.closed ≡ false → P (Some line) (Some (change line)))
-    → P (line_at lines at) (line_at (changed lines conn change) at)
+    → P (line_at lines at) (line_at (memory_lines_with_change lines conn change) at)
 changed_any P lines conn at change same other = elim (cases_eq at conn) [
-  | inl here ↦ subst (λ n. P (line_at lines n) (line_at (changed lines conn change) n)) (sym here) (changed_here P lines conn change same other)
+  | inl here ↦ subst (λ n. P (line_at lines n) (line_at (memory_lines_with_change lines conn change) n)) (sym here) (changed_here P lines conn change same other)
   | inr differs ↦ subst (λ line. P (line_at lines at) line) (sym (line_at-changed_other lines conn at change differs)) (same (line_at lines at))
 ]
 
@@ -181,7 +181,7 @@ same_line : (taken given waits taken' given' waits' : List ℕ) (room room' : �
 same_line taken given waits taken' given' waits' room room' shut shut' a b c d e = cc (a, b, c, d, e)
 
 -- the octets taken and given, where a call takes none and gives none
-pub taken_stays : (s t : KeptWires) (call : Call) (conn : ℕ) → t.calls ≡ s.calls ++ call ∷ [] → taken_by conn call ≡ [] → taken_of conn t.calls ≡ taken_of conn s.calls
+pub taken_stays : (s t : KeptWires) (call : Call) (conn : ℕ) → t.calls ≡ s.calls ++ call ∷ [] → octets_taken_by_call conn call ≡ [] → taken_of conn t.calls ≡ taken_of conn s.calls
 taken_stays s t call conn calls none =
     ap (taken_of conn) calls ∙ taken_of-more conn s.calls call ∙ ap (λ os. taken_of conn s.calls ++ os) none ∙ append-nil (taken_of conn s.calls)
 
@@ -192,13 +192,13 @@ given_stays s t call conn calls none =
 -- it stays, where a call takes nothing from it and gives nothing to it, and what waits, the room and the peer's side stay
 pub line_kept : (s t : KeptWires) (call : Call) (conn : ℕ) → t.calls ≡ s.calls ++ call ∷ [] → waits_of t.acts t.done conn (line_at t.lines conn) ≡ waits_of s.acts s.done conn (line_at s.lines conn)
     → room_of (line_at t.lines conn) ≡ room_of (line_at s.lines conn) → shut_of (line_at t.lines conn) ≡ shut_of (line_at s.lines conn)
-    → taken_by conn call ≡ [] → given_by conn call ≡ [] → line_told t conn ≡ line_told s conn
-unfolding line_told
+    → octets_taken_by_call conn call ≡ [] → given_by conn call ≡ [] → line_of_connection t conn ≡ line_of_connection s conn
+unfolding line_of_connection
 line_kept s t call conn calls waits room shut no_taking no_giving =
     same_line _ _ _ _ _ _ _ _ _ _ (taken_stays s t call conn calls no_taking) (given_stays s t call conn calls no_giving) waits room shut
 
 pub line_stays : (s t : KeptWires) (call : Call) (conn : ℕ) → t.calls ≡ s.calls ++ call ∷ [] → t.acts ≡ s.acts → t.done ≡ s.done → line_at t.lines conn ≡ line_at s.lines conn
-    → taken_by conn call ≡ [] → given_by conn call ≡ [] → line_told t conn ≡ line_told s conn
+    → octets_taken_by_call conn call ≡ [] → given_by conn call ≡ [] → line_of_connection t conn ≡ line_of_connection s conn
 line_stays s t call conn calls acts done line no_taking no_giving =
     let waits : waits_of t.acts t.done conn (line_at t.lines conn) ≡ waits_of s.acts s.done conn (line_at s.lines conn) =
     ap (λ xs. waits_of xs t.done conn (line_at t.lines conn)) acts ∙ ap (λ n. waits_of s.acts n conn (line_at t.lines conn)) done ∙ ap (waits_of s.acts s.done conn) line in
@@ -275,8 +275,8 @@ grows_same before now same = record {
 }
 
 grows_by : (s t : KeptWires) (call : Call) (count conn : ℕ) → t.calls ≡ s.calls ++ call ∷ [] → t.acts ≡ s.acts → t.done ≡ s.done + count
-    → Later (line_at s.lines conn) (line_at t.lines conn) → taken_by conn call ≡ [] → given_by conn call ≡ [] → Grows (line_told s conn) (line_told t conn)
-unfolding line_told
+    → Later (line_at s.lines conn) (line_at t.lines conn) → octets_taken_by_call conn call ≡ [] → given_by conn call ≡ [] → Grows (line_of_connection s conn) (line_of_connection t conn)
+unfolding line_of_connection
 grows_by s t call count conn calls acts done later no_taking no_giving =
     let longer : Longer (waits_of s.acts s.done conn (line_at s.lines conn)) (waits_of s.acts (s.done + count) conn (line_at t.lines conn)) =
     longer_waits s.acts s.done count conn (line_at s.lines conn) (line_at t.lines conn) later in
@@ -290,9 +290,9 @@ grows_by s t call count conn calls acts done later no_taking no_giving =
     }
 
 -- what comes next adds octets, sets room or closes the peer's side, at the connections that are opened
-pub next_grows : (s : KeptWires) (first : ℕ × Option ℕ) (next : ℕ × Option Act) (call : Call) (places conn : ℕ) → conn ≤ length s.lines → taken_by conn call ≡ [] → given_by conn call ≡ []
-    → Grows (line_told s conn) (line_told (kept (coming (called s) first next).state call places 0) conn)
+pub next_grows : (s : KeptWires) (first : ℕ × Option ℕ) (next : ℕ × Option Act) (call : Call) (places conn : ℕ) → conn ≤ length s.lines → octets_taken_by_call conn call ≡ [] → given_by conn call ≡ []
+    → Grows (line_of_connection s conn) (line_of_connection (wires_with_call_kept (coming (wires_with_call_counted s) first next).state call places 0) conn)
 next_grows s (passed, Some at) next call places conn within no_taking no_giving =
-    grows_same (line_told s conn) _ (line_stays s _ call conn refl refl refl refl no_taking no_giving)
+    grows_same (line_of_connection s conn) _ (line_stays s _ call conn refl refl refl refl no_taking no_giving)
 next_grows s (passed, None) (count, one) call places conn within no_taking no_giving =
     grows_by s _ call count conn refl refl refl (later_after s.lines (s.done + count) s.room conn one within) no_taking no_giving

@@ -24,23 +24,23 @@ call_of acts octets (note.Write conn answer) = Writes conn octets answer
 call_of acts octets (note.Close conn) = Closes conn
 
 -- the calls that are kept, with their octets
-unfoldable pub told : List Act → List KeptCall → List ℕ → List Call
-told acts [] octets = []
-told acts (call ∷ calls) octets = call_of acts (take call.octets octets) call.note ∷ told acts calls (drop call.octets octets)
+unfoldable pub calls_with_octets : List Act → List KeptCall → List ℕ → List Call
+calls_with_octets acts [] octets = []
+calls_with_octets acts (call ∷ calls) octets = call_of acts (take call.octets octets) call.note ∷ calls_with_octets acts calls (drop call.octets octets)
 
 -- how many octets they have
-unfoldable pub total : List KeptCall → ℕ
-total [] = 0
-total (call ∷ calls) = call.octets + total calls
+unfoldable pub octet_count_of_calls : List KeptCall → ℕ
+octet_count_of_calls [] = 0
+octet_count_of_calls (call ∷ calls) = call.octets + octet_count_of_calls calls
 
 -- how many connections are open
-unfoldable pub opens : List MemoryLine → ℕ
-opens [] = 0
-opens (line ∷ lines) = (if is_some line.closed then 0 else 1) + opens lines
+unfoldable pub count_of_open_connections : List MemoryLine → ℕ
+count_of_open_connections [] = 0
+count_of_open_connections (line ∷ lines) = (if is_some line.closed then 0 else 1) + count_of_open_connections lines
 
 -- a record's lengths: its octets are those of its calls, and there is room for the calls that its places stand for
-pub record Sound (r : CallRecord) (are_open : ℕ) : Type 0 where
-  pub octets : length r.octets.items ≡ total r.kept.items
+pub record IsCallRecordSound (r : CallRecord) (are_open : ℕ) : Type 0 where
+  pub octets : length r.octets.items ≡ octet_count_of_calls r.kept.items
   pub octet_room : vec_len r.octets ≤ r.octet_places
   pub octet_capacity : r.octet_places ≤ vec_capacity r.octets
   pub places : vec_len r.kept + are_open ≡ r.places
@@ -48,7 +48,7 @@ pub record Sound (r : CallRecord) (are_open : ℕ) : Type 0 where
   pub call_capacity : r.call_places ≤ vec_capacity r.kept
 
 -- a record kept one call more, with the octets of its address or piece, and so many places
-pub record Keeps (r now : CallRecord) (call : Note) (octets : List ℕ) (places : ℕ) : Type 0 where
+pub record KeepsCallInRecord (r now : CallRecord) (call : Note) (octets : List ℕ) (places : ℕ) : Type 0 where
   pub calls : now.kept.items ≡ r.kept.items ++ record { note = call; octets = length octets } ∷ []
   pub octet_list : now.octets.items ≡ r.octets.items ++ octets
   pub call_count : vec_len now.kept ≡ vec_len r.kept + 1
@@ -66,13 +66,13 @@ pub record IsUntouched (conn : ℕ) (calls : List Call) : Type 0 where
 
 -- the record is sound, there is room for the connections and for those whose reads leave octets, and a connection that wasn't
 -- opened is untouched
-pub record Stands {Y Z : Type 0} (acts : List Act) (r : CallRecord) (lines : Vec MemoryLine Y) (again : Vec ℕ Z) : Type 0 where
-  pub sound : Sound r (opens lines.items)
+pub record IsCallRecordInOrder {Y Z : Type 0} (acts : List Act) (r : CallRecord) (lines : Vec MemoryLine Y) (again : Vec ℕ Z) : Type 0 where
+  pub sound : IsCallRecordSound r (count_of_open_connections lines.items)
   pub line_count : vec_len lines ≤ vec_len r.kept
   pub line_room : r.call_places ≤ vec_capacity lines
   pub again_count : vec_len again ≤ vec_len r.kept
   pub again_room : r.call_places ≤ vec_capacity again
-  pub untouched : (conn : ℕ) → length lines.items < conn → IsUntouched conn (told acts r.kept.items r.octets.items)
+  pub untouched : (conn : ℕ) → length lines.items < conn → IsUntouched conn (calls_with_octets acts r.kept.items r.octets.items)
 
 -- the connection stays open with this line
 pub record StaysOpen (lines : List MemoryLine) (conn : ℕ) (line : MemoryLine) : Type 0 where
@@ -104,18 +104,18 @@ abbrev pub advanced : KeptWires → Coming → KeptWires
 advanced s c = record s { heard = s.heard + c.passed; done = s.done + c.acts; lines = put_in s.lines c.change }
 
 -- a connection is opened where it was accepted
-abbrev pub opening : Happening → KeptWires → KeptWires
-opening (happening.Accepted conn) s = record s { lines = s.lines ++ new_line s.done s.room ∷ [] }
-opening (happening.Readable conn) s = s
-opening (happening.Writable conn) s = s
-opening happening.Quiet s = s
-opening happening.Ended s = s
-opening happening.Failed s = s
+abbrev pub wires_behind_happening : Happening → KeptWires → KeptWires
+wires_behind_happening (happening.Accepted conn) s = record s { lines = s.lines ++ new_line s.done s.room ∷ [] }
+wires_behind_happening (happening.Readable conn) s = s
+wires_behind_happening (happening.Writable conn) s = s
+wires_behind_happening happening.Quiet s = s
+wires_behind_happening happening.Ended s = s
+wires_behind_happening happening.Failed s = s
 
 -- what a turn brings next, as it is found
 pub record IsComing (s : KeptWires) (c : Coming) : Type 0 where
   pub happening : c.happening ≡ (comes s).happening
-  pub state : opening c.happening (advanced s c) ≡ (comes s).state
+  pub state : wires_behind_happening c.happening (advanced s c) ≡ (comes s).state
   pub passed : s.heard + c.passed < 2 ^ 64
   pub acts : s.done + c.acts < 2 ^ 64
   pub change : IfSome c.change (λ change. StaysOpen s.lines change.0 change.1)

@@ -44,12 +44,12 @@ abbrev pub empty_sink : ℕ → KeptSink
 empty_sink capacity = record { held = []; capacity = capacity; failing = []; calls = 0; faults = 0 }
 
 -- whether a write fails: its call is listed, or the capacity doesn't hold the piece behind what is held
-abbrev pub is_refused : KeptSink → List ℕ → Bool
-is_refused s piece = is_listed s.failing s.calls || nat_lt s.capacity (length s.held + length piece)
+abbrev pub is_write_refused : KeptSink → List ℕ → Bool
+is_write_refused s piece = is_listed s.failing s.calls || nat_lt s.capacity (length s.held + length piece)
 
 -- a write adds its piece; one that fails adds nothing and raises the count of faults
-abbrev pub after_write : KeptSink → List ℕ → KeptSink
-after_write s piece =
-    if is_refused s piece
+abbrev pub sink_after_write : KeptSink → List ℕ → KeptSink
+sink_after_write s piece =
+    if is_write_refused s piece
     then record s { calls = counted s.calls; faults = counted s.faults }
     else record s { held = s.held ++ piece; calls = counted s.calls }

@@ -122,8 +122,8 @@ abbrev pub shut_of : Option MemoryLine → Bool
 shut_of None = false
 shut_of (Some line) = line.is_shut
 
-unfoldable pub line_told : KeptWires → ℕ → Line
-line_told s conn = record {
+unfoldable pub line_of_connection : KeptWires → ℕ → Line
+line_of_connection s conn = record {
   taken = taken_of conn s.calls;
   given = given_of conn s.calls;
   waits = waits_at s conn;
@@ -132,7 +132,7 @@ line_told s conn = record {
 }
 
 unfoldable pub told_lines : KeptWires → Option Lines
-told_lines s = if s.spent then None else Some (line_told s)
+told_lines s = if s.spent then None else Some (line_of_connection s)
 
 -- ---- calls
 
@@ -141,15 +141,15 @@ abbrev pub fits : KeptWires → ℕ → ℕ → Bool
 fits s places octets = not (nat_lt s.call_places (s.places + places)) && not (nat_lt s.octet_places (s.octets + octets))
 
 -- a call was kept, which takes so many places, and whose address or piece has so many octets
-abbrev pub kept : KeptWires → Call → ℕ → ℕ → KeptWires
-kept s call places octets = record s { calls = s.calls ++ call ∷ []; places = s.places + places; octets = s.octets + octets }
+abbrev pub wires_with_call_kept : KeptWires → Call → ℕ → ℕ → KeptWires
+wires_with_call_kept s call places octets = record s { calls = s.calls ++ call ∷ []; places = s.places + places; octets = s.octets + octets }
 
 -- whether the next call that can fail is listed to fail, and that one such call was made
 abbrev pub is_to_fail : KeptWires → Bool
 is_to_fail s = is_listed s.failing s.asked
 
-abbrev pub called : KeptWires → KeptWires
-called s = record s { asked = counted s.asked }
+abbrev pub wires_with_call_counted : KeptWires → KeptWires
+wires_with_call_counted s = record s { asked = counted s.asked }
 
 -- a read or write failed; a listen, dial or turn failed
 abbrev pub failed : KeptWires → KeptWires
@@ -171,9 +171,9 @@ abbrev pub after_listen : KeptWires → List ℕ → KeptWires
 after_listen s address =
     if fits s 1 (length address)
     then (if is_to_fail s
-    then turn_failed (kept (called s) (Listens address false) 1 (length address))
-    else record (kept (called s) (Listens address true) 1 (length address)) { listening = true })
-    else turn_failed (spends (called s))
+    then turn_failed (wires_with_call_kept (wires_with_call_counted s) (Listens address false) 1 (length address))
+    else record (wires_with_call_kept (wires_with_call_counted s) (Listens address true) 1 (length address)) { listening = true })
+    else turn_failed (spends (wires_with_call_counted s))
 
 -- the number of the connection that a dial opens
 abbrev pub dialled_in : KeptWires → List ℕ → Option ℕ
@@ -184,11 +184,11 @@ abbrev pub after_dial : KeptWires → List ℕ → KeptWires
 after_dial s address =
     if is_to_fail s
     then (if fits s 1 (length address)
-    then turn_failed (kept (called s) (Dials address None) 1 (length address))
-    else turn_failed (spends (called s)))
+    then turn_failed (wires_with_call_kept (wires_with_call_counted s) (Dials address None) 1 (length address))
+    else turn_failed (spends (wires_with_call_counted s)))
     else if fits s 2 (length address)
-    then record (kept (called s) (Dials address (Some (length s.lines + 1))) 2 (length address)) { lines = s.lines ++ new_line s.done s.room ∷ [] }
-    else turn_failed (spends (called s))
+    then record (wires_with_call_kept (wires_with_call_counted s) (Dials address (Some (length s.lines + 1))) 2 (length address)) { lines = s.lines ++ new_line s.done s.room ∷ [] }
+    else turn_failed (spends (wires_with_call_counted s))
 
 -- ---- turn: what comes next
 
@@ -225,16 +225,16 @@ changed_at lines conn change None = lines
 changed_at lines conn change (Some line) = slice_set lines (conn - 1) (change line)
 
 -- a connection that is open was changed
-abbrev pub changed : List MemoryLine → ℕ → (MemoryLine → MemoryLine) → List MemoryLine
-changed lines conn change = changed_at lines conn change (open_at lines conn)
+abbrev pub memory_lines_with_change : List MemoryLine → ℕ → (MemoryLine → MemoryLine) → List MemoryLine
+memory_lines_with_change lines conn change = changed_at lines conn change (open_at lines conn)
 
 -- the connections behind an act, of which `done` are done then. Octets that are brought are those of the script
 abbrev pub lines_after : List MemoryLine → ℕ → ℕ → Option Act → List MemoryLine
 lines_after lines done room None = lines
 lines_after lines done room (Some act.Accept) = lines ++ new_line done room ∷ []
 lines_after lines done room (Some (act.Bring conn octets)) = lines
-lines_after lines done room (Some (act.Room conn more)) = changed lines conn (λ line. record line { room = more })
-lines_after lines done room (Some (act.Shut conn)) = changed lines conn (λ line. record line { is_shut = true })
+lines_after lines done room (Some (act.Room conn more)) = memory_lines_with_change lines conn (λ line. record line { room = more })
+lines_after lines done room (Some (act.Shut conn)) = memory_lines_with_change lines conn (λ line. record line { is_shut = true })
 lines_after lines done room (Some act.Quiet) = lines
 
 -- what a turn brings: the happening, and the wires then
@@ -266,28 +266,28 @@ places_of happening.Failed = 1
 abbrev pub happening_in : KeptWires → Happening
 happening_in s =
     if is_to_fail s then happening.Failed
-    else if fits s (places_of (comes (called s)).happening) 0 then (comes (called s)).happening else happening.Failed
+    else if fits s (places_of (comes (wires_with_call_counted s)).happening) 0 then (comes (wires_with_call_counted s)).happening else happening.Failed
 
 abbrev pub after_turn : KeptWires → Option ℕ → KeptWires
 after_turn s until =
     if is_to_fail s
-    then (if fits s 1 0 then turn_failed (kept (called s) (Turns until happening.Failed) 1 0) else turn_failed (spends (called s)))
-    else if fits s (places_of (comes (called s)).happening) 0
-    then kept (comes (called s)).state (Turns until (comes (called s)).happening) (places_of (comes (called s)).happening) 0
-    else turn_failed (spends (called s))
+    then (if fits s 1 0 then turn_failed (wires_with_call_kept (wires_with_call_counted s) (Turns until happening.Failed) 1 0) else turn_failed (spends (wires_with_call_counted s)))
+    else if fits s (places_of (comes (wires_with_call_counted s)).happening) 0
+    then wires_with_call_kept (comes (wires_with_call_counted s)).state (Turns until (comes (wires_with_call_counted s)).happening) (places_of (comes (wires_with_call_counted s)).happening) 0
+    else turn_failed (spends (wires_with_call_counted s))
 
 -- ---- read, write and close
 
 -- a read of an open connection where so many octets wait
-abbrev pub reads_of : Option MemoryLine → ℕ → ℕ → ReadAnswer
-reads_of None waiting size = read_answer.Failed
-reads_of (Some line) waiting size =
+abbrev pub answer_to_read : Option MemoryLine → ℕ → ℕ → ReadAnswer
+answer_to_read None waiting size = read_answer.Failed
+answer_to_read (Some line) waiting size =
     if waiting == 0 then (if line.is_shut then read_answer.End else read_answer.NotNow) else read_answer.Some (min size waiting)
 
 abbrev pub read_in : KeptWires → ℕ → ℕ → ReadAnswer
 read_in s conn size =
     if fits s 1 0
-    then (if is_to_fail s then read_answer.Failed else reads_of (open_at s.lines conn) (length (waits_at s conn)) size)
+    then (if is_to_fail s then read_answer.Failed else answer_to_read (open_at s.lines conn) (length (waits_at s conn)) size)
     else read_answer.Failed
 
 -- what a read gives, of the octets that wait
@@ -300,7 +300,7 @@ gives read_answer.Failed waits = Failed
 -- what an answered read changes beside its place in the record. Where octets are left, a turn tells of the connection once more
 abbrev pub read_done : KeptWires → ℕ → ℕ → ReadAnswer → KeptWires
 read_done s conn waiting (read_answer.Some n) = record s {
-  lines = changed s.lines conn (λ line. record line { taken = line.taken + n });
+  lines = memory_lines_with_change s.lines conn (λ line. record line { taken = line.taken + n });
   again = if nat_lt n waiting then s.again ++ conn ∷ [] else s.again;
 }
 read_done s conn waiting read_answer.NotNow = s
@@ -310,9 +310,9 @@ read_done s conn waiting read_answer.Failed = failed s
 abbrev pub after_read : KeptWires → ℕ → ℕ → KeptWires
 after_read s conn size =
     if fits s 1 0
-    then read_done (kept (called s) (Reads conn size (length (waits_at s conn)) (gives (read_in s conn size) (waits_at s conn))) 1 0)
+    then read_done (wires_with_call_kept (wires_with_call_counted s) (Reads conn size (length (waits_at s conn)) (gives (read_in s conn size) (waits_at s conn))) 1 0)
     conn (length (waits_at s conn)) (read_in s conn size)
-    else failed (spends (called s))
+    else failed (spends (wires_with_call_counted s))
 
 -- a write to an open connection
 abbrev pub writes_of : Option MemoryLine → ℕ → WriteAnswer
@@ -326,19 +326,19 @@ written_in s conn size =
     else write_answer.Failed
 
 abbrev pub write_done : KeptWires → ℕ → WriteAnswer → KeptWires
-write_done s conn (write_answer.Some n) = record s { lines = changed s.lines conn (λ line. record line { room = line.room - n }) }
+write_done s conn (write_answer.Some n) = record s { lines = memory_lines_with_change s.lines conn (λ line. record line { room = line.room - n }) }
 write_done s conn write_answer.NotNow = s
 write_done s conn write_answer.Failed = failed s
 
 abbrev pub after_write_to : KeptWires → ℕ → List ℕ → KeptWires
 after_write_to s conn piece =
     if fits s 1 (length piece)
-    then write_done (kept (called s) (Writes conn piece (written_in s conn (length piece))) 1 (length piece)) conn (written_in s conn (length piece))
-    else failed (spends (called s))
+    then write_done (wires_with_call_kept (wires_with_call_counted s) (Writes conn piece (written_in s conn (length piece))) 1 (length piece)) conn (written_in s conn (length piece))
+    else failed (spends (wires_with_call_counted s))
 
 -- the close of an open connection has its place; another close that finds none is a fault
 abbrev pub after_close : KeptWires → ℕ → KeptWires
 after_close s conn =
     if is_some (open_at s.lines conn)
-    then record (kept s (Closes conn) 0 0) { lines = changed s.lines conn (λ line. record line { closed = Some s.done }) }
-    else if fits s 1 0 then kept s (Closes conn) 1 0 else failed (spends s)
+    then record (wires_with_call_kept s (Closes conn) 0 0) { lines = memory_lines_with_change s.lines conn (λ line. record line { closed = Some s.done }) }
+    else if fits s 1 0 then wires_with_call_kept s (Closes conn) 1 0 else failed (spends s)

@@ -2,7 +2,7 @@
 
 ghost use Rattle.std.specs.Prelude.{◌≡◌, ◌≤◌, ◌+◌, ◌∷◌, ◌++◌, [], length, List, OnOk, OnErr, IfOk, not, nat_lt, ◌&&◌, ℕ, vec_len, vec_capacity};
 ghost use Rattle.link_trait.specs.Wires.{given_by, given_of};
-ghost use Rattle.link_memory.specs.KeptCalls.{Sound, Keeps, call_of, told};
+ghost use Rattle.link_memory.specs.KeptCalls.{IsCallRecordSound, KeepsCallInRecord, call_of, calls_with_octets};
 ghost use Rattle.er_base.specs.Printing.{Begins};
 ghost use Rattle.link_memory.specs.declared.act.Act.{Act};
 
@@ -63,9 +63,9 @@ pub struct CallRecord {
 
 impl CallRecord {
     // An empty record.
-    #[tactic(auto, unfolding(crate::specs::KeptCalls::total))]
+    #[tactic(auto, unfolding(crate::specs::KeptCalls::octet_count_of_calls))]
     pub fn with_capacity(alloc: Global, calls: usize, octets: usize) -> Result<CallRecord, NoMemory>
-        ensures sound { IfOk result (λ r. Sound r 0) }
+        ensures sound { IfOk result (λ r. IsCallRecordSound r 0) }
         ensures kept { IfOk result (λ r. r.kept.items ≡ []) }
         ensures octets { IfOk result (λ r. r.octets.items ≡ []) }
         ensures places { IfOk result (λ r. r.places ≡ 0) }
@@ -83,7 +83,7 @@ impl CallRecord {
 
     // Whether so many places and octets more fit.
     pub fn fits(&self, places: usize, octets: usize) -> bool
-        requires { (are_open : ℕ) × Sound self.now are_open }
+        requires { (are_open : ℕ) × IsCallRecordSound self.now are_open }
         ensures { result ≡ (not (nat_lt self.now.call_places (self.now.places + places)) && not (nat_lt self.now.octet_places (vec_len self.now.octets + octets))) }
     {
         places <= self.call_places - self.places && octets <= self.octet_places - self.octets.len()
@@ -94,7 +94,7 @@ impl CallRecord {
         requires calls { vec_len self.old.kept + 1 ≤ vec_capacity self.old.kept }
         requires places { self.old.places + places ≤ self.old.call_places }
         requires octets { vec_len self.old.octets + length octets.now ≤ vec_capacity self.old.octets }
-        ensures { Keeps self.old self.new note octets.now places }
+        ensures { KeepsCallInRecord self.old self.new note octets.now places }
     {
         self.kept
             .push(KeptCall {
@@ -108,14 +108,14 @@ impl CallRecord {
 }
 
 // Appends the octets that were given to a connection, by calls whose addresses and pieces these octets are.
-#[tactic(auto, using(crate::proofs::Giving::given_end), unfolding(crate::specs::KeptCalls::told))]
+#[tactic(auto, using(crate::proofs::Giving::given_end), unfolding(crate::specs::KeptCalls::calls_with_octets))]
 pub fn put_given(
     kept: &[KeptCall],
     octets: &[u8],
     conn: u64,
     out: &mut Vec<u8>,
 ) -> Result<(), NoMemory>
-    ensures ok { (acts : List Act) → OnOk result (out.new.items ≡ out.old.items ++ given_of conn (told acts kept.now octets.now)) }
+    ensures ok { (acts : List Act) → OnOk result (out.new.items ≡ out.old.items ++ given_of conn (calls_with_octets acts kept.now octets.now)) }
     ensures err { OnErr result (Begins out.old.items out.new.items) }
 {
     let mut left = octets;

@@ -2,7 +2,7 @@
 
 ghost use Rattle.std.specs.Prelude.{◌≡◌, ◌≤◌, ◌-◌, ◌^◌, ℕ, List, ◌++◌, ◌∷◌, [], Some, IfOk, OnOk, OnErr, length, ◌<◌};
 ghost use Rattle.std.specs.Result.{is_err};
-ghost use Rattle.link_memory.specs.OutsideMemory.{after_write, empty_sink, is_refused};
+ghost use Rattle.link_memory.specs.OutsideMemory.{sink_after_write, empty_sink, is_write_refused};
 
 use crate::planned_calls::PlannedCalls;
 use er_base::NoMemory;
@@ -73,8 +73,8 @@ impl Sink for MemorySink {
     ghost state = { λ s. record { held = Some s.held; faults = s.faults } };
 
     fn write(&mut self, piece: &[u8]) -> Result<(), Failed>
-        ensures answer { is_err result ≡ is_refused self.old piece.now }
-        ensures state { self.new ≡ after_write self.old piece.now }
+        ensures answer { is_err result ≡ is_write_refused self.old piece.now }
+        ensures state { self.new ≡ sink_after_write self.old piece.now }
         ensures most { self.new.faults ≤ 2 ^ 64 - 1 }
     {
         let is_to_fail = self.calls.begin();

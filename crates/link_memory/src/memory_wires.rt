@@ -3,10 +3,10 @@
 ghost use Rattle.std.specs.Prelude.{◌≡◌, ◌≤◌, ◌<◌, ◌+◌, ◌-◌, ◌^◌, ◌∷◌, ◌++◌, [], ◌||◌, ℕ, true, length, take, min, slice_set, unwrap_or, is_some, None, Some, if◌then◌else◌, IfOk, IfSome, OnOk, OnErr};
 ghost use Rattle.std.specs.Result.{is_ok};
 ghost use Rattle.link_trait.specs.Outside.{Grew, Rose};
-ghost use Rattle.link_trait.specs.Wires.{Closes, Turns, Reads, reading_of, opened_by_turn, given_of, given_by, taken_by, dialled};
+ghost use Rattle.link_trait.specs.Wires.{Closes, Turns, Reads, reading_of, opened_by_turn, given_of, given_by, octets_taken_by_call, dialled};
 ghost use Rattle.link_memory.specs.KeptCalls.{call_of, IsComing, IsUntouched, StaysOpen, advanced, act_of, with_room, when_shut};
-ghost use Rattle.link_memory.specs.WiresMemory.{between, new_wires, fits, kept, called, is_to_fail, failed, turn_failed, spends, waits_at, told_calls, told_lines, open_at, line_at, changed, places_of};
-ghost use Rattle.link_memory.specs.WiresMemory.{is_listen_ok, after_listen, dialled_in, after_dial, happening_in, after_turn, read_in, after_read, written_in, after_write_to, after_close, reads_of, writes_of, gives, new_line};
+ghost use Rattle.link_memory.specs.WiresMemory.{between, new_wires, fits, wires_with_call_kept, wires_with_call_counted, is_to_fail, failed, turn_failed, spends, waits_at, told_calls, told_lines, open_at, line_at, memory_lines_with_change, places_of};
+ghost use Rattle.link_memory.specs.WiresMemory.{is_listen_ok, after_listen, dialled_in, after_dial, happening_in, after_turn, read_in, after_read, written_in, after_write_to, after_close, answer_to_read, writes_of, gives, new_line};
 
 use crate::act::{Act, behind, between, copy_brought, count_of, first_act};
 use crate::call_record::{CallRecord, Note, put_given};
@@ -41,7 +41,7 @@ pub struct MemoryWires {
 
 impl Model for MemoryWires {
     ghost use Rattle.std.specs.Prelude.{◌≤◌, ◌-◌, ◌^◌, vec_len};
-    ghost use Rattle.link_memory.specs.KeptCalls.{told, Stands};
+    ghost use Rattle.link_memory.specs.KeptCalls.{calls_with_octets, IsCallRecordInOrder};
     ghost use Rattle.link_memory.specs.WiresMemory.{KeptWires};
 
     ghost Value = { KeptWires };
@@ -54,7 +54,7 @@ impl Model for MemoryWires {
       room = w.room;
       again = w.again.items;
       heard = w.heard;
-      calls = told w.acts.items w.record.kept.items w.record.octets.items;
+      calls = calls_with_octets w.acts.items w.record.kept.items w.record.octets.items;
       places = w.record.places;
       octets = vec_len w.record.octets;
       call_places = w.record.call_places;
@@ -66,7 +66,7 @@ impl Model for MemoryWires {
       turn_faults = w.turn_faults;
     } };
 
-    ghost invariant = { λ w. Stands w.acts.items w.record w.lines w.again × (w.faults ≤ 2 ^ 64 - 1) × (w.turn_faults ≤ 2 ^ 64 - 1) };
+    ghost invariant = { λ w. IsCallRecordInOrder w.acts.items w.record w.lines w.again × (w.faults ≤ 2 ^ 64 - 1) × (w.turn_faults ≤ 2 ^ 64 - 1) };
 }
 
 // What a turn brings, how many numbers of connections whose reads left octets it passes, how many acts, and which
@@ -135,7 +135,7 @@ impl MemoryWires {
     // Begins a call that can fail, and says whether it is listed.
     fn begin(&mut self) -> bool
         ensures listed { result ≡ is_to_fail self.old }
-        ensures called { self.new ≡ called self.old }
+        ensures called { self.new ≡ wires_with_call_counted self.old }
     {
         self.calls.begin()
     }
@@ -175,9 +175,9 @@ impl MemoryWires {
     // Keeps a call that takes one place.
     fn keep(&mut self, note: Note, octets: &[u8])
         requires fits { fits self.old 1 (length octets.now) ≡ true }
-        requires taken { (conn : ℕ) → length self.old.lines < conn → taken_by conn (call_of self.old.acts octets.now note) ≡ [] }
+        requires taken { (conn : ℕ) → length self.old.lines < conn → octets_taken_by_call conn (call_of self.old.acts octets.now note) ≡ [] }
         requires given { (conn : ℕ) → length self.old.lines < conn → given_by conn (call_of self.old.acts octets.now note) ≡ [] }
-        ensures { self.new ≡ kept self.old (call_of self.old.acts octets.now note) 1 (length octets.now) }
+        ensures { self.new ≡ wires_with_call_kept self.old (call_of self.old.acts octets.now note) 1 (length octets.now) }
     {
         self.record.keep(note, octets, 1);
     }
@@ -185,9 +185,9 @@ impl MemoryWires {
     // Keeps a call that opens a connection, which takes two places.
     fn open(&mut self, note: Note, octets: &[u8])
         requires fits { fits self.old 2 (length octets.now) ≡ true }
-        requires taken { (conn : ℕ) → taken_by conn (call_of self.old.acts octets.now note) ≡ [] }
+        requires taken { (conn : ℕ) → octets_taken_by_call conn (call_of self.old.acts octets.now note) ≡ [] }
         requires given { (conn : ℕ) → given_by conn (call_of self.old.acts octets.now note) ≡ [] }
-        ensures state { self.new ≡ record (kept self.old (call_of self.old.acts octets.now note) 2 (length octets.now)) { lines = self.old.lines ++ new_line self.old.done self.old.room ∷ [] } }
+        ensures state { self.new ≡ record (wires_with_call_kept self.old (call_of self.old.acts octets.now note) 2 (length octets.now)) { lines = self.old.lines ++ new_line self.old.done self.old.room ∷ [] } }
         ensures untouched { IsUntouched (length self.old.lines + 1) self.new.calls }
     {
         self.record.keep(note, octets, 2);
@@ -208,9 +208,9 @@ impl MemoryWires {
     fn keep_taken(&mut self, note: Note, conn: u64, line: MemoryLine)
         requires fits { fits self.old 1 0 ≡ true }
         requires stays { StaysOpen self.old.lines conn line }
-        requires taken { (conn : ℕ) → length self.old.lines < conn → taken_by conn (call_of self.old.acts [] note) ≡ [] }
+        requires taken { (conn : ℕ) → length self.old.lines < conn → octets_taken_by_call conn (call_of self.old.acts [] note) ≡ [] }
         requires given { (conn : ℕ) → given_by conn (call_of self.old.acts [] note) ≡ [] }
-        ensures state { self.new ≡ record (kept self.old (call_of self.old.acts [] note) 1 0) { lines = slice_set self.old.lines (conn - 1) line } }
+        ensures state { self.new ≡ record (wires_with_call_kept self.old (call_of self.old.acts [] note) 1 0) { lines = slice_set self.old.lines (conn - 1) line } }
         ensures room { length self.new.again < length self.new.calls }
     {
         self.record.keep(note, &[], 1);
@@ -228,7 +228,7 @@ impl MemoryWires {
     // Keeps the close of an open connection, in the place that it has.
     fn keep_close(&mut self, conn: u64)
         requires { is_some (open_at self.old.lines conn) ≡ true }
-        ensures { self.new ≡ record (kept self.old (Closes conn) 0 0) { lines = changed self.old.lines conn (λ line. record line { closed = Some self.old.done }) } }
+        ensures { self.new ≡ record (wires_with_call_kept self.old (Closes conn) 0 0) { lines = memory_lines_with_change self.old.lines conn (λ line. record line { closed = Some self.old.done }) } }
     {
         if let Some(line) = open_at(&self.lines, conn) {
             self.record.keep(Note::Close { conn }, &[], 0);
@@ -282,7 +282,7 @@ impl MemoryWires {
 
     // A turn that is listed fails.
     fn turn_to_fail(&mut self, until: Option<u64>)
-        ensures state { self.new ≡ if fits self.old 1 0 then turn_failed (kept self.old (Turns until Happening.Failed) 1 0) else turn_failed (spends self.old) }
+        ensures state { self.new ≡ if fits self.old 1 0 then turn_failed (wires_with_call_kept self.old (Turns until Happening.Failed) 1 0) else turn_failed (spends self.old) }
         ensures most { self.new.faults ≤ 2 ^ 64 - 1 }
         ensures turn_most { self.new.turn_faults ≤ 2 ^ 64 - 1 }
     {

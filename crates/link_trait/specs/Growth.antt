@@ -1,6 +1,6 @@
 -- Lemmas: what is told grows piece by piece; on the definitions of the outside, for the proofs of the crates above.
 use Rattle.std.proofs.Common.{ℕ, List, [], ◌∷◌, ◌++◌, Option, None, Some, Result, Ok, Err, refl, sym, ap, ◌∙◌, append_assoc, append-nil}
-use Rattle.link_trait.specs.Outside.{Grew, GrewPart, Kept, Notes}
+use Rattle.link_trait.specs.Outside.{Grew, GrewPart, HasStayedAsTold, Notes}
 use Rattle.link_trait.specs.declared.cabinet.FetchFault.{FetchFault}
 use Rattle.link_trait.specs.declared.cabinet.FetchFault.TheVariants.{Failed, NoMemory}
 
@@ -49,11 +49,11 @@ notes_part (Ok _) a b name p = part_whole a b (name ∷ []) p
 notes_part (Err Failed) a b name p = part_whole a b (name ∷ []) p
 notes_part (Err (NoMemory want)) a b name p = p
 
-pub kept_same : {A : Type 0} (a : Option A) → Kept a a
+pub kept_same : {A : Type 0} (a : Option A) → HasStayedAsTold a a
 kept_same None = tt
 kept_same (Some before) = refl
 
-pub kept_then : {A : Type 0} (a b c : Option A) → Kept a b → Kept b c → Kept a c
+pub kept_then : {A : Type 0} (a b c : Option A) → HasStayedAsTold a b → HasStayedAsTold b c → HasStayedAsTold a c
 kept_then None None c p q = q
 kept_then None (Some mid) c p q = absurd p
 kept_then (Some before) b None p q = tt

@@ -20,11 +20,11 @@ pub record GrewPart {A : Type 0} (before now : Option (List A)) (all : List A) :
   pub grew : Grew before now part
 
 -- what is told stayed as it was
-abbrev pub Kept : {A : Type 0} → Option A → Option A → Type 0
-Kept None None = Unit {0}
-Kept None (Some now) = ⊥
-Kept (Some before) None = Unit {0}
-Kept (Some before) (Some now) = now ≡ before
+abbrev pub HasStayedAsTold : {A : Type 0} → Option A → Option A → Type 0
+HasStayedAsTold None None = Unit {0}
+HasStayedAsTold None (Some now) = ⊥
+HasStayedAsTold (Some before) None = Unit {0}
+HasStayedAsTold (Some before) (Some now) = now ≡ before
 
 -- one more; a count stays at 2^64 - 1
 abbrev pub counted : ℕ → ℕ

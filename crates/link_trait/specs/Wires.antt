@@ -104,10 +104,10 @@ Takes read_answer.End before now into = Unit {0}
 Takes read_answer.Failed before now into = Unit {0}
 
 -- a write's Some(n) gives the first n octets of the piece
-abbrev pub Gives : WriteAnswer → Line → Line → List ℕ → Type 0
-Gives (write_answer.Some n) before now piece = GivesFirst n before now piece
-Gives write_answer.NotNow before now piece = Unit {0}
-Gives write_answer.Failed before now piece = Unit {0}
+abbrev pub GivesWrittenOctets : WriteAnswer → Line → Line → List ℕ → Type 0
+GivesWrittenOctets (write_answer.Some n) before now piece = GivesFirst n before now piece
+GivesWrittenOctets write_answer.NotNow before now piece = Unit {0}
+GivesWrittenOctets write_answer.Failed before now piece = Unit {0}
 
 -- what stays at a read
 abbrev pub StaysAtRead : ReadAnswer → ℕ → ℕ → Lines → Lines → Type 0
@@ -123,9 +123,9 @@ StaysAtWrite write_answer.NotNow opened conn before now = AllStay opened before 
 StaysAtWrite write_answer.Failed opened conn before now = AllStay opened before now
 
 -- the number of octets that wait at a connection, and 0 where that isn't told
-abbrev pub waiting : Option Lines → ℕ → ℕ
-waiting None conn = 0
-waiting (Some lines) conn = length (lines conn).waits
+abbrev pub count_waiting_at_connection : Option Lines → ℕ → ℕ
+count_waiting_at_connection None conn = 0
+count_waiting_at_connection (Some lines) conn = length (lines conn).waits
 
 -- ---- the record
 
@@ -158,21 +158,21 @@ pub data Call : Type 0 where
   Closes : (conn : ℕ) → Call
 
 -- the octets that a call took from a connection
-abbrev pub taken_by : ℕ → Call → List ℕ
-taken_by conn (Listens address listens) = []
-taken_by conn (Dials address opened) = []
-taken_by conn (Turns until what) = []
-taken_by conn (Reads other size waits (Gave octets)) = if other == conn then octets else []
-taken_by conn (Reads other size waits NotNow) = []
-taken_by conn (Reads other size waits End) = []
-taken_by conn (Reads other size waits Failed) = []
-taken_by conn (Writes other piece answer) = []
-taken_by conn (Closes other) = []
+abbrev pub octets_taken_by_call : ℕ → Call → List ℕ
+octets_taken_by_call conn (Listens address listens) = []
+octets_taken_by_call conn (Dials address opened) = []
+octets_taken_by_call conn (Turns until what) = []
+octets_taken_by_call conn (Reads other size waits (Gave octets)) = if other == conn then octets else []
+octets_taken_by_call conn (Reads other size waits NotNow) = []
+octets_taken_by_call conn (Reads other size waits End) = []
+octets_taken_by_call conn (Reads other size waits Failed) = []
+octets_taken_by_call conn (Writes other piece answer) = []
+octets_taken_by_call conn (Closes other) = []
 
 -- the octets that calls took from a connection
 unfoldable pub taken_of : ℕ → List Call → List ℕ
 taken_of conn [] = []
-taken_of conn (call ∷ calls) = taken_by conn call ++ taken_of conn calls
+taken_of conn (call ∷ calls) = octets_taken_by_call conn call ++ taken_of conn calls
 
 -- the octets that a call gave to a connection
 abbrev pub given_by : ℕ → Call → List ℕ

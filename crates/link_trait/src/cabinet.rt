@@ -2,7 +2,7 @@
 
 ghost use Rattle.std.specs.Prelude.{◌≡◌, ℕ, ◌-◌, ◌^◌, ◌≤◌, List, Option, Some, None, IfOk};
 ghost use Rattle.link_trait.specs.declared.cabinet.FetchFault.TheVariants as fault;
-ghost use Rattle.link_trait.specs.Outside.{HasFile, Kept, Notes, Rose};
+ghost use Rattle.link_trait.specs.Outside.{HasFile, HasStayedAsTold, Notes, Rose};
 ghost use Rattle.link_trait.specs.States.{CabinetState};
 
 use er_base::NoMemory;
@@ -40,7 +40,7 @@ pub trait Cabinet {
     /// it may be noted or not.
     fn fetch(&mut self, alloc: Global, name: &str) -> Result<Vec<u8>, FetchFault>
         ensures ok { IfOk result (λ octets. HasFile (state self.old).files name.now octets.items) }
-        ensures kept { Kept (state self.old).files (state self.new).files }
+        ensures kept { HasStayedAsTold (state self.old).files (state self.new).files }
         ensures noted { Notes result (state self.old).asked (state self.new).asked name.now }
         ensures count { (state self.old).faults ≤ (state self.new).faults }
         ensures most { (state self.new).faults ≤ 2 ^ 64 - 1 }

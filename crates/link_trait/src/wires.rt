@@ -4,7 +4,7 @@ ghost use Rattle.std.specs.Prelude.{◌≡◌, ◌<◌, ◌≤◌, ◌+◌, ◌-
 ghost use Rattle.std.specs.Result.{is_ok};
 ghost use Rattle.link_trait.specs.Outside.{Grew, Rose};
 ghost use Rattle.link_trait.specs.States.{WiresState};
-ghost use Rattle.link_trait.specs.Wires.{Line, Lines, Told, opened_by_dial, opened_by_turn, AllStay, IsNew, OnlyAdds, KeepsOctets, Takes, Gives, StaysAtRead, StaysAtWrite, waiting};
+ghost use Rattle.link_trait.specs.Wires.{Line, Lines, Told, opened_by_dial, opened_by_turn, AllStay, IsNew, OnlyAdds, KeepsOctets, Takes, GivesWrittenOctets, StaysAtRead, StaysAtWrite, count_waiting_at_connection};
 ghost use Rattle.link_trait.specs.Wires.{Call, Listens, Dials, Turns, Reads, Writes, Closes, reading_of, dialled};
 
 use crate::sink::Failed;
@@ -118,7 +118,7 @@ pub trait Wires {
     /// Reads octets that wait at this connection into the slice, which isn't empty.
     fn read(&mut self, conn: Conn, into: &mut [u8]) -> ReadAnswer
         requires { 0 < length into.old }
-        ensures told { Grew (state self.old).calls (state self.new).calls (Reads conn.0 (length into.old) (waiting (state self.old).lines conn.0) (reading_of result into.new) ∷ []) }
+        ensures told { Grew (state self.old).calls (state self.new).calls (Reads conn.0 (length into.old) (count_waiting_at_connection (state self.old).lines conn.0) (reading_of result into.new) ∷ []) }
         ensures length { length into.new ≡ length into.old }
         ensures fits { (n : ℕ) → result ≡ ReadAnswer.Some n → (1 ≤ n) × (n ≤ length into.old) }
         ensures taken { Told (state self.old).lines (state self.new).lines (λ before now. Takes result (before conn.0) (now conn.0) into.new) }
@@ -138,7 +138,7 @@ pub trait Wires {
         requires { 0 < length piece.now }
         ensures told { Grew (state self.old).calls (state self.new).calls (Writes conn.0 piece.now result ∷ []) }
         ensures fits { (n : ℕ) → result ≡ WriteAnswer.Some n → (1 ≤ n) × (n ≤ length piece.now) }
-        ensures given { Told (state self.old).lines (state self.new).lines (λ before now. Gives result (before conn.0) (now conn.0) piece.now) }
+        ensures given { Told (state self.old).lines (state self.new).lines (λ before now. GivesWrittenOctets result (before conn.0) (now conn.0) piece.now) }
         ensures stays { Told (state self.old).lines (state self.new).lines (λ before now. StaysAtWrite result (state self.old).opened conn.0 before now) }
         ensures not_now { result ≡ WriteAnswer.NotNow → IfSome (state self.old).lines (λ before. (before conn.0).room ≡ 0) }
         ensures opened { (state self.new).opened ≡ (state self.old).opened }

@@ -1,8 +1,8 @@
 -- A part of the loop once for each of a list of answers.
 use Rattle.std.proofs.Common.{◌≡◌, ◌≤◌, ◌<◌, ℕ, zero, suc, ◌+◌, ◌-◌, List, [], ◌∷◌, ◌++◌, length, refl, sym, ◌∙◌, ap, append-nil, append_assoc, arith}
 use Rattle.link_trait.specs.Wires.{Call}
-use Rattle.loop_model.specs.Journals.{Entry}
-use Rattle.loop_model.specs.Deeds.{Deed}
+use Rattle.loop_model.specs.Journals.{JournalEntry}
+use Rattle.loop_model.specs.Deeds.{LoopDeed}
 use Rattle.loop_model.specs.Outs.{Out, still, next, acts, exactly}
 
 pub acts_none : {S A : Type 0} (f : S → A → Out S) (s : S) → acts f s [] ≡ still s
@@ -17,9 +17,9 @@ next_assoc : {S : Type 0} (o : Out S) (f g : S → Out S) → next o (λ t. next
 next_assoc {S} o f g =
     let p = f o.state in
     let q = g p.state in
-    ap (λ (z : List Entry). let x : Out S = record { state = q.state; entries = z; calls = o.calls ++ (p.calls ++ q.calls); order = o.order ++ (p.order ++ q.order) } in x) (sym (append_assoc o.entries p.entries q.entries))
+    ap (λ (z : List JournalEntry). let x : Out S = record { state = q.state; entries = z; calls = o.calls ++ (p.calls ++ q.calls); order = o.order ++ (p.order ++ q.order) } in x) (sym (append_assoc o.entries p.entries q.entries))
     ∙ ap (λ (z : List Call). let x : Out S = record { state = q.state; entries = (o.entries ++ p.entries) ++ q.entries; calls = z; order = o.order ++ (p.order ++ q.order) } in x) (sym (append_assoc o.calls p.calls q.calls))
-    ∙ ap (λ (z : List Deed). let x : Out S = record { state = q.state; entries = (o.entries ++ p.entries) ++ q.entries; calls = (o.calls ++ p.calls) ++ q.calls; order = z } in x) (sym (append_assoc o.order p.order q.order))
+    ∙ ap (λ (z : List LoopDeed). let x : Out S = record { state = q.state; entries = (o.entries ++ p.entries) ++ q.entries; calls = (o.calls ++ p.calls) ++ q.calls; order = z } in x) (sym (append_assoc o.order p.order q.order))
 
 pub acts_then : {S A : Type 0} (f : S → A → Out S) (s : S) (xs ys : List A) → acts f s (xs ++ ys) ≡ next (acts f s xs) (λ t. acts f t ys)
 unfolding acts

@@ -3,72 +3,72 @@ use Rattle.loop_session.specs.Keeping.{kept_ends}
 use Rattle.std.proofs.Common.{◌≡◌, ◌≤◌, ℕ, zero, suc, Bool, true, false, if◌then◌else◌, List, [], ◌∷◌, length, take, Option, Some, None, IfSome, Result, Ok, Err, refl, sym, ap, subst, arith}
 use Rattle.link_trait.specs.States.{SinkState, WiresState}
 use Rattle.link_trait.specs.Outside.{Grew, Rose}
-use Rattle.link_trait.specs.Wires.{Call, Reads, Reading, Gave, NotNow, End, Failed, Lines, waiting, reading_of}
+use Rattle.link_trait.specs.Wires.{Call, Reads, Reading, Gave, NotNow, End, Failed, Lines, count_waiting_at_connection, reading_of}
 use Rattle.link_trait.specs.declared.wires.ReadAnswer.{ReadAnswer}
 use Rattle.link_trait.specs.declared.wires.ReadAnswer.TheVariants as read
 use Rattle.er_end.specs.KeptEnds.{KEnd, deadline_of}
 use Rattle.loop_model.specs.Journals.{text}
 use Rattle.loop_model.specs.Outs.{next, prints, makes}
-use Rattle.loop_model.specs.Sessions.{Rules, Session, is_released, Given, Ticks, Ends, Faults, Says, nothing_said, handled, pours}
+use Rattle.loop_model.specs.Sessions.{Rules, Session, is_released, GivenToSession, Ticks, Ends, Faults, Says, nothing_said, handled, pours}
 use Rattle.loop_model.specs.Visits as visits
-use Rattle.loop_model.specs.Visits.{flowed, written_unless, written, fault_unless, writes, nothing_wrote, settled, rests, Met, nothing_met, came, read_once, rests_behind, served, visited, is_due, stays, closed, most_read}
+use Rattle.loop_model.specs.Visits.{flowed, written_unless, session_behind_writing, fault_unless, writes, nothing_wrote, session_kept_or_closed, rests, Met, nothing_met, came, read_once, rests_behind, served, visited, is_due, stays, closed, most_read}
 use Rattle.loop_session.specs.declared.loop_fault.LoopFault.{LoopFault}
 use Rattle.loop_session.specs.Parts.{Breaks, Printed, Chose, BrokeOff, Chooses}
 use Rattle.loop_io.specs.declared.writing.Flow.TheVariants as flow
-use Rattle.loop_io.specs.Acting.{Acted, BreaksAt, Did, Stopped, Does}
+use Rattle.loop_io.specs.Acting.{Acted, BreaksAt, Did, Stopped, DoesLoopPart}
 use Rattle.loop_io.specs.Seeing.{Seen, seen, IsReadSo, Counts}
 use Rattle.loop_io.specs.Sequels.{counts_other, counts_failed, acted_still, acted_next, acted_prints, acted_makes, breaks_first, breaks_next, breaks_prints}
-use Rattle.loop_io.specs.Visiting.{left, Visits, reads}
-use Rattle.loop_io.specs.Writing.{Wrote, Settles, Expires}
+use Rattle.loop_io.specs.Visiting.{left, Visits, session_behind_read}
+use Rattle.loop_io.specs.Writing.{HasSessionWritten, Settles, ClosesDueSession}
 use Rattle.loop_io.proofs.Writings.{acted_made}
 
 -- ---- writing
 
-pub written_broken : (a : Seen) (r : Rules) (m : ℕ) (s : Session KEnd) → s.broken ≡ true → Did a a s (written kept_ends r m s)
-unfolding written
+pub written_broken : (a : Seen) (r : Rules) (m : ℕ) (s : Session KEnd) → s.broken ≡ true → Did a a s (session_behind_writing kept_ends r m s)
+unfolding session_behind_writing
 written_broken a r m s p = record { answers = nothing_wrote; is = subst (λ (b : Bool). Acted a a s (written_unless kept_ends b r m s nothing_wrote)) (sym p) (acted_still a s) }
 
-written_by : (a b c : Seen) (r : Rules) (m : ℕ) (s t : Session KEnd) (new : Session KEnd) (f : visits.Flow) (answers : visits.Wrote) → s.broken ≡ false
-    → Acted a b (t, f) (writes s answers.answers) → Acted b c new (flowed kept_ends r m (t, f) answers.says) → Acted a c new (written kept_ends r m s answers)
-unfolding written
+written_by : (a b c : Seen) (r : Rules) (m : ℕ) (s t : Session KEnd) (new : Session KEnd) (f : visits.WritingState) (answers : visits.Wrote) → s.broken ≡ false
+    → Acted a b (t, f) (writes s answers.answers) → Acted b c new (flowed kept_ends r m (t, f) answers.says) → Acted a c new (session_behind_writing kept_ends r m s answers)
+unfolding session_behind_writing
 written_by a b c r m s t new f answers whole p q =
     subst (λ (z : Bool). Acted a c new (written_unless kept_ends z r m s answers)) (sym whole)
     (acted_next a b c (t, f) new (writes s answers.answers) (λ x. flowed kept_ends r m x answers.says) p q)
 
-pub written_going : (h : SinkState) (c d : WiresState) (r : Rules) (m : ℕ) (s t : Session KEnd) → s.broken ≡ false → Wrote c d s t flow.Going
-    → Did (seen h c) (seen h d) t (written kept_ends r m s)
+pub written_going : (h : SinkState) (c d : WiresState) (r : Rules) (m : ℕ) (s t : Session KEnd) → s.broken ≡ false → HasSessionWritten c d s t flow.Going
+    → Did (seen h c) (seen h d) t (session_behind_writing kept_ends r m s)
 written_going h c d r m s t whole w =
     let a : visits.Wrote = record { answers = w.answers; says = nothing_said } in
     record { answers = a; is = written_by (seen h c) (seen h d) (seen h d) r m s t t visits.Going a whole (acted_made h c d (t, visits.Going) (writes s w.answers) w.is) (acted_still (seen h d) t) }
 
-pub written_off : (h : SinkState) (c d : WiresState) (r : Rules) (m : ℕ) (s t : Session KEnd) → s.broken ≡ false → Wrote c d s t flow.PutOff
-    → Did (seen h c) (seen h d) t (written kept_ends r m s)
+pub written_off : (h : SinkState) (c d : WiresState) (r : Rules) (m : ℕ) (s t : Session KEnd) → s.broken ≡ false → HasSessionWritten c d s t flow.PutOff
+    → Did (seen h c) (seen h d) t (session_behind_writing kept_ends r m s)
 written_off h c d r m s t whole w =
     let a : visits.Wrote = record { answers = w.answers; says = nothing_said } in
     record { answers = a; is = written_by (seen h c) (seen h d) (seen h d) r m s t t visits.PutOff a whole (acted_made h c d (t, visits.PutOff) (writes s w.answers) w.is) (acted_still (seen h d) t) }
 
 -- a write of a released session failed
-pub written_released : (h : SinkState) (c d : WiresState) (r : Rules) (m : ℕ) (s t new : Session KEnd) → s.broken ≡ false → Wrote c d s t flow.Failing
-    → is_released kept_ends t ≡ true → new ≡ record t { broken = true } → Did (seen h c) (seen h d) new (written kept_ends r m s)
+pub written_released : (h : SinkState) (c d : WiresState) (r : Rules) (m : ℕ) (s t new : Session KEnd) → s.broken ≡ false → HasSessionWritten c d s t flow.Failing
+    → is_released kept_ends t ≡ true → new ≡ record t { broken = true } → Did (seen h c) (seen h d) new (session_behind_writing kept_ends r m s)
 written_released h c d r m s t new whole w released is =
     let a : visits.Wrote = record { answers = w.answers; says = nothing_said } in
     let b = seen h d in
     record {
       answers = a;
       is =
-          subst (λ (z : Session KEnd). Acted (seen h c) b z (written kept_ends r m s a)) (sym is)
+          subst (λ (z : Session KEnd). Acted (seen h c) b z (session_behind_writing kept_ends r m s a)) (sym is)
           (written_by (seen h c) b b r m s t (record t { broken = true }) visits.Failing a whole (acted_made h c d (t, visits.Failing) (writes s w.answers) w.is)
           (subst (λ (z : Bool). Acted b b (record t { broken = true }) (prints (fault_unless kept_ends z r m t nothing_said))) (sym released) (acted_still b (record t { broken = true }))));
     }
 
 written_breaks : (a b : Seen) (r : Rules) (m : ℕ) (s : Session KEnd) (answers : visits.Wrote) (fault : LoopFault) → s.broken ≡ false
-    → BreaksAt a b (next (writes s answers.answers) (λ x. flowed kept_ends r m x answers.says)) fault → BreaksAt a b (written kept_ends r m s answers) fault
-unfolding written
+    → BreaksAt a b (next (writes s answers.answers) (λ x. flowed kept_ends r m x answers.says)) fault → BreaksAt a b (session_behind_writing kept_ends r m s answers) fault
+unfolding session_behind_writing
 written_breaks a b r m s answers fault whole q = subst (λ (z : Bool). BreaksAt a b (written_unless kept_ends z r m s answers) fault) (sym whole) q
 
 -- a write of another session failed
 pub written_fault : (h i : SinkState) (c d : WiresState) (r : Rules) (m : ℕ) (s t new : Session KEnd) (res : Result (Unit {0}) LoopFault) → s.broken ≡ false
-    → Wrote c d s t flow.Failing → is_released kept_ends t ≡ false → Chooses h i new (handled kept_ends r m t Faults) res → Does (seen h c) (seen i d) new (written kept_ends r m s) res
+    → HasSessionWritten c d s t flow.Failing → is_released kept_ends t ≡ false → Chooses h i new (handled kept_ends r m t Faults) res → DoesLoopPart (seen h c) (seen i d) new (session_behind_writing kept_ends r m s) res
 written_fault h i c d r m s t new (Ok done) whole w live p =
     let a : visits.Wrote = record { answers = w.answers; says = p.answers } in
     record {
@@ -90,25 +90,25 @@ written_fault h i c d r m s t new (Err fault) whole w live p =
           (breaks_prints h i d (handled kept_ends r m t Faults p.answers) fault p.breaks)));
     }
   where
-    broke : (a : visits.Wrote) → BreaksAt (seen h c) (seen i d) (next (writes s a.answers) (λ x. flowed kept_ends r m x a.says)) fault → BreaksAt (seen h c) (seen i d) (written kept_ends r m s a) fault
+    broke : (a : visits.Wrote) → BreaksAt (seen h c) (seen i d) (next (writes s a.answers) (λ x. flowed kept_ends r m x a.says)) fault → BreaksAt (seen h c) (seen i d) (session_behind_writing kept_ends r m s a) fault
     broke a q = written_breaks (seen h c) (seen i d) r m s a fault whole q
 
 -- ---- what follows events
 
-pub rests_broke : (a b : Seen) (r : Rules) (m : ℕ) (s : Session KEnd) (fault : LoopFault) → Stopped a b (written kept_ends r m s) fault → Stopped a b (rests kept_ends r m s) fault
+pub rests_broke : (a b : Seen) (r : Rules) (m : ℕ) (s : Session KEnd) (fault : LoopFault) → Stopped a b (session_behind_writing kept_ends r m s) fault → Stopped a b (rests kept_ends r m s) fault
 unfolding rests
-rests_broke a b r m s fault p = record { answers = p.answers; breaks = breaks_first a b (written kept_ends r m s p.answers) (settled kept_ends) fault p.breaks }
+rests_broke a b r m s fault p = record { answers = p.answers; breaks = breaks_first a b (session_behind_writing kept_ends r m s p.answers) (session_kept_or_closed kept_ends) fault p.breaks }
 
-pub rests_done : (a : Seen) (i : SinkState) (d e : WiresState) (r : Rules) (m : ℕ) (s t : Session KEnd) (stay : Bool) → Did a (seen i d) t (written kept_ends r m s)
+pub rests_done : (a : Seen) (i : SinkState) (d e : WiresState) (r : Rules) (m : ℕ) (s t : Session KEnd) (stay : Bool) → Did a (seen i d) t (session_behind_writing kept_ends r m s)
     → Settles d e t stay → Did a (seen i e) (left stay t) (rests kept_ends r m s)
 unfolding rests
 rests_done a i d e r m s t stay p q = record {
   answers = p.answers;
-  is = acted_next a (seen i d) (seen i e) t (left stay t) (written kept_ends r m s p.answers) (settled kept_ends) p.is (acted_made i d e (left stay t) (settled kept_ends t) q);
+  is = acted_next a (seen i d) (seen i e) t (left stay t) (session_behind_writing kept_ends r m s p.answers) (session_kept_or_closed kept_ends) p.is (acted_made i d e (left stay t) (session_kept_or_closed kept_ends t) q);
 }
 
 -- an event, and what follows it
-pub serves_broke : (h i : SinkState) (c : WiresState) (r : Rules) (m : ℕ) (s : Session KEnd) (g : Given) (fault : LoopFault)
+pub serves_broke : (h i : SinkState) (c : WiresState) (r : Rules) (m : ℕ) (s : Session KEnd) (g : GivenToSession) (fault : LoopFault)
     → BrokeOff h i (handled kept_ends r m s g) fault → Stopped (seen h c) (seen i c) (served kept_ends r m s g) fault
 unfolding served
 serves_broke h i c r m s g fault p =
@@ -118,7 +118,7 @@ serves_broke h i c r m s g fault p =
       breaks = breaks_first (seen h c) (seen i c) (prints (handled kept_ends r m s g p.answers)) (λ t. rests kept_ends r m t a.wrote) fault (breaks_prints h i c (handled kept_ends r m s g p.answers) fault p.breaks);
     }
 
-pub serves : (h i : SinkState) (c : WiresState) (b : Seen) (r : Rules) (m : ℕ) (s t new : Session KEnd) (g : Given) (res : Result Bool LoopFault)
+pub serves : (h i : SinkState) (c : WiresState) (b : Seen) (r : Rules) (m : ℕ) (s t new : Session KEnd) (g : GivenToSession) (res : Result Bool LoopFault)
     → Chose h i t (handled kept_ends r m s g) → Visits (seen i c) b new (rests kept_ends r m t) res → Visits (seen h c) b new (served kept_ends r m s g) res
 unfolding served
 serves h i c b r m s t new g (Ok stay) p q =
@@ -176,7 +176,7 @@ take_length zero xs p = refl
 take_length (suc n) [] p = absurd (let z : ⊥ = omega (arith, p) in z)
 take_length (suc n) (x ∷ xs) p = (let q = take_length n xs (let z : n ≤ length xs = omega (arith, p) in z) in omega (arith, q))
 
-none_wait : (lines : Option Lines) (conn : ℕ) (shut : Bool) → IfSome lines (λ before. ((before conn).waits ≡ []) × ((before conn).shut ≡ shut)) → waiting lines conn ≡ 0
+none_wait : (lines : Option Lines) (conn : ℕ) (shut : Bool) → IfSome lines (λ before. ((before conn).waits ≡ []) × ((before conn).shut ≡ shut)) → count_waiting_at_connection lines conn ≡ 0
 none_wait None conn shut p = refl
 none_wait (Some lines) conn shut p = ap (λ (z : List ℕ). length z) p.0
 
@@ -184,7 +184,7 @@ none_wait (Some lines) conn shut p = ap (λ (z : List ℕ). length z) p.0
 pub read_so : (lines : Option Lines) (conn size : ℕ) (answer : ReadAnswer) (into : List ℕ) → ((n : ℕ) → answer ≡ read.Some n → (1 ≤ n) × (n ≤ size))
     → (answer ≡ read.NotNow → IfSome lines (λ before. ((before conn).waits ≡ []) × ((before conn).shut ≡ false)))
     → (answer ≡ read.End → IfSome lines (λ before. ((before conn).waits ≡ []) × ((before conn).shut ≡ true)))
-    → length into ≡ size → IsReadSo size (waiting lines conn) (reading_of answer into)
+    → length into ≡ size → IsReadSo size (count_waiting_at_connection lines conn) (reading_of answer into)
 read_so lines conn size (read.Some n) into fits not_now end same =
     let f = fits n refl in
     let one : 1 ≤ n = f.0 in
@@ -234,8 +234,8 @@ read_breaks h i c d r m s a fault told answered counted p =
 
 pub reads_broke : (h i : SinkState) (c d : WiresState) (r : Rules) (m : ℕ) (s : Session KEnd) (number waits : ℕ) (reading : Reading) (fault : LoopFault) → number ≡ s.number
     → Grew c.calls d.calls (Reads number most_read waits reading ∷ []) → IsReadSo most_read waits reading → Counts c.faults d.faults (Reads number most_read waits reading ∷ [])
-    → BrokeOff h i (came kept_ends reading r m s) fault → Stopped (seen h c) (seen i d) (reads r m s) fault
-unfolding reads
+    → BrokeOff h i (came kept_ends reading r m s) fault → Stopped (seen h c) (seen i d) (session_behind_read r m s) fault
+unfolding session_behind_read
 reads_broke h i c d r m s number waits reading fault same told answered counted p =
     let a : Met = record { waits = waits; reading = reading; says = p.answers; wrote = nothing_wrote } in
     record {
@@ -250,8 +250,8 @@ reads_broke h i c d r m s number waits reading fault same told answered counted 
 -- a read that gave nothing yet
 pub reads_stays : (h i : SinkState) (c d : WiresState) (r : Rules) (m : ℕ) (s t : Session KEnd) (number waits : ℕ) (reading : Reading) → number ≡ s.number → reading ≡ NotNow
     → Grew c.calls d.calls (Reads number most_read waits reading ∷ []) → IsReadSo most_read waits reading → Counts c.faults d.faults (Reads number most_read waits reading ∷ [])
-    → Chose h i t (came kept_ends reading r m s) → Did (seen h c) (seen i d) (left true t) (reads r m s)
-unfolding reads
+    → Chose h i t (came kept_ends reading r m s) → Did (seen h c) (seen i d) (left true t) (session_behind_read r m s)
+unfolding session_behind_read
 reads_stays h i c d r m s t number waits reading same none told answered counted p =
     let a : Met = record { waits = waits; reading = reading; says = p.answers; wrote = nothing_wrote } in
     let b = seen i d in
@@ -275,8 +275,8 @@ rests_as Failed r m t a some = refl
 pub reads_rests : (h i : SinkState) (c d : WiresState) (e : Seen) (r : Rules) (m : ℕ) (s t new : Session KEnd) (number waits : ℕ) (reading : Reading) (res : Result Bool LoopFault)
     → number ≡ s.number → (reading ≡ NotNow → ⊥)
     → Grew c.calls d.calls (Reads number most_read waits reading ∷ []) → IsReadSo most_read waits reading → Counts c.faults d.faults (Reads number most_read waits reading ∷ [])
-    → Chose h i t (came kept_ends reading r m s) → Visits (seen i d) e new (rests kept_ends r m t) res → Visits (seen h c) e new (reads r m s) res
-unfolding reads
+    → Chose h i t (came kept_ends reading r m s) → Visits (seen i d) e new (rests kept_ends r m t) res → Visits (seen h c) e new (session_behind_read r m s) res
+unfolding session_behind_read
 reads_rests h i c d e r m s t new number waits reading (Ok stay) same some told answered counted p q =
     let a : Met = record { waits = waits; reading = reading; says = p.answers; wrote = q.answers } in
     record {
@@ -306,8 +306,8 @@ pub visit_not_read : (a : Seen) (r : Rules) (m : ℕ) (s : Session KEnd) → is_
 unfolding visited
 visit_not_read a r m s p = record { answers = nothing_met; is = rw p (acted_still a (s ∷ [])) }
 
-pub visit_read : (a b : Seen) (r : Rules) (m : ℕ) (s new : Session KEnd) (res : Result Bool LoopFault) → is_released kept_ends s ≡ false → Visits a b new (reads r m s) res → Visits a b new (visited kept_ends r m visits.Read s) res
-unfolding visited reads
+pub visit_read : (a b : Seen) (r : Rules) (m : ℕ) (s new : Session KEnd) (res : Result Bool LoopFault) → is_released kept_ends s ≡ false → Visits a b new (session_behind_read r m s) res → Visits a b new (visited kept_ends r m visits.Read s) res
+unfolding visited session_behind_read
 visit_read a b r m s new (Ok stay) p q = record { answers = q.answers; is = rw p q.is }
 visit_read a b r m s new (Err fault) p q = record { answers = q.answers; breaks = rw p q.breaks }
 
@@ -316,7 +316,7 @@ unfolding visited
 visit_write a b r m s new (Ok stay) q = record { answers = record nothing_met { wrote = q.answers }; is = q.is }
 visit_write a b r m s new (Err fault) q = record { answers = record nothing_met { wrote = q.answers }; breaks = q.breaks }
 
-pub visit_expire : (h : SinkState) (c d : WiresState) (r : Rules) (m : ℕ) (s : Session KEnd) (stay : Bool) → Expires c d m s stay
+pub visit_expire : (h : SinkState) (c d : WiresState) (r : Rules) (m : ℕ) (s : Session KEnd) (stay : Bool) → ClosesDueSession c d m s stay
     → Did (seen h c) (seen h d) (left stay s) (visited kept_ends r m visits.Expire s)
 unfolding visited
 visit_expire h c d r m s stay p = record { answers = nothing_met; is = acted_made h c d (left stay s) (if is_due m s.closing then closed s else stays s) p }

@@ -10,17 +10,17 @@ use Rattle.link_trait.specs.Wires.{Call, Writes, Closes}
 use Rattle.link_trait.specs.declared.wires.WriteAnswer.{WriteAnswer}
 use Rattle.link_trait.specs.declared.wires.WriteAnswer.TheVariants as write
 use Rattle.loop_model.specs.Grammar.{AreInGrammar}
-use Rattle.loop_model.specs.Journals.{Entry, text}
+use Rattle.loop_model.specs.Journals.{JournalEntry, text}
 use Rattle.loop_model.specs.Outs.{Out, still, next, makes, acts, exactly}
 use Rattle.loop_model.specs.Signs.{order_still, order_next, order_makes}
 use Rattle.loop_model.specs.Sessions.{Session, is_released}
 use Rattle.loop_model.specs.Visits as visits
-use Rattle.loop_model.specs.Visits.{Flow, after_write, writes_if, writes_once, writes, settled, closed, stays, is_due}
+use Rattle.loop_model.specs.Visits.{WritingState, after_write, writes_if, writes_once, writes, session_kept_or_closed, closed, stays, is_due}
 use Rattle.loop_io.specs.declared.writing.Flow.TheVariants as flow
 use Rattle.loop_io.specs.Acting.{Acted}
 use Rattle.loop_io.specs.Seeing.{seen, IsAnsweredSo, IsWrittenSo, Counts}
 use Rattle.loop_io.specs.Sequels.{answered_parts, counts_none, counts_other, counts_failed, counts_then}
-use Rattle.loop_io.specs.Writing.{Made, WroteSome, Wrote, Settles, Expires}
+use Rattle.loop_io.specs.Writing.{Made, WroteSome, HasSessionWritten, Settles, ClosesDueSession}
 use Rattle.loop_io.proofs.Folds.{acts_none, acts_on, acts_then, exactly_filled, exactly_next}
 
 -- ---- parts that print nothing
@@ -54,7 +54,7 @@ made_next c d e mid new o f p q = behind (subst (λ z. Made d e new (f z)) p.sta
 pub acted_made : {S : Type 0} (h : SinkState) (c d : WiresState) (new : S) (o : Out S) → Made c d new o → Acted (seen h c) (seen h d) new o
 acted_made h c d new o p = record {
   state = p.state;
-  printed = subst (λ (z : List Entry). Grew h.held h.held (text z)) (sym p.silent) (grew_nothing h.held);
+  printed = subst (λ (z : List JournalEntry). Grew h.held h.held (text z)) (sym p.silent) (grew_nothing h.held);
   later = omega arith;
   told = p.told;
   answered = p.answered;
@@ -86,10 +86,10 @@ made_write c d t number piece answer p q some told answered counted =
 
 -- ---- once nothing is to be written
 
-abbrev IsIdle : Session KEnd × Flow → Type 0
+abbrev IsIdle : Session KEnd × WritingState → Type 0
 IsIdle x = (answer : WriteAnswer) → writes_once x answer ≡ still x
 
-idle_all : (x : Session KEnd × Flow) (answers : List WriteAnswer) → IsIdle x → acts writes_once x answers ≡ still x
+idle_all : (x : Session KEnd × WritingState) (answers : List WriteAnswer) → IsIdle x → acts writes_once x answers ≡ still x
 idle_all x [] p = acts_none writes_once x
 idle_all x (a ∷ answers) p = acts_on writes_once x a answers ∙ ap (λ z. next z (λ t. acts writes_once t answers)) (p a) ∙ idle_all x answers p
 
@@ -116,12 +116,12 @@ drop_length zero xs p = omega arith
 drop_length (suc n) [] p = absurd (let z : ⊥ = omega (arith, p) in z)
 drop_length (suc n) (x ∷ xs) p = (let q = drop_length n xs (let z : n ≤ length xs = omega (arith, p) in z) in omega (arith, q))
 
-made_one : (c d : WiresState) (x y : Session KEnd × Flow) (a : WriteAnswer) → Made c d y (writes_once x a) → Made c d y (acts writes_once x (a ∷ []))
+made_one : (c d : WiresState) (x y : Session KEnd × WritingState) (a : WriteAnswer) → Made c d y (writes_once x a) → Made c d y (acts writes_once x (a ∷ []))
 made_one c d x y a p =
     subst (λ z. Made c d y z) (sym (acts_on writes_once x a []))
     (made_next c d d y y (writes_once x a) (λ t. acts writes_once t []) p (subst (λ z. Made d d y z) (sym (acts_none writes_once y)) (made_still d y)))
 
-made_more : (c d e : WiresState) (x y z : Session KEnd × Flow) (xs : List WriteAnswer) (a : WriteAnswer)
+made_more : (c d e : WiresState) (x y z : Session KEnd × WritingState) (xs : List WriteAnswer) (a : WriteAnswer)
     → Made c d y (acts writes_once x xs) → Made d e z (writes_once y a) → Made c e z (acts writes_once x (xs ++ a ∷ []))
 made_more c d e x y z xs a p q =
     subst (λ o. Made c e z o) (sym (acts_then writes_once x xs (a ∷ [])))
@@ -152,7 +152,7 @@ wrote_more c d e s t new number piece n p same_number same_piece some told fits 
     })
 
 -- nothing waits any more
-pub wrote_all : (c d : WiresState) (s t : Session KEnd) → WroteSome c d s t → (length t.output == 0) ≡ true → Wrote c d s t flow.Going
+pub wrote_all : (c d : WiresState) (s t : Session KEnd) → WroteSome c d s t → (length t.output == 0) ≡ true → HasSessionWritten c d s t flow.Going
 unfolding writes
 wrote_all c d s t p none =
     let rest = exactly (length s.output - length p.answers) write.NotNow [] in
@@ -167,7 +167,7 @@ wrote_all c d s t p none =
     }
 
 -- a write that gave nothing was the last
-wrote_last : (c d e : WiresState) (s t : Session KEnd) (a : WriteAnswer) (f : Flow) → WroteSome c d s t → 0 < length t.output
+wrote_last : (c d e : WiresState) (s t : Session KEnd) (a : WriteAnswer) (f : WritingState) → WroteSome c d s t → 0 < length t.output
     → Made d e (t, f) (writes_once (t, visits.Going) a) → IsIdle (t, f) → (answers : List WriteAnswer) × Made c e (t, f) (writes s answers)
 unfolding writes
 wrote_last c d e s t a f p some q idle =
@@ -184,14 +184,14 @@ wrote_last c d e s t a f p some q idle =
     )
 
 pub wrote_off : (c d e : WiresState) (s t : Session KEnd) (number : ℕ) (piece : List ℕ) → WroteSome c d s t → number ≡ t.number → piece ≡ t.output
-    → 0 < length t.output → Grew d.calls e.calls (Writes number piece write.NotNow ∷ []) → d.faults ≤ e.faults → Wrote c e s t flow.PutOff
+    → 0 < length t.output → Grew d.calls e.calls (Writes number piece write.NotNow ∷ []) → d.faults ≤ e.faults → HasSessionWritten c e s t flow.PutOff
 wrote_off c d e s t number piece p same_number same_piece some told count =
     let o = wrote_last c d e s t write.NotNow visits.PutOff p some
     (made_write d e t number piece write.NotNow same_number same_piece some told tt (counts_other d.faults e.faults (Writes number piece write.NotNow) refl count)) (idle_off t) in
     record { answers = o.0; is = o.1 }
 
 pub wrote_failing : (c d e : WiresState) (s t : Session KEnd) (number : ℕ) (piece : List ℕ) → WroteSome c d s t → number ≡ t.number → piece ≡ t.output
-    → 0 < length t.output → Grew d.calls e.calls (Writes number piece write.Failed ∷ []) → Rose d.faults e.faults → Wrote c e s t flow.Failing
+    → 0 < length t.output → Grew d.calls e.calls (Writes number piece write.Failed ∷ []) → Rose d.faults e.faults → HasSessionWritten c e s t flow.Failing
 wrote_failing c d e s t number piece p same_number same_piece some told rose =
     let o = wrote_last c d e s t write.Failed visits.Failing p some
     (made_write d e t number piece write.Failed same_number same_piece some told tt (counts_failed d.faults e.faults (Writes number piece write.Failed) refl rose)) (idle_failing t) in
@@ -200,19 +200,19 @@ wrote_failing c d e s t number piece p same_number same_piece some told rose =
 -- ---- closing
 
 pub settles_not : (c : WiresState) (s : Session KEnd) → (s.broken || (is_released kept_ends s && (length s.output == 0))) ≡ false → Settles c c s true
-unfolding settled
+unfolding session_kept_or_closed
 settles_not c s p = rw p (made_still c (s ∷ []))
 
 pub settles_closed : (c d : WiresState) (s : Session KEnd) (number : ℕ) → (s.broken || (is_released kept_ends s && (length s.output == 0))) ≡ true → number ≡ s.number
     → Grew c.calls d.calls (Closes number ∷ []) → c.faults ≤ d.faults → Settles c d s false
-unfolding settled
+unfolding session_kept_or_closed
 settles_closed c d s number p same told count =
     rw p (subst (λ z. Made {S = List (Session KEnd)} c d [] (makes (Closes z) [])) same (made_makes {S = List (Session KEnd)} c d [] (Closes number) told tt (counts_other c.faults d.faults (Closes number) refl count)))
 
-pub expires_not : (c : WiresState) (m : ℕ) (s : Session KEnd) → is_due m s.closing ≡ false → Expires c c m s true
+pub expires_not : (c : WiresState) (m : ℕ) (s : Session KEnd) → is_due m s.closing ≡ false → ClosesDueSession c c m s true
 expires_not c m s p = rw p (made_still c (s ∷ []))
 
 pub expires_closed : (c d : WiresState) (m : ℕ) (s : Session KEnd) (number : ℕ) → is_due m s.closing ≡ true → number ≡ s.number
-    → Grew c.calls d.calls (Closes number ∷ []) → c.faults ≤ d.faults → Expires c d m s false
+    → Grew c.calls d.calls (Closes number ∷ []) → c.faults ≤ d.faults → ClosesDueSession c d m s false
 expires_closed c d m s number p same told count =
     rw p (subst (λ z. Made {S = List (Session KEnd)} c d [] (makes (Closes z) [])) same (made_makes {S = List (Session KEnd)} c d [] (Closes number) told tt (counts_other c.faults d.faults (Closes number) refl count)))

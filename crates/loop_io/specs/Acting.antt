@@ -42,6 +42,6 @@ pub record Stopped {S A : Type 0} (a b : Seen) (model : A → Out S) (fault : Lo
   pub answers : A
   pub breaks : BreaksAt a b (model answers) fault
 
-abbrev pub Does : {T S A : Type 0} → Seen → Seen → S → (A → Out S) → Result T LoopFault → Type 0
-Does a b new model (Ok done) = Did a b new model
-Does a b new model (Err fault) = Stopped a b model fault
+abbrev pub DoesLoopPart : {T S A : Type 0} → Seen → Seen → S → (A → Out S) → Result T LoopFault → Type 0
+DoesLoopPart a b new model (Ok done) = Did a b new model
+DoesLoopPart a b new model (Err fault) = Stopped a b model fault

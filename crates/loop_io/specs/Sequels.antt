@@ -6,8 +6,8 @@ use Rattle.link_trait.specs.Growth.{grew_nothing, grew_then}
 use Rattle.link_trait.specs.States.{SinkState, WiresState}
 use Rattle.link_trait.specs.Wires.{Call}
 use Rattle.loop_model.specs.Grammar.{AreInGrammar}
-use Rattle.loop_model.specs.Journals.{Entry, entry_text, text}
-use Rattle.loop_model.specs.Deeds.{Deed, printings, Sign, octet_signs, signs, text_of, calls_of}
+use Rattle.loop_model.specs.Journals.{JournalEntry, entry_text, text}
+use Rattle.loop_model.specs.Deeds.{LoopDeed, printings, Sign, octet_signs, signs, text_of, calls_of}
 use Rattle.loop_model.specs.Outs.{Out, HasOrder, still, next, changed, prints, makes}
 use Rattle.loop_model.specs.Signs.{octets_parts, text_parts as text_of_parts, calls_of_parts, octets_text, octets_calls, signs_parts, printings_signs, order_still, order_next, order_changed, order_prints, order_makes, order_text, order_calls}
 use Rattle.loop_model.specs.Laws.{is_failed, failures}
@@ -19,15 +19,15 @@ use Rattle.loop_io.specs.Seeing.{Seen, seen, IsAnsweredSo, AreAnsweredSo, Counts
 
 -- ---- texts, answers, counts and grammar of both
 
-pub text_parts : (xs ys : List Entry) → text (xs ++ ys) ≡ text xs ++ text ys
-text_parts [] ys = refl
-text_parts (x ∷ xs) ys = ap (λ z. entry_text x ++ z) (text_parts xs ys) ∙ sym (append_assoc (entry_text x) (text xs) (text ys))
+pub entries_text_parts : (xs ys : List JournalEntry) → text (xs ++ ys) ≡ text xs ++ text ys
+entries_text_parts [] ys = refl
+entries_text_parts (x ∷ xs) ys = ap (λ z. entry_text x ++ z) (entries_text_parts xs ys) ∙ sym (append_assoc (entry_text x) (text xs) (text ys))
 
 pub answered_parts : (xs ys : List Call) → AreAnsweredSo xs → AreAnsweredSo ys → AreAnsweredSo (xs ++ ys)
 answered_parts [] ys p q = q
 answered_parts (x ∷ xs) ys p q = (p.0, answered_parts xs ys p.1 q)
 
-pub grammar_parts : (xs ys : List Entry) → AreInGrammar xs → AreInGrammar ys → AreInGrammar (xs ++ ys)
+pub grammar_parts : (xs ys : List JournalEntry) → AreInGrammar xs → AreInGrammar ys → AreInGrammar (xs ++ ys)
 grammar_parts [] ys p q = q
 grammar_parts (x ∷ xs) ys p q = (p.0, grammar_parts xs ys p.1 q)
 
@@ -73,7 +73,7 @@ acted_next a b c mid new o f p q = behind (subst (λ z. Acted b c new (f z)) p.s
     behind : Acted b c new (f o.state) → Acted a c new (next o f)
     behind q = record {
       state = q.state;
-      printed = subst (λ z. Grew a.held c.held z) (sym (text_parts o.entries (f o.state).entries)) (grew_then a.held b.held c.held (text o.entries) (text (f o.state).entries) p.printed q.printed);
+      printed = subst (λ z. Grew a.held c.held z) (sym (entries_text_parts o.entries (f o.state).entries)) (grew_then a.held b.held c.held (text o.entries) (text (f o.state).entries) p.printed q.printed);
       later = (let x : a.sunk ≤ b.sunk = p.later in let y : b.sunk ≤ c.sunk = q.later in omega (arith, x, y));
       told = grew_then a.calls b.calls c.calls o.calls (f o.state).calls p.told q.told;
       answered = answered_parts o.calls (f o.state).calls p.answered q.answered;
@@ -94,7 +94,7 @@ acted_changed a b g new o p = record {
   has_order = order_changed g o p.has_order;
 }
 
-pub acted_prints : {S : Type 0} (h i : SinkState) (c : WiresState) (new : S) (x : S × List Entry) → Printed h i new x → Acted (seen h c) (seen i c) new (prints x)
+pub acted_prints : {S : Type 0} (h i : SinkState) (c : WiresState) (new : S) (x : S × List JournalEntry) → Printed h i new x → Acted (seen h c) (seen i c) new (prints x)
 acted_prints h i c new x p = record {
   state = p.state;
   printed = p.printed;
@@ -143,8 +143,8 @@ breaks_first a b o f fault p = record {
 }
 
 -- behind a part that was done, so much more came out
-pub text_behind : {S : Type 0} (a b c : Seen) (s : S) (o : Out S) (more : List Sign) → Acted a b s o → Grew b.held c.held (text_of more) → Grew a.held c.held (text_of (signs o.order ++ more))
-text_behind a b c s o more p q =
+pub text_grows_behind_part : {S : Type 0} (a b c : Seen) (s : S) (o : Out S) (more : List Sign) → Acted a b s o → Grew b.held c.held (text_of more) → Grew a.held c.held (text_of (signs o.order ++ more))
+text_grows_behind_part a b c s o more p q =
     subst (λ z. Grew a.held c.held z) (sym (text_of_parts (signs o.order) more ∙ ap (λ z. z ++ text_of more) (order_text o p.has_order)))
     (grew_then a.held b.held c.held (text o.entries) (text_of more) p.printed q)
 
@@ -160,7 +160,7 @@ breaks_next a b c mid o f fault p q = behind (subst (λ z. BreaksAt b c (f z) fa
       part = signs o.order ++ q.part;
       rest = q.rest;
       is = append_assoc (signs o.order) q.part q.rest ∙ ap (λ z. signs o.order ++ z) q.is ∙ sym (signs_parts o.order (f o.state).order);
-      printed = text_behind a b c mid o q.part p q.printed;
+      printed = text_grows_behind_part a b c mid o q.part p q.printed;
       told = subst (λ z. Grew a.calls c.calls z) (calls_are o q.part p.has_order) (grew_then a.calls b.calls c.calls o.calls (calls_of q.part) p.told q.told);
       answered = subst AreAnsweredSo (calls_are o q.part p.has_order) (answered_parts o.calls (calls_of q.part) p.answered q.answered);
       counted = subst (λ z. Counts a.failed c.failed z) (calls_are o q.part p.has_order) (counts_then a.failed b.failed c.failed o.calls (calls_of q.part) p.counted q.counted);
@@ -171,7 +171,7 @@ pub breaks_changed : {S T : Type 0} (a b : Seen) (g : S → T) (o : Out S) (faul
 breaks_changed a b g o fault p = record { part = p.part; rest = p.rest; is = p.is; printed = p.printed; told = p.told; answered = p.answered; counted = p.counted; failed = p.failed }
 
 -- a beginning of the text of events that are printed first
-pub breaks_lines : {S : Type 0} (h i : SinkState) (c : WiresState) (o : Out S) (xs : List Entry) (more : List Deed) (fault : LoopFault) → o.order ≡ printings xs ++ more
+pub breaks_lines : {S : Type 0} (h i : SinkState) (c : WiresState) (o : Out S) (xs : List JournalEntry) (more : List LoopDeed) (fault : LoopFault) → o.order ≡ printings xs ++ more
     → Breaks h i (text xs) fault → BreaksAt (seen h c) (seen i c) o fault
 unfolding failures
 breaks_lines h i c o xs more fault same p =
@@ -190,7 +190,7 @@ breaks_lines h i c o xs more fault same p =
       failed = p.failed;
     }
 
-pub breaks_prints : {S : Type 0} (h i : SinkState) (c : WiresState) (x : S × List Entry) (fault : LoopFault) → Breaks h i (text x.1) fault
+pub breaks_prints : {S : Type 0} (h i : SinkState) (c : WiresState) (x : S × List JournalEntry) (fault : LoopFault) → Breaks h i (text x.1) fault
     → BreaksAt (seen h c) (seen i c) (prints x) fault
 breaks_prints h i c x fault p = breaks_lines h i c (prints x) x.1 [] fault (sym (append-nil (printings x.1))) p
 

@@ -8,14 +8,14 @@ use Rattle.link_trait.specs.declared.wires.WriteAnswer.{WriteAnswer}
 use Rattle.loop_model.specs.Outs.{Out, HasOrder, acts}
 use Rattle.loop_model.specs.Sessions.{Session}
 use Rattle.loop_model.specs.Visits as visits
-use Rattle.loop_model.specs.Visits.{writes, writes_once, settled, closed, stays, is_due}
+use Rattle.loop_model.specs.Visits.{writes, writes_once, session_kept_or_closed, closed, stays, is_due}
 use Rattle.loop_io.specs.declared.writing.Flow.{Flow}
 use Rattle.loop_io.specs.declared.writing.Flow.TheVariants.{Going, PutOff, Failing}
 use Rattle.loop_io.specs.Seeing.{AreAnsweredSo, Counts}
 use Rattle.loop_io.specs.Visiting.{left}
 
 -- how a writing went
-abbrev pub flow_of : Flow → visits.Flow
+abbrev pub flow_of : Flow → visits.WritingState
 flow_of Going = visits.Going
 flow_of PutOff = visits.PutOff
 flow_of Failing = visits.Failing
@@ -36,14 +36,14 @@ pub record WroteSome (before now : WiresState) (old new : Session KEnd) : Type 0
   pub is : Made before now (new, visits.Going) (acts writes_once (old, visits.Going) answers)
 
 -- there are answers for which the writing went so
-pub record Wrote (before now : WiresState) (old new : Session KEnd) (flow : Flow) : Type 0 where
+pub record HasSessionWritten (before now : WiresState) (old new : Session KEnd) (flow : Flow) : Type 0 where
   pub answers : List WriteAnswer
   pub is : Made before now (new, flow_of flow) (writes old answers)
 
 -- a session was closed where it was to be
 abbrev pub Settles : WiresState → WiresState → Session KEnd → Bool → Type 0
-Settles before now s stays = Made before now (left stays s) (settled kept_ends s)
+Settles before now s stays = Made before now (left stays s) (session_kept_or_closed kept_ends s)
 
 -- a session was closed where its closing moment had come
-abbrev pub Expires : WiresState → WiresState → ℕ → Session KEnd → Bool → Type 0
-Expires before now m s stay = Made before now (left stay s) (if is_due m s.closing then closed s else stays s)
+abbrev pub ClosesDueSession : WiresState → WiresState → ℕ → Session KEnd → Bool → Type 0
+ClosesDueSession before now m s stay = Made before now (left stay s) (if is_due m s.closing then closed s else stays s)

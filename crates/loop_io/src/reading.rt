@@ -4,7 +4,7 @@ ghost use Rattle.std.specs.Prelude.{◌≡◌, ◌≢◌, ◌≤◌, ℕ, length
 ghost use Rattle.link_trait.specs.Wires.{reading_of};
 ghost use Rattle.loop_model.specs.Visits.{came};
 ghost use Rattle.loop_session.specs.Keeping.{kept_ends};
-ghost use Rattle.loop_session.specs.Parts.{rules, Chooses};
+ghost use Rattle.loop_session.specs.Parts.{rules_of_session, Chooses};
 ghost use Rattle.loop_io.specs.Visiting.{read_by, VisitsOn, Keep};
 
 use crate::writing::rest;
@@ -45,7 +45,7 @@ fn take_in<U: SafeUser, K: KeyFinder, S: Sink>(
     requires octets { length octets.now ≤ 4096 }
     requires fits { (n : ℕ) → answer ≡ ReadAnswer.Some n → (1 ≤ n) × (n ≤ length octets.now) }
     ensures chooses { Chooses (S.state sink.old) (S.state sink.new) session.new
-        (came kept_ends (reading_of answer octets.now) (rules (K.entries keys.now) when.now.setup) when.now.moment session.old) result }
+        (came kept_ends (reading_of answer octets.now) (rules_of_session (K.entries keys.now) when.now.setup) when.now.moment session.old) result }
     ensures number { session.new.number ≡ session.old.number }
     ensures later { (S.state sink.old).faults ≤ (S.state sink.new).faults }
 {

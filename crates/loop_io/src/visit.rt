@@ -5,7 +5,7 @@ ghost use Rattle.loop_model.specs.Sessions.{Begins};
 ghost use Rattle.safety_automaton.specs.Keys as keys;
 ghost use Rattle.loop_model.specs.Visits.{is_due};
 ghost use Rattle.loop_io.specs.Visiting.{visit_by, event_by, VisitsOn, Stay, Keep};
-ghost use Rattle.loop_io.specs.Writing.{Expires};
+ghost use Rattle.loop_io.specs.Writing.{ClosesDueSession};
 
 use crate::reading::read;
 use crate::writing::rest;
@@ -46,7 +46,7 @@ fn tick<U: SafeUser, W: Wires, S: Sink>(
     wires: &mut W,
     sink: &mut S,
 ) -> Result<bool, LoopFault>
-    ensures does { (entries : List keys.Entry) → VisitsOn S.Sink W.Wires sink.old sink.new wires.old wires.new session.new (visit_by entries when.now Visit.Tick session.old) result }
+    ensures does { (entries : List keys.KmacEntry) → VisitsOn S.Sink W.Wires sink.old sink.new wires.old wires.new session.new (visit_by entries when.now Visit.Tick session.old) result }
     ensures number { session.new.number ≡ session.old.number }
     ensures keep { Keep S.Sink W.Wires sink.old sink.new wires.old wires.new }
 {
@@ -59,7 +59,7 @@ fn tick<U: SafeUser, W: Wires, S: Sink>(
 
 // A session is closed, where its closing moment has come. Whether it stays.
 fn expire<U: SafeUser, W: Wires>(session: &Session<U>, when: &When, wires: &mut W) -> bool
-    ensures expires { Expires (W.state wires.old) (W.state wires.new) when.now.moment session.now result }
+    ensures expires { ClosesDueSession (W.state wires.old) (W.state wires.new) when.now.moment session.now result }
     ensures stay { Stay W.Wires wires.old wires.new }
 {
     if is_due(when.moment, session.closing()) {

@@ -5,7 +5,7 @@ ghost use Rattle.safety_automaton.specs.Keys as keys;
 ghost use Rattle.loop_model.specs.Sessions.{is_released};
 ghost use Rattle.loop_session.specs.Keeping.{kept_ends};
 ghost use Rattle.loop_io.specs.Visiting.{writing_by, rest_by, DoesOn, VisitsOn, Stay, Keep};
-ghost use Rattle.loop_io.specs.Writing.{Wrote, Settles};
+ghost use Rattle.loop_io.specs.Writing.{HasSessionWritten, Settles};
 
 use er_users::SafeUser;
 use link_trait::{Conn, Sink, Wires, WriteAnswer};
@@ -24,7 +24,7 @@ enum Flow {
 // The output is written until nothing waits, or there is no room, or a write fails.
 #[tactic(auto, using(crate::proofs::Writings::wrote_none, crate::proofs::Writings::wrote_more, crate::proofs::Writings::wrote_all))]
 fn write_all<U: SafeUser, W: Wires>(session: &mut Session<U>, wires: &mut W) -> Flow
-    ensures wrote { Wrote (W.state wires.old) (W.state wires.new) session.old session.new result }
+    ensures wrote { HasSessionWritten (W.state wires.old) (W.state wires.new) session.old session.new result }
     ensures number { session.new.number ≡ session.old.number }
     ensures stay { Stay W.Wires wires.old wires.new }
 {
@@ -46,7 +46,7 @@ fn write_out<U: SafeUser, W: Wires, S: Sink>(
     wires: &mut W,
     sink: &mut S,
 ) -> Result<(), LoopFault>
-    ensures does { (entries : List keys.Entry) → DoesOn S.Sink W.Wires sink.old sink.new wires.old wires.new session.new (writing_by entries when.now session.old) result }
+    ensures does { (entries : List keys.KmacEntry) → DoesOn S.Sink W.Wires sink.old sink.new wires.old wires.new session.new (writing_by entries when.now session.old) result }
     ensures number { session.new.number ≡ session.old.number }
     ensures keep { Keep S.Sink W.Wires sink.old sink.new wires.old wires.new }
 {
@@ -99,7 +99,7 @@ pub(crate) fn rest<U: SafeUser, W: Wires, S: Sink>(
     wires: &mut W,
     sink: &mut S,
 ) -> Result<bool, LoopFault>
-    ensures does { (entries : List keys.Entry) → VisitsOn S.Sink W.Wires sink.old sink.new wires.old wires.new session.new (rest_by entries when.now session.old) result }
+    ensures does { (entries : List keys.KmacEntry) → VisitsOn S.Sink W.Wires sink.old sink.new wires.old wires.new session.new (rest_by entries when.now session.old) result }
     ensures number { session.new.number ≡ session.old.number }
     ensures keep { Keep S.Sink W.Wires sink.old sink.new wires.old wires.new }
 {

@@ -10,10 +10,10 @@ use Rattle.link_trait.specs.Wires as wires
 use Rattle.link_trait.specs.Wires.{Reading, Gave, NotNow, End, Failed, Reads, Writes, Closes}
 use Rattle.link_trait.specs.declared.wires.WriteAnswer.{WriteAnswer}
 use Rattle.link_trait.specs.declared.wires.WriteAnswer.TheVariants as write
-use Rattle.loop_model.specs.Journals.{Entry}
-use Rattle.loop_model.specs.Outs.{acts, exactly, first_of}
+use Rattle.loop_model.specs.Journals.{JournalEntry}
+use Rattle.loop_model.specs.Outs.{acts, exactly, first_answer_of}
 use Rattle.loop_model.specs.Sessions.{Rules, Session, Ticks, is_released, Says, nothing_said, handled}
-use Rattle.loop_model.specs.Visits.{most_read, Flow, Going, PutOff, Failing, after_write, writes_once, writes, Wrote, flowed, written_unless, written, settled, rests, rests_behind, Visit, Tick, Read, Write, Expire, Met, is_due, came, read_once, served, visited}
+use Rattle.loop_model.specs.Visits.{most_read, WritingState, Going, PutOff, Failing, after_write, writes_once, writes, Wrote, flowed, written_unless, session_behind_writing, session_kept_or_closed, rests, rests_behind, Visit, Tick, Read, Write, Expire, Met, is_due, came, read_once, served, visited}
 use Rattle.loop_model.specs.Points.{is_stalled}
 use Rattle.loop_model.specs.Turnings.{is_ended}
 use Rattle.loop_model.specs.Stalls.{IsBounded}
@@ -38,8 +38,8 @@ ends-append : (cs ds : List wires.Call) → EndAtFailure cs → WriteNone ds →
 ends-append [] ds p q = none_ends ds q
 ends-append (call ∷ cs) ds p q = (λ e. none-append cs ds (p.0 e) q, ends-append cs ds p.1 q)
 
-settled_none : (s : Session ModelEnd) → WriteNone (settled model_ends s).calls
-unfolding settled
+settled_none : (s : Session ModelEnd) → WriteNone (session_kept_or_closed model_ends s).calls
+unfolding session_kept_or_closed
 settled_none s = elim (cases_Bool (s.broken || (is_released model_ends s && (length s.output == 0)))) [ inl p ↦ rw p (tt, tt) | inr p ↦ rw p tt ]
 
 -- ---- writing
@@ -70,7 +70,7 @@ going_ends (a ∷ answers) s =
     ]
 
 module _ (r : Rules) (m : ℕ) where
-  flowed_none : (flow : Flow) (s : Session ModelEnd) (says : Says) → (flowed model_ends r m (s, flow) says).calls ≡ []
+  flowed_none : (flow : WritingState) (s : Session ModelEnd) (says : Says) → (flowed model_ends r m (s, flow) says).calls ≡ []
   flowed_none Going s says = refl
   flowed_none PutOff s says = refl
   flowed_none Failing s says = refl
@@ -84,8 +84,8 @@ module _ (r : Rules) (m : ℕ) where
       (subst EndAtFailure (sym (append-nil x.calls)) (going_ends (exactly (length s.output) write.NotNow a.answers) s))
 
   rests_ends : (s : Session ModelEnd) (a : Wrote) → EndAtFailure (rests model_ends r m s a).calls
-  unfolding rests written
-  rests_ends s a = let w = written_unless model_ends s.broken r m s a in ends-append w.calls (settled model_ends w.state).calls (unless_ends s.broken s a) (settled_none w.state)
+  unfolding rests session_behind_writing
+  rests_ends s a = let w = written_unless model_ends s.broken r m s a in ends-append w.calls (session_kept_or_closed model_ends w.state).calls (unless_ends s.broken s a) (settled_none w.state)
 
   unless_silent : (b : Bool) (s : Session ModelEnd) (a : Wrote) → b ≡ true → WriteNone (written_unless model_ends b r m s a).calls
   unless_silent true s a p = tt
@@ -93,9 +93,9 @@ module _ (r : Rules) (m : ℕ) where
 
   -- to a session that broke off nothing is written
   rests_silent : (s : Session ModelEnd) (a : Wrote) → s.broken ≡ true → WriteNone (rests model_ends r m s a).calls
-  unfolding rests written
+  unfolding rests session_behind_writing
   rests_silent s a p =
-      let w = written_unless model_ends s.broken r m s a in none-append w.calls (settled model_ends w.state).calls (unless_silent s.broken s a p) (settled_none w.state)
+      let w = written_unless model_ends s.broken r m s a in none-append w.calls (session_kept_or_closed model_ends w.state).calls (unless_silent s.broken s a p) (settled_none w.state)
 
   behind_ends : (waits : ℕ) (reading : Reading) (s : Session ModelEnd) (says : List Says) (a : Wrote)
       → EndAtFailure (Reads s.number most_read waits reading ∷ (rests_behind model_ends reading r m (came model_ends reading r m s says).0 a).calls)
@@ -103,13 +103,13 @@ module _ (r : Rules) (m : ℕ) where
   behind_ends waits NotNow s says a = (λ e. tt, tt)
   behind_ends waits End s says a = (λ e. absurd (true≢false (sym e)), rests_ends (came model_ends End r m s says).0 a)
   behind_ends waits Failed s says a =
-      let h = handled_broken r m s (first_of nothing_said says) in
+      let h = handled_broken r m s (first_answer_of nothing_said says) in
       (λ e. rests_silent (came model_ends Failed r m s says).0 a h, rests_ends (came model_ends Failed r m s says).0 a)
 
   visit_ends : (visit : Visit) (s : Session ModelEnd) (a : Met) → EndAtFailure (visited model_ends r m visit s a).calls
   unfolding visited served read_once
   visit_ends Tick s a =
-      elim (cases_Bool (is_due m (model_ends.deadline s.end))) [ inl p ↦ rw p (rests_ends (handled model_ends r m s Ticks (first_of nothing_said a.says)).0 a.wrote) | inr p ↦ rw p tt ]
+      elim (cases_Bool (is_due m (model_ends.deadline s.end))) [ inl p ↦ rw p (rests_ends (handled model_ends r m s Ticks (first_answer_of nothing_said a.says)).0 a.wrote) | inr p ↦ rw p tt ]
   visit_ends Read s a = elim (cases_Bool (is_released model_ends s)) [ inl p ↦ rw p tt | inr p ↦ rw p (behind_ends a.waits a.reading s a.says a.wrote) ]
   visit_ends Write s a = rests_ends s a.wrote
   visit_ends Expire s a = elim (cases_Bool (is_due m s.closing)) [ inl p ↦ rw p (λ e. tt, tt) | inr p ↦ rw p tt ]
@@ -134,7 +134,7 @@ neither : (a b : Bool) → (a || b) ≡ false → (a ≡ false) × (b ≡ false)
 neither true b p = absurd (true≢false p)
 neither false b p = (refl, p)
 
-calm_of : (xs : List Entry) → has_broken xs ≡ false → has_stopped xs ≡ false
+calm_of : (xs : List JournalEntry) → has_broken xs ≡ false → has_stopped xs ≡ false
 unfolding has_broken has_stopped
 calm_of [] p = refl
 calm_of (x ∷ xs) p =
@@ -143,7 +143,7 @@ calm_of (x ∷ xs) p =
 
 module _ (stays : ReleaseStays) (breaks_release : BreaksRelease) (r : Rules) (m : ℕ) where
   -- events, and what is written behind them
-  stopped_rests : (s h : Session ModelEnd) (a : Wrote) (xs : List Entry) (ps : List wires.Call) → Off s h xs ps → WriteNone ps → IsBounded h
+  stopped_rests : (s h : Session ModelEnd) (a : Wrote) (xs : List JournalEntry) (ps : List wires.Call) → Off s h xs ps → WriteNone ps → IsBounded h
       → has_stopped (xs ++ (rests model_ends r m h a).entries) ≡ true → WriteNone (ps ++ (rests model_ends r m h a).calls)
   unfolding Off
   stopped_rests s h a xs ps off none b stopped =
@@ -160,7 +160,7 @@ module _ (stays : ReleaseStays) (breaks_release : BreaksRelease) (r : Rules) (m 
   stopped_ticked : (s : Session ModelEnd) (a : Met) → IsBounded s → has_stopped (served model_ends r m s Ticks a).entries ≡ true → WriteNone (served model_ends r m s Ticks a).calls
   unfolding served Bounds
   stopped_ticked s a b stopped =
-      let says = first_of nothing_said a.says in
+      let says = first_answer_of nothing_said a.says in
       let h = handled model_ends r m s Ticks says in
       stopped_rests s h.0 a.wrote h.1 [] (steady_handled r (λ g. Unit {0}) Off (off_steady r) givings.all_given.usual m s Ticks says tt) tt
       (steady_handled r (λ g. Unit {0}) Bounds (bounds r) givings.all_given.usual m s Ticks says tt b) stopped

@@ -2,12 +2,12 @@
 use Rattle.loop_model.specs.Ends.{ModelEnd, model_ends}
 use Rattle.std.proofs.Common.{◌≡◌, ℕ, max, false, List, [], ◌∷◌, ◌++◌, Option, Some, None, refl, true≢false, sym, ◌∙◌, append_assoc, subst}
 use Rattle.link_trait.specs.Wires.{Call, Reading, Reads, Closes}
-use Rattle.loop_model.specs.Journals.{Entry}
+use Rattle.loop_model.specs.Journals.{JournalEntry}
 use Rattle.loop_model.specs.Outs.{Out}
 use Rattle.loop_model.specs.Sessions.{Rules, Session}
 use Rattle.loop_model.specs.Visits.{most_read}
 use Rattle.loop_model.specs.Loops.{Plan, rules_of, Course, run, dials}
-use Rattle.loop_model.specs.Parts.{session_of, of, calls_at}
+use Rattle.loop_model.specs.Parts.{session_of_connection, of, calls_at}
 use Rattle.loop_model.specs.Laws.{AreOnOpen, is_close, EndAtClose, CallsAreOnOpen}
 use Rattle.loop_model.proofs.Steadies.{Steady, AllLeft, all_left_of}
 use Rattle.loop_model.proofs.Lives.{Own, Keeps, Fits, Knows, knows_run}
@@ -31,7 +31,7 @@ closed_ends : (cs : List Call) (n : ℕ) → NoClose cs → EndAtClose (cs ++ Cl
 closed_ends [] n p = (λ e. refl, tt)
 closed_ends (call ∷ cs) n p = (λ e. absurd (true≢false (sym e ∙ p.0)), closed_ends cs n p.1)
 
-unfoldable pub Opens : Session ModelEnd → Session ModelEnd → List Entry → List Call → Type 0
+unfoldable pub Opens : Session ModelEnd → Session ModelEnd → List JournalEntry → List Call → Type 0
 Opens s t xs cs = NoClose cs
 
 pub steady : (r : Rules) → Steady r (λ g. Unit {0}) Opens
@@ -61,7 +61,7 @@ pub reads : (s : Session ModelEnd) (waits : ℕ) (reading : Reading) → Opens s
 unfolding Opens
 reads s waits reading = (refl, tt)
 
-abbrev Q : Session ModelEnd → Session ModelEnd → List Entry → List Call → Type 0
+abbrev Q : Session ModelEnd → Session ModelEnd → List JournalEntry → List Call → Type 0
 Q = Both Own Opens
 
 q_steady : (r : Rules) → Steady r (λ g. Unit {0}) Q
@@ -73,10 +73,10 @@ q_calls r =
     (usual_calls r (λ g. Unit {0}) Q (q_steady r) all_given (bare_both Own Opens own_bare bare)
     (λ s n reading. (own_reads s n reading, reads s n reading)))
 
-abbrev Live : Session ModelEnd → List Entry → List Call → Type 0
+abbrev Live : Session ModelEnd → List JournalEntry → List Call → Type 0
 Live s xs cs = NoClose cs
 
-abbrev Gone : List Entry → List Call → Type 0
+abbrev Gone : List JournalEntry → List Call → Type 0
 Gone xs cs = EndAtClose cs
 
 keeps : (plan : Plan) → Keeps plan Q Live Gone
@@ -90,7 +90,7 @@ keeps plan = record {
   unserved = λ m conn handed. (λ e. refl, tt);
 }
 
-closes_last : (plan : Plan) (s : Option (Session ModelEnd)) (conn : ℕ) (xs : List Entry) (cs : List Call)
+closes_last : (plan : Plan) (s : Option (Session ModelEnd)) (conn : ℕ) (xs : List JournalEntry) (cs : List Call)
     → Fits plan Q (q_calls (rules_of plan)) (λ s t xs cs p. p.0) Live Gone (keeps plan) s conn xs cs → EndAtClose cs
 unfolding Fits
 closes_last plan None conn xs cs h = h
@@ -98,7 +98,7 @@ closes_last plan (Some s) conn xs cs h = open_ends cs h.1
 
 all_so : (plan : Plan) (o : Out (Course ModelEnd))
     → Knows plan Q (q_calls (rules_of plan)) (λ s t xs cs p. p.0) Live Gone (keeps plan) o.entries o.calls o.state.loop.sessions → AreOnOpen o
-all_so plan o k conn = closes_last plan (session_of conn o.state.loop.sessions) conn (of conn o.entries) (calls_at conn o.calls) (k.fits conn)
+all_so plan o k conn = closes_last plan (session_of_connection conn o.state.loop.sessions) conn (of conn o.entries) (calls_at conn o.calls) (k.fits conn)
 
 pub on_open : CallsAreOnOpen
 on_open = record {

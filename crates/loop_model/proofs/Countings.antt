@@ -1,4 +1,5 @@
 -- Turns are counted, a loop halts by its last turn, and its moment is the greatest that the clock answered.
+use Rattle.trace_model.specs.Checks.{most_live}
 use Rattle.loop_model.specs.Ends.{ModelEnd, model_ends}
 use Rattle.std.proofs.Common.{◌≡◌, ℕ, zero, suc, ◌+◌, ◌≤◌, max, inl, inr, ◌&&◌, List, [], ◌∷◌, ◌++◌, length, drop, Option, Some, None, refl, sym, ◌∙◌, ap, subst, append-nil, append_assoc, arith, length-append}
 use Rattle.std.specs.Prelude.{◌==◌, nat_lt}
@@ -7,23 +8,23 @@ use Rattle.er_users.specs.Users.{Mind}
 use Rattle.link_trait.specs.Wires.{Call, Reading, Reads, Closes}
 use Rattle.link_trait.specs.declared.wires.Happening.{Happening}
 use Rattle.link_trait.specs.declared.wires.Happening.TheVariants as happening
-use Rattle.loop_model.specs.Journals.{Entry}
-use Rattle.loop_model.specs.Outs.{Out, acts, exactly, first_of}
+use Rattle.loop_model.specs.Journals.{JournalEntry}
+use Rattle.loop_model.specs.Outs.{Out, acts, exactly, first_answer_of}
 use Rattle.loop_model.specs.Sessions.{Rules, Session}
 use Rattle.loop_model.specs.Visits.{most_read, Met, nothing_met, Visit, Tick, Read, Write, Expire, visited}
-use Rattle.loop_model.specs.Loops.{Plan, rules_of, Loop, most_live, visit_at, numbers, swept, before, next_user, answered_by, accepted, happened, Halt, Course, asks, halt_by, halt_behind, Turn, readied, turned_unless, went_unless, went, nothing_comes, run}
-use Rattle.loop_model.specs.Laws.{turn_of, turns_of, GoesOn, AllGoOn, HaltsBy, greatest, TurnsAreCounted}
+use Rattle.loop_model.specs.Loops.{Plan, rules_of, Loop, visit_at, numbers, swept, before, next_user, answered_by, accepted, happened, Halt, Course, asks, halt_by, halt_behind, Turn, readied, turned_unless, went_unless, went, nothing_comes, run}
+use Rattle.loop_model.specs.Laws.{happenings_in_call, turns_of, GoesOn, AllGoOn, HaltsBy, greatest, TurnsAreCounted}
 use Rattle.loop_model.proofs.Steadies.{Steady, Calls, Left, Stays, Closed, left_visited}
 use Rattle.loop_model.proofs.Owns.{Bare, AllGiven, usual_calls}
 
 turns_of-append : (cs ds : List Call) → turns_of (cs ++ ds) ≡ turns_of cs ++ turns_of ds
 unfolding turns_of
 turns_of-append [] ds = refl
-turns_of-append (call ∷ cs) ds = ap (λ z. turn_of call ++ z) (turns_of-append cs ds) ∙ sym (append_assoc (turn_of call) (turns_of cs) (turns_of ds))
+turns_of-append (call ∷ cs) ds = ap (λ z. happenings_in_call call ++ z) (turns_of-append cs ds) ∙ sym (append_assoc (happenings_in_call call) (turns_of cs) (turns_of ds))
 
 -- ---- visits make no turn
 
-NoTurn : Session ModelEnd → Session ModelEnd → List Entry → List Call → Type 0
+NoTurn : Session ModelEnd → Session ModelEnd → List JournalEntry → List Call → Type 0
 NoTurn s t xs cs = turns_of cs ≡ []
 
 steady : (r : Rules) → Steady r (λ g. Unit {0}) NoTurn
@@ -51,7 +52,7 @@ read_no_turn s waits reading = refl
 calls : (r : Rules) → Calls r NoTurn
 calls r = usual_calls r (λ g. Unit {0}) NoTurn (steady r) all_given bare read_no_turn
 
-left_none : (s : Session ModelEnd) (ts : List (Session ModelEnd)) (xs : List Entry) (cs : List Call) → Left NoTurn s ts xs cs → turns_of cs ≡ []
+left_none : (s : Session ModelEnd) (ts : List (Session ModelEnd)) (xs : List JournalEntry) (cs : List Call) → Left NoTurn s ts xs cs → turns_of cs ≡ []
 unfolding NoTurn turns_of
 left_none s ts xs cs (Stays t p q) = q
 left_none s ts xs cs (Closed t ds over p e q) = ap turns_of e ∙ turns_of-append ds (Closes t.number ∷ []) ∙ append-nil (turns_of ds) ∙ q
@@ -69,9 +70,9 @@ swept_none : (r : Rules) (m : ℕ) (visit : Visit) (ns : List ℕ) (ss : List (S
 unfolding swept turns_of
 swept_none r m visit [] ss answers = refl
 swept_none r m visit (n ∷ ns) ss answers =
-    let o = visit_at (visited model_ends r m visit) n ss (first_of nothing_met answers) in
+    let o = visit_at (visited model_ends r m visit) n ss (first_answer_of nothing_met answers) in
     turns_of-append o.calls (swept (visited model_ends r m visit) ns o.state (drop 1 answers)).calls
-    ∙ ap (λ z. z ++ turns_of (swept (visited model_ends r m visit) ns o.state (drop 1 answers)).calls) (visit_none r m visit n ss (first_of nothing_met answers))
+    ∙ ap (λ z. z ++ turns_of (swept (visited model_ends r m visit) ns o.state (drop 1 answers)).calls) (visit_none r m visit n ss (first_answer_of nothing_met answers))
     ∙ swept_none r m visit ns o.state (drop 1 answers)
 
 readied_none : (plan : Plan) (c : Course ModelEnd) (a : Turn) → turns_of (readied model_ends plan c a).calls ≡ []

@@ -1,5 +1,6 @@
 -- The octets of a read are cut behind each frame that they close, and nowhere else.
-use Rattle.loop_model.specs.Ends.{ModelEnd, model_ends, used_behind, used_of}
+use Rattle.trace_model.specs.Checks.{most_live}
+use Rattle.loop_model.specs.Ends.{ModelEnd, model_ends, used_behind, octet_count_used_by_end}
 use Rattle.std.proofs.Common.{if◌then◌else◌, ◌≡◌, ℕ, suc, ◌+◌, ◌<◌, ◌≤◌, max, inl, inr, Bool, true, false, not, ◌||◌, List, [], ◌∷◌, ◌++◌, length, take, drop, Option, Some, None, refl, sym, ◌∙◌, ap, subst, append-nil, arith, true≢false, eqb-true, eq-eqb, ne_eqb}
 use Rattle.std.specs.Prelude.{◌==◌, nat_lt, is_some}
 use Rattle.std.proofs.lemmas.Bool.{cases_Bool}
@@ -16,13 +17,13 @@ use Rattle.trace_model.specs.Connections.{happens}
 use Rattle.link_trait.specs.Wires.{Call, Reading, Gave, NotNow, End, Failed, Reads}
 use Rattle.link_trait.specs.declared.wires.Happening.{Happening}
 use Rattle.link_trait.specs.declared.wires.Happening.TheVariants as happening
-use Rattle.loop_model.specs.Journals.{Entry}
-use Rattle.loop_model.specs.Outs.{Out, runs, exactly, first_of}
-use Rattle.loop_model.specs.Sessions.{Rules, Session, Given, Begins, Hears, Sends, Takes, Leaves, Ticks, Ends, Faults, Stalls, written as written_as, is_released, most_output, end_after, outcomes_of, entry_of, octets_in, breaks, joined, fed, Says, nothing_said, handled, poured, pours}
+use Rattle.loop_model.specs.Journals.{JournalEntry}
+use Rattle.loop_model.specs.Outs.{Out, part_for_each_answer, exactly, first_answer_of}
+use Rattle.loop_model.specs.Sessions.{Rules, Session, GivenToSession, Begins, Hears, Sends, Takes, Leaves, Ticks, Ends, Faults, Stalls, journal_event_of_given as written_as, is_released, most_output, end_after, outcomes_of_given_event, entry_of, octets_in, breaks, joined, fed, Says, nothing_said, handled, poured, pours}
 use Rattle.loop_model.specs.Visits.{most_read, Met, nothing_met, Wrote, Visit, Tick, Read, Write, Expire, came, rests, rests_behind, read_once, visited}
-use Rattle.loop_model.specs.Loops.{Plan, rules_of, Loop, most_live, visit_at, numbers, swept, Sweeps, before, next_user, begun, answered_by, accepted, happened, Caller, calling, Halt, Course, asks, Turn, readied, turned_unless, went_unless, went, run, Dialled, dials}
-use Rattle.loop_model.specs.Parts.{session_of, of, calls_at, Rises}
-use Rattle.loop_model.specs.Cuts.{IsCut, EventsAreCut, closes, are_left_over, is_left_over, is_octets, has_octets, LeftOverIsLast, end_of, TurnsCut, EndAtStall, AreDropped, RestsAreDropped}
+use Rattle.loop_model.specs.Loops.{Plan, rules_of, Loop, visit_at, numbers, swept, Sweeps, before, next_user, begun, answered_by, accepted, happened, Caller, calling, Halt, Course, asks, Turn, readied, turned_unless, went_unless, went, run, Dialled, dials}
+use Rattle.loop_model.specs.Parts.{session_of_connection, of, calls_at, Rises}
+use Rattle.loop_model.specs.Cuts.{IsCut, EventsAreCut, closes_any_frame, are_left_over, is_left_over, is_octets, has_octets_event, LeftOverIsLast, end_of, TurnsCut, EndAtStall, AreDropped, RestsAreDropped}
 use Rattle.loop_model.specs.Laws.{IsServing, IsDialling}
 use Rattle.loop_model.specs.Points.{is_stalled, has_stalled}
 use Rattle.loop_model.proofs.Projections.{of-append}
@@ -61,21 +62,21 @@ used_again came (x ∷ xs) =
     ]
 
 -- where what is used closes no frame, all is used
-pub used_all : (came xs : List ℕ) → closes came (take (used_behind came xs) xs) ≡ false → used_behind came xs ≡ length xs
-unfolding closes used_behind
+pub used_all : (came xs : List ℕ) → closes_any_frame came (take (used_behind came xs) xs) ≡ false → used_behind came xs ≡ length xs
+unfolding closes_any_frame used_behind
 used_all came [] q = refl
 used_all came (x ∷ xs) q =
     elim (cases_Bool (has_verdicts (news came (x ∷ [])))) [
       | inl p ↦
-          let d : closes came (x ∷ []) ≡ false = subst (λ n. closes came (take n (x ∷ xs)) ≡ false) (used_one came x xs p) q in
+          let d : closes_any_frame came (x ∷ []) ≡ false = subst (λ n. closes_any_frame came (take n (x ∷ xs)) ≡ false) (used_one came x xs p) q in
           absurd (true≢false (sym (ap (λ b. b || false) p) ∙ d))
       | inr p ↦
           let n = used_behind (came ++ x ∷ []) xs in
-          let d : closes came (x ∷ take n xs) ≡ false = subst (λ n. closes came (take n (x ∷ xs)) ≡ false) (used_more came x xs p) q in
-          used_more came x xs p ∙ ap suc (used_all (came ++ x ∷ []) xs (sym (ap (λ b. b || closes (came ++ x ∷ []) (take n xs)) p) ∙ d))
+          let d : closes_any_frame came (x ∷ take n xs) ≡ false = subst (λ n. closes_any_frame came (take n (x ∷ xs)) ≡ false) (used_more came x xs p) q in
+          used_more came x xs p ∙ ap suc (used_all (came ++ x ∷ []) xs (sym (ap (λ b. b || closes_any_frame (came ++ x ∷ []) (take n xs)) p) ∙ d))
     ]
 
-cut_used : (k : ModelEnd) (octets : List ℕ) → used_of k (take (used_of k octets) octets) ≡ length (take (used_of k octets) octets)
+cut_used : (k : ModelEnd) (octets : List ℕ) → octet_count_used_by_end k (take (octet_count_used_by_end k octets) octets) ≡ length (take (octet_count_used_by_end k octets) octets)
 cut_used k octets =
     elim (cases_Bool (is_some k.core.released)) [ inl p ↦ rw p refl | inr p ↦ rw p (used_again k.stream octets) ]
 
@@ -84,16 +85,16 @@ not_true true p = absurd (true≢false (sym p))
 not_true false p = refl
 
 -- where octets are left over, none follow
-none_follow : (k : ModelEnd) (octets : List ℕ) → are_left_over (Some k) (take (used_of k octets) octets) ≡ true → used_of k octets ≡ length octets
+none_follow : (k : ModelEnd) (octets : List ℕ) → are_left_over (Some k) (take (octet_count_used_by_end k octets) octets) ≡ true → octet_count_used_by_end k octets ≡ length octets
 none_follow k octets q =
     elim (cases_Bool (is_some k.core.released)) [
       | inl p ↦ rw p refl
       | inr p ↦
-          let d : not (closes k.stream (take (used_behind k.stream octets) octets)) ≡ true = rw p at q in
-          rw p (used_all k.stream octets (not_true (closes k.stream (take (used_behind k.stream octets) octets)) d))
+          let d : not (closes_any_frame k.stream (take (used_behind k.stream octets) octets)) ≡ true = rw p at q in
+          rw p (used_all k.stream octets (not_true (closes_any_frame k.stream (take (used_behind k.stream octets) octets)) d))
     ]
 
-comes : (k : ModelEnd) (g : Given) → IsFromOutside g → model_ends.waiting k ≡ 0 → IsCut (Some k) (written_as model_ends k g)
+comes : (k : ModelEnd) (g : GivenToSession) → IsFromOutside g → model_ends.waiting k ≡ 0 → IsCut (Some k) (written_as model_ends k g)
 comes k (Begins engine rbc rb) p none = absurd p
 comes k (Hears octets) p none = cut_used k octets
 comes k (Sends text) p none = absurd p
@@ -133,17 +134,17 @@ none_over m event.Stalled p = refl
 none_over m (event.Full count) p = refl
 none_over m (event.Unserved count) p = refl
 
-octets-append : (xs ys : List Entry) → has_octets (xs ++ ys) ≡ (has_octets xs || has_octets ys)
-unfolding has_octets
+octets-append : (xs ys : List JournalEntry) → has_octets_event (xs ++ ys) ≡ (has_octets_event xs || has_octets_event ys)
+unfolding has_octets_event
 octets-append [] ys = refl
-octets-append (x ∷ xs) ys = ap (λ z. is_octets x.event || z) (octets-append xs ys) ∙ or_assoc (is_octets x.event) (has_octets xs) (has_octets ys)
+octets-append (x ∷ xs) ys = ap (λ z. is_octets x.event || z) (octets-append xs ys) ∙ or_assoc (is_octets x.event) (has_octets_event xs) (has_octets_event ys)
   where
     or_assoc : (a b c : Bool) → (a || (b || c)) ≡ ((a || b) || c)
     or_assoc true b c = refl
     or_assoc false b c = refl
 
-none_two : (xs ys : List Entry) → has_octets xs ≡ false → has_octets ys ≡ false → has_octets (xs ++ ys) ≡ false
-none_two xs ys p q = octets-append xs ys ∙ ap (λ z. z || has_octets ys) p ∙ q
+none_two : (xs ys : List JournalEntry) → has_octets_event xs ≡ false → has_octets_event ys ≡ false → has_octets_event (xs ++ ys) ≡ false
+none_two xs ys p q = octets-append xs ys ∙ ap (λ z. z || has_octets_event ys) p ∙ q
 
 or_first : (a b : Bool) → (a || b) ≡ false → a ≡ false
 or_first true b p = absurd (true≢false p)
@@ -153,17 +154,17 @@ or_second : (a b : Bool) → (a || b) ≡ false → b ≡ false
 or_second true b p = absurd (true≢false p)
 or_second false b p = p
 
-none_of : (n : ℕ) (xs : List Entry) → has_octets xs ≡ false → has_octets (of n xs) ≡ false
-unfolding of has_octets
+none_of : (n : ℕ) (xs : List JournalEntry) → has_octets_event xs ≡ false → has_octets_event (of n xs) ≡ false
+unfolding of has_octets_event
 none_of n [] p = refl
 none_of n (x ∷ xs) p =
-    let rest = none_of n xs (or_second (is_octets x.event) (has_octets xs) p) in
+    let rest = none_of n xs (or_second (is_octets x.event) (has_octets_event xs) p) in
     elim (cases_Bool (x.conn == n)) [
-      | inl q ↦ rw q (ap (λ z. z || has_octets (of n xs)) (or_first (is_octets x.event) (has_octets xs) p) ∙ rest)
+      | inl q ↦ rw q (ap (λ z. z || has_octets_event (of n xs)) (or_first (is_octets x.event) (has_octets_event xs) p) ∙ rest)
       | inr q ↦ rw q rest
     ]
 
-abbrev IsUnheard : Given → Type 0
+abbrev IsUnheard : GivenToSession → Type 0
 IsUnheard (Begins engine rbc rb) = Unit {0}
 IsUnheard (Hears octets) = ⊥
 IsUnheard (Sends text) = Unit {0}
@@ -174,7 +175,7 @@ IsUnheard Ends = Unit {0}
 IsUnheard Faults = Unit {0}
 IsUnheard Stalls = Unit {0}
 
-none_written : (k : ModelEnd) (g : Given) → IsUnheard g → is_octets (written_as model_ends k g) ≡ false
+none_written : (k : ModelEnd) (g : GivenToSession) → IsUnheard g → is_octets (written_as model_ends k g) ≡ false
 none_written k (Begins engine rbc rb) p = refl
 none_written k (Hears octets) p = absurd p
 none_written k (Sends text) p = refl
@@ -185,11 +186,11 @@ none_written k Ends p = refl
 none_written k Faults p = refl
 none_written k Stalls p = refl
 
-Unheard : Session ModelEnd → Session ModelEnd → List Entry → List Call → Type 0
-Unheard s t xs cs = has_octets xs ≡ false
+Unheard : Session ModelEnd → Session ModelEnd → List JournalEntry → List Call → Type 0
+Unheard s t xs cs = has_octets_event xs ≡ false
 
 unheard : (r : Rules) → Steady r IsUnheard Unheard
-unfolding Unheard has_octets
+unfolding Unheard has_octets_event
 unheard r = record {
   none = λ s. refl;
   then_ = λ s t u xs ys cs ds p q. none_two xs ys p q;
@@ -203,7 +204,7 @@ usual : Usual IsUnheard
 usual = record { sends = λ text. tt; leaves = λ sub. tt; takes = tt }
 
 quiet : (r : Rules) → Quiet r Unheard
-unfolding Unheard has_octets
+unfolding Unheard has_octets_event
 quiet r = record {
   none = (unheard r).none;
   then_ = (unheard r).then_;
@@ -214,7 +215,7 @@ quiet r = record {
   ticked = λ m s says due. steady_handled r IsUnheard Unheard (unheard r) usual m s Ticks says tt;
 }
 
-left_none : (s : Session ModelEnd) (ts : List (Session ModelEnd)) (xs : List Entry) (cs : List Call) → Left Unheard s ts xs cs → has_octets xs ≡ false
+left_none : (s : Session ModelEnd) (ts : List (Session ModelEnd)) (xs : List JournalEntry) (cs : List Call) → Left Unheard s ts xs cs → has_octets_event xs ≡ false
 unfolding Unheard
 left_none s ts xs cs (Stays t p q) = q
 left_none s ts xs cs (Closed t ds over p e q) = q
@@ -227,27 +228,27 @@ IsNoRead Write = Unit {0}
 IsNoRead Expire = Unit {0}
 
 module _ (r : Rules) (m : ℕ) where
-  visited_none : (visit : Visit) (s : Session ModelEnd) (a : Met) → IsNoRead visit → has_octets (visited model_ends r m visit s a).entries ≡ false
+  visited_none : (visit : Visit) (s : Session ModelEnd) (a : Met) → IsNoRead visit → has_octets_event (visited model_ends r m visit s a).entries ≡ false
   visited_none Tick s a p = left_none s _ _ _ (left_tick_at r m Unheard (quiet_at r Unheard (quiet r) m) s a)
   visited_none Read s a p = absurd p
   visited_none Write s a p = left_none s _ _ _ (left_write_at r m Unheard (quiet_at r Unheard (quiet r) m) s a)
   visited_none Expire s a p = left_none s _ _ _ (left_expire_at r m Unheard (quiet_at r Unheard (quiet r) m) s a)
 
-  visit_none : (visit : Visit) (n : ℕ) (ss : List (Session ModelEnd)) (a : Met) → IsNoRead visit → has_octets (visit_at (visited model_ends r m visit) n ss a).entries ≡ false
-  unfolding visit_at has_octets
+  visit_none : (visit : Visit) (n : ℕ) (ss : List (Session ModelEnd)) (a : Met) → IsNoRead visit → has_octets_event (visit_at (visited model_ends r m visit) n ss a).entries ≡ false
+  unfolding visit_at has_octets_event
   visit_none visit n [] a p = refl
   visit_none visit n (s ∷ ss) a p =
       elim (cases_Bool (s.number == n)) [ inl q ↦ rw q (visited_none visit s a p) | inr q ↦ rw q (visit_none visit n ss a p) ]
 
-  swept_none : (visit : Visit) (ns : List ℕ) (ss : List (Session ModelEnd)) (answers : List Met) → IsNoRead visit → has_octets (swept (visited model_ends r m visit) ns ss answers).entries ≡ false
-  unfolding swept has_octets
+  swept_none : (visit : Visit) (ns : List ℕ) (ss : List (Session ModelEnd)) (answers : List Met) → IsNoRead visit → has_octets_event (swept (visited model_ends r m visit) ns ss answers).entries ≡ false
+  unfolding swept has_octets_event
   swept_none visit [] ss answers p = refl
   swept_none visit (n ∷ ns) ss answers p =
-      let o = visit_at (visited model_ends r m visit) n ss (first_of nothing_met answers) in
+      let o = visit_at (visited model_ends r m visit) n ss (first_answer_of nothing_met answers) in
       none_two o.entries (swept (visited model_ends r m visit) ns o.state (drop 1 answers)).entries
-      (visit_none visit n ss (first_of nothing_met answers) p) (swept_none visit ns o.state (drop 1 answers) p)
+      (visit_none visit n ss (first_answer_of nothing_met answers) p) (swept_none visit ns o.state (drop 1 answers) p)
 
-  before_none : (ss : List (Session ModelEnd)) (a : Sweeps) → has_octets (before model_ends r m ss a).entries ≡ false
+  before_none : (ss : List (Session ModelEnd)) (a : Sweeps) → has_octets_event (before model_ends r m ss a).entries ≡ false
   unfolding before
   before_none ss a =
       let t = swept (visited model_ends r m Tick) (numbers ss) ss a.ticks in
@@ -260,16 +261,16 @@ module _ (plan : Plan) where
   abbrev r : Rules
   r = rules_of plan
 
-  abbrev Behind : Option Ended_at → List Entry → Option Ended_at
+  abbrev Behind : Option Ended_at → List JournalEntry → Option Ended_at
   Behind m xs = behind plan.settings (key_at plan.keys) m xs
 
-  abbrev IsLast : Option Ended_at → List Entry → Type 0
+  abbrev IsLast : Option Ended_at → List JournalEntry → Type 0
   IsLast m xs = LeftOverIsLast plan.settings (key_at plan.keys) m xs
 
-  Leads : Session ModelEnd → Session ModelEnd → List Entry → List Call → Type 0
+  Leads : Session ModelEnd → Session ModelEnd → List JournalEntry → List Call → Type 0
   Leads s t xs cs = Behind (Some s.end) xs ≡ Some t.end
 
-  leads_one : (now : ℕ) (k : ModelEnd) (g : Given) → IsOfEnd g
+  leads_one : (now : ℕ) (k : ModelEnd) (g : GivenToSession) → IsOfEnd g
       → (happens plan.settings (key_at plan.keys) now (written_as model_ends k g) (Some k)).0 ≡ Some (end_after model_ends r now k g)
   unfolding end_after
   leads_one now k (Begins engine rbc rb) p = absurd p
@@ -282,7 +283,7 @@ module _ (plan : Plan) where
   leads_one now k Faults p = refl
   leads_one now k Stalls p = refl
 
-  leads_two : (m k l : Option Ended_at) (xs ys : List Entry) → Behind m xs ≡ k → Behind k ys ≡ l → Behind m (xs ++ ys) ≡ l
+  leads_two : (m k l : Option Ended_at) (xs ys : List JournalEntry) → Behind m xs ≡ k → Behind k ys ≡ l → Behind m (xs ++ ys) ≡ l
   leads_two m k l xs ys p q = behind-append plan.settings (key_at plan.keys) m xs ys ∙ ap (λ z. Behind z ys) p ∙ q
 
   leads : Steady r IsOfEnd Leads
@@ -312,80 +313,80 @@ module _ (plan : Plan) where
   -- ---- one read
 
   -- events without octets leave nothing to be shown
-  last_behind : (m : Option Ended_at) (xs ys : List Entry) → has_octets xs ≡ false → IsLast (Behind m xs) ys → IsLast m (xs ++ ys)
-  unfolding behind has_octets
+  last_behind : (m : Option Ended_at) (xs ys : List JournalEntry) → has_octets_event xs ≡ false → IsLast (Behind m xs) ys → IsLast m (xs ++ ys)
+  unfolding behind has_octets_event
   last_behind m [] ys p q = q
   last_behind m (x ∷ xs) ys p q = (
-    λ left. absurd (true≢false (sym left ∙ none_over m x.event (or_first (is_octets x.event) (has_octets xs) p))),
-    last_behind (happens plan.settings (key_at plan.keys) x.moment x.event m).0 xs ys (or_second (is_octets x.event) (has_octets xs) p) q,
+    λ left. absurd (true≢false (sym left ∙ none_over m x.event (or_first (is_octets x.event) (has_octets_event xs) p))),
+    last_behind (happens plan.settings (key_at plan.keys) x.moment x.event m).0 xs ys (or_second (is_octets x.event) (has_octets_event xs) p) q,
   )
 
-  last_none : (m : Option Ended_at) (xs : List Entry) → has_octets xs ≡ false → IsLast m xs
+  last_none : (m : Option Ended_at) (xs : List JournalEntry) → has_octets_event xs ≡ false → IsLast m xs
   last_none m xs p = subst (λ z. IsLast m z) (append-nil xs) (last_behind m xs [] p tt)
 
-  last_then : (m : Option Ended_at) (xs ys : List Entry) → IsLast m xs → has_octets ys ≡ false → IsLast m (xs ++ ys)
+  last_then : (m : Option Ended_at) (xs ys : List JournalEntry) → IsLast m xs → has_octets_event ys ≡ false → IsLast m (xs ++ ys)
   last_then m [] ys p q = last_none m ys q
   last_then m (x ∷ xs) ys p q = (
     λ left. none_two xs ys (p.0 left) q,
     last_then (happens plan.settings (key_at plan.keys) x.moment x.event m).0 xs ys p.1 q,
   )
 
-  joined_none : (m : ℕ) (s : Session ModelEnd) (octets : List ℕ) → has_octets (joined model_ends r m s octets).1 ≡ false
-  unfolding joined has_octets
+  joined_none : (m : ℕ) (s : Session ModelEnd) (octets : List ℕ) → has_octets_event (joined model_ends r m s octets).1 ≡ false
+  unfolding joined has_octets_event
   joined_none m s octets =
       elim (cases_Bool (nat_lt most_output (length s.output + length octets))) [ inl p ↦ rw p refl | inr p ↦ rw p refl ]
 
   -- octets, and events without any
-  record Hear (m : ℕ) (s : Session ModelEnd) (octets : List ℕ) (xs : List Entry) : Type 0 where
-    rest : List Entry
+  record Hear (m : ℕ) (s : Session ModelEnd) (octets : List ℕ) (xs : List JournalEntry) : Type 0 where
+    rest : List JournalEntry
     is : xs ≡ entry_of model_ends r m s (Hears octets) ∷ rest
-    none : has_octets rest ≡ false
+    none : has_octets_event rest ≡ false
 
   handled_hear : (m : ℕ) (s : Session ModelEnd) (octets : List ℕ) (says : Says) → Hear m s octets (handled model_ends r m s (Hears octets) says).1
   unfolding Unheard fed
   handled_hear m s octets says =
       let g = Hears octets in
       let t : Session ModelEnd = record s { end = end_after model_ends r m s.end g; broken = s.broken || breaks g } in
-      let j = joined model_ends r m t (octets_in (outcomes_of model_ends r m s.end g)) in
+      let j = joined model_ends r m t (octets_in (outcomes_of_given_event model_ends r m s.end g)) in
       let f = follows_handled r IsUnheard Unheard (unheard r) usual m s g says in
-      record { rest = j.1 ++ f.rest; is = f.is; none = none_two j.1 f.rest (joined_none m t (octets_in (outcomes_of model_ends r m s.end g))) f.holds }
+      record { rest = j.1 ++ f.rest; is = f.is; none = none_two j.1 f.rest (joined_none m t (octets_in (outcomes_of_given_event model_ends r m s.end g))) f.holds }
 
-  runs_nothing : (m : ℕ) (s : Session ModelEnd) (says : List Says) → has_octets (runs (poured model_ends r m) (s, []) says).1 ≡ false
-  unfolding runs poured has_octets
+  runs_nothing : (m : ℕ) (s : Session ModelEnd) (says : List Says) → has_octets_event (part_for_each_answer (poured model_ends r m) (s, []) says).1 ≡ false
+  unfolding part_for_each_answer poured has_octets_event
   runs_nothing m s [] = refl
   runs_nothing m s (a ∷ says) = runs_nothing m s says
 
   all_dropped : (n : ℕ) (octets : List ℕ) → n ≡ length octets → drop n octets ≡ []
   all_dropped n octets e = drop_all n octets (omega arith)
 
-  hear_led : (m : ℕ) (s : Session ModelEnd) (octets : List ℕ) (rest : List Entry) (k : ModelEnd)
+  hear_led : (m : ℕ) (s : Session ModelEnd) (octets : List ℕ) (rest : List JournalEntry) (k : ModelEnd)
       → Behind (Some s.end) (entry_of model_ends r m s (Hears octets) ∷ rest) ≡ Some k
-      → Behind (happens plan.settings (key_at plan.keys) m (event.Octets (take (used_of s.end octets) octets)) (Some s.end)).0 rest ≡ Some k
+      → Behind (happens plan.settings (key_at plan.keys) m (event.Octets (take (octet_count_used_by_end s.end octets) octets)) (Some s.end)).0 rest ≡ Some k
   unfolding behind
   hear_led m s octets rest k e = e
 
   poured_on : (m : ℕ) (says : List Says) (a : Says) (s : Session ModelEnd) (octets : List ℕ)
-      → ((y : Session ModelEnd × List ℕ) → IsLast (Some y.0.end) (runs (poured model_ends r m) y says).1)
+      → ((y : Session ModelEnd × List ℕ) → IsLast (Some y.0.end) (part_for_each_answer (poured model_ends r m) y says).1)
       → IsLast (Some s.end) ((handled model_ends r m s (Hears octets) a).1
-      ++ (runs (poured model_ends r m) ((handled model_ends r m s (Hears octets) a).0, drop (used_of s.end octets) octets) says).1)
+      ++ (part_for_each_answer (poured model_ends r m) ((handled model_ends r m s (Hears octets) a).0, drop (octet_count_used_by_end s.end octets) octets) says).1)
   unfolding Leads
   poured_on m says a s octets on =
       let h = handled model_ends r m s (Hears octets) a in
       let d = handled_hear m s octets a in
-      let left = drop (used_of s.end octets) octets in
-      let later = runs (poured model_ends r m) (h.0, left) says in
+      let left = drop (octet_count_used_by_end s.end octets) octets in
+      let later = part_for_each_answer (poured model_ends r m) (h.0, left) says in
       let led : Behind (Some s.end) h.1 ≡ Some h.0.end = steady_handled r IsOfEnd Leads leads all_of_end.usual m s (Hears octets) a tt in
       let on_rest = hear_led m s octets d.rest h.0.end (subst (λ z. Behind (Some s.end) z ≡ Some h.0.end) d.is led) in
       subst (λ z. IsLast (Some s.end) (z ++ later.1)) (sym d.is) (
         λ over.
             none_two d.rest later.1 d.none
-            (subst (λ z. has_octets (runs (poured model_ends r m) (h.0, z) says).1 ≡ false)
-            (sym (all_dropped (used_of s.end octets) octets (none_follow s.end octets over))) (runs_nothing m h.0 says)),
+            (subst (λ z. has_octets_event (part_for_each_answer (poured model_ends r m) (h.0, z) says).1 ≡ false)
+            (sym (all_dropped (octet_count_used_by_end s.end octets) octets (none_follow s.end octets over))) (runs_nothing m h.0 says)),
         last_behind _ d.rest later.1 d.none (subst (λ z. IsLast z later.1) (sym on_rest) (on (h.0, left))),
       )
 
-  runs_last : (m : ℕ) (says : List Says) (x : Session ModelEnd × List ℕ) → IsLast (Some x.0.end) (runs (poured model_ends r m) x says).1
-  unfolding runs poured
+  runs_last : (m : ℕ) (says : List Says) (x : Session ModelEnd × List ℕ) → IsLast (Some x.0.end) (part_for_each_answer (poured model_ends r m) x says).1
+  unfolding part_for_each_answer poured
   runs_last m [] x = tt
   runs_last m (a ∷ says) x =
       elim (cases_Bool ((length x.1 == 0) || x.0.broken)) [
@@ -398,18 +399,18 @@ module _ (plan : Plan) where
   came_last m (Gave octets) s says = runs_last m (exactly (length octets) nothing_said says) (s, octets)
   came_last m NotNow s says = tt
   came_last m End s says =
-      last_none (Some s.end) (handled model_ends r m s Ends (first_of nothing_said says)).1
-      (steady_handled r IsUnheard Unheard (unheard r) usual m s Ends (first_of nothing_said says) tt)
+      last_none (Some s.end) (handled model_ends r m s Ends (first_answer_of nothing_said says)).1
+      (steady_handled r IsUnheard Unheard (unheard r) usual m s Ends (first_answer_of nothing_said says) tt)
   came_last m Failed s says =
-      last_none (Some s.end) (handled model_ends r m s Faults (first_of nothing_said says)).1
-      (steady_handled r IsUnheard Unheard (unheard r) usual m s Faults (first_of nothing_said says) tt)
+      last_none (Some s.end) (handled model_ends r m s Faults (first_answer_of nothing_said says)).1
+      (steady_handled r IsUnheard Unheard (unheard r) usual m s Faults (first_answer_of nothing_said says) tt)
 
-  rests_none : (m : ℕ) (s : Session ModelEnd) (a : Wrote) → has_octets (rests model_ends r m s a).entries ≡ false
-  unfolding Unheard has_octets
+  rests_none : (m : ℕ) (s : Session ModelEnd) (a : Wrote) → has_octets_event (rests model_ends r m s a).entries ≡ false
+  unfolding Unheard has_octets_event
   rests_none m s a = left_none s _ _ _ (left_rests_at r m Unheard (quiet_at r Unheard (quiet r) m) s s a [] [] refl)
 
-  behind_none : (m : ℕ) (reading : Reading) (s : Session ModelEnd) (a : Wrote) → has_octets (rests_behind model_ends reading r m s a).entries ≡ false
-  unfolding has_octets
+  behind_none : (m : ℕ) (reading : Reading) (s : Session ModelEnd) (a : Wrote) → has_octets_event (rests_behind model_ends reading r m s a).entries ≡ false
+  unfolding has_octets_event
   behind_none m (Gave octets) s a = rests_none m s a
   behind_none m NotNow s a = refl
   behind_none m End s a = rests_none m s a
@@ -426,9 +427,9 @@ module _ (plan : Plan) where
             (last_then (Some s.end) b.1 (rests_behind model_ends a.reading r m b.0 a.wrote).entries (came_last m a.reading s a.says) (behind_none m a.reading b.0 a.wrote))
       ]
 
-  visit_last : (m n : ℕ) (ss : List (Session ModelEnd)) (a : Met) (k : Option Ended_at) → ((s : Session ModelEnd) → session_of n ss ≡ Some s → k ≡ Some s.end)
+  visit_last : (m n : ℕ) (ss : List (Session ModelEnd)) (a : Met) (k : Option Ended_at) → ((s : Session ModelEnd) → session_of_connection n ss ≡ Some s → k ≡ Some s.end)
       → IsLast k (visit_at (visited model_ends r m Read) n ss a).entries
-  unfolding visit_at session_of
+  unfolding visit_at session_of_connection
   visit_last m n [] a k led = tt
   visit_last m n (s ∷ ss) a k led =
       elim (cases_Bool (s.number == n)) [
@@ -438,27 +439,27 @@ module _ (plan : Plan) where
 
   -- ---- what happens
 
-  own_of : (m n : ℕ) (xs : List Entry) → ArePlain m n xs → of n xs ≡ xs
+  own_of : (m n : ℕ) (xs : List JournalEntry) → ArePlain m n xs → of n xs ≡ xs
   unfolding of
   own_of m n [] p = refl
   own_of m n (x ∷ xs) p = rw (eq-eqb x.conn n p.0.conn) (ap (λ z. x ∷ z) (own_of m n xs p.1))
 
-  other_of : (m n k : ℕ) (xs : List Entry) → (n == k) ≡ false → ArePlain m n xs → of k xs ≡ []
+  other_of : (m n k : ℕ) (xs : List JournalEntry) → (n == k) ≡ false → ArePlain m n xs → of k xs ≡ []
   unfolding of
   other_of m n k [] q p = refl
   other_of m n k (x ∷ xs) q p = rw (subst (λ z. (z == k) ≡ false) (sym p.0.conn) q) (other_of m n k xs q p.1)
 
-  answered_none : (user : Option Mind) (l : Loop ModelEnd) (conn : ℕ) → has_octets (answered_by model_ends user plan l conn).entries ≡ false
-  unfolding has_octets
+  answered_none : (user : Option Mind) (l : Loop ModelEnd) (conn : ℕ) → has_octets_event (answered_by model_ends user plan l conn).entries ≡ false
+  unfolding has_octets_event
   answered_none None l conn = refl
   answered_none (Some mind) l conn = refl
 
-  accepted_none : (l : Loop ModelEnd) (conn : ℕ) → has_octets (accepted model_ends plan l conn).entries ≡ false
-  unfolding accepted has_octets
+  accepted_none : (l : Loop ModelEnd) (conn : ℕ) → has_octets_event (accepted model_ends plan l conn).entries ≡ false
+  unfolding accepted has_octets_event
   accepted_none l conn =
       elim (cases_Bool (nat_lt (length l.sessions) most_live)) [ inl p ↦ rw p (answered_none (next_user l.users) l conn) | inr p ↦ rw p refl ]
 
-  happened_last : (l : Loop ModelEnd) (what : Happening) (a : Met) (n : ℕ) (k : Option Ended_at) → ((s : Session ModelEnd) → session_of n l.sessions ≡ Some s → k ≡ Some s.end)
+  happened_last : (l : Loop ModelEnd) (what : Happening) (a : Met) (n : ℕ) (k : Option Ended_at) → ((s : Session ModelEnd) → session_of_connection n l.sessions ≡ Some s → k ≡ Some s.end)
       → IsLast k (of n (happened model_ends plan l what a).entries)
   unfolding happened of
   happened_last l (happening.Accepted conn) a n k led =
@@ -482,19 +483,19 @@ module _ (plan : Plan) where
 
   -- ---- before the turn
 
-  abbrev Q : Session ModelEnd → Session ModelEnd → List Entry → List Call → Type 0
+  abbrev Q : Session ModelEnd → Session ModelEnd → List JournalEntry → List Call → Type 0
   Q = Both Own Leads
 
   q_calls : AllLeft r Q
   q_calls = all_left_of r Q (calls_both r Own Leads (own_calls r) leads_calls)
 
-  own : (s t : Session ModelEnd) (xs : List Entry) (cs : List Call) → Q s t xs cs → Own s t xs cs
+  own : (s t : Session ModelEnd) (xs : List JournalEntry) (cs : List Call) → Q s t xs cs → Own s t xs cs
   own s t xs cs p = p.0
 
-  abbrev Any : Session ModelEnd → List Entry → List Call → Type 0
+  abbrev Any : Session ModelEnd → List JournalEntry → List Call → Type 0
   Any s xs cs = Unit {0}
 
-  abbrev Ever : List Entry → List Call → Type 0
+  abbrev Ever : List JournalEntry → List Call → Type 0
   Ever xs cs = Unit {0}
 
   keeps : Keeps plan Q Any Ever
@@ -508,20 +509,20 @@ module _ (plan : Plan) where
   }
 
   -- a session comes from one before it, whose events lead to its end
-  record From (n : ℕ) (ss : List (Session ModelEnd)) (t : Session ModelEnd) (xs : List Entry) : Type 0 where
+  record From (n : ℕ) (ss : List (Session ModelEnd)) (t : Session ModelEnd) (xs : List JournalEntry) : Type 0 where
     old : Session ModelEnd
-    was : session_of n ss ≡ Some old
+    was : session_of_connection n ss ≡ Some old
     is : Behind (Some old.end) (of n xs) ≡ Some t.end
 
-  record Follow (ss ts : List (Session ModelEnd)) (xs : List Entry) : Type 0 where
+  record Follow (ss ts : List (Session ModelEnd)) (xs : List JournalEntry) : Type 0 where
     apart : Apart ts
-    from : (n : ℕ) (t : Session ModelEnd) → session_of n ts ≡ Some t → From n ss t xs
+    from : (n : ℕ) (t : Session ModelEnd) → session_of_connection n ts ≡ Some t → From n ss t xs
 
   follow_none : (ss : List (Session ModelEnd)) → Apart ss → Follow ss ss []
   unfolding behind of
   follow_none ss p = record { apart = p; from = λ n t e. record { old = t; was = e; is = refl } }
 
-  follow_then : (ss ts us : List (Session ModelEnd)) (xs ys : List Entry) → Follow ss ts xs → Follow ts us ys → Follow ss us (xs ++ ys)
+  follow_then : (ss ts us : List (Session ModelEnd)) (xs ys : List JournalEntry) → Follow ss ts xs → Follow ts us ys → Follow ss us (xs ++ ys)
   follow_then ss ts us xs ys a b = record {
     apart = b.apart;
     from = λ n u e.
@@ -534,7 +535,7 @@ module _ (plan : Plan) where
         };
   }
 
-  left_from : (s t : Session ModelEnd) (n : ℕ) (found : Option (Session ModelEnd)) (xs : List Entry) (cs : List Call) → s.number ≡ n → found ≡ Some t
+  left_from : (s t : Session ModelEnd) (n : ℕ) (found : Option (Session ModelEnd)) (xs : List JournalEntry) (cs : List Call) → s.number ≡ n → found ≡ Some t
       → LeftAt plan Q q_calls own Any Ever keeps s found xs cs → Behind (Some s.end) (of n xs) ≡ Some t.end
   unfolding LeftAt Leads
   left_from s t n None xs cs num e l = absurd (let x : ⊥ = cc in x)
@@ -543,7 +544,7 @@ module _ (plan : Plan) where
       ∙ l.1
       ∙ ap (λ (z : Option (Session ModelEnd)). end_of z) e
 
-  follow_moved : (n : ℕ) (ss ts : List (Session ModelEnd)) (xs : List Entry) (cs : List Call) → Apart ss → Moved plan Q q_calls own Any Ever keeps n ss ts xs cs → Follow ss ts xs
+  follow_moved : (n : ℕ) (ss ts : List (Session ModelEnd)) (xs : List JournalEntry) (cs : List Call) → Apart ss → Moved plan Q q_calls own Any Ever keeps n ss ts xs cs → Follow ss ts xs
   unfolding behind
   follow_moved n ss ts xs cs p (Absent f e x y) = rw (e, x) (follow_none ss p)
   follow_moved n ss ts xs cs p (Found s f num others left apart) = record {
@@ -553,10 +554,10 @@ module _ (plan : Plan) where
           | inl q ↦
               let i : n ≡ k = eqb-true n k q in
               subst (λ z. From z ss t xs) i
-              (record { old = s; was = f; is = left_from s t n (session_of n ts) xs cs num (subst (λ z. session_of z ts ≡ Some t) (sym i) e) left })
+              (record { old = s; was = f; is = left_from s t n (session_of_connection n ts) xs cs num (subst (λ z. session_of_connection z ts ≡ Some t) (sym i) e) left })
           | inr q ↦
               let none : of k xs ≡ [] =
-              (own_left plan Q q_calls own Any Ever keeps s (session_of n ts) xs cs left).entries k
+              (own_left plan Q q_calls own Any Ever keeps s (session_of_connection n ts) xs cs left).entries k
               ∙ ap (λ (b : Bool). if b then xs else []) (subst (λ z. (z == k) ≡ false) (sym num) q) in
               record { old = t; was = sym (others k q) ∙ e; is = ap (λ z. Behind (Some t.end) z) none }
         ];
@@ -567,9 +568,9 @@ module _ (plan : Plan) where
   unfolding swept
   follow_swept m visit [] ss answers p = follow_none ss p
   follow_swept m visit (n ∷ ns) ss answers p =
-      let o = visit_at (visited model_ends r m visit) n ss (first_of nothing_met answers) in
+      let o = visit_at (visited model_ends r m visit) n ss (first_answer_of nothing_met answers) in
       let e = swept (visited model_ends r m visit) ns o.state (drop 1 answers) in
-      let f = follow_moved n ss o.state o.entries o.calls p (moved plan Q q_calls own Any Ever keeps m visit n ss (first_of nothing_met answers) p) in
+      let f = follow_moved n ss o.state o.entries o.calls p (moved plan Q q_calls own Any Ever keeps m visit n ss (first_answer_of nothing_met answers) p) in
       follow_then ss o.state e.state o.entries e.entries f (follow_swept m visit ns o.state (drop 1 answers) f.apart)
 
   follow_before : (m : ℕ) (ss : List (Session ModelEnd)) (a : Sweeps) → Apart ss → Follow ss (before model_ends r m ss a).state (before model_ends r m ss a).entries
@@ -580,8 +581,8 @@ module _ (plan : Plan) where
       let f = follow_swept m Tick (numbers ss) ss a.ticks p in
       follow_then ss t.state u.state t.entries u.entries f (follow_swept m Expire (numbers t.state) t.state a.closings f.apart)
 
-  rises_absent : (top n : ℕ) (ss : List (Session ModelEnd)) → Rises top (numbers ss) → n ≤ top → session_of n ss ≡ None
-  unfolding session_of
+  rises_absent : (top n : ℕ) (ss : List (Session ModelEnd)) → Rises top (numbers ss) → n ≤ top → session_of_connection n ss ≡ None
+  unfolding session_of_connection
   rises_absent top n [] p q = refl
   rises_absent top n (s ∷ ss) p q =
       let up : top < s.number = p.0 in
@@ -595,7 +596,7 @@ module _ (plan : Plan) where
 
   -- ---- a turn
 
-  readied_none : (c : Course ModelEnd) (a : Turn) → has_octets (readied model_ends plan c a).entries ≡ false
+  readied_none : (c : Course ModelEnd) (a : Turn) → has_octets_event (readied model_ends plan c a).entries ≡ false
   unfolding readied
   readied_none c a = before_none r (max c.loop.moment a.first) c.loop.sessions a.sweeps
 
@@ -603,20 +604,20 @@ module _ (plan : Plan) where
   unfolding readied
   readied_follow c a p = follow_before (max c.loop.moment a.first) c.loop.sessions a.sweeps p
 
-  turned_last : (halt : Option Halt) (d : Course ModelEnd) (a : Turn) (n : ℕ) (k : Option Ended_at) → ((s : Session ModelEnd) → session_of n d.loop.sessions ≡ Some s → k ≡ Some s.end)
+  turned_last : (halt : Option Halt) (d : Course ModelEnd) (a : Turn) (n : ℕ) (k : Option Ended_at) → ((s : Session ModelEnd) → session_of_connection n d.loop.sessions ≡ Some s → k ≡ Some s.end)
       → IsLast k (of n (turned_unless model_ends halt plan d a).entries)
   unfolding of
   turned_last (Some halt) d a n k led = tt
   turned_last None d a n k led = happened_last (asks a.second d).loop a.happening a.met n k led
 
   went_last : (halt : Option Halt) (c : Course ModelEnd) (a : Turn) (n : ℕ) → halt ≡ None → Rises 0 (numbers c.loop.sessions)
-      → IsLast (end_of (session_of n c.loop.sessions)) (of n (went_unless model_ends halt plan c a).entries)
+      → IsLast (end_of (session_of_connection n c.loop.sessions)) (of n (went_unless model_ends halt plan c a).entries)
   went_last (Some halt) c a n p rises = absurd (let x : ⊥ = cc in x)
   went_last None c a n p rises =
       let d = readied model_ends plan c a in
       let t = turned_unless model_ends d.state.halt plan d.state a in
       let f = readied_follow c a (rises_apart 0 c.loop.sessions rises) in
-      let k = end_of (session_of n c.loop.sessions) in
+      let k = end_of (session_of_connection n c.loop.sessions) in
       subst (λ z. IsLast k z) (sym (of-append n d.entries t.entries))
       (last_behind k (of n d.entries) (of n t.entries) (none_of n d.entries (readied_none c a))
       (turned_last d.state.halt d.state a n (Behind k (of n d.entries))
@@ -624,7 +625,7 @@ module _ (plan : Plan) where
 
 -- ---- behind a stall
 
-stalled-append : (xs ys : List Entry) → has_stalled (xs ++ ys) ≡ (has_stalled xs || has_stalled ys)
+stalled-append : (xs ys : List JournalEntry) → has_stalled (xs ++ ys) ≡ (has_stalled xs || has_stalled ys)
 unfolding has_stalled
 stalled-append [] ys = refl
 stalled-append (x ∷ xs) ys = ap (λ z. is_stalled x.event || z) (stalled-append xs ys) ∙ or_assoc (is_stalled x.event) (has_stalled xs) (has_stalled ys)
@@ -637,7 +638,7 @@ or_true : (b : Bool) → (b || true) ≡ true
 or_true true = refl
 or_true false = refl
 
-end_two : (xs ys : List Entry) → EndAtStall xs → EndAtStall ys → (has_stalled xs ≡ true → has_octets ys ≡ false) → EndAtStall (xs ++ ys)
+end_two : (xs ys : List JournalEntry) → EndAtStall xs → EndAtStall ys → (has_stalled xs ≡ true → has_octets_event ys ≡ false) → EndAtStall (xs ++ ys)
 unfolding has_stalled
 end_two [] ys p q f = q
 end_two (x ∷ xs) ys p q f = (
@@ -646,20 +647,20 @@ end_two (x ∷ xs) ys p q f = (
 )
 
 -- a session that stalled broke off, and to one that broke off no octets come
-record Drops (s t : Session ModelEnd) (xs : List Entry) : Type 0 where
-  none : s.broken ≡ true → has_octets xs ≡ false
+record Drops (s t : Session ModelEnd) (xs : List JournalEntry) : Type 0 where
+  none : s.broken ≡ true → has_octets_event xs ≡ false
   still : s.broken ≡ true → t.broken ≡ true
   stall : has_stalled xs ≡ true → t.broken ≡ true
   ends : EndAtStall xs
 
-Dropping : Session ModelEnd → Session ModelEnd → List Entry → List Call → Type 0
+Dropping : Session ModelEnd → Session ModelEnd → List JournalEntry → List Call → Type 0
 Dropping s t xs cs = Drops s t xs
 
 drops_same : (s t : Session ModelEnd) → (s.broken ≡ true → t.broken ≡ true) → Drops s t []
-unfolding has_octets has_stalled
+unfolding has_octets_event has_stalled
 drops_same s t p = record { none = λ e. refl; still = p; stall = λ e. absurd (true≢false (sym e)); ends = tt }
 
-drops_then : (s t u : Session ModelEnd) (xs ys : List Entry) → Drops s t xs → Drops t u ys → Drops s u (xs ++ ys)
+drops_then : (s t u : Session ModelEnd) (xs ys : List JournalEntry) → Drops s t xs → Drops t u ys → Drops s u (xs ++ ys)
 drops_then s t u xs ys p q = record {
   none = λ e. none_two xs ys (p.none e) (q.none (p.still e));
   still = λ e. q.still (p.still e);
@@ -671,7 +672,7 @@ drops_then s t u xs ys p q = record {
   ends = end_two xs ys p.ends q.ends (λ e. q.none (p.stall e));
 }
 
-stall_breaks : (k : ModelEnd) (g : Given) → is_stalled (written_as model_ends k g) ≡ true → breaks g ≡ true
+stall_breaks : (k : ModelEnd) (g : GivenToSession) → is_stalled (written_as model_ends k g) ≡ true → breaks g ≡ true
 stall_breaks k (Begins engine rbc rb) p = absurd (true≢false (sym p))
 stall_breaks k (Hears octets) p = absurd (true≢false (sym p))
 stall_breaks k (Sends text) p = absurd (true≢false (sym p))
@@ -690,9 +691,9 @@ or_none true = refl
 or_none false = refl
 
 -- an event, where no octets come to a session that broke off
-drops_one : (s t : Session ModelEnd) (x : Entry) (b : Bool) → t.broken ≡ (s.broken || b) → (is_stalled x.event ≡ true → b ≡ true) → (s.broken ≡ true → is_octets x.event ≡ false)
+drops_one : (s t : Session ModelEnd) (x : JournalEntry) (b : Bool) → t.broken ≡ (s.broken || b) → (is_stalled x.event ≡ true → b ≡ true) → (s.broken ≡ true → is_octets x.event ≡ false)
     → Drops s t (x ∷ [])
-unfolding has_octets has_stalled
+unfolding has_octets_event has_stalled
 drops_one s t x b e f g = record {
   none = λ p. or_none (is_octets x.event) ∙ g p;
   still = λ p. e ∙ ap (λ z. z || b) p;
@@ -709,12 +710,12 @@ module _ (r : Rules) where
         | inr p ↦ rw p (drops_same s _ (λ e. e))
       ]
 
-  drops_given : (m : ℕ) (s : Session ModelEnd) (g : Given) → (s.broken ≡ true → is_octets (written_as model_ends s.end g) ≡ false)
+  drops_given : (m : ℕ) (s : Session ModelEnd) (g : GivenToSession) → (s.broken ≡ true → is_octets (written_as model_ends s.end g) ≡ false)
       → Drops s (fed model_ends r m s g).0 (fed model_ends r m s g).1
   unfolding fed
   drops_given m s g f =
       let t : Session ModelEnd = record s { end = end_after model_ends r m s.end g; broken = s.broken || breaks g } in
-      let octets = octets_in (outcomes_of model_ends r m s.end g) in
+      let octets = octets_in (outcomes_of_given_event model_ends r m s.end g) in
       drops_then s t (joined model_ends r m t octets).0 (entry_of model_ends r m s g ∷ []) (joined model_ends r m t octets).1
       (drops_one s t (entry_of model_ends r m s g) (breaks g) refl (stall_breaks s.end g) f) (drops_joined m t octets)
 
@@ -734,7 +735,7 @@ module _ (r : Rules) where
     parts = λ s told at gone. drops_same s _ (λ e. e);
   }
 
-  drops_handled : (m : ℕ) (s : Session ModelEnd) (g : Given) (says : Says) → (s.broken ≡ true → is_octets (written_as model_ends s.end g) ≡ false)
+  drops_handled : (m : ℕ) (s : Session ModelEnd) (g : GivenToSession) (says : Says) → (s.broken ≡ true → is_octets (written_as model_ends s.end g) ≡ false)
       → Drops s (handled model_ends r m s g says).0 (handled model_ends r m s g says).1
   unfolding Dropping
   drops_handled m s g says f =
@@ -752,20 +753,20 @@ module _ (r : Rules) where
             rw p (drops_handled m x.0 (Hears x.1) a (λ e. absurd (true≢false (sym e ∙ or_second (length x.1 == 0) x.0.broken p))))
       ]
 
-  drops_all : (m : ℕ) (says : List Says) (x : Session ModelEnd × List ℕ) → Drops x.0 (runs (poured model_ends r m) x says).0.0 (runs (poured model_ends r m) x says).1
-  unfolding runs
+  drops_all : (m : ℕ) (says : List Says) (x : Session ModelEnd × List ℕ) → Drops x.0 (part_for_each_answer (poured model_ends r m) x says).0.0 (part_for_each_answer (poured model_ends r m) x says).1
+  unfolding part_for_each_answer
   drops_all m [] x = drops_same x.0 x.0 (λ e. e)
   drops_all m (a ∷ says) x =
       let b = poured model_ends r m x a in
-      let d = runs (poured model_ends r m) b.0 says in
+      let d = part_for_each_answer (poured model_ends r m) b.0 says in
       drops_then x.0 b.0.0 d.0.0 b.1 d.1 (drops_poured m x a) (drops_all m says b.0)
 
   drops_came : (m : ℕ) (reading : Reading) (s : Session ModelEnd) (says : List Says) → Drops s (came model_ends reading r m s says).0 (came model_ends reading r m s says).1
   unfolding pours
   drops_came m (Gave octets) s says = drops_all m (exactly (length octets) nothing_said says) (s, octets)
   drops_came m NotNow s says = drops_same s s (λ e. e)
-  drops_came m End s says = drops_handled m s Ends (first_of nothing_said says) (λ e. refl)
-  drops_came m Failed s says = drops_handled m s Faults (first_of nothing_said says) (λ e. refl)
+  drops_came m End s says = drops_handled m s Ends (first_answer_of nothing_said says) (λ e. refl)
+  drops_came m Failed s says = drops_handled m s Faults (first_answer_of nothing_said says) (λ e. refl)
 
   drops_calls : Calls r Dropping
   unfolding Dropping
@@ -783,23 +784,23 @@ module _ (r : Rules) where
   }
 
 module _ (plan : Plan) where
-  abbrev Both_so : Session ModelEnd → Session ModelEnd → List Entry → List Call → Type 0
+  abbrev Both_so : Session ModelEnd → Session ModelEnd → List JournalEntry → List Call → Type 0
   Both_so = Both Own Dropping
 
   both_calls : AllLeft (rules_of plan) Both_so
   both_calls = all_left_of (rules_of plan) Both_so (calls_both (rules_of plan) Own Dropping (own_calls (rules_of plan)) (drops_calls (rules_of plan)))
 
-  its_own : (s t : Session ModelEnd) (xs : List Entry) (cs : List Call) → Both_so s t xs cs → Own s t xs cs
+  its_own : (s t : Session ModelEnd) (xs : List JournalEntry) (cs : List Call) → Both_so s t xs cs → Own s t xs cs
   its_own s t xs cs p = p.0
 
-  record Dropped (s : Session ModelEnd) (xs : List Entry) (cs : List Call) : Type 0 where
+  record Dropped (s : Session ModelEnd) (xs : List JournalEntry) (cs : List Call) : Type 0 where
     stall : has_stalled xs ≡ true → s.broken ≡ true
     ends : EndAtStall xs
 
-  abbrev Over : List Entry → List Call → Type 0
+  abbrev Over : List JournalEntry → List Call → Type 0
   Over xs cs = EndAtStall xs
 
-  dropped_more : (s t : Session ModelEnd) (xs ys : List Entry) (cs ds : List Call) → Dropped s xs cs → Both_so s t ys ds → Dropped t (xs ++ ys) (cs ++ ds)
+  dropped_more : (s t : Session ModelEnd) (xs ys : List JournalEntry) (cs ds : List Call) → Dropped s xs cs → Both_so s t ys ds → Dropped t (xs ++ ys) (cs ++ ds)
   unfolding Dropping
   dropped_more s t xs ys cs ds h q = record {
     stall = λ e.
@@ -811,7 +812,7 @@ module _ (plan : Plan) where
   }
 
   keeps_dropped : Keeps plan Both_so Dropped Over
-  unfolding has_octets has_stalled
+  unfolding has_octets_event has_stalled
   keeps_dropped = record {
     visit = λ s t xs ys cs ds h q. dropped_more s t xs ys cs ds h q;
     close = λ s t xs ys cs ds over h q. (dropped_more s t xs ys cs ds h q).ends;
@@ -821,13 +822,13 @@ module _ (plan : Plan) where
     unserved = λ m conn handed. (λ e. refl, tt);
   }
 
-  dropped_in : (s : Option (Session ModelEnd)) (conn : ℕ) (xs : List Entry) (cs : List Call) → Fits plan Both_so both_calls its_own Dropped Over keeps_dropped s conn xs cs → EndAtStall xs
+  dropped_in : (s : Option (Session ModelEnd)) (conn : ℕ) (xs : List JournalEntry) (cs : List Call) → Fits plan Both_so both_calls its_own Dropped Over keeps_dropped s conn xs cs → EndAtStall xs
   unfolding Fits
   dropped_in None conn xs cs h = h
   dropped_in (Some s) conn xs cs h = h.1.ends
 
   all_dropped_in : (o : Out (Course ModelEnd)) → Knows plan Both_so both_calls its_own Dropped Over keeps_dropped o.entries o.calls o.state.loop.sessions → AreDropped plan o
-  all_dropped_in o k conn = dropped_in (session_of conn o.state.loop.sessions) conn (of conn o.entries) (calls_at conn o.calls) (k.fits conn)
+  all_dropped_in o k conn = dropped_in (session_of_connection conn o.state.loop.sessions) conn (of conn o.entries) (calls_at conn o.calls) (k.fits conn)
 
   first_dropped : (caller : Caller) (at : ℕ) (l : Loop ModelEnd) (conn : ℕ) (mind : Mind) (says : Says) → l.moment ≡ at
       → Dropped (handled model_ends (rules_of plan) l.moment (begun conn (calling model_ends plan caller l) mind) (Begins caller.engine plan.rbc (next_u64 l.words).0) says).0

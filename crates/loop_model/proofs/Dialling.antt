@@ -7,12 +7,12 @@ use Rattle.er_trace.specs.declared.event.Event.TheVariants as event
 use Rattle.er_users.specs.Users.{Mind}
 use Rattle.rand_core.specs.Stream.{next_u64}
 use Rattle.link_trait.specs.Wires.{Call, Dials, Closes}
-use Rattle.loop_model.specs.Journals.{Entry}
-use Rattle.loop_model.specs.Outs.{first_of}
-use Rattle.loop_model.specs.Sessions.{Session, Given, Begins, Says, fed, nothing_said, handled}
+use Rattle.loop_model.specs.Journals.{JournalEntry}
+use Rattle.loop_model.specs.Outs.{first_answer_of}
+use Rattle.loop_model.specs.Sessions.{Session, GivenToSession, Begins, Says, fed, nothing_said, handled}
 use Rattle.loop_model.specs.Visits.{Met, rests, served}
 use Rattle.loop_model.specs.Loops.{Plan, rules_of, Loop, next_user, begun, Caller, calling, called_by, called, Course, asks, Turn, run, Dialled, opens, dials_to, dials}
-use Rattle.loop_model.specs.Parts.{session_of, of, calls_at, opened_in, Rises, newest}
+use Rattle.loop_model.specs.Parts.{session_of_connection, of, calls_at, opened_in, Rises, newest}
 use Rattle.loop_model.proofs.Projections.{of-append, opened_in-append, rises_rest}
 use Rattle.loop_model.proofs.Steadies.{Steady, Usual, Left, Stays, Closed, AllLeft, steady_handled, follows_handled}
 use Rattle.loop_model.proofs.Lives.{Own, Keeps, LeftAt, own_left, fits_left, Fits, Apart, Knows, knows_on}
@@ -30,28 +30,28 @@ abbrev IsNumbered : ℕ → Option (Session ModelEnd) → Type 0
 IsNumbered conn None = Unit {0}
 IsNumbered conn (Some s) = s.number ≡ conn
 
-session_left : (conn n : ℕ) (left : Option (Session ModelEnd)) → IsNumbered conn left → session_of n (list_of left) ≡ (if conn == n then left else None)
-unfolding session_of
+session_left : (conn n : ℕ) (left : Option (Session ModelEnd)) → IsNumbered conn left → session_of_connection n (list_of left) ≡ (if conn == n then left else None)
+unfolding session_of_connection
 session_left conn n None p = elim (cases_Bool (conn == n)) [ inl q ↦ rw q refl | inr q ↦ rw q refl ]
 session_left conn n (Some s) p = subst (λ z. (if s.number == n then Some s else None) ≡ (if z == n then Some s else None)) p refl
 
 apart_left : (left : Option (Session ModelEnd)) → Apart (list_of left)
-unfolding Apart session_of
+unfolding Apart session_of_connection
 apart_left None = tt
 apart_left (Some s) = (refl, tt)
 
 if_false : {A : Type 0} (b : Bool) (x y : A) → b ≡ false → (if b then x else y) ≡ y
 if_false b x y p = rw p refl
 
-module _ (plan : Plan) (caller : Caller) (Q : Session ModelEnd → Session ModelEnd → List Entry → List Call → Type 0)
-    (c : AllLeft (rules_of plan) Q) (own : (s t : Session ModelEnd) (xs : List Entry) (cs : List Call) → Q s t xs cs → Own s t xs cs)
-    (K : Session ModelEnd → List Entry → List Call → Type 0) (E : List Entry → List Call → Type 0) (k : Keeps plan Q K E)
+module _ (plan : Plan) (caller : Caller) (Q : Session ModelEnd → Session ModelEnd → List JournalEntry → List Call → Type 0)
+    (c : AllLeft (rules_of plan) Q) (own : (s t : Session ModelEnd) (xs : List JournalEntry) (cs : List Call) → Q s t xs cs → Own s t xs cs)
+    (K : Session ModelEnd → List JournalEntry → List Call → Type 0) (E : List JournalEntry → List Call → Type 0) (k : Keeps plan Q K E)
   where
-    abbrev Known : List Entry → List Call → List (Session ModelEnd) → Type 0
+    abbrev Known : List JournalEntry → List Call → List (Session ModelEnd) → Type 0
     Known js bs ss = Knows plan Q c own K E k js bs ss
 
     -- what an opening leaves
-    knows_left : (conn : ℕ) (address : List ℕ) (t : Session ModelEnd) (xs ys : List Entry) (ds : List Call) (left : Option (Session ModelEnd))
+    knows_left : (conn : ℕ) (address : List ℕ) (t : Session ModelEnd) (xs ys : List JournalEntry) (ds : List Call) (left : Option (Session ModelEnd))
         → t.number ≡ conn → IsNumbered conn left → ((n : ℕ) → of n xs ≡ (if conn == n then xs else [])) → K t xs [] → LeftAt plan Q c own K E k t left ys ds
         → Known (xs ++ ys) (Dials address (Some conn) ∷ ds) (list_of left)
     unfolding calls_at opened_in Fits
@@ -76,7 +76,7 @@ module _ (plan : Plan) (caller : Caller) (Q : Session ModelEnd → Session Model
               );
         }
 
-    left_of : (conn : ℕ) (address : List ℕ) (t : Session ModelEnd) (ts : List (Session ModelEnd)) (xs ys : List Entry) (ds : List Call)
+    left_of : (conn : ℕ) (address : List ℕ) (t : Session ModelEnd) (ts : List (Session ModelEnd)) (xs ys : List JournalEntry) (ds : List Call)
         → t.number ≡ conn → ((n : ℕ) → of n xs ≡ (if conn == n then xs else [])) → K t xs [] → Left Q t ts ys ds
         → Known (xs ++ ys) (Dials address (Some conn) ∷ ds) ts
     unfolding LeftAt
@@ -87,7 +87,7 @@ module _ (plan : Plan) (caller : Caller) (Q : Session ModelEnd → Session Model
 
     knows_away : (conn m : ℕ) (address : List ℕ)
         → Known (record { moment = m; conn = conn; event = event.Unserved 0; outcomes = [] } ∷ []) (Dials address (Some conn) ∷ Closes conn ∷ []) []
-    unfolding calls_at opened_in Fits of session_of Apart
+    unfolding calls_at opened_in Fits of session_of_connection Apart
     knows_away conn m address = record {
       fits = λ n. elim (cases_Bool (conn == n)) [ inl p ↦ rw p (k.unserved m conn 0) | inr p ↦ rw p k.never ];
       apart = tt;
@@ -129,7 +129,7 @@ module _ (plan : Plan) (caller : Caller) (Q : Session ModelEnd → Session Model
       knows_to : (conn : Option ℕ) (d : Course ModelEnd) (address : List ℕ) (a : Dialled) → d.loop.sessions ≡ [] → max d.loop.moment a.first ≡ at
           → Rises 0 (opened_in (dials_to model_ends conn plan caller d address a).calls)
           → Known (dials_to model_ends conn plan caller d address a).entries (dials_to model_ends conn plan caller d address a).calls (dials_to model_ends conn plan caller d address a).state.loop.sessions
-      unfolding calls_at opened_in Fits of session_of Apart
+      unfolding calls_at opened_in Fits of session_of_connection Apart
       knows_to None d address a none now rises = rw none (record { fits = λ n. k.never; apart = tt; low = λ n up. (refl, refl, refl) })
       knows_to (Some conn) d address a none now rises = knows_opened (asks a.first d) conn address a.met a.turns none now rises
 
@@ -151,7 +151,7 @@ module _ (plan : Plan) (caller : Caller) (Q : Session ModelEnd → Session Model
             let m = l.moment in
             let s = begun conn (calling model_ends plan caller l) mind in
             let g = Begins caller.engine plan.rbc (next_u64 l.words).0 in
-            let says = first_of nothing_said a.says in
+            let says = first_answer_of nothing_said a.says in
             let h = handled model_ends r m s g says in
             let o = steady_handled r (λ g. Unit {0}) Own (own_steady r) any_usual m s g says tt in
             left_of conn address h.0 (rests model_ends r m h.0 a.wrote).state h.1 (rests model_ends r m h.0 a.wrote).entries (rests model_ends r m h.0 a.wrote).calls
@@ -168,7 +168,7 @@ module _ (plan : Plan) (caller : Caller) (Q : Session ModelEnd → Session Model
 
     -- where it holds before the opening, of no events and no calls, and the opening is as a visit
     module _ (new : (l : Loop ModelEnd) (conn : ℕ) (mind : Mind) → K (begun conn (calling model_ends plan caller l) mind) [] [])
-        (opening : (m : ℕ) (s : Session ModelEnd) (g : Given) (a : Met) → Left Q s (served model_ends (rules_of plan) m s g a).state (served model_ends (rules_of plan) m s g a).entries (served model_ends (rules_of plan) m s g a).calls)
+        (opening : (m : ℕ) (s : Session ModelEnd) (g : GivenToSession) (a : Met) → Left Q s (served model_ends (rules_of plan) m s g a).state (served model_ends (rules_of plan) m s g a).entries (served model_ends (rules_of plan) m s g a).calls)
       where
         none_of : (conn n : ℕ) → of n [] ≡ (if conn == n then [] else [])
         unfolding of
@@ -188,9 +188,9 @@ module _ (plan : Plan) (caller : Caller) (Q : Session ModelEnd → Session Model
         knows_dial_served at d address a none now rises = knows_from at (begins_served at) d address a none now rises
 
 -- the same, where what holds behind the first event is kept by all that follows it
-module _ (plan : Plan) (caller : Caller) (Allowed : Given → Type 0) (Q : Session ModelEnd → Session ModelEnd → List Entry → List Call → Type 0) (q : Steady (rules_of plan) Allowed Q) (usual : Usual Allowed)
-    (c : AllLeft (rules_of plan) Q) (own : (s t : Session ModelEnd) (xs : List Entry) (cs : List Call) → Q s t xs cs → Own s t xs cs)
-    (K : Session ModelEnd → List Entry → List Call → Type 0) (E : List Entry → List Call → Type 0) (k : Keeps plan Q K E)
+module _ (plan : Plan) (caller : Caller) (Allowed : GivenToSession → Type 0) (Q : Session ModelEnd → Session ModelEnd → List JournalEntry → List Call → Type 0) (q : Steady (rules_of plan) Allowed Q) (usual : Usual Allowed)
+    (c : AllLeft (rules_of plan) Q) (own : (s t : Session ModelEnd) (xs : List JournalEntry) (cs : List Call) → Q s t xs cs → Own s t xs cs)
+    (K : Session ModelEnd → List JournalEntry → List Call → Type 0) (E : List JournalEntry → List Call → Type 0) (k : Keeps plan Q K E)
     (at : ℕ) (first : (l : Loop ModelEnd) (conn : ℕ) (mind : Mind) → l.moment ≡ at
     → K (fed model_ends (rules_of plan) l.moment (begun conn (calling model_ends plan caller l) mind) (Begins caller.engine plan.rbc (next_u64 l.words).0)).0
     (fed model_ends (rules_of plan) l.moment (begun conn (calling model_ends plan caller l) mind) (Begins caller.engine plan.rbc (next_u64 l.words).0)).1 [])

@@ -1,12 +1,12 @@
 -- Messages are taken as long as one waits; and the end of a session is the one that its events lead to.
 use Rattle.loop_model.specs.Ends.{ModelEnd, model_ends}
 use Rattle.std.proofs.Common.{◌≡◌, Some, refl}
-use Rattle.loop_model.specs.Sessions.{Given, Begins, Hears, Sends, Takes, Leaves, Ticks, Ends, Faults, Stalls, written}
+use Rattle.loop_model.specs.Sessions.{GivenToSession, Begins, Hears, Sends, Takes, Leaves, Ticks, Ends, Faults, Stalls, journal_event_of_given}
 use Rattle.loop_model.specs.Walks.{SessionsAreLed}
 use Rattle.loop_model.specs.Takings.{IsTaken, AllAreTaken}
 use Rattle.loop_model.proofs.Walking.{IsFromOutside, Fitting, walked_serving, walked_dialling}
 
-comes : (k : ModelEnd) (g : Given) → IsFromOutside g → model_ends.waiting k ≡ 0 → IsTaken (Some k) (written model_ends k g)
+comes : (k : ModelEnd) (g : GivenToSession) → IsFromOutside g → model_ends.waiting k ≡ 0 → IsTaken (Some k) (journal_event_of_given model_ends k g)
 comes k (Begins engine rbc rb) p none = absurd p
 comes k (Hears octets) p none = none
 comes k (Sends text) p none = absurd p

@@ -1,5 +1,6 @@
 -- What an event leaves of an end of the end model: the messages that wait, and a release.
 use Rattle.std.proofs.Common.{◌≡◌, inl, inr, ◌+◌, ◌-◌, ◌≤◌, ◌∙◌, ℕ, zero, suc, Bool, true, false, ◌&&◌, List, [], ◌∷◌, ◌++◌, length, take, drop, Option, Some, None, Ok, Err, refl, sym, ap, subst, arith, append-nil, length-drop, eqb-true, true≢false}
+use Rattle.hdlc_station_model.specs.Receiving.{is_some_octets}
 use Rattle.std.specs.Prelude.{if◌then◌else◌, ◌==◌, is_some}
 use Rattle.std.specs.Option.{option_to_list}
 use Rattle.std.proofs.lemmas.Bool.{cases_Bool}
@@ -12,20 +13,20 @@ use Rattle.hdlc_frames.specs.Deframing.{has_verdicts}
 use Rattle.hdlc_station_model.specs.Events.{news}
 use Rattle.t70_header.specs.Joining as joining
 use Rattle.x224_class2.specs.Refusals.{protocol_error}
-use Rattle.x224_class2.specs.Tpdus.{Given, Dr, Dc}
-use Rattle.x224_class2.specs.Transport.{Deed, Nothing, Called, Confirmed, Message, Disconnected}
+use Rattle.x224_class2.specs.Tpdus.{GivenTpdu, Dr, Dc}
+use Rattle.x224_class2.specs.Transport.{ReceptionDeed, Nothing, Called, Confirmed, Message, Disconnected}
 use Rattle.x224_class2.specs.Transport as transport
 use Rattle.sapdu.specs.Spelling.{di_in}
 use Rattle.safety_automaton.specs.Keys.{no_keys}
 use Rattle.safety_automaton.specs.Reports.{Report, ToldAnswered, ToldConnected, ToldAccepted, ToldReleased, ToldIgnored, report_of}
-use Rattle.safety_automaton.specs.Safety.{ConnectRequest, Received, DataRequest, DisconnectRequest, sent_by, peer_flag, step}
+use Rattle.safety_automaton.specs.Safety.{ConnectRequest, Received, DataRequest, DisconnectRequest, octets_sent_in_outcome, peer_flag, step}
 use Rattle.er_end_model.specs.Outcomes.{Outcome, ConnectedTo, Accepted, Taken, NothingToTake, Refused, WasReleased, Octets, SendRefusal}
 use Rattle.er_end_model.specs.Laws.{ReleasedRest}
 use Rattle.er_end_model.specs.Layers.{Core, model}
-use Rattle.er_end_model.specs.Steps.{Finds, new_event, new_event_at, hand_tpdu_if_may, send_dr, answer_dr, on_safety_release, why_of, with_safety_step, is_some_octets, hand_text, accept_text, Carrier, InCr, InCc, InDt, hand_answer, on_safety_report, on_text, on_transport_deed, on_joined_block, is_ready, connect_with_text, on_link_up, on_link_told, hand_next_tpdu, has_next_tpdu, hand_waiting_tpdus, most_offers, conclude_event, on_frame, step_frame, refusal_of, on_send, step_send_unless, on_take, on_release, normal_disconnect, is_spent, di_of, on_expiry, on_tick, on_break, on_start, outcomes_of, if_connected, if_accepted, if_released, if_octets, if_taken}
-use Rattle.er_end_model.specs.Ends.{Event, Start, Come, Send, Take, Leave, Tick, Ended, Fault, Stalled, if_refused, End, Opening, opened, hears_each, told_of_each}
+use Rattle.er_end_model.specs.Steps.{Finds, new_event, new_event_at, hand_tpdu_if_may, send_dr, answer_dr, on_safety_release, why_of, with_safety_step, hand_text, accept_text, Carrier, InCr, InCc, InDt, hand_answer, on_safety_report, on_text, on_transport_deed, on_joined_block, is_ready, connect_with_text, on_link_up, on_link_told, hand_next_tpdu, has_next_tpdu, hand_waiting_tpdus, most_offers, conclude_event, on_frame, step_frame, refusal_of, on_send, step_send_unless, on_take, on_release, normal_disconnect, is_spent, di_of, on_expiry, on_tick, on_break, on_start, outcomes_of, if_connected, if_accepted, if_released, if_octets, if_taken}
+use Rattle.er_end_model.specs.Ends.{Event, Start, Come, Send, Take, Leave, Tick, Ended, Fault, Stalled, refusal_or_outcomes, End, Opening, opened, hears_each, told_of_each}
 use Rattle.er_end_model.specs.Ends as ends
-use Rattle.loop_model.specs.Ends.{model_ends, used_behind, used_of, used_part}
+use Rattle.loop_model.specs.Ends.{model_ends, used_behind, octet_count_used_by_end, used_part}
 
 -- ---- what is said of any event
 
@@ -99,9 +100,9 @@ ReleasedTellNone =
 
 -- a released end uses all; each uses an octet at least, where one came, and no more than came
 pub record Uses : Type 0 where
-  pub all : (k : End) (piece : List ℕ) → is_some k.core.released ≡ true → used_of k piece ≡ length piece
-  pub one : (k : End) (octet : ℕ) (octets : List ℕ) → 1 ≤ used_of k (octet ∷ octets)
-  pub most : (k : End) (piece : List ℕ) → used_of k piece ≤ length piece
+  pub all : (k : End) (piece : List ℕ) → is_some k.core.released ≡ true → octet_count_used_by_end k piece ≡ length piece
+  pub one : (k : End) (octet : ℕ) (octets : List ℕ) → 1 ≤ octet_count_used_by_end k (octet ∷ octets)
+  pub most : (k : End) (piece : List ℕ) → octet_count_used_by_end k piece ≤ length piece
 
 -- ---- the messages, layer by layer
 
@@ -121,7 +122,7 @@ box_if : (b : Bool) (x y : Core) (v : KInbox) → box x ≡ v → box y ≡ v �
 box_if true x y v h g = h
 box_if false x y v h g = g
 
-box_gives : (g : Given) (x : Core) → box (hand_tpdu_if_may model g x) ≡ box x
+box_gives : (g : GivenTpdu) (x : Core) → box (hand_tpdu_if_may model g x) ≡ box x
 box_gives g x = box_if (model.may_send x.line) _ x (box x) refl refl
 
 box_departs : (why : Release) (reason : ℕ) (user : List ℕ) (x : Core) → box (send_dr model why reason user x) ≡ box x
@@ -176,9 +177,9 @@ more_acts carrier ToldIgnored octets x = Same refl
 more_text : (finds : Finds) (carrier : Carrier) (text : List ℕ) (x : Core) → More (box x) (box (on_text model finds carrier text x))
 more_text finds carrier text x =
     let a = step (finds x.moment) x.safe.safety (Received text) in
-    more_acts carrier (report_of a.1) (sent_by a.1) (with_safety_step model (Received text) a x)
+    more_acts carrier (report_of a.1) (octets_sent_in_outcome a.1) (with_safety_step model (Received text) a x)
 
-more_does : (finds : Finds) (deed : Deed) (x : Core) → More (box x) (box (on_transport_deed model finds deed x))
+more_does : (finds : Finds) (deed : ReceptionDeed) (x : Core) → More (box x) (box (on_transport_deed model finds deed x))
 more_does finds Nothing x = Same refl
 more_does finds (Called user) x = more_text finds InCr user x
 more_does finds (Confirmed user) x = more_text finds InCc user x
@@ -186,7 +187,7 @@ more_does finds (Message message) x = more_text finds InDt message x
 more_does finds (Disconnected user) x = Same (box_cut_off (why_of (di_in user (peer_flag x.safe.safety))) x)
 more_does finds (transport.Refused sub reason) x = Same (box_departs (by_this_end 2 sub) reason [] x)
 
-more_block : (finds : Finds) (joined : joining.Answer) (x : Core) → More (box x) (box (on_joined_block model finds joined x))
+more_block : (finds : Finds) (joined : joining.BlockJoiningResult) (x : Core) → More (box x) (box (on_joined_block model finds joined x))
 more_block finds (Ok None) x = Same refl
 more_block finds (Ok (Some tpdu)) x = more_does finds (model.deed x.upper tpdu) (record x { upper = model.hears x.upper tpdu })
 more_block finds (Err fault) x = Same (box_departs (release_of BlockRefused) protocol_error [] x)
@@ -195,11 +196,11 @@ box_up : (x : Core) → box (on_link_up model x) ≡ box x
 box_up x =
     let a = step no_keys x.safe.safety ConnectRequest in
     box_if (model.may_connect x.upper && is_ready x.safe.safety.phase) _ x (box x)
-    (box_connects (sent_by a.1) (with_safety_step model ConnectRequest a x)) refl
+    (box_connects (octets_sent_in_outcome a.1) (with_safety_step model ConnectRequest a x)) refl
 
 more_link : (finds : Finds) (payload : Option (List ℕ)) (up : Bool) (released : Option Release) (x : Core) → More (box x) (box (on_link_told model finds payload up released x))
 more_link finds (Some payload) up released x =
-    let joined = joining.step x.joined payload in more_block finds joined.1 (record x { joined = joined.0 })
+    let joined = joining.block_step x.joined payload in more_block finds joined.1 (record x { joined = joined.0 })
 more_link finds None true released x = Same (box_up x)
 more_link finds None false (Some why) x = Same refl
 more_link finds None false None x = Same refl
@@ -271,13 +272,13 @@ box_sent user x =
     let a = step no_keys x.safe.safety (DataRequest user) in
     let y = with_safety_step model (DataRequest user) a x in
     let z : Core = record y { upper = model.sends y.upper user } in
-    box_concludes (hand_text model (sent_by a.1) z) ∙ box_says (sent_by a.1) z
+    box_concludes (hand_text model (octets_sent_in_outcome a.1) z) ∙ box_says (octets_sent_in_outcome a.1) z
 
 box_left : (sub : ℕ) (x : Core) → box (on_release model sub x) ≡ box x
 box_left sub x =
     let a = step no_keys x.safe.safety (DisconnectRequest sub) in
     box_if (is_some x.released) x _ (box x) refl
-    (box_departs (release_of (User sub)) normal_disconnect (sent_by a.1) (with_safety_step model (DisconnectRequest sub) a x))
+    (box_departs (release_of (User sub)) normal_disconnect (octets_sent_in_outcome a.1) (with_safety_step model (DisconnectRequest sub) a x))
 
 box_time : (why : Option Release) (x : Core) → box (on_expiry model why x) ≡ box x
 box_time (Some why) x = refl
@@ -364,7 +365,7 @@ sends_waits None now user x =
 pub waits_move : WaitsMove
 waits_move now Start k e = let x = new_event_at model now k.core in waits_alike x (on_start model x) (box_started x)
 waits_move now (Come finds octets) k e =
-    each_waits finds now (news k.stream (take (used_of k octets) octets)) (new_event_at model now k.core) e
+    each_waits finds now (news k.stream (take (octet_count_used_by_end k octets) octets)) (new_event_at model now k.core) e
 waits_move now (Send user) k e = sends_waits (refusal_of model user k.core) now user k.core
 waits_move now Take k e = take_waits (new_event_at model now k.core)
 waits_move now (Leave sub) k e = let x = new_event_at model now k.core in waits_alike x (on_release model sub x) (box_left sub x)
@@ -387,7 +388,7 @@ taken_told message outcomes =
     accepted_in-append (if_taken message) outcomes ∙ ap (λ z. z ++ accepted_in outcomes) (none_taken message)
 
 sends_silent : (refused : Option SendRefusal) (now : ℕ) (user : List ℕ) (x : Core)
-    → accepted_in (if_refused refused (outcomes_of model (step_send_unless model refused now user x))) ≡ []
+    → accepted_in (refusal_or_outcomes refused (outcomes_of model (step_send_unless model refused now user x))) ≡ []
 sends_silent (Some refusal) now user x = refl
 sends_silent None now user x =
     silent_by (new_event_at model now x) (on_send model user (new_event_at model now x)) refl (box_sent user (new_event_at model now x))
@@ -426,7 +427,7 @@ each_stays finds now (verdict ∷ verdicts) why x e = each_stays finds now verdi
 pub release_stays : ReleaseStays
 release_stays now Start k why e = rw e refl
 release_stays now (Come finds octets) k why e =
-    each_stays finds now (news k.stream (take (used_of k octets) octets)) why (new_event_at model now k.core) e
+    each_stays finds now (news k.stream (take (octet_count_used_by_end k octets) octets)) why (new_event_at model now k.core) e
 release_stays now (Send user) k why e = rw e refl
 release_stays now Take k why e = take_stays why (new_event_at model now k.core) e
 release_stays now (Leave sub) k why e = rw e refl
@@ -458,7 +459,7 @@ each_none rest finds now (verdict ∷ verdicts) why x e =
 
 pub released_tell_none : ReleasedRest → ReleasedTellNone
 released_tell_none rest now finds octets k why e =
-    each_none rest finds now (news k.stream (take (used_of k octets) octets)) why (new_event_at model now k.core) e
+    each_none rest finds now (news k.stream (take (octet_count_used_by_end k octets) octets)) why (new_event_at model now k.core) e
 
 -- ---- octets that are used
 
@@ -490,12 +491,12 @@ EndStands k m = m ≡ k
 abbrev pub StepsAlike : Type 0
 StepsAlike =
     (now : ℕ) (event : Event) (k m : End) → EndStands k m
-    → EndStands (model_ends.happens now event k) (ends.step now (used_part k event) m).0
-    × (model_ends.tells now event k ≡ (ends.step now (used_part k event) m).1)
+    → EndStands (model_ends.happens now event k) (ends.step_event now (used_part k event) m).0
+    × (model_ends.tells now event k ≡ (ends.step_event now (used_part k event) m).1)
 
 pub steps_alike : StepsAlike
 steps_alike now event k m e =
-    (ap (λ z. (ends.step now (used_part k event) z).0) e, sym (ap (λ z. (ends.step now (used_part k event) z).1) e))
+    (ap (λ z. (ends.step_event now (used_part k event) z).0) e, sym (ap (λ z. (ends.step_event now (used_part k event) z).1) e))
 
 abbrev pub MadeStands : Type 0
 MadeStands = (opening : Opening) → EndStands (model_ends.opens opening) (opened opening)

@@ -6,16 +6,16 @@ use Rattle.std.proofs.lemmas.Bool.{cases_Bool}
 use Rattle.er_users.specs.Users.{Mind}
 use Rattle.rand_core.specs.Stream.{next_u64}
 use Rattle.link_trait.specs.Wires.{Call, Reading, Gave, NotNow, End, Failed, Reads, Closes}
-use Rattle.loop_model.specs.Journals.{Entry}
-use Rattle.loop_model.specs.Outs.{first_of}
-use Rattle.loop_model.specs.Sessions.{Rules, Session, Given, Begins, Hears, Sends, Takes, Leaves, Ticks, Ends, Faults, Stalls, most_output, written, outcomes_of, octets_in, joined, fed, Says, nothing_said, handled}
+use Rattle.loop_model.specs.Journals.{JournalEntry}
+use Rattle.loop_model.specs.Outs.{first_answer_of}
+use Rattle.loop_model.specs.Sessions.{Rules, Session, GivenToSession, Begins, Hears, Sends, Takes, Leaves, Ticks, Ends, Faults, Stalls, most_output, journal_event_of_given, outcomes_of_given_event, octets_in, joined, fed, Says, nothing_said, handled}
 use Rattle.loop_model.specs.Visits.{most_read, Met, Visit, came, visited}
 use Rattle.loop_model.specs.Loops.{Plan, rules_of, Loop, visit_at, next_user, begun, Caller, calling, called_by, called, Course, asks, Turn, run, Dialled, opens, dials_to, dials}
 use Rattle.loop_model.specs.Turnings.{is_ended, ended, ended_by, ends_of, EndsAreTold}
 use Rattle.loop_model.proofs.Steadies.{Steady, Usual, Quiet, Calls, steady_handled, steady_pours, follows_handled, Left, Stays, Closed, left_served, left_visited}
 use Rattle.loop_model.proofs.Loopwise.{Loopwise, wise_run}
 
-ended-append : (xs ys : List Entry) → ended (xs ++ ys) ≡ ended xs ++ ended ys
+ended-append : (xs ys : List JournalEntry) → ended (xs ++ ys) ≡ ended xs ++ ended ys
 unfolding ended
 ended-append [] ys = refl
 ended-append (x ∷ xs) ys =
@@ -26,11 +26,11 @@ unfolding ends_of
 ends-append [] ds = refl
 ends-append (call ∷ cs) ds = ap (λ z. ended_by call ++ z) (ends-append cs ds) ∙ sym (append_assoc (ended_by call) (ends_of cs) (ends_of ds))
 
-Tells : Session ModelEnd → Session ModelEnd → List Entry → List Call → Type 0
+Tells : Session ModelEnd → Session ModelEnd → List JournalEntry → List Call → Type 0
 Tells s t xs cs = ended xs ≡ ends_of cs
 
 -- every event but an end of the line
-abbrev IsNoEnd : Given → Type 0
+abbrev IsNoEnd : GivenToSession → Type 0
 IsNoEnd (Begins engine rbc rb) = Unit {0}
 IsNoEnd (Hears octets) = Unit {0}
 IsNoEnd (Sends text) = Unit {0}
@@ -41,7 +41,7 @@ IsNoEnd Ends = ⊥
 IsNoEnd Faults = Unit {0}
 IsNoEnd Stalls = Unit {0}
 
-no_end : (k : ModelEnd) (g : Given) → IsNoEnd g → is_ended (written model_ends k g) ≡ false
+no_end : (k : ModelEnd) (g : GivenToSession) → IsNoEnd g → is_ended (journal_event_of_given model_ends k g) ≡ false
 no_end k (Begins engine rbc rb) p = refl
 no_end k (Hears octets) p = refl
 no_end k (Sends text) p = refl
@@ -52,7 +52,7 @@ no_end k Ends p = absurd p
 no_end k Faults p = refl
 no_end k Stalls p = refl
 
-both_told : (xs ys : List Entry) (cs ds : List Call) → ended xs ≡ ends_of cs → ended ys ≡ ends_of ds → ended (xs ++ ys) ≡ ends_of (cs ++ ds)
+both_told : (xs ys : List JournalEntry) (cs ds : List Call) → ended xs ≡ ends_of cs → ended ys ≡ ends_of ds → ended (xs ++ ys) ≡ ends_of (cs ++ ds)
 both_told xs ys cs ds p q = ended-append xs ys ∙ ap (λ z. z ++ ended ys) p ∙ ap (λ z. ends_of cs ++ z) q ∙ sym (ends-append cs ds)
 
 steady : (r : Rules) → Steady r IsNoEnd Tells
@@ -72,7 +72,7 @@ usual = record { sends = λ text. tt; leaves = λ sub. tt; takes = tt }
 fed_end : (r : Rules) (m : ℕ) (s : Session ModelEnd) → ended (fed model_ends r m s Ends).1 ≡ s.number ∷ []
 unfolding ended fed joined
 fed_end r m s =
-    elim (cases_Bool (nat_lt most_output (length s.output + length (octets_in (outcomes_of model_ends r m s.end Ends))))) [ inl p ↦ rw p refl | inr p ↦ rw p refl ]
+    elim (cases_Bool (nat_lt most_output (length s.output + length (octets_in (outcomes_of_given_event model_ends r m s.end Ends))))) [ inl p ↦ rw p refl | inr p ↦ rw p refl ]
 
 handled_end : (r : Rules) (m : ℕ) (s : Session ModelEnd) (says : Says) → ended (handled model_ends r m s Ends says).1 ≡ s.number ∷ []
 unfolding Tells ends_of
@@ -85,8 +85,8 @@ read_told : (r : Rules) (m : ℕ) (s : Session ModelEnd) (waits : ℕ) (reading 
 unfolding Tells ended ends_of
 read_told r m s waits (Gave octets) says = steady_pours r IsNoEnd Tells (steady r) usual (λ octets. tt) m s octets says
 read_told r m s waits NotNow says = refl
-read_told r m s waits End says = handled_end r m s (first_of nothing_said says)
-read_told r m s waits Failed says = steady_handled r IsNoEnd Tells (steady r) usual m s Faults (first_of nothing_said says) tt
+read_told r m s waits End says = handled_end r m s (first_answer_of nothing_said says)
+read_told r m s waits Failed says = steady_handled r IsNoEnd Tells (steady r) usual m s Faults (first_answer_of nothing_said says) tt
 
 quiet : (r : Rules) → Quiet r Tells
 unfolding Tells ended ends_of
@@ -104,7 +104,7 @@ calls : (r : Rules) → Calls r Tells
 unfolding Tells
 calls r = record { quiet = quiet r; read = λ m s a live. read_told r m s a.waits a.reading a.says }
 
-left_told : (s : Session ModelEnd) (ts : List (Session ModelEnd)) (xs : List Entry) (cs : List Call) → Left Tells s ts xs cs → ended xs ≡ ends_of cs
+left_told : (s : Session ModelEnd) (ts : List (Session ModelEnd)) (xs : List JournalEntry) (cs : List Call) → Left Tells s ts xs cs → ended xs ≡ ends_of cs
 unfolding Tells ended ends_of
 left_told s ts xs cs (Stays t p q) = q
 left_told s ts xs cs (Closed t ds over p e q) = q ∙ sym (ap ends_of e ∙ ends-append ds (Closes t.number ∷ []) ∙ append-nil (ends_of ds))
@@ -119,7 +119,7 @@ visit_told r m visit n (s ∷ ss) a =
       | inr p ↦ rw p (visit_told r m visit n ss a)
     ]
 
-Along : List (Session ModelEnd) → List (Session ModelEnd) → List Entry → List Call → Type 0
+Along : List (Session ModelEnd) → List (Session ModelEnd) → List JournalEntry → List Call → Type 0
 Along ss ts xs cs = ended xs ≡ ends_of cs
 
 wise : (plan : Plan) → Loopwise plan Along
@@ -146,7 +146,7 @@ called_told (Some mind) plan caller l conn a =
     let r = rules_of plan in
     let s = begun conn (calling model_ends plan caller l) mind in
     let g = Begins caller.engine plan.rbc (next_u64 l.words).0 in
-    left_told s _ _ _ (left_served r Tells (quiet r) l.moment s g a (steady_handled r IsNoEnd Tells (steady r) usual l.moment s g (first_of nothing_said a.says) tt))
+    left_told s _ _ _ (left_served r Tells (quiet r) l.moment s g a (steady_handled r IsNoEnd Tells (steady r) usual l.moment s g (first_answer_of nothing_said a.says) tt))
 
 dial_told : (conn : Option ℕ) (plan : Plan) (caller : Caller) (c : Course ModelEnd) (address : List ℕ) (a : Dialled)
     → ended (dials_to model_ends conn plan caller c address a).entries ≡ ends_of (dials_to model_ends conn plan caller c address a).calls

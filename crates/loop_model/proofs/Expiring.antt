@@ -15,10 +15,10 @@ use Rattle.rand_core.specs.Stream.{next_u64}
 use Rattle.link_trait.specs.Wires.{Call, Reading, Gave, NotNow, End, Failed, Reads}
 use Rattle.link_trait.specs.declared.wires.WriteAnswer.{WriteAnswer}
 use Rattle.link_trait.specs.declared.wires.WriteAnswer.TheVariants as write
-use Rattle.loop_model.specs.Journals.{Entry}
-use Rattle.loop_model.specs.Outs.{Out, runs, acts, exactly, first_of}
-use Rattle.loop_model.specs.Sessions.{Rules, Session, Given, Begins, Hears, Sends, Takes, Leaves, Ticks, Ends, Faults, Stalls, is_released, most_output, end_after, outcomes_of, entry_of, octets_in, joined, fed, replied, refused_in, refusal_heard, notes, heard_in, hears, silence, dealt, waiting, takes_all, parts, Says, nothing_said, handled, poured, pours}
-use Rattle.loop_model.specs.Visits.{most_read, Flow, Going, PutOff, Failing, after_write, writes_if, writes_once, writes, Wrote, fault_unless, flowed, written_unless, written, settled, rests, rests_behind, Visit, Tick, Read, Write, Expire, Met, is_due, came, read_once, served, visited}
+use Rattle.loop_model.specs.Journals.{JournalEntry}
+use Rattle.loop_model.specs.Outs.{Out, part_for_each_answer, acts, exactly, first_answer_of}
+use Rattle.loop_model.specs.Sessions.{Rules, Session, GivenToSession, Begins, Hears, Sends, Takes, Leaves, Ticks, Ends, Faults, Stalls, is_released, most_output, end_after, outcomes_of_given_event, entry_of, octets_in, joined, fed, replied, refused_in, refusal_heard, notes, heard_by_user, user_after_hearing, silent_answer, dealt, count_waiting_in_session, takes_all, parts, Says, nothing_said, handled, poured, pours}
+use Rattle.loop_model.specs.Visits.{most_read, WritingState, Going, PutOff, Failing, after_write, writes_if, writes_once, writes, Wrote, fault_unless, flowed, written_unless, session_behind_writing, session_kept_or_closed, rests, rests_behind, Visit, Tick, Read, Write, Expire, Met, is_due, came, read_once, served, visited}
 use Rattle.loop_model.specs.Loops.{Plan, rules_of, Loop, begun, answering, Caller, calling, Course, Turn, run, Dialled, dials}
 use Rattle.loop_model.specs.Parts.{of, calls_at}
 use Rattle.loop_model.specs.Laws.{IsServing, IsDialling}
@@ -59,7 +59,7 @@ false_of : (b : Bool) → (b ≡ true → ⊥) → b ≡ false
 false_of true f = absurd (f refl)
 false_of false f = refl
 
-hears_same : (mind : Option Mind) (heard : Option Heard) (free : Said) → is_some (hears mind heard free).0 ≡ is_some mind
+hears_same : (mind : Option Mind) (heard : Option Heard) (free : Said) → is_some (user_after_hearing mind heard free).0 ≡ is_some mind
 hears_same None heard free = refl
 hears_same (Some mind) None free = refl
 hears_same (Some mind) (Some heard) free = refl
@@ -68,21 +68,21 @@ module _ (r : Rules) (m : ℕ) where
   abbrev So : Session ModelEnd → Session ModelEnd → Type 0
   So s t = Timed s → Times r.setup m s t
 
-  fed_same : (s : Session ModelEnd) (g : Given) → Same s (fed model_ends r m s g).0
+  fed_same : (s : Session ModelEnd) (g : GivenToSession) → Same s (fed model_ends r m s g).0
   unfolding Same fed joined
   fed_same s g =
-      elim (cases_Bool (nat_lt most_output (length s.output + length (octets_in (outcomes_of model_ends r m s.end g))))) [ inl p ↦ rw p (refl, refl) | inr p ↦ rw p (refl, refl) ]
+      elim (cases_Bool (nat_lt most_output (length s.output + length (octets_in (outcomes_of_given_event model_ends r m s.end g))))) [ inl p ↦ rw p (refl, refl) | inr p ↦ rw p (refl, refl) ]
 
   notes_same : (heard : Option Heard) (mind : Option Mind) → is_some (notes heard mind) ≡ is_some mind
   notes_same heard None = refl
   notes_same heard (Some mind) = refl
 
-  replied_same : (s : Session ModelEnd) (g : Given) → Same s (replied model_ends r m s g).0
+  replied_same : (s : Session ModelEnd) (g : GivenToSession) → Same s (replied model_ends r m s g).0
   unfolding Same
   replied_same s (Begins engine rbc rb) = fed_same s (Begins engine rbc rb)
   replied_same s (Hears octets) = fed_same s (Hears octets)
   replied_same s (Sends text) =
-      ((fed_same s (Sends text)).0, notes_same (refusal_heard text (refused_in (outcomes_of model_ends r m s.end (Sends text)))) s.mind)
+      ((fed_same s (Sends text)).0, notes_same (refusal_heard text (refused_in (outcomes_of_given_event model_ends r m s.end (Sends text)))) s.mind)
   replied_same s Takes = fed_same s Takes
   replied_same s (Leaves sub) = fed_same s (Leaves sub)
   replied_same s Ticks = fed_same s Ticks
@@ -90,29 +90,29 @@ module _ (r : Rules) (m : ℕ) where
   replied_same s Faults = fed_same s Faults
   replied_same s Stalls = fed_same s Stalls
 
-  runs_same : (gs : List Given) (s : Session ModelEnd) → Same s (runs (replied model_ends r m) s gs).0
-  unfolding Same runs
+  runs_same : (gs : List GivenToSession) (s : Session ModelEnd) → Same s (part_for_each_answer (replied model_ends r m) s gs).0
+  unfolding Same part_for_each_answer
   runs_same [] s = (refl, refl)
   runs_same (g ∷ gs) s =
-      same_then s (replied model_ends r m s g).0 (runs (replied model_ends r m) (replied model_ends r m s g).0 gs).0 (replied_same s g) (runs_same gs (replied model_ends r m s g).0)
+      same_then s (replied model_ends r m s g).0 (part_for_each_answer (replied model_ends r m) (replied model_ends r m s g).0 gs).0 (replied_same s g) (runs_same gs (replied model_ends r m s g).0)
 
-  dealt_same : (s : Session ModelEnd) (g : Given) (free : Said) → Same s (dealt model_ends r m s g free).0
+  dealt_same : (s : Session ModelEnd) (g : GivenToSession) (free : Said) → Same s (dealt model_ends r m s g free).0
   unfolding Same dealt
   dealt_same s g free =
       let a = fed model_ends r m s g in
-      let b = hears s.mind (heard_in (outcomes_of model_ends r m s.end g)) free in
+      let b = user_after_hearing s.mind (heard_by_user (outcomes_of_given_event model_ends r m s.end g)) free in
       let t : Session ModelEnd = record a.0 { mind = b.0 } in
       let c = runs_same b.1 t in
-      (c.0 ∙ (fed_same s g).0, c.1 ∙ hears_same s.mind (heard_in (outcomes_of model_ends r m s.end g)) free)
+      (c.0 ∙ (fed_same s g).0, c.1 ∙ hears_same s.mind (heard_by_user (outcomes_of_given_event model_ends r m s.end g)) free)
 
-  all_same : (frees : List Said) (s : Session ModelEnd) → Same s (runs (λ t free. dealt model_ends r m t Takes free) s frees).0
-  unfolding Same runs
+  all_same : (frees : List Said) (s : Session ModelEnd) → Same s (part_for_each_answer (λ t free. dealt model_ends r m t Takes free) s frees).0
+  unfolding Same part_for_each_answer
   all_same [] s = (refl, refl)
-  all_same (free ∷ frees) s = let t = (dealt model_ends r m s Takes free).0 in same_then s t (runs (λ t free. dealt model_ends r m t Takes free) t frees).0 (dealt_same s Takes free) (all_same frees t)
+  all_same (free ∷ frees) s = let t = (dealt model_ends r m s Takes free).0 in same_then s t (part_for_each_answer (λ t free. dealt model_ends r m t Takes free) t frees).0 (dealt_same s Takes free) (all_same frees t)
 
   takes_same : (s : Session ModelEnd) (frees : List Said) → Same s (takes_all model_ends r m s frees).0
   unfolding takes_all
-  takes_same s frees = all_same (exactly (waiting model_ends s) silence frees) s
+  takes_same s frees = all_same (exactly (count_waiting_in_session model_ends s) silent_answer frees) s
 
   parts_timed : (release : Option Release) (mind : Option Mind) (b s : Session ModelEnd) → b.end.core.released ≡ release → b.mind ≡ mind → Timed s → Same s b
       → (is_released model_ends s ≡ true → is_released model_ends b ≡ true) → Times r.setup m s (parts release mind (m + r.setup) b)
@@ -143,7 +143,7 @@ module _ (r : Rules) (m : ℕ) where
         live = λ p. ap (λ (z : Bool). if z then Some (m + r.setup) else None) (sym out);
       }
 
-  handled_timed : (s : Session ModelEnd) (g : Given) (says : Says) → (is_released model_ends s ≡ true → is_released model_ends (handled model_ends r m s g says).0 ≡ true) → So s (handled model_ends r m s g says).0
+  handled_timed : (s : Session ModelEnd) (g : GivenToSession) (says : Says) → (is_released model_ends s ≡ true → is_released model_ends (handled model_ends r m s g says).0 ≡ true) → So s (handled model_ends r m s g says).0
   unfolding handled Same
   handled_timed s g says on h =
       let a = dealt model_ends r m s g says.first in
@@ -178,8 +178,8 @@ module _ (r : Rules) (m : ℕ) where
             ];
       }
 
-  module _ (stay : (s : Session ModelEnd) (g : Given) (says : Says) → is_released model_ends s ≡ true → is_released model_ends (handled model_ends r m s g says).0 ≡ true) where
-    handled_now : (s : Session ModelEnd) (g : Given) (says : Says) → So s (handled model_ends r m s g says).0
+  module _ (stay : (s : Session ModelEnd) (g : GivenToSession) (says : Says) → is_released model_ends s ≡ true → is_released model_ends (handled model_ends r m s g says).0 ≡ true) where
+    handled_now : (s : Session ModelEnd) (g : GivenToSession) (says : Says) → So s (handled model_ends r m s g says).0
     handled_now s g says = handled_timed s g says (stay s g says)
 
     poured_so : (x : Session ModelEnd × List ℕ) (says : Says) → So x.0 (poured model_ends r m x says).0.0
@@ -187,29 +187,29 @@ module _ (r : Rules) (m : ℕ) where
     poured_so x says =
         elim (cases_Bool ((length x.1 == 0) || x.0.broken)) [ inl p ↦ rw p (same_so x.0 x.0 refl refl refl) | inr p ↦ rw p (handled_now x.0 (Hears x.1) says) ]
 
-    all_poured : (says : List Says) (x : Session ModelEnd × List ℕ) → So x.0 (runs (poured model_ends r m) x says).0.0
-    unfolding runs
+    all_poured : (says : List Says) (x : Session ModelEnd × List ℕ) → So x.0 (part_for_each_answer (poured model_ends r m) x says).0.0
+    unfolding part_for_each_answer
     all_poured [] x = same_so x.0 x.0 refl refl refl
-    all_poured (a ∷ says) x = so_then x.0 (poured model_ends r m x a).0.0 (runs (poured model_ends r m) (poured model_ends r m x a).0 says).0.0 (poured_so x a) (all_poured says (poured model_ends r m x a).0)
+    all_poured (a ∷ says) x = so_then x.0 (poured model_ends r m x a).0.0 (part_for_each_answer (poured model_ends r m) (poured model_ends r m x a).0 says).0.0 (poured_so x a) (all_poured says (poured model_ends r m x a).0)
 
     came_so : (s : Session ModelEnd) (reading : Reading) (says : List Says) → So s (came model_ends reading r m s says).0
     unfolding pours
     came_so s (Gave octets) says = all_poured (exactly (length octets) nothing_said says) (s, octets)
     came_so s NotNow says = same_so s s refl refl refl
-    came_so s End says = handled_now s Ends (first_of nothing_said says)
-    came_so s Failed says = handled_now s Faults (first_of nothing_said says)
+    came_so s End says = handled_now s Ends (first_answer_of nothing_said says)
+    came_so s Failed says = handled_now s Faults (first_answer_of nothing_said says)
 
     answered_so : (s : Session ModelEnd) (a : WriteAnswer) → So s (after_write a s).0
     answered_so s (write.Some n) = same_so s (record s { output = drop n s.output }) refl refl refl
     answered_so s write.NotNow = same_so s s refl refl refl
     answered_so s write.Failed = same_so s s refl refl refl
 
-    once_so : (flow : Flow) (s : Session ModelEnd) (a : WriteAnswer) → So s (writes_if flow s a).state.0
+    once_so : (flow : WritingState) (s : Session ModelEnd) (a : WriteAnswer) → So s (writes_if flow s a).state.0
     once_so Going s a = elim (cases_Bool (length s.output == 0)) [ inl p ↦ rw p (same_so s s refl refl refl) | inr p ↦ rw p (answered_so s a) ]
     once_so PutOff s a = same_so s s refl refl refl
     once_so Failing s a = same_so s s refl refl refl
 
-    acts_so : (answers : List WriteAnswer) (x : Session ModelEnd × Flow) → So x.0 (acts writes_once x answers).state.0
+    acts_so : (answers : List WriteAnswer) (x : Session ModelEnd × WritingState) → So x.0 (acts writes_once x answers).state.0
     unfolding acts writes_once
     acts_so [] x = same_so x.0 x.0 refl refl refl
     acts_so (a ∷ answers) x = so_then x.0 (writes_if x.1 x.0 a).state.0 (acts writes_once (writes_if x.1 x.0 a).state answers).state.0 (once_so x.1 x.0 a) (acts_so answers (writes_if x.1 x.0 a).state)
@@ -218,7 +218,7 @@ module _ (r : Rules) (m : ℕ) where
     fault_so true s says = same_so s (record s { broken = true }) refl refl refl
     fault_so false s says = handled_now s Faults says
 
-    flowed_so : (flow : Flow) (s : Session ModelEnd) (says : Says) → So s (flowed model_ends r m (s, flow) says).state
+    flowed_so : (flow : WritingState) (s : Session ModelEnd) (says : Says) → So s (flowed model_ends r m (s, flow) says).state
     flowed_so Going s says = same_so s s refl refl refl
     flowed_so PutOff s says = same_so s s refl refl refl
     flowed_so Failing s says = fault_so (is_released model_ends s) s says
@@ -231,8 +231,8 @@ module _ (r : Rules) (m : ℕ) where
         let x = acts writes_once (s, Going) answers in
         so_then s x.state.0 (flowed model_ends r m x.state a.says).state (acts_so answers (s, Going)) (flowed_so x.state.1 x.state.0 a.says)
 
-    written_timed : (s : Session ModelEnd) (a : Wrote) → So s (written model_ends r m s a).state
-    unfolding written
+    written_timed : (s : Session ModelEnd) (a : Wrote) → So s (session_behind_writing model_ends r m s a).state
+    unfolding session_behind_writing
     written_timed s a = unless_so s.broken s a
 
 any_usual : Usual (λ g. Unit {0})
@@ -244,11 +244,11 @@ none_of : (o : Option ℕ) → is_some o ≡ false → o ≡ None
 none_of None p = refl
 none_of (Some at) p = absurd (true≢false p)
 
-abbrev AllAt : ℕ → List Entry → Type 0
+abbrev AllAt : ℕ → List JournalEntry → Type 0
 AllAt m [] = Unit {0}
 AllAt m (x ∷ xs) = (x.moment ≡ m) × AllAt m xs
 
-plain_at : (m n : ℕ) (xs : List Entry) → ArePlain m n xs → AllAt m xs
+plain_at : (m n : ℕ) (xs : List JournalEntry) → ArePlain m n xs → AllAt m xs
 plain_at m n [] p = tt
 plain_at m n (x ∷ xs) p = (p.0.moment, plain_at m n xs p.1)
 
@@ -264,26 +264,26 @@ module _ (steps : StepsAlike) (made : MadeStands) (shows : ShowsAlike) (stays : 
   abbrev rules : Rules
   rules = rules_of plan
 
-  abbrev ToldTo : ModelEnd → List Entry → Type 0
+  abbrev ToldTo : ModelEnd → List JournalEntry → Type 0
   ToldTo k xs = printings.ToldTo steps made plan allowed k xs
 
-  abbrev Behind : Option Ended_at → List Entry → Option Ended_at
+  abbrev Behind : Option Ended_at → List JournalEntry → Option Ended_at
   Behind e xs = printings.Behind steps made plan allowed e xs
 
-  abbrev rel : Option Ended_at → List Entry → Option ℕ
+  abbrev rel : Option Ended_at → List JournalEntry → Option ℕ
   rel e xs = released_at plan.settings (key_at plan.keys) e xs
 
-  seen : (k : ModelEnd) (xs : List Entry) → ToldTo k xs → is_some k.core.released ≡ is_gone (Behind None xs)
+  seen : (k : ModelEnd) (xs : List JournalEntry) → ToldTo k xs → is_some k.core.released ≡ is_gone (Behind None xs)
   seen k xs h = ap is_some (shows k h.now h.stands).1 ∙ sym (ap is_gone h.is)
 
-  rel_first : (xs ys : List Entry) (e : Option Ended_at) (at : ℕ) → rel e xs ≡ Some at → rel e (xs ++ ys) ≡ Some at
+  rel_first : (xs ys : List JournalEntry) (e : Option Ended_at) (at : ℕ) → rel e xs ≡ Some at → rel e (xs ++ ys) ≡ Some at
   unfolding released_at
   rel_first [] ys e at p = absurd (let q : ⊥ = cc in q)
   rel_first (x ∷ xs) ys e at p =
       let now = (happens plan.settings (key_at plan.keys) x.moment x.event e).0 in
       elim (cases_Bool (is_gone now)) [ inl q ↦ rw q (rw q at p) | inr q ↦ rw q (rel_first xs ys now at (rw q at p)) ]
 
-  rel_second : (xs ys : List Entry) (e : Option Ended_at) → rel e xs ≡ None → rel e (xs ++ ys) ≡ rel (Behind e xs) ys
+  rel_second : (xs ys : List JournalEntry) (e : Option Ended_at) → rel e xs ≡ None → rel e (xs ++ ys) ≡ rel (Behind e xs) ys
   unfolding released_at printings.behind
   rel_second [] ys e p = refl
   rel_second (x ∷ xs) ys e p =
@@ -293,20 +293,20 @@ module _ (steps : StepsAlike) (made : MadeStands) (shows : ShowsAlike) (stays : 
         | inr q ↦ rw q (rel_second xs ys now (rw q at p))
       ]
 
-  mark_some : (ys : List Entry) (e : Option Ended_at) → is_gone e ≡ false → is_gone (Behind e ys) ≡ true → is_some (rel e ys) ≡ true
+  mark_some : (ys : List JournalEntry) (e : Option Ended_at) → is_gone e ≡ false → is_gone (Behind e ys) ≡ true → is_some (rel e ys) ≡ true
   unfolding released_at printings.behind
   mark_some [] e p q = absurd (true≢false (sym q ∙ p))
   mark_some (x ∷ ys) e p q =
       let now = (happens plan.settings (key_at plan.keys) x.moment x.event e).0 in
       elim (cases_Bool (is_gone now)) [ inl d ↦ rw d refl | inr d ↦ rw d (mark_some ys now d q) ]
 
-  mark_one : (x : Entry) (e : Option Ended_at) → is_some (rel e (x ∷ [])) ≡ is_gone (Behind e (x ∷ []))
+  mark_one : (x : JournalEntry) (e : Option Ended_at) → is_some (rel e (x ∷ [])) ≡ is_gone (Behind e (x ∷ []))
   unfolding released_at printings.behind
   mark_one x e =
       let now = (happens plan.settings (key_at plan.keys) x.moment x.event e).0 in
       elim (cases_Bool (is_gone now)) [ inl d ↦ rw d refl | inr d ↦ rw d refl ]
 
-  at_moment : (m : ℕ) (ys : List Entry) (e : Option Ended_at) → AllAt m ys → (rel e ys ≡ None) ⊎ (rel e ys ≡ Some m)
+  at_moment : (m : ℕ) (ys : List JournalEntry) (e : Option Ended_at) → AllAt m ys → (rel e ys ≡ None) ⊎ (rel e ys ≡ Some m)
   unfolding released_at
   at_moment m [] e p = inl refl
   at_moment m (x ∷ ys) e p =
@@ -315,18 +315,18 @@ module _ (steps : StepsAlike) (made : MadeStands) (shows : ShowsAlike) (stays : 
 
   -- ---- a session and its events so far
 
-  record Marked (s : Session ModelEnd) (xs : List Entry) : Type 0 where
+  record Marked (s : Session ModelEnd) (xs : List JournalEntry) : Type 0 where
     told : ToldTo s.end xs
     mark : is_some (rel None xs) ≡ is_released model_ends s
 
-  Marks : Session ModelEnd → Session ModelEnd → List Entry → List Call → Type 0
-  Marks s t ys cs = (xs : List Entry) → Marked s xs → Marked t (xs ++ ys)
+  Marks : Session ModelEnd → Session ModelEnd → List JournalEntry → List Call → Type 0
+  Marks s t ys cs = (xs : List JournalEntry) → Marked s xs → Marked t (xs ++ ys)
 
-  some_kept : (xs ys : List Entry) (o : Option ℕ) → rel None xs ≡ o → is_some o ≡ true → is_some (rel None (xs ++ ys)) ≡ true
+  some_kept : (xs ys : List JournalEntry) (o : Option ℕ) → rel None xs ≡ o → is_some o ≡ true → is_some (rel None (xs ++ ys)) ≡ true
   some_kept xs ys None e p = absurd (true≢false (sym p))
   some_kept xs ys (Some at) e p = ap is_some (rel_first xs ys None at e)
 
-  marked_more : (s t : Session ModelEnd) (xs ys : List Entry) → Marked s xs → printings.Going steps made plan allowed s.end t.end ys → (is_released model_ends s ≡ true → is_released model_ends t ≡ true)
+  marked_more : (s t : Session ModelEnd) (xs ys : List JournalEntry) → Marked s xs → printings.Going steps made plan allowed s.end t.end ys → (is_released model_ends s ≡ true → is_released model_ends t ≡ true)
       → ((e : Option Ended_at) → is_gone e ≡ false → is_gone (Behind e ys) ≡ is_released model_ends t → is_some (rel e ys) ≡ is_released model_ends t) → Marked t (xs ++ ys)
   marked_more s t xs ys h going on step =
       let told : ToldTo t.end (xs ++ ys) = printings.more steps made plan allowed s.end t.end xs ys h.told going in
@@ -348,7 +348,7 @@ module _ (steps : StepsAlike) (made : MadeStands) (shows : ShowsAlike) (stays : 
       rw (append-nil xs)
       (record { told = subst (λ k. ToldTo k xs) (sym e) h.told; mark = h.mark ∙ ap (λ (k : ModelEnd). is_some k.core.released) (sym e) })
 
-  marks_then : (s t u : Session ModelEnd) (xs ys : List Entry) (cs ds : List Call) → Marks s t xs cs → Marks t u ys ds → Marks s u (xs ++ ys) (cs ++ ds)
+  marks_then : (s t u : Session ModelEnd) (xs ys : List JournalEntry) (cs ds : List Call) → Marks s t xs cs → Marks t u ys ds → Marks s u (xs ++ ys) (cs ++ ds)
   unfolding Marks
   marks_then s t u xs ys cs ds p q js h = rw (← append_assoc js xs ys) (q (js ++ xs) (p js h))
 
@@ -379,7 +379,7 @@ module _ (steps : StepsAlike) (made : MadeStands) (shows : ShowsAlike) (stays : 
         breaks = λ s gone. marks_nothing s (record s { broken = true }) refl;
       }) (λ s waits reading. marks_nothing s s refl)
 
-  abbrev Each : Session ModelEnd → Session ModelEnd → List Entry → List Call → Type 0
+  abbrev Each : Session ModelEnd → Session ModelEnd → List JournalEntry → List Call → Type 0
   Each = Both (printings.Q steps made plan allowed) Marks
 
   each_steady : Steady rules IsOfEnd Each
@@ -390,23 +390,23 @@ module _ (steps : StepsAlike) (made : MadeStands) (shows : ShowsAlike) (stays : 
 
   -- ---- visits
 
-  record Visited (s t : Session ModelEnd) (xs : List Entry) (cs : List Call) : Type 0 where
+  record Visited (s t : Session ModelEnd) (xs : List JournalEntry) (cs : List Call) : Type 0 where
     each : Each s t xs cs
     moment : ℕ
     plain : Plainly moment s t xs cs
     so : So rules moment s t
 
   module _ (m : ℕ) where
-    stay : (s : Session ModelEnd) (g : Given) (says : Says) → is_released model_ends s ≡ true → is_released model_ends (handled model_ends rules m s g says).0 ≡ true
+    stay : (s : Session ModelEnd) (g : GivenToSession) (says : Says) → is_released model_ends s ≡ true → is_released model_ends (handled model_ends rules m s g says).0 ≡ true
     unfolding StaysGone
     stay s g says p = steady_handled rules (λ g. Unit {0}) StaysGone (stays_gone stays breaks_release rules) any_usual m s g says tt p
 
-    left_rests : (s h : Session ModelEnd) (a : Wrote) (xs : List Entry) (ps : List Call) → Each s h xs ps → Plainly m s h xs ps → So rules m s h
+    left_rests : (s h : Session ModelEnd) (a : Wrote) (xs : List JournalEntry) (ps : List Call) → Each s h xs ps → Plainly m s h xs ps → So rules m s h
         → Left Visited s (rests model_ends rules m h a).state (xs ++ (rests model_ends rules m h a).entries) (ps ++ (rests model_ends rules m h a).calls)
     unfolding rests
     left_rests s h a xs ps each plain so =
-        let w = written model_ends rules m h a in
-        rw (← append_assoc xs w.entries (settled model_ends w.state).entries, ← append_assoc ps w.calls (settled model_ends w.state).calls)
+        let w = session_behind_writing model_ends rules m h a in
+        rw (← append_assoc xs w.entries (session_kept_or_closed model_ends w.state).entries, ← append_assoc ps w.calls (session_kept_or_closed model_ends w.state).calls)
         (left_settled Visited s w.state (xs ++ w.entries) (ps ++ w.calls) (record {
           each = each_calls.then_ s h w.state xs w.entries ps w.calls each (written_at rules m Each (quiet_at rules Each each_calls.quiet m) h a);
           moment = m;
@@ -420,7 +420,7 @@ module _ (steps : StepsAlike) (made : MadeStands) (shows : ShowsAlike) (stays : 
     left_ticked : (s : Session ModelEnd) (a : Met) → Left Visited s (served model_ends rules m s Ticks a).state (served model_ends rules m s Ticks a).entries (served model_ends rules m s Ticks a).calls
     unfolding served
     left_ticked s a =
-        let says = first_of nothing_said a.says in
+        let says = first_answer_of nothing_said a.says in
         let h = handled model_ends rules m s Ticks says in
         left_rests s h.0 a.wrote h.1 [] (steady_handled rules IsOfEnd Each each_steady all_of_end.usual m s Ticks says tt)
         (handled_at rules m IsOfEnd (Plainly m) (plainly rules m) all_of_end.usual s Ticks says tt) (handled_now rules m stay s Ticks says)
@@ -462,23 +462,23 @@ module _ (steps : StepsAlike) (made : MadeStands) (shows : ShowsAlike) (stays : 
 
   -- ---- all connections
 
-  own : (s t : Session ModelEnd) (xs : List Entry) (cs : List Call) → Visited s t xs cs → Own s t xs cs
+  own : (s t : Session ModelEnd) (xs : List JournalEntry) (cs : List Call) → Visited s t xs cs → Own s t xs cs
   own s t xs cs v = v.each.0.0
 
-  record Known_so (s : Session ModelEnd) (xs : List Entry) (cs : List Call) : Type 0 where
+  record Known_so (s : Session ModelEnd) (xs : List JournalEntry) (cs : List Call) : Type 0 where
     marked : Marked s xs
     timed : Timed s
     closing : s.closing ≡ closing_at plan.settings.setup (rel None xs)
 
-  abbrev Gone : List Entry → List Call → Type 0
+  abbrev Gone : List JournalEntry → List Call → Type 0
   Gone xs cs = Unit {0}
 
-  gone_more : (s t : Session ModelEnd) (xs ys : List Entry) (o : Option ℕ) → rel None xs ≡ o → is_some o ≡ true → t.closing ≡ closing_at plan.settings.setup (rel None xs)
+  gone_more : (s t : Session ModelEnd) (xs ys : List JournalEntry) (o : Option ℕ) → rel None xs ≡ o → is_some o ≡ true → t.closing ≡ closing_at plan.settings.setup (rel None xs)
       → t.closing ≡ closing_at plan.settings.setup (rel None (xs ++ ys))
   gone_more s t xs ys None e p c = absurd (true≢false (sym p))
   gone_more s t xs ys (Some at) e p c = c ∙ ap (λ z. closing_at plan.settings.setup z) (e ∙ sym (rel_first xs ys None at e))
 
-  more : (s t : Session ModelEnd) (xs ys : List Entry) (cs ds : List Call) → Known_so s xs cs → Visited s t ys ds → Known_so t (xs ++ ys) (cs ++ ds)
+  more : (s t : Session ModelEnd) (xs ys : List JournalEntry) (cs ds : List Call) → Known_so s xs cs → Visited s t ys ds → Known_so t (xs ++ ys) (cs ++ ds)
   unfolding Marks Plainly
   more s t xs ys cs ds h v =
       let marked = v.each.1 xs h.marked in
@@ -531,18 +531,18 @@ module _ (steps : StepsAlike) (made : MadeStands) (shows : ShowsAlike) (stays : 
   -- ---- the session that a dial opens
 
   -- one event, or the session stalled
-  Either : ModelEnd → List Entry → Type 0
-  Either k xs = ((x : Entry) × (xs ≡ x ∷ [])) ⊎ (is_some k.core.released ≡ true)
+  Either : ModelEnd → List JournalEntry → Type 0
+  Either k xs = ((x : JournalEntry) × (xs ≡ x ∷ [])) ⊎ (is_some k.core.released ≡ true)
 
-  fed_either : (m : ℕ) (s : Session ModelEnd) (g : Given) → Either (fed model_ends rules m s g).0.end (fed model_ends rules m s g).1
+  fed_either : (m : ℕ) (s : Session ModelEnd) (g : GivenToSession) → Either (fed model_ends rules m s g).0.end (fed model_ends rules m s g).1
   unfolding Either fed joined
   fed_either m s g =
-      elim (cases_Bool (nat_lt most_output (length s.output + length (octets_in (outcomes_of model_ends rules m s.end g))))) [
+      elim (cases_Bool (nat_lt most_output (length s.output + length (octets_in (outcomes_of_given_event model_ends rules m s.end g))))) [
         | inl p ↦ rw p (inr (breaks_released stays breaks_release rules m (end_after model_ends rules m s.end g) Stalls refl))
         | inr p ↦ rw p (inl (entry_of model_ends rules m s g, refl))
       ]
 
-  mark_of : (k : ModelEnd) (xs : List Entry) → ToldTo k xs → Either k xs → is_some (rel None xs) ≡ is_some k.core.released
+  mark_of : (k : ModelEnd) (xs : List JournalEntry) → ToldTo k xs → Either k xs → is_some (rel None xs) ≡ is_some k.core.released
   unfolding Either
   mark_of k xs told (inl (x, e)) =
       ap (λ z. is_some (rel None z)) e ∙ mark_one x None ∙ ap (λ z. is_gone (Behind None z)) (sym e) ∙ sym (seen k xs told)

@@ -6,16 +6,16 @@ use Rattle.std.proofs.lemmas.Bool.{cases_Bool}
 use Rattle.er_users.specs.Users.{Mind}
 use Rattle.rand_core.specs.Stream.{next_u64}
 use Rattle.link_trait.specs.Wires.{Call, Reading, Gave, NotNow, End, Failed, Reads, Closes}
-use Rattle.loop_model.specs.Journals.{Entry}
-use Rattle.loop_model.specs.Outs.{first_of}
-use Rattle.loop_model.specs.Sessions.{Rules, Session, Given, Begins, Hears, Sends, Takes, Leaves, Ticks, Ends, Faults, Stalls, most_output, written, outcomes_of, octets_in, joined, fed, Says, nothing_said, handled}
+use Rattle.loop_model.specs.Journals.{JournalEntry}
+use Rattle.loop_model.specs.Outs.{first_answer_of}
+use Rattle.loop_model.specs.Sessions.{Rules, Session, GivenToSession, Begins, Hears, Sends, Takes, Leaves, Ticks, Ends, Faults, Stalls, most_output, journal_event_of_given, outcomes_of_given_event, octets_in, joined, fed, Says, nothing_said, handled}
 use Rattle.loop_model.specs.Visits.{most_read, Met, Visit, came, visited}
 use Rattle.loop_model.specs.Loops.{Plan, rules_of, Loop, visit_at, next_user, begun, Caller, calling, called_by, called, Course, asks, Turn, run, Dialled, opens, dials_to, dials}
 use Rattle.loop_model.specs.Laws.{is_fault, one_if, faults, failures, HasFailed, FaultsHaveFailed}
 use Rattle.loop_model.proofs.Steadies.{Steady, Usual, Quiet, Calls, steady_handled, steady_pours, follows_handled, Left, Stays, Closed, left_served, left_visited}
 use Rattle.loop_model.proofs.Loopwise.{Loopwise, wise_run}
 
-pub faults-append : (xs ys : List Entry) → faults (xs ++ ys) ≡ faults xs + faults ys
+pub faults-append : (xs ys : List JournalEntry) → faults (xs ++ ys) ≡ faults xs + faults ys
 unfolding faults
 faults-append [] ys = omega arith
 faults-append (x ∷ xs) ys = let h : faults (xs ++ ys) ≡ faults xs + faults ys = faults-append xs ys in omega arith
@@ -25,11 +25,11 @@ unfolding failures
 failures-append [] ds = omega arith
 failures-append (call ∷ cs) ds = let h : failures (cs ++ ds) ≡ failures cs + failures ds = failures-append cs ds in omega arith
 
-Fails : Session ModelEnd → Session ModelEnd → List Entry → List Call → Type 0
+Fails : Session ModelEnd → Session ModelEnd → List JournalEntry → List Call → Type 0
 Fails s t xs cs = faults xs ≤ failures cs
 
 -- every event but a fault
-abbrev IsNoFault : Given → Type 0
+abbrev IsNoFault : GivenToSession → Type 0
 IsNoFault (Begins engine rbc rb) = Unit {0}
 IsNoFault (Hears octets) = Unit {0}
 IsNoFault (Sends text) = Unit {0}
@@ -40,7 +40,7 @@ IsNoFault Ends = Unit {0}
 IsNoFault Faults = ⊥
 IsNoFault Stalls = Unit {0}
 
-no_fault : (k : ModelEnd) (g : Given) → IsNoFault g → is_fault (written model_ends k g) ≡ false
+no_fault : (k : ModelEnd) (g : GivenToSession) → IsNoFault g → is_fault (journal_event_of_given model_ends k g) ≡ false
 no_fault k (Begins engine rbc rb) p = refl
 no_fault k (Hears octets) p = refl
 no_fault k (Sends text) p = refl
@@ -71,7 +71,7 @@ usual = record { sends = λ text. tt; leaves = λ sub. tt; takes = tt }
 pub fed_fault : (r : Rules) (m : ℕ) (s : Session ModelEnd) → faults (fed model_ends r m s Faults).1 ≡ 1
 unfolding faults fed joined
 fed_fault r m s =
-    elim (cases_Bool (nat_lt most_output (length s.output + length (octets_in (outcomes_of model_ends r m s.end Faults))))) [
+    elim (cases_Bool (nat_lt most_output (length s.output + length (octets_in (outcomes_of_given_event model_ends r m s.end Faults))))) [
       | inl p ↦ rw p refl
       | inr p ↦ rw p refl
     ]
@@ -99,8 +99,8 @@ read_fails r m s waits (Gave octets) says =
     none_failed _ (0 + 0) (steady_pours r IsNoFault Fails (steady r) usual (λ octets. tt) m s octets says)
 read_fails r m s waits NotNow says = omega arith
 read_fails r m s waits End says =
-    none_failed _ (0 + 0) (steady_handled r IsNoFault Fails (steady r) usual m s Ends (first_of nothing_said says) tt)
-read_fails r m s waits Failed says = bound _ 1 (handled_fault r m s (first_of nothing_said says))
+    none_failed _ (0 + 0) (steady_handled r IsNoFault Fails (steady r) usual m s Ends (first_answer_of nothing_said says) tt)
+read_fails r m s waits Failed says = bound _ 1 (handled_fault r m s (first_answer_of nothing_said says))
 
 quiet : (r : Rules) → Quiet r Fails
 unfolding Fails failures faults
@@ -118,7 +118,7 @@ calls : (r : Rules) → Calls r Fails
 unfolding Fails
 calls r = record { quiet = quiet r; read = λ m s a live. read_fails r m s a.waits a.reading a.says }
 
-left_fails : (s : Session ModelEnd) (ts : List (Session ModelEnd)) (xs : List Entry) (cs : List Call) → Left Fails s ts xs cs → faults xs ≤ failures cs
+left_fails : (s : Session ModelEnd) (ts : List (Session ModelEnd)) (xs : List JournalEntry) (cs : List Call) → Left Fails s ts xs cs → faults xs ≤ failures cs
 unfolding Fails failures
 left_fails s ts xs cs (Stays t p q) = q
 left_fails s ts xs cs (Closed t ds over p e q) =
@@ -134,7 +134,7 @@ visit_fails r m visit n (s ∷ ss) a =
       | inr p ↦ rw p (visit_fails r m visit n ss a)
     ]
 
-Along : List (Session ModelEnd) → List (Session ModelEnd) → List Entry → List Call → Type 0
+Along : List (Session ModelEnd) → List (Session ModelEnd) → List JournalEntry → List Call → Type 0
 Along ss ts xs cs = faults xs ≤ failures cs
 
 wise : (plan : Plan) → Loopwise plan Along
@@ -161,7 +161,7 @@ called_fails (Some mind) plan caller l conn a =
     let r = rules_of plan in
     let s = begun conn (calling model_ends plan caller l) mind in
     let g = Begins caller.engine plan.rbc (next_u64 l.words).0 in
-    left_fails s _ _ _ (left_served r Fails (quiet r) l.moment s g a (steady_handled r IsNoFault Fails (steady r) usual l.moment s g (first_of nothing_said a.says) tt))
+    left_fails s _ _ _ (left_served r Fails (quiet r) l.moment s g a (steady_handled r IsNoFault Fails (steady r) usual l.moment s g (first_answer_of nothing_said a.says) tt))
 
 dial_fails : (conn : Option ℕ) (plan : Plan) (caller : Caller) (c : Course ModelEnd) (address : List ℕ) (a : Dialled) → HasFailed (dials_to model_ends conn plan caller c address a)
 unfolding called faults failures

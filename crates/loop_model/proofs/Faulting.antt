@@ -11,12 +11,12 @@ use Rattle.er_users.specs.Users.{Mind}
 use Rattle.rand_core.specs.Stream.{next_u64}
 use Rattle.link_trait.specs.Wires.{Call, Reading, Gave, NotNow, End as LineEnd, Failed, Reads, Writes, Closes}
 use Rattle.link_trait.specs.declared.wires.WriteAnswer.TheVariants as write
-use Rattle.loop_model.specs.Journals.{Entry}
-use Rattle.loop_model.specs.Outs.{Out, first_of}
-use Rattle.loop_model.specs.Sessions.{Rules, Session, Given, Begins, Hears, Sends, Takes, Leaves, Ticks, Ends, Faults, Stalls, is_released, most_output, written, end_after, outcomes_of, entry_of, octets_in, joined, fed, Says, nothing_said, handled}
+use Rattle.loop_model.specs.Journals.{JournalEntry}
+use Rattle.loop_model.specs.Outs.{Out, first_answer_of}
+use Rattle.loop_model.specs.Sessions.{Rules, Session, GivenToSession, Begins, Hears, Sends, Takes, Leaves, Ticks, Ends, Faults, Stalls, is_released, most_output, journal_event_of_given, end_after, outcomes_of_given_event, entry_of, octets_in, joined, fed, Says, nothing_said, handled}
 use Rattle.loop_model.specs.Visits.{most_read, came}
 use Rattle.loop_model.specs.Loops.{Plan, rules_of, Loop, begun, Caller, calling, Course, Turn, run, Dialled, dials}
-use Rattle.loop_model.specs.Parts.{session_of, of, calls_at}
+use Rattle.loop_model.specs.Parts.{session_of_connection, of, calls_at}
 use Rattle.loop_model.specs.Laws.{IsServing, IsDialling, is_fault, one_if, faults, is_failed}
 use Rattle.loop_model.specs.Faulted.{has_failed, before_fault, is_gone, AreFaultsTold, FaultsAreTold}
 use Rattle.loop_model.proofs.Steadies.{Steady, Usual, Calls, AllLeft, all_left_of, steady_fed, steady_handled, steady_pours, follows_handled}
@@ -60,18 +60,18 @@ pub closed_failed : (cs ds : List Call) (n : ℕ) → has_failed (cs ++ (ds ++ C
 closed_failed cs ds n = ap has_failed (sym (append_assoc cs ds (Closes n ∷ []))) ∙ not_failed (cs ++ ds) (Closes n) refl
 
 -- a fault stands among events, or none does
-data Split (xs : List Entry) : Type 0 where
-  Without : faults xs ≡ 0 → ((ys : List Entry) → before_fault (xs ++ ys) ≡ xs ++ before_fault ys) → before_fault xs ≡ xs → Split xs
-  With : (faults xs ≡ 0 → ⊥) → ((ys : List Entry) → before_fault (xs ++ ys) ≡ before_fault xs) → Split xs
+data Split (xs : List JournalEntry) : Type 0 where
+  Without : faults xs ≡ 0 → ((ys : List JournalEntry) → before_fault (xs ++ ys) ≡ xs ++ before_fault ys) → before_fault xs ≡ xs → Split xs
+  With : (faults xs ≡ 0 → ⊥) → ((ys : List JournalEntry) → before_fault (xs ++ ys) ≡ before_fault xs) → Split xs
 
-split_more : (x : Entry) (xs : List Entry) → is_fault x.event ≡ false → Split xs → Split (x ∷ xs)
+split_more : (x : JournalEntry) (xs : List JournalEntry) → is_fault x.event ≡ false → Split xs → Split (x ∷ xs)
 unfolding faults before_fault
 split_more x xs p (Without z f e) =
     Without (subst (λ b. one_if b + faults xs ≡ 0) (sym p) (ap (λ n. 0 + n) z)) (λ ys. rw p (ap (λ q. x ∷ q) (f ys))) (rw p (ap (λ q. x ∷ q) e))
 split_more x xs p (With z f) =
     With (λ n. z (let h : 0 + faults xs ≡ 0 = subst (λ b. one_if b + faults xs ≡ 0) p n in omega arith)) (λ ys. rw p (ap (λ q. x ∷ q) (f ys)))
 
-split : (xs : List Entry) → Split xs
+split : (xs : List JournalEntry) → Split xs
 unfolding faults before_fault
 split [] = Without refl (λ ys. refl) refl
 split (x ∷ xs) =
@@ -80,12 +80,12 @@ split (x ∷ xs) =
       | inr p ↦ split_more x xs p (split xs)
     ]
 
-no_fault_all : (ys : List Entry) → faults ys ≡ 0 → before_fault ys ≡ ys
+no_fault_all : (ys : List JournalEntry) → faults ys ≡ 0 → before_fault ys ≡ ys
 no_fault_all ys z = elim (split ys) [ Without a f e ↦ e | With a f ↦ absurd (a z) ]
 
 -- ---- events that are no fault
 
-abbrev IsNoFault : Given → Type 0
+abbrev IsNoFault : GivenToSession → Type 0
 IsNoFault (Begins engine rbc rb) = ⊥
 IsNoFault (Hears octets) = Unit {0}
 IsNoFault (Sends text) = Unit {0}
@@ -96,7 +96,7 @@ IsNoFault Ends = Unit {0}
 IsNoFault Faults = ⊥
 IsNoFault Stalls = Unit {0}
 
-of_end : (g : Given) → IsNoFault g → IsOfEnd g
+of_end : (g : GivenToSession) → IsNoFault g → IsOfEnd g
 of_end (Begins engine rbc rb) p = absurd p
 of_end (Hears octets) p = tt
 of_end (Sends text) p = tt
@@ -107,7 +107,7 @@ of_end Ends p = tt
 of_end Faults p = absurd p
 of_end Stalls p = tt
 
-no_fault : (k : ModelEnd) (g : Given) → IsNoFault g → is_fault (written model_ends k g) ≡ false
+no_fault : (k : ModelEnd) (g : GivenToSession) → IsNoFault g → is_fault (journal_event_of_given model_ends k g) ≡ false
 no_fault k (Begins engine rbc rb) p = absurd p
 no_fault k (Hears octets) p = refl
 no_fault k (Sends text) p = refl
@@ -121,11 +121,11 @@ no_fault k Stalls p = refl
 usual : Usual IsNoFault
 usual = record { sends = λ text. tt; leaves = λ sub. tt; takes = tt }
 
-one_none : (x : Entry) → is_fault x.event ≡ false → faults (x ∷ []) ≡ 0
+one_none : (x : JournalEntry) → is_fault x.event ≡ false → faults (x ∷ []) ≡ 0
 unfolding faults
 one_none x p = subst (λ b. one_if b + 0 ≡ 0) (sym p) refl
 
-two_none : (x y : Entry) → is_fault x.event ≡ false → is_fault y.event ≡ false → faults (x ∷ y ∷ []) ≡ 0
+two_none : (x y : JournalEntry) → is_fault x.event ≡ false → is_fault y.event ≡ false → faults (x ∷ y ∷ []) ≡ 0
 unfolding faults
 two_none x y p q = subst (λ b. one_if b + (one_if (is_fault y.event) + 0) ≡ 0) (sym p) (subst (λ b. 0 + (one_if b + 0) ≡ 0) (sym q) refl)
 
@@ -133,33 +133,33 @@ module _ (steps : StepsAlike) (made : MadeStands) (shows : ShowsAlike) (stays : 
   abbrev r : Rules
   r = rules_of plan
 
-  abbrev ToldTo : ModelEnd → List Entry → Type 0
+  abbrev ToldTo : ModelEnd → List JournalEntry → Type 0
   ToldTo k xs = printings.ToldTo steps made plan allowed k xs
 
   -- whether its events release an end
-  abbrev gone : List Entry → Bool
+  abbrev gone : List JournalEntry → Bool
   gone xs = is_gone (printings.Behind steps made plan allowed None xs)
 
-  seen : (k : ModelEnd) (xs : List Entry) → ToldTo k xs → is_some k.core.released ≡ gone xs
+  seen : (k : ModelEnd) (xs : List JournalEntry) → ToldTo k xs → is_some k.core.released ≡ gone xs
   seen k xs h = ap is_some (shows k h.now h.stands).1 ∙ sym (ap is_gone h.is)
 
-  abbrev IsTold : List Entry → List Call → Type 0
+  abbrev IsTold : List JournalEntry → List Call → Type 0
   IsTold xs cs = faults xs ≡ one_if (has_failed cs && not (gone (before_fault xs)))
 
   -- a session and all that came at it
-  record Sees (s : Session ModelEnd) (xs : List Entry) (cs : List Call) : Type 0 where
+  record Sees (s : Session ModelEnd) (xs : List JournalEntry) (cs : List Call) : Type 0 where
     told : ToldTo s.end xs
     fault : IsTold xs cs
     over : has_failed cs ≡ true → is_released model_ends s ≡ true
 
   -- what is so stays so
-  Keeping : Session ModelEnd → Session ModelEnd → List Entry → List Call → Type 0
-  Keeping s t ys ds = (xs : List Entry) (cs : List Call) → Sees s xs cs → Sees t (xs ++ ys) (cs ++ ds)
+  Keeping : Session ModelEnd → Session ModelEnd → List JournalEntry → List Call → Type 0
+  Keeping s t ys ds = (xs : List JournalEntry) (cs : List Call) → Sees s xs cs → Sees t (xs ++ ys) (cs ++ ds)
 
-  quiet_case : (xs : List Entry) (cs : List Call) → has_failed cs ≡ false → IsTold xs cs → faults xs ≡ 0
+  quiet_case : (xs : List JournalEntry) (cs : List Call) → has_failed cs ≡ false → IsTold xs cs → faults xs ≡ 0
   quiet_case xs cs p h = subst (λ b. faults xs ≡ one_if (b && not (gone (before_fault xs)))) p h
 
-  still_told : (xs ys : List Entry) (cs : List Call) (b : Bool) → has_failed cs ≡ b → IsTold xs cs → faults ys ≡ 0 → (b ≡ true → gone (xs ++ ys) ≡ true) → IsTold (xs ++ ys) cs
+  still_told : (xs ys : List JournalEntry) (cs : List Call) (b : Bool) → has_failed cs ≡ b → IsTold xs cs → faults ys ≡ 0 → (b ≡ true → gone (xs ++ ys) ≡ true) → IsTold (xs ++ ys) cs
   still_told xs ys cs false p h none over =
       faults-append xs ys ∙ ap (λ z. z + faults ys) (quiet_case xs cs p h) ∙ ap (λ z. 0 + z) none
       ∙ ap (λ b. one_if (b && not (gone (before_fault (xs ++ ys))))) (sym p)
@@ -178,7 +178,7 @@ module _ (steps : StepsAlike) (made : MadeStands) (shows : ShowsAlike) (stays : 
       plus_none n = omega arith
 
   -- events that are no fault
-  plain : (s t : Session ModelEnd) (xs ys : List Entry) (cs : List Call) → Sees s xs cs → printings.Going steps made plan allowed s.end t.end ys → faults ys ≡ 0
+  plain : (s t : Session ModelEnd) (xs ys : List JournalEntry) (cs : List Call) → Sees s xs cs → printings.Going steps made plan allowed s.end t.end ys → faults ys ≡ 0
       → (is_released model_ends s ≡ true → is_released model_ends t ≡ true) → Sees t (xs ++ ys) cs
   plain s t xs ys cs h going none on =
       let told : ToldTo t.end (xs ++ ys) = printings.more steps made plan allowed s.end t.end xs ys h.told going in
@@ -194,7 +194,7 @@ module _ (steps : StepsAlike) (made : MadeStands) (shows : ShowsAlike) (stays : 
       rw (append-nil xs, append-nil cs)
       (record { told = subst (λ k. ToldTo k xs) (sym e) h.told; fault = h.fault; over = λ p. ap (λ (k : ModelEnd). is_some k.core.released) e ∙ h.over p })
 
-  keeping_then : (s t u : Session ModelEnd) (xs ys : List Entry) (cs ds : List Call) → Keeping s t xs cs → Keeping t u ys ds → Keeping s u (xs ++ ys) (cs ++ ds)
+  keeping_then : (s t u : Session ModelEnd) (xs ys : List JournalEntry) (cs ds : List Call) → Keeping s t xs cs → Keeping t u ys ds → Keeping s u (xs ++ ys) (cs ++ ds)
   unfolding Keeping
   keeping_then s t u xs ys cs ds p q js bs h = rw (← append_assoc js xs ys, ← append_assoc bs cs ds) (q (js ++ xs) (bs ++ cs) (p js bs h))
 
@@ -238,7 +238,7 @@ module _ (steps : StepsAlike) (made : MadeStands) (shows : ShowsAlike) (stays : 
   unfolding fed joined
   fed_released m s =
       let k = end_after model_ends r m s.end Faults in
-      elim (cases_Bool (nat_lt most_output (length s.output + length (octets_in (outcomes_of model_ends r m s.end Faults))))) [
+      elim (cases_Bool (nat_lt most_output (length s.output + length (octets_in (outcomes_of_given_event model_ends r m s.end Faults))))) [
         | inl p ↦ rw p (breaks_released stays breaks_release r m k Stalls refl)
         | inr p ↦ rw p (breaks_released stays breaks_release r m s.end Faults refl)
       ]
@@ -247,7 +247,7 @@ module _ (steps : StepsAlike) (made : MadeStands) (shows : ShowsAlike) (stays : 
   unfolding fed before_fault
   fed_first m s = refl
 
-  unfailed : (s : Session ModelEnd) (xs : List Entry) (cs : List Call) (b : Bool) → has_failed cs ≡ b → Sees s xs cs → is_released model_ends s ≡ false → has_failed cs ≡ false
+  unfailed : (s : Session ModelEnd) (xs : List JournalEntry) (cs : List Call) (b : Bool) → has_failed cs ≡ b → Sees s xs cs → is_released model_ends s ≡ false → has_failed cs ≡ false
   unfailed s xs cs true p h live = absurd (true≢false (sym (h.over p) ∙ live))
   unfailed s xs cs false p h live = p
 
@@ -298,8 +298,8 @@ module _ (steps : StepsAlike) (made : MadeStands) (shows : ShowsAlike) (stays : 
   read_keeps m s waits NotNow says live = bare s s (Reads s.number most_read waits NotNow) refl refl
   read_keeps m s waits LineEnd says live =
       keeping_then s s _ [] _ (Reads s.number most_read waits LineEnd ∷ []) [] (bare s s (Reads s.number most_read waits LineEnd) refl refl)
-      (steady_handled r IsNoFault Keeping steady usual m s Ends (first_of nothing_said says) tt)
-  read_keeps m s waits Failed says live = faulted m s (first_of nothing_said says) (Reads s.number most_read waits Failed) refl live
+      (steady_handled r IsNoFault Keeping steady usual m s Ends (first_answer_of nothing_said says) tt)
+  read_keeps m s waits Failed says live = faulted m s (first_answer_of nothing_said says) (Reads s.number most_read waits Failed) refl live
 
   calls : Calls r Keeping
   calls = record {
@@ -317,7 +317,7 @@ module _ (steps : StepsAlike) (made : MadeStands) (shows : ShowsAlike) (stays : 
 
   -- ---- all connections
 
-  abbrev Q : Session ModelEnd → Session ModelEnd → List Entry → List Call → Type 0
+  abbrev Q : Session ModelEnd → Session ModelEnd → List JournalEntry → List Call → Type 0
   Q = Both Own Keeping
 
   q_steady : Steady r IsNoFault Q
@@ -326,7 +326,7 @@ module _ (steps : StepsAlike) (made : MadeStands) (shows : ShowsAlike) (stays : 
   q_calls : AllLeft r Q
   q_calls = all_left_of r Q (calls_both r Own Keeping (own_calls r) calls)
 
-  own : (s t : Session ModelEnd) (xs : List Entry) (cs : List Call) → Q s t xs cs → Own s t xs cs
+  own : (s t : Session ModelEnd) (xs : List JournalEntry) (cs : List Call) → Q s t xs cs → Own s t xs cs
   own s t xs cs p = p.0
 
   keeps : Keeps plan Q Sees IsTold
@@ -348,7 +348,7 @@ module _ (steps : StepsAlike) (made : MadeStands) (shows : ShowsAlike) (stays : 
   begins_none : (m : ℕ) (s : Session ModelEnd) (engine rbc rb : ℕ) → faults (fed model_ends r m s (Begins engine rbc rb)).1 ≡ 0
   unfolding faults fed joined
   begins_none m s engine rbc rb =
-      elim (cases_Bool (nat_lt most_output (length s.output + length (octets_in (outcomes_of model_ends r m s.end (Begins engine rbc rb)))))) [ inl p ↦ rw p refl | inr p ↦ rw p refl ]
+      elim (cases_Bool (nat_lt most_output (length s.output + length (octets_in (outcomes_of_given_event model_ends r m s.end (Begins engine rbc rb)))))) [ inl p ↦ rw p refl | inr p ↦ rw p refl ]
 
   first : (caller : Caller) (at : ℕ) → key_at plan.keys at caller.engine plan.rbc ≡ Some caller.kmac
       → (l : Loop ModelEnd) (conn : ℕ) (mind : Mind) → l.moment ≡ at
@@ -361,23 +361,23 @@ module _ (steps : StepsAlike) (made : MadeStands) (shows : ShowsAlike) (stays : 
     over = λ p. absurd (true≢false (sym p));
   }
 
-  told_in : (s : Option (Session ModelEnd)) (conn : ℕ) (xs : List Entry) (cs : List Call) → Fits plan Q q_calls own Sees IsTold keeps s conn xs cs → IsTold xs cs
+  told_in : (s : Option (Session ModelEnd)) (conn : ℕ) (xs : List JournalEntry) (cs : List Call) → Fits plan Q q_calls own Sees IsTold keeps s conn xs cs → IsTold xs cs
   unfolding Fits
   told_in None conn xs cs h = h
   told_in (Some s) conn xs cs h = h.1.fault
 
   -- ---- the end of a connection by its own events alone
 
-  AreOf : ℕ → List Entry → Type 0
+  AreOf : ℕ → List JournalEntry → Type 0
   AreOf conn [] = Unit {0}
   AreOf conn (x ∷ xs) = ((x.conn == conn) ≡ true) × AreOf conn xs
 
-  are_of : (conn : ℕ) (xs : List Entry) → AreOf conn (of conn xs)
+  are_of : (conn : ℕ) (xs : List JournalEntry) → AreOf conn (of conn xs)
   unfolding of AreOf
   are_of conn [] = tt
   are_of conn (x ∷ xs) = elim (cases_Bool (x.conn == conn)) [ inl p ↦ rw p (p, are_of conn xs) | inr p ↦ rw p (are_of conn xs) ]
 
-  before_of : (conn : ℕ) (xs : List Entry) → AreOf conn xs → of conn (before_fault xs) ≡ before_fault xs
+  before_of : (conn : ℕ) (xs : List JournalEntry) → AreOf conn xs → of conn (before_fault xs) ≡ before_fault xs
   unfolding of AreOf before_fault
   before_of conn [] h = refl
   before_of conn (x ∷ xs) h =
@@ -387,7 +387,7 @@ module _ (steps : StepsAlike) (made : MadeStands) (shows : ShowsAlike) (stays : 
   all_so o k conn =
       let xs = of conn o.entries in
       let cs = calls_at conn o.calls in
-      told_in (session_of conn o.state.loop.sessions) conn xs cs (k.fits conn)
+      told_in (session_of_connection conn o.state.loop.sessions) conn xs cs (k.fits conn)
       ∙ ap (λ z. one_if (has_failed cs && not (is_gone z)))
       (sym (printings.at_own steps made plan allowed conn None (before_fault xs) ∙ ap (λ z. printings.Behind steps made plan allowed None z) (before_of conn xs (are_of conn o.entries))))
 

@@ -7,13 +7,13 @@ use Rattle.er_users.specs.Users.{Mind}
 use Rattle.rand_core.specs.Stream.{next_u64}
 use Rattle.link_trait.specs.Wires.{Call, Listens, Dials, Turns, Reads, Writes, Closes, given_of}
 use Rattle.link_trait.specs.declared.wires.WriteAnswer.TheVariants as write
-use Rattle.loop_model.specs.Journals.{Entry}
+use Rattle.loop_model.specs.Journals.{JournalEntry}
 use Rattle.loop_model.specs.Outs.{Out}
-use Rattle.loop_model.specs.Sessions.{Rules, Session, Begins, Stalls, fed, breaks, end_after, outcomes_of, entry_of, octets_in}
+use Rattle.loop_model.specs.Sessions.{Rules, Session, Begins, Stalls, fed, breaks, end_after, outcomes_of_given_event, entry_of, octets_in}
 use Rattle.loop_model.specs.Visits.{most_read}
 use Rattle.loop_model.specs.Loops.{Plan, rules_of, Loop, begun, Caller, calling, Course, run, dials}
-use Rattle.loop_model.specs.Parts.{session_of, of, calls_at}
-use Rattle.loop_model.specs.Laws.{AreAccounted, octets_of, IsBeginning, OctetsAreAccounted}
+use Rattle.loop_model.specs.Parts.{session_of_connection, of, calls_at}
+use Rattle.loop_model.specs.Laws.{AreAccounted, octets_of_entries, IsBeginning, OctetsAreAccounted}
 use Rattle.loop_model.proofs.Steadies.{Steady, Calls, AllLeft, all_left_of, steady_fed}
 use Rattle.loop_model.proofs.Lives.{Own, Keeps, Fits, Knows, knows_run}
 use Rattle.loop_model.proofs.Dialling.{knows_dial}
@@ -39,11 +39,11 @@ unfolding given_in
 given_in-append [] ds = refl
 given_in-append (call ∷ cs) ds = ap (λ z. gives call ++ z) (given_in-append cs ds) ∙ sym (append_assoc (gives call) (given_in cs) (given_in ds))
 
-pub octets_of-append : (xs ys : List Entry) → octets_of (xs ++ ys) ≡ octets_of xs ++ octets_of ys
-unfolding octets_of
+pub octets_of-append : (xs ys : List JournalEntry) → octets_of_entries (xs ++ ys) ≡ octets_of_entries xs ++ octets_of_entries ys
+unfolding octets_of_entries
 octets_of-append [] ys = refl
 octets_of-append (x ∷ xs) ys =
-    ap (λ z. octets_in x.outcomes ++ z) (octets_of-append xs ys) ∙ sym (append_assoc (octets_in x.outcomes) (octets_of xs) (octets_of ys))
+    ap (λ z. octets_in x.outcomes ++ z) (octets_of-append xs ys) ∙ sym (append_assoc (octets_in x.outcomes) (octets_of_entries xs) (octets_of_entries ys))
 
 -- what is given to a connection is what the calls at it give
 given_step : (conn : ℕ) (call : Call) (cs : List Call) → given_of conn cs ≡ given_in (calls_at conn cs)
@@ -71,31 +71,31 @@ given_at conn (call ∷ cs) = given_step conn call cs (given_at conn cs)
 -- ---- one session
 
 -- what waited and what came are what was given and a rest; and all but what waits was given, unless it broke off
-pub record Gives (s t : Session ModelEnd) (xs : List Entry) (cs : List Call) : Type 0 where
+pub record Gives (s t : Session ModelEnd) (xs : List JournalEntry) (cs : List Call) : Type 0 where
   pub rest : List ℕ
-  pub is : s.output ++ octets_of xs ≡ given_in cs ++ rest
+  pub is : s.output ++ octets_of_entries xs ≡ given_in cs ++ rest
   pub whole : t.broken ≡ false → (s.broken ≡ false) × (rest ≡ t.output)
   pub silent : s.broken ≡ true → given_in cs ≡ []
 
-waits : (s t : Session ModelEnd) (xs : List Entry) → t.output ≡ s.output ++ octets_of xs → (t.broken ≡ false → s.broken ≡ false) → Gives s t xs []
+waits : (s t : Session ModelEnd) (xs : List JournalEntry) → t.output ≡ s.output ++ octets_of_entries xs → (t.broken ≡ false → s.broken ≡ false) → Gives s t xs []
 unfolding given_in
-waits s t xs e f = record { rest = s.output ++ octets_of xs; is = refl; whole = λ p. (f p, sym e); silent = λ p. refl }
+waits s t xs e f = record { rest = s.output ++ octets_of_entries xs; is = refl; whole = λ p. (f p, sym e); silent = λ p. refl }
 
-breaks_off : (s t : Session ModelEnd) (xs : List Entry) → t.broken ≡ true → Gives s t xs []
+breaks_off : (s t : Session ModelEnd) (xs : List JournalEntry) → t.broken ≡ true → Gives s t xs []
 unfolding given_in
-breaks_off s t xs e = record { rest = s.output ++ octets_of xs; is = refl; whole = λ p. absurd (true≢false (sym e ∙ p)); silent = λ p. refl }
+breaks_off s t xs e = record { rest = s.output ++ octets_of_entries xs; is = refl; whole = λ p. absurd (true≢false (sym e ∙ p)); silent = λ p. refl }
 
-gives_then : (s t u : Session ModelEnd) (xs ys : List Entry) (cs ds : List Call) → Gives s t xs cs → Gives t u ys ds → Gives s u (xs ++ ys) (cs ++ ds)
+gives_then : (s t u : Session ModelEnd) (xs ys : List JournalEntry) (cs ds : List Call) → Gives s t xs cs → Gives t u ys ds → Gives s u (xs ++ ys) (cs ++ ds)
 gives_then s t u xs ys cs ds a b =
     elim (cases_Bool t.broken) [
       | inl p ↦ record {
-        rest = a.rest ++ octets_of ys;
+        rest = a.rest ++ octets_of_entries ys;
         is =
             ap (λ z. s.output ++ z) (octets_of-append xs ys)
-            ∙ sym (append_assoc s.output (octets_of xs) (octets_of ys))
-            ∙ ap (λ z. z ++ octets_of ys) a.is
-            ∙ append_assoc (given_in cs) a.rest (octets_of ys)
-            ∙ ap (λ z. z ++ (a.rest ++ octets_of ys)) (sym (given_in-append cs ds ∙ ap (λ z. given_in cs ++ z) (b.silent p) ∙ append-nil (given_in cs)));
+            ∙ sym (append_assoc s.output (octets_of_entries xs) (octets_of_entries ys))
+            ∙ ap (λ z. z ++ octets_of_entries ys) a.is
+            ∙ append_assoc (given_in cs) a.rest (octets_of_entries ys)
+            ∙ ap (λ z. z ++ (a.rest ++ octets_of_entries ys)) (sym (given_in-append cs ds ∙ ap (λ z. given_in cs ++ z) (b.silent p) ∙ append-nil (given_in cs)));
         whole = λ q. absurd (true≢false (sym p ∙ (b.whole q).0));
         silent = λ q. given_in-append cs ds ∙ ap (λ z. given_in cs ++ z) (b.silent p) ∙ append-nil (given_in cs) ∙ a.silent q;
       }
@@ -103,10 +103,10 @@ gives_then s t u xs ys cs ds a b =
         rest = b.rest;
         is =
             ap (λ z. s.output ++ z) (octets_of-append xs ys)
-            ∙ sym (append_assoc s.output (octets_of xs) (octets_of ys))
-            ∙ ap (λ z. z ++ octets_of ys) a.is
-            ∙ append_assoc (given_in cs) a.rest (octets_of ys)
-            ∙ ap (λ z. given_in cs ++ (z ++ octets_of ys)) (a.whole p).1
+            ∙ sym (append_assoc s.output (octets_of_entries xs) (octets_of_entries ys))
+            ∙ ap (λ z. z ++ octets_of_entries ys) a.is
+            ∙ append_assoc (given_in cs) a.rest (octets_of_entries ys)
+            ∙ ap (λ z. given_in cs ++ (z ++ octets_of_entries ys)) (a.whole p).1
             ∙ ap (λ z. given_in cs ++ z) b.is
             ∙ sym (append_assoc (given_in cs) (given_in ds) b.rest)
             ∙ ap (λ z. z ++ b.rest) (sym (given_in-append cs ds));
@@ -120,12 +120,12 @@ or_left true b p = p
 or_left false b p = refl
 
 steady : (r : Rules) → Steady r (λ g. Unit {0}) Gives
-unfolding octets_of
+unfolding octets_of_entries
 steady r = record {
   none = λ s. waits s s [] (sym (append-nil s.output)) (λ p. p);
   then_ = gives_then;
   given = λ m s g allowed fits.
-      let os = octets_in (outcomes_of model_ends r m s.end g) in
+      let os = octets_in (outcomes_of_given_event model_ends r m s.end g) in
       waits s (record s { end = end_after model_ends r m s.end g; output = s.output ++ os; broken = s.broken || breaks g }) (entry_of model_ends r m s g ∷ [])
       (ap (λ z. s.output ++ z) (sym (append-nil os))) (or_left s.broken (breaks g));
   stalls = λ m s g allowed fits.
@@ -139,7 +139,7 @@ take_and_drop : (n : ℕ) (xs : List ℕ) → take n xs ++ drop n xs ≡ xs
 take_and_drop n xs = take-append-drop n xs
 
 bare_call : (s : Session ModelEnd) (call : Call) → gives call ≡ [] → Gives s s [] (call ∷ [])
-unfolding given_in octets_of
+unfolding given_in octets_of_entries
 bare_call s call none = record {
   rest = s.output;
   is = append-nil s.output ∙ ap (λ z. (z ++ []) ++ s.output) (sym none);
@@ -148,7 +148,7 @@ bare_call s call none = record {
 }
 
 bare : Bare Gives
-unfolding given_in octets_of
+unfolding given_in octets_of_entries
 bare = record {
   wrote = λ s n whole. record {
     rest = drop n s.output;
@@ -164,7 +164,7 @@ bare = record {
 pub all_given : AllGiven (λ g. Unit {0})
 all_given = record { usual = record { sends = λ text. tt; leaves = λ sub. tt; takes = tt }; hears = λ octets. tt; ticks = tt; ends = tt; faults = tt }
 
-abbrev pub Q : Session ModelEnd → Session ModelEnd → List Entry → List Call → Type 0
+abbrev pub Q : Session ModelEnd → Session ModelEnd → List JournalEntry → List Call → Type 0
 Q = Both Own Gives
 
 pub q_steady : (r : Rules) → Steady r (λ g. Unit {0}) Q
@@ -180,23 +180,23 @@ q_calls r = all_left_of r Q (q_each r)
 
 -- ---- a session and all that came at it
 
-pub record Given_so (s : Session ModelEnd) (xs : List Entry) (cs : List Call) : Type 0 where
+pub record Given_so (s : Session ModelEnd) (xs : List JournalEntry) (cs : List Call) : Type 0 where
   pub rest : List ℕ
-  pub is : given_in cs ++ rest ≡ octets_of xs
+  pub is : given_in cs ++ rest ≡ octets_of_entries xs
   pub whole : s.broken ≡ false → rest ≡ s.output
 
-abbrev pub Gone : List Entry → List Call → Type 0
-Gone xs cs = IsBeginning (given_in cs) (octets_of xs)
+abbrev pub Gone : List JournalEntry → List Call → Type 0
+Gone xs cs = IsBeginning (given_in cs) (octets_of_entries xs)
 
-pub more : (s t : Session ModelEnd) (xs ys : List Entry) (cs ds : List Call) → Given_so s xs cs → Gives s t ys ds → Given_so t (xs ++ ys) (cs ++ ds)
+pub more : (s t : Session ModelEnd) (xs ys : List JournalEntry) (cs ds : List Call) → Given_so s xs cs → Gives s t ys ds → Given_so t (xs ++ ys) (cs ++ ds)
 more s t xs ys cs ds h q =
     elim (cases_Bool s.broken) [
       | inl p ↦ record {
-        rest = h.rest ++ octets_of ys;
+        rest = h.rest ++ octets_of_entries ys;
         is =
-            ap (λ z. z ++ (h.rest ++ octets_of ys)) (given_in-append cs ds ∙ ap (λ z. given_in cs ++ z) (q.silent p) ∙ append-nil (given_in cs))
-            ∙ sym (append_assoc (given_in cs) h.rest (octets_of ys))
-            ∙ ap (λ z. z ++ octets_of ys) h.is
+            ap (λ z. z ++ (h.rest ++ octets_of_entries ys)) (given_in-append cs ds ∙ ap (λ z. given_in cs ++ z) (q.silent p) ∙ append-nil (given_in cs))
+            ∙ sym (append_assoc (given_in cs) h.rest (octets_of_entries ys))
+            ∙ ap (λ z. z ++ octets_of_entries ys) h.is
             ∙ sym (octets_of-append xs ys);
         whole = λ e. absurd (true≢false (sym p ∙ (q.whole e).0));
       }
@@ -206,9 +206,9 @@ more s t xs ys cs ds h q =
             ap (λ z. z ++ q.rest) (given_in-append cs ds)
             ∙ append_assoc (given_in cs) (given_in ds) q.rest
             ∙ ap (λ z. given_in cs ++ z) (sym q.is)
-            ∙ sym (append_assoc (given_in cs) s.output (octets_of ys))
-            ∙ ap (λ z. (given_in cs ++ z) ++ octets_of ys) (sym (h.whole p))
-            ∙ ap (λ z. z ++ octets_of ys) h.is
+            ∙ sym (append_assoc (given_in cs) s.output (octets_of_entries ys))
+            ∙ ap (λ z. (given_in cs ++ z) ++ octets_of_entries ys) (sym (h.whole p))
+            ∙ ap (λ z. z ++ octets_of_entries ys) h.is
             ∙ sym (octets_of-append xs ys);
         whole = λ e. (q.whole e).1;
       }
@@ -220,7 +220,7 @@ closed_given cs ds n =
     ap given_in (sym (append_assoc cs ds (Closes n ∷ []))) ∙ given_in-append (cs ++ ds) (Closes n ∷ []) ∙ append-nil (given_in (cs ++ ds))
 
 pub keeps : (plan : Plan) → Keeps plan Q Given_so Gone
-unfolding given_in octets_of
+unfolding given_in octets_of_entries
 keeps plan = record {
   visit = λ s t xs ys cs ds h q. more s t xs ys cs ds h q.1;
   close = λ s t xs ys cs ds over h q.
@@ -232,8 +232,8 @@ keeps plan = record {
   unserved = λ m conn handed. record { rest = []; is = refl };
 }
 
-given_so : (plan : Plan) (s : Option (Session ModelEnd)) (conn : ℕ) (xs : List Entry) (cs : List Call)
-    → Fits plan Q (q_calls (rules_of plan)) (λ s t xs cs p. p.0) Given_so Gone (keeps plan) s conn xs cs → IsBeginning (given_in cs) (octets_of xs)
+given_so : (plan : Plan) (s : Option (Session ModelEnd)) (conn : ℕ) (xs : List JournalEntry) (cs : List Call)
+    → Fits plan Q (q_calls (rules_of plan)) (λ s t xs cs p. p.0) Given_so Gone (keeps plan) s conn xs cs → IsBeginning (given_in cs) (octets_of_entries xs)
 unfolding Fits
 given_so plan None conn xs cs h = h
 given_so plan (Some s) conn xs cs h = record { rest = h.1.rest; is = h.1.is }
@@ -242,7 +242,7 @@ given_so plan (Some s) conn xs cs h = record { rest = h.1.rest; is = h.1.is }
 pub first : (plan : Plan) (caller : Caller) (l : Loop ModelEnd) (conn : ℕ) (mind : Mind)
     → Given_so (fed model_ends (rules_of plan) l.moment (begun conn (calling model_ends plan caller l) mind) (Begins caller.engine plan.rbc (next_u64 l.words).0)).0
     (fed model_ends (rules_of plan) l.moment (begun conn (calling model_ends plan caller l) mind) (Begins caller.engine plan.rbc (next_u64 l.words).0)).1 []
-unfolding given_in octets_of
+unfolding given_in octets_of_entries
 first plan caller l conn mind =
     let r = rules_of plan in
     let s = begun conn (calling model_ends plan caller l) mind in
@@ -254,7 +254,7 @@ all_so : (plan : Plan) (o : Out (Course ModelEnd))
     → Knows plan Q (q_calls (rules_of plan)) (λ s t xs cs p. p.0) Given_so Gone (keeps plan) o.entries o.calls o.state.loop.sessions → AreAccounted o
 all_so plan o k conn =
     rw (given_at conn o.calls)
-    (given_so plan (session_of conn o.state.loop.sessions) conn (of conn o.entries) (calls_at conn o.calls) (k.fits conn))
+    (given_so plan (session_of_connection conn o.state.loop.sessions) conn (of conn o.entries) (calls_at conn o.calls) (k.fits conn))
 
 pub accounted : OctetsAreAccounted
 accounted = record {

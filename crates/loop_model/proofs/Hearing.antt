@@ -1,5 +1,5 @@
 -- The joined octets of a connection's events are those taken from it, or a beginning of them where it stalled.
-use Rattle.loop_model.specs.Ends.{ModelEnd, model_ends, used_of}
+use Rattle.loop_model.specs.Ends.{ModelEnd, model_ends, octet_count_used_by_end}
 use Rattle.std.proofs.Common.{◌≡◌, ℕ, zero, suc, ◌+◌, ◌-◌, ◌≤◌, max, inl, inr, Bool, true, false, ◌||◌, List, [], ◌∷◌, ◌++◌, length, take, drop, Option, Some, None, refl, sym, ◌∙◌, ap, subst, append-nil, append_assoc, arith, true≢false, take-append-drop, length-drop, eq-eqb, ne_eqb}
 use Rattle.std.specs.Prelude.{nat_lt, ◌==◌, is_some}
 use Rattle.std.proofs.lemmas.Bool.{cases_Bool}
@@ -8,13 +8,13 @@ use Rattle.er_users.specs.Users.{Mind}
 use Rattle.rand_core.specs.Stream.{next_u64}
 use Rattle.link_trait.specs.Wires.{Call, Listens, Dials, Turns, Reads, Writes, Closes, Reading, Gave, NotNow, End, Failed, taken_of}
 use Rattle.link_trait.specs.declared.wires.WriteAnswer.TheVariants as write
-use Rattle.loop_model.specs.Journals.{Entry}
-use Rattle.loop_model.specs.Outs.{Out, runs, exactly, first_of}
-use Rattle.loop_model.specs.Sessions.{Rules, Session, Given, Begins, Hears, Sends, Takes, Leaves, Ticks, Ends, Faults, Stalls, written, is_released, end_after, outcomes_of, most_output, octets_in, breaks, joined, fed, Says, nothing_said, handled, poured, pours}
+use Rattle.loop_model.specs.Journals.{JournalEntry}
+use Rattle.loop_model.specs.Outs.{Out, part_for_each_answer, exactly, first_answer_of}
+use Rattle.loop_model.specs.Sessions.{Rules, Session, GivenToSession, Begins, Hears, Sends, Takes, Leaves, Ticks, Ends, Faults, Stalls, journal_event_of_given, is_released, end_after, outcomes_of_given_event, most_output, octets_in, breaks, joined, fed, Says, nothing_said, handled, poured, pours}
 use Rattle.loop_model.specs.Visits.{most_read, came}
 use Rattle.loop_model.specs.Loops.{Plan, rules_of, Loop, begun, answering, Caller, calling, Course, run, dials}
-use Rattle.loop_model.specs.Parts.{session_of, of, calls_at}
-use Rattle.loop_model.specs.Points.{heard_by, heard_of, is_stalled, has_stalled, AreHeard, OctetsAreHeard}
+use Rattle.loop_model.specs.Parts.{session_of_connection, of, calls_at}
+use Rattle.loop_model.specs.Points.{octets_heard_in_event, octets_heard_in_entries, is_stalled, has_stalled, AreHeard, OctetsAreHeard}
 use Rattle.loop_model.proofs.Steadies.{Steady, Usual, Quiet, Calls, AllLeft, all_left_of, steady_handled, steady_pours, follows_handled, runs_lift}
 use Rattle.loop_model.proofs.Lives.{Own, Keeps, Fits, Knows, knows_run}
 use Rattle.loop_model.proofs.Dialling.{knows_dial_of}
@@ -23,16 +23,16 @@ use Rattle.loop_model.proofs.Resting.{Sound, Sounds, stays_released, breaks_rele
 
 -- ---- joined
 
-heard_of-append : (xs ys : List Entry) → heard_of (xs ++ ys) ≡ heard_of xs ++ heard_of ys
-unfolding heard_of
+heard_of-append : (xs ys : List JournalEntry) → octets_heard_in_entries (xs ++ ys) ≡ octets_heard_in_entries xs ++ octets_heard_in_entries ys
+unfolding octets_heard_in_entries
 heard_of-append [] ys = refl
-heard_of-append (x ∷ xs) ys = ap (λ z. heard_by x.event ++ z) (heard_of-append xs ys) ∙ sym (append_assoc (heard_by x.event) (heard_of xs) (heard_of ys))
+heard_of-append (x ∷ xs) ys = ap (λ z. octets_heard_in_event x.event ++ z) (heard_of-append xs ys) ∙ sym (append_assoc (octets_heard_in_event x.event) (octets_heard_in_entries xs) (octets_heard_in_entries ys))
 
 or_assoc : (a b c : Bool) → (a || (b || c)) ≡ ((a || b) || c)
 or_assoc true b c = refl
 or_assoc false b c = refl
 
-has_stalled-append : (xs ys : List Entry) → has_stalled (xs ++ ys) ≡ (has_stalled xs || has_stalled ys)
+has_stalled-append : (xs ys : List JournalEntry) → has_stalled (xs ++ ys) ≡ (has_stalled xs || has_stalled ys)
 unfolding has_stalled
 has_stalled-append [] ys = refl
 has_stalled-append (x ∷ xs) ys = ap (λ z. is_stalled x.event || z) (has_stalled-append xs ys) ∙ or_assoc (is_stalled x.event) (has_stalled xs) (has_stalled ys)
@@ -49,13 +49,13 @@ or_none : (a b : Bool) → a ≡ false → b ≡ false → (a || b) ≡ false
 or_none true b p q = absurd (true≢false p)
 or_none false b p q = q
 
-first_calm : (xs ys : List Entry) → has_stalled (xs ++ ys) ≡ false → has_stalled xs ≡ false
+first_calm : (xs ys : List JournalEntry) → has_stalled (xs ++ ys) ≡ false → has_stalled xs ≡ false
 first_calm xs ys p = or_first (has_stalled xs) (has_stalled ys) (sym (has_stalled-append xs ys) ∙ p)
 
-rest_calm : (xs ys : List Entry) → has_stalled (xs ++ ys) ≡ false → has_stalled ys ≡ false
+rest_calm : (xs ys : List JournalEntry) → has_stalled (xs ++ ys) ≡ false → has_stalled ys ≡ false
 rest_calm xs ys p = or_second (has_stalled xs) (has_stalled ys) (sym (has_stalled-append xs ys) ∙ p)
 
-both_calm : (xs ys : List Entry) → has_stalled xs ≡ false → has_stalled ys ≡ false → has_stalled (xs ++ ys) ≡ false
+both_calm : (xs ys : List JournalEntry) → has_stalled xs ≡ false → has_stalled ys ≡ false → has_stalled (xs ++ ys) ≡ false
 both_calm xs ys p q = has_stalled-append xs ys ∙ or_none (has_stalled xs) (has_stalled ys) p q
 
 -- the octets that calls took, whichever connection they are at
@@ -99,7 +99,7 @@ taken_at conn (call ∷ cs) = taken_step conn call cs (taken_at conn cs)
 
 -- ---- events
 
-abbrev IsUnheard : Given → Type 0
+abbrev IsUnheard : GivenToSession → Type 0
 IsUnheard (Begins engine rbc rb) = Unit {0}
 IsUnheard (Hears octets) = ⊥
 IsUnheard (Sends text) = Unit {0}
@@ -110,7 +110,7 @@ IsUnheard Ends = Unit {0}
 IsUnheard Faults = Unit {0}
 IsUnheard Stalls = Unit {0}
 
-none_heard : (k : ModelEnd) (g : Given) → IsUnheard g → heard_by (written model_ends k g) ≡ []
+none_heard : (k : ModelEnd) (g : GivenToSession) → IsUnheard g → octets_heard_in_event (journal_event_of_given model_ends k g) ≡ []
 none_heard k (Begins engine rbc rb) p = refl
 none_heard k (Hears octets) p = absurd p
 none_heard k (Sends text) p = refl
@@ -121,14 +121,14 @@ none_heard k Ends p = refl
 none_heard k Faults p = refl
 none_heard k Stalls p = refl
 
-Unheard : Session ModelEnd → Session ModelEnd → List Entry → List Call → Type 0
-Unheard s t xs cs = heard_of xs ≡ []
+Unheard : Session ModelEnd → Session ModelEnd → List JournalEntry → List Call → Type 0
+Unheard s t xs cs = octets_heard_in_entries xs ≡ []
 
 unheard : (r : Rules) → Steady r IsUnheard Unheard
-unfolding Unheard heard_of
+unfolding Unheard octets_heard_in_entries
 unheard r = record {
   none = λ s. refl;
-  then_ = λ s t u xs ys cs ds p q. heard_of-append xs ys ∙ ap (λ z. z ++ heard_of ys) p ∙ q;
+  then_ = λ s t u xs ys cs ds p q. heard_of-append xs ys ∙ ap (λ z. z ++ octets_heard_in_entries ys) p ∙ q;
   given = λ m s g allowed fits. ap (λ z. z ++ []) (none_heard s.end g allowed);
   stalls = λ m s g allowed fits. ap (λ z. z ++ []) (none_heard s.end g allowed);
   heard = λ s mind. refl;
@@ -138,7 +138,7 @@ unheard r = record {
 usual_unheard : Usual IsUnheard
 usual_unheard = record { sends = λ text. tt; leaves = λ sub. tt; takes = tt }
 
-calm : (k : ModelEnd) (g : Given) → breaks g ≡ false → is_stalled (written model_ends k g) ≡ false
+calm : (k : ModelEnd) (g : GivenToSession) → breaks g ≡ false → is_stalled (journal_event_of_given model_ends k g) ≡ false
 calm k (Begins engine rbc rb) p = refl
 calm k (Hears octets) p = refl
 calm k (Sends text) p = refl
@@ -150,10 +150,10 @@ calm k Faults p = absurd (true≢false p)
 calm k Stalls p = absurd (true≢false p)
 
 -- it breaks off only where it stalls
-Breaks : Session ModelEnd → Session ModelEnd → List Entry → List Call → Type 0
+Breaks : Session ModelEnd → Session ModelEnd → List JournalEntry → List Call → Type 0
 Breaks s t xs cs = has_stalled xs ≡ false → s.broken ≡ false → t.broken ≡ false
 
-abbrev IsWhole : Given → Type 0
+abbrev IsWhole : GivenToSession → Type 0
 IsWhole g = breaks g ≡ false
 
 breaking : (r : Rules) → Steady r IsWhole Breaks
@@ -162,7 +162,7 @@ breaking r = record {
   none = λ s calm whole. whole;
   then_ = λ s t u xs ys cs ds p q calm whole. q (rest_calm xs ys calm) (p (first_calm xs ys calm) whole);
   given = λ m s g allowed fits calm whole. or_none s.broken (breaks g) whole allowed;
-  stalls = λ m s g allowed fits calm whole. absurd (true≢false (or_second (is_stalled (written model_ends s.end g)) true calm));
+  stalls = λ m s g allowed fits calm whole. absurd (true≢false (or_second (is_stalled (journal_event_of_given model_ends s.end g)) true calm));
   heard = λ s mind calm whole. whole;
   parts = λ s told at gone calm whole. whole;
 }
@@ -172,14 +172,14 @@ usual_whole = record { sends = λ text. refl; leaves = λ sub. refl; takes = ref
 
 module _ (stays : ReleaseStays) (breaks_release : BreaksRelease) (uses : Uses) (r : Rules) where
   -- a session that isn't released wasn't before, and didn't stall
-  Gone : Session ModelEnd → Session ModelEnd → List Entry → List Call → Type 0
+  Gone : Session ModelEnd → Session ModelEnd → List JournalEntry → List Call → Type 0
   Gone s t xs cs = is_released model_ends t ≡ false → (is_released model_ends s ≡ false) × (has_stalled xs ≡ false)
 
-  not_released : (m : ℕ) (k : ModelEnd) (g : Given) → is_some (end_after model_ends r m k g).core.released ≡ false → is_some k.core.released ≡ false
+  not_released : (m : ℕ) (k : ModelEnd) (g : GivenToSession) → is_some (end_after model_ends r m k g).core.released ≡ false → is_some k.core.released ≡ false
   not_released m k g p =
       elim (cases_Bool (is_some k.core.released)) [ inl q ↦ absurd (true≢false (sym (stays_released stays breaks_release r m k g q) ∙ p)) | inr q ↦ q ]
 
-  not_breaking : (m : ℕ) (k : ModelEnd) (g : Given) → is_some (end_after model_ends r m k g).core.released ≡ false → breaks g ≡ false
+  not_breaking : (m : ℕ) (k : ModelEnd) (g : GivenToSession) → is_some (end_after model_ends r m k g).core.released ≡ false → breaks g ≡ false
   not_breaking m k g p =
       elim (cases_Bool (breaks g)) [ inl q ↦ absurd (true≢false (sym (breaks_released stays breaks_release r m k g q) ∙ p)) | inr q ↦ q ]
 
@@ -188,7 +188,7 @@ module _ (stays : ReleaseStays) (breaks_release : BreaksRelease) (uses : Uses) (
   gone = record {
     none = λ s p. (p, refl);
     then_ = λ s t u xs ys cs ds p q e. let b = q e in let a = p b.0 in (a.0, both_calm xs ys a.1 b.1);
-    given = λ m s g allowed fits p. (not_released m s.end g p, or_none (is_stalled (written model_ends s.end g)) false (calm s.end g (not_breaking m s.end g p)) refl);
+    given = λ m s g allowed fits p. (not_released m s.end g p, or_none (is_stalled (journal_event_of_given model_ends s.end g)) false (calm s.end g (not_breaking m s.end g p)) refl);
     stalls = λ m s g allowed fits p. absurd (true≢false (sym (breaks_released stays breaks_release r m (end_after model_ends r m s.end g) Stalls refl) ∙ p));
     heard = λ s mind p. (p, refl);
     parts = λ s told at gone p. absurd (true≢false (sym gone ∙ p));
@@ -199,88 +199,88 @@ module _ (stays : ReleaseStays) (breaks_release : BreaksRelease) (uses : Uses) (
 
   -- ---- a read
 
-  joined_heard : (m : ℕ) (s : Session ModelEnd) (octets : List ℕ) → heard_of (joined model_ends r m s octets).1 ≡ []
-  unfolding joined heard_of
+  joined_heard : (m : ℕ) (s : Session ModelEnd) (octets : List ℕ) → octets_heard_in_entries (joined model_ends r m s octets).1 ≡ []
+  unfolding joined octets_heard_in_entries
   joined_heard m s octets =
       elim (cases_Bool (nat_lt most_output (length s.output + length octets))) [ inl p ↦ rw p refl | inr p ↦ rw p refl ]
 
-  fed_heard : (m : ℕ) (s : Session ModelEnd) (octets : List ℕ) → heard_of (fed model_ends r m s (Hears octets)).1 ≡ take (used_of s.end octets) octets
-  unfolding fed heard_of
+  fed_heard : (m : ℕ) (s : Session ModelEnd) (octets : List ℕ) → octets_heard_in_entries (fed model_ends r m s (Hears octets)).1 ≡ take (octet_count_used_by_end s.end octets) octets
+  unfolding fed octets_heard_in_entries
   fed_heard m s octets =
       let g = Hears octets in
       let t : Session ModelEnd = record s { end = end_after model_ends r m s.end g; broken = s.broken || breaks g } in
-      ap (λ z. take (used_of s.end octets) octets ++ z) (joined_heard m t (octets_in (outcomes_of model_ends r m s.end g))) ∙ append-nil (take (used_of s.end octets) octets)
+      ap (λ z. take (octet_count_used_by_end s.end octets) octets ++ z) (joined_heard m t (octets_in (outcomes_of_given_event model_ends r m s.end g))) ∙ append-nil (take (octet_count_used_by_end s.end octets) octets)
 
-  handled_heard : (m : ℕ) (s : Session ModelEnd) (octets : List ℕ) (says : Says) → heard_of (handled model_ends r m s (Hears octets) says).1 ≡ take (used_of s.end octets) octets
+  handled_heard : (m : ℕ) (s : Session ModelEnd) (octets : List ℕ) (says : Says) → octets_heard_in_entries (handled model_ends r m s (Hears octets) says).1 ≡ take (octet_count_used_by_end s.end octets) octets
   unfolding Unheard
   handled_heard m s octets says =
       let f = follows_handled r IsUnheard Unheard (unheard r) usual_unheard m s (Hears octets) says in
-      ap heard_of f.is
+      ap octets_heard_in_entries f.is
       ∙ heard_of-append (fed model_ends r m s (Hears octets)).1 f.rest
-      ∙ ap (λ z. heard_of (fed model_ends r m s (Hears octets)).1 ++ z) f.holds
-      ∙ append-nil (heard_of (fed model_ends r m s (Hears octets)).1)
+      ∙ ap (λ z. octets_heard_in_entries (fed model_ends r m s (Hears octets)).1 ++ z) f.holds
+      ∙ append-nil (octets_heard_in_entries (fed model_ends r m s (Hears octets)).1)
       ∙ fed_heard m s octets
 
   abbrev Done : Session ModelEnd × List ℕ → Type 0
   Done x = ((length x.1 == 0) || x.0.broken) ≡ true
 
-  pours_heard : (m : ℕ) (x : Session ModelEnd × List ℕ) (says : List Says) → heard_of (runs (poured model_ends r m) x says).1 ++ (runs (poured model_ends r m) x says).0.1 ≡ x.1
-  unfolding poured heard_of
+  pours_heard : (m : ℕ) (x : Session ModelEnd × List ℕ) (says : List Says) → octets_heard_in_entries (part_for_each_answer (poured model_ends r m) x says).1 ++ (part_for_each_answer (poured model_ends r m) x says).0.1 ≡ x.1
+  unfolding poured octets_heard_in_entries
   pours_heard m x says =
-      runs_lift (λ (x y : Session ModelEnd × List ℕ) xs. heard_of xs ++ y.1 ≡ x.1) (poured model_ends r m) (λ x. refl)
-      (λ x y z xs ys p q. ap (λ w. w ++ z.1) (heard_of-append xs ys) ∙ append_assoc (heard_of xs) (heard_of ys) z.1 ∙ ap (λ w. heard_of xs ++ w) q ∙ p)
+      runs_lift (λ (x y : Session ModelEnd × List ℕ) xs. octets_heard_in_entries xs ++ y.1 ≡ x.1) (poured model_ends r m) (λ x. refl)
+      (λ x y z xs ys p q. ap (λ w. w ++ z.1) (heard_of-append xs ys) ∙ append_assoc (octets_heard_in_entries xs) (octets_heard_in_entries ys) z.1 ∙ ap (λ w. octets_heard_in_entries xs ++ w) q ∙ p)
       (λ x a. elim (cases_Bool ((length x.1 == 0) || x.0.broken)) [
         | inl p ↦ rw p refl
-        | inr p ↦ rw p (ap (λ w. w ++ drop (used_of x.0.end x.1) x.1) (handled_heard m x.0 x.1 a) ∙ take-append-drop (used_of x.0.end x.1) x.1)
+        | inr p ↦ rw p (ap (λ w. w ++ drop (octet_count_used_by_end x.0.end x.1) x.1) (handled_heard m x.0 x.1 a) ∙ take-append-drop (octet_count_used_by_end x.0.end x.1) x.1)
       ])
       x says
 
-  runs_done : (m : ℕ) (x : Session ModelEnd × List ℕ) → Done x → (says : List Says) → (runs (poured model_ends r m) x says).0 ≡ x
-  unfolding runs poured
+  runs_done : (m : ℕ) (x : Session ModelEnd × List ℕ) → Done x → (says : List Says) → (part_for_each_answer (poured model_ends r m) x says).0 ≡ x
+  unfolding part_for_each_answer poured
   runs_done m x p [] = refl
   runs_done m x p (a ∷ says) = rw p (runs_done m x p says)
 
-  dropped : (k : ModelEnd) (xs : List ℕ) (n : ℕ) (b : Bool) → ((length xs == 0) || b) ≡ false → length xs ≤ suc n → length (drop (used_of k xs) xs) ≤ n
+  dropped : (k : ModelEnd) (xs : List ℕ) (n : ℕ) (b : Bool) → ((length xs == 0) || b) ≡ false → length xs ≤ suc n → length (drop (octet_count_used_by_end k xs) xs) ≤ n
   dropped k [] n b p q = absurd (true≢false p)
   dropped k (x ∷ xs) n b p q =
-      let one : 1 ≤ used_of k (x ∷ xs) = uses.one k x xs in
-      let l : length (drop (used_of k (x ∷ xs)) (x ∷ xs)) ≡ length (x ∷ xs) - used_of k (x ∷ xs) = length-drop (used_of k (x ∷ xs)) (x ∷ xs) in
+      let one : 1 ≤ octet_count_used_by_end k (x ∷ xs) = uses.one k x xs in
+      let l : length (drop (octet_count_used_by_end k (x ∷ xs)) (x ∷ xs)) ≡ length (x ∷ xs) - octet_count_used_by_end k (x ∷ xs) = length-drop (octet_count_used_by_end k (x ∷ xs)) (x ∷ xs) in
       omega arith
 
   poured_on : (m n : ℕ) (says : List Says) (a : Says) (x : Session ModelEnd × List ℕ) → length x.1 ≤ suc n
-      → ((y : Session ModelEnd × List ℕ) → length y.1 ≤ n → Done (runs (poured model_ends r m) y (exactly n nothing_said says)).0)
-      → Done (runs (poured model_ends r m) (poured model_ends r m x a).0 (exactly n nothing_said says)).0
+      → ((y : Session ModelEnd × List ℕ) → length y.1 ≤ n → Done (part_for_each_answer (poured model_ends r m) y (exactly n nothing_said says)).0)
+      → Done (part_for_each_answer (poured model_ends r m) (poured model_ends r m x a).0 (exactly n nothing_said says)).0
   unfolding poured
   poured_on m n says a x q on =
       elim (cases_Bool ((length x.1 == 0) || x.0.broken)) [
         | inl p ↦ rw p (subst Done (sym (runs_done m x p (exactly n nothing_said says))) p)
-        | inr p ↦ rw p (on ((handled model_ends r m x.0 (Hears x.1) a).0, drop (used_of x.0.end x.1) x.1) (dropped x.0.end x.1 n x.0.broken p q))
+        | inr p ↦ rw p (on ((handled model_ends r m x.0 (Hears x.1) a).0, drop (octet_count_used_by_end x.0.end x.1) x.1) (dropped x.0.end x.1 n x.0.broken p q))
       ]
 
-  all_poured : (m n : ℕ) (says : List Says) (x : Session ModelEnd × List ℕ) → length x.1 ≤ n → Done (runs (poured model_ends r m) x (exactly n nothing_said says)).0
-  unfolding runs exactly
+  all_poured : (m n : ℕ) (says : List Says) (x : Session ModelEnd × List ℕ) → length x.1 ≤ n → Done (part_for_each_answer (poured model_ends r m) x (exactly n nothing_said says)).0
+  unfolding part_for_each_answer exactly
   all_poured m zero says x q =
       ap (λ z. z || x.0.broken) (eq-eqb (length x.1) 0 (omega arith))
   all_poured m (suc n) [] x q = poured_on m n [] nothing_said x q (λ y l. all_poured m n [] y l)
   all_poured m (suc n) (a ∷ says) x q = poured_on m n says a x q (λ y l. all_poured m n says y l)
 
-  record Heard (s t : Session ModelEnd) (xs : List Entry) (cs : List Call) : Type 0 where
+  record Heard (s t : Session ModelEnd) (xs : List JournalEntry) (cs : List Call) : Type 0 where
     sound : Sound t
     rest : List ℕ
-    is : heard_of xs ++ rest ≡ taken_in cs
+    is : octets_heard_in_entries xs ++ rest ≡ taken_in cs
     whole : has_stalled xs ≡ false → rest ≡ []
     gone : is_released model_ends t ≡ false → (is_released model_ends s ≡ false) × (has_stalled xs ≡ false)
-    silent : is_released model_ends s ≡ true → (heard_of xs ≡ []) × (taken_in cs ≡ [])
+    silent : is_released model_ends s ≡ true → (octets_heard_in_entries xs ≡ []) × (taken_in cs ≡ [])
 
-  Hearing : Session ModelEnd → Session ModelEnd → List Entry → List Call → Type 0
+  Hearing : Session ModelEnd → Session ModelEnd → List JournalEntry → List Call → Type 0
   Hearing s t xs cs = Sound s → Heard s t xs cs
 
-  silently : (s t : Session ModelEnd) (xs : List Entry) (cs : List Call) → Sound t → heard_of xs ≡ [] → taken_in cs ≡ [] → Gone s t xs [] → Heard s t xs cs
+  silently : (s t : Session ModelEnd) (xs : List JournalEntry) (cs : List Call) → Sound t → octets_heard_in_entries xs ≡ [] → taken_in cs ≡ [] → Gone s t xs [] → Heard s t xs cs
   unfolding Gone
   silently s t xs cs sound p q g = record {
     sound = sound;
     rest = [];
-    is = append-nil (heard_of xs) ∙ p ∙ sym q;
+    is = append-nil (octets_heard_in_entries xs) ∙ p ∙ sym q;
     whole = λ e. refl;
     gone = g;
     silent = λ e. (p, q);
@@ -289,20 +289,20 @@ module _ (stays : ReleaseStays) (breaks_release : BreaksRelease) (uses : Uses) (
   two_nil : (xs ys : List ℕ) → xs ≡ [] → ys ≡ [] → xs ++ ys ≡ []
   two_nil xs ys p q = ap (λ z. z ++ ys) p ∙ q
 
-  heard_then : (s t u : Session ModelEnd) (xs ys : List Entry) (cs ds : List Call) → Heard s t xs cs → Heard t u ys ds → Heard s u (xs ++ ys) (cs ++ ds)
+  heard_then : (s t u : Session ModelEnd) (xs ys : List JournalEntry) (cs ds : List Call) → Heard s t xs cs → Heard t u ys ds → Heard s u (xs ++ ys) (cs ++ ds)
   heard_then s t u xs ys cs ds a b =
       elim (cases_Bool (is_released model_ends t)) [
         | inl p ↦ record {
           sound = b.sound;
           rest = a.rest;
           is =
-              ap (λ z. z ++ a.rest) (heard_of-append xs ys ∙ ap (λ z. heard_of xs ++ z) (b.silent p).0 ∙ append-nil (heard_of xs))
+              ap (λ z. z ++ a.rest) (heard_of-append xs ys ∙ ap (λ z. octets_heard_in_entries xs ++ z) (b.silent p).0 ∙ append-nil (octets_heard_in_entries xs))
               ∙ a.is
               ∙ sym (taken_in-append cs ds ∙ ap (λ z. taken_in cs ++ z) (b.silent p).1 ∙ append-nil (taken_in cs));
           whole = λ q. a.whole (first_calm xs ys q);
           gone = λ e. let d = b.gone e in let c = a.gone d.0 in (c.0, both_calm xs ys c.1 d.1);
           silent = λ q. (
-            heard_of-append xs ys ∙ two_nil (heard_of xs) (heard_of ys) (a.silent q).0 (b.silent p).0,
+            heard_of-append xs ys ∙ two_nil (octets_heard_in_entries xs) (octets_heard_in_entries ys) (a.silent q).0 (b.silent p).0,
             taken_in-append cs ds ∙ two_nil (taken_in cs) (taken_in ds) (a.silent q).1 (b.silent p).1,
           );
         }
@@ -313,9 +313,9 @@ module _ (stays : ReleaseStays) (breaks_release : BreaksRelease) (uses : Uses) (
               rest = b.rest;
               is =
                   ap (λ z. z ++ b.rest) (heard_of-append xs ys)
-                  ∙ append_assoc (heard_of xs) (heard_of ys) b.rest
-                  ∙ ap (λ z. heard_of xs ++ z) b.is
-                  ∙ ap (λ z. z ++ taken_in ds) (sym (append-nil (heard_of xs)) ∙ ap (λ z. heard_of xs ++ z) (sym (a.whole c.1)) ∙ a.is)
+                  ∙ append_assoc (octets_heard_in_entries xs) (octets_heard_in_entries ys) b.rest
+                  ∙ ap (λ z. octets_heard_in_entries xs ++ z) b.is
+                  ∙ ap (λ z. z ++ taken_in ds) (sym (append-nil (octets_heard_in_entries xs)) ∙ ap (λ z. octets_heard_in_entries xs ++ z) (sym (a.whole c.1)) ∙ a.is)
                   ∙ sym (taken_in-append cs ds);
               whole = λ q. b.whole (rest_calm xs ys q);
               gone = λ e. let d = b.gone e in (c.0, both_calm xs ys c.1 d.1);
@@ -324,7 +324,7 @@ module _ (stays : ReleaseStays) (breaks_release : BreaksRelease) (uses : Uses) (
       ]
 
   -- events, none of which is octets, and a call that takes nothing
-  handled_silent : (m : ℕ) (s : Session ModelEnd) (g : Given) (says : Says) (call : Call) → IsUnheard g → takes call ≡ []
+  handled_silent : (m : ℕ) (s : Session ModelEnd) (g : GivenToSession) (says : Says) (call : Call) → IsUnheard g → takes call ≡ []
       → Hearing s (handled model_ends r m s g says).0 (handled model_ends r m s g says).1 (call ∷ [])
   unfolding Hearing Sounds Unheard taken_in
   handled_silent m s g says call p q sound =
@@ -347,10 +347,10 @@ module _ (stays : ReleaseStays) (breaks_release : BreaksRelease) (uses : Uses) (
 
   read_heard : (m : ℕ) (s : Session ModelEnd) (waits : ℕ) (reading : Reading) (says : List Says) → is_released model_ends s ≡ false
       → Hearing s (came model_ends reading r m s says).0 (came model_ends reading r m s says).1 (Reads s.number most_read waits reading ∷ [])
-  unfolding Hearing Sounds Breaks Gone taken_in pours heard_of has_stalled
+  unfolding Hearing Sounds Breaks Gone taken_in pours octets_heard_in_entries has_stalled
   read_heard m s waits (Gave octets) says live sound =
       let rounds = exactly (length octets) nothing_said says in
-      let y = runs (poured model_ends r m) (s, octets) rounds in
+      let y = part_for_each_answer (poured model_ends r m) (s, octets) rounds in
       record {
         sound = steady_pours r (λ g. Unit {0}) Sounds (sounds_steadily stays breaks_release r) any_usual (λ octets. tt) m s octets says sound;
         rest = y.0.1;
@@ -361,11 +361,11 @@ module _ (stays : ReleaseStays) (breaks_release : BreaksRelease) (uses : Uses) (
         silent = λ q. absurd (true≢false (sym q ∙ live));
       }
   read_heard m s waits NotNow says live sound = silently s s [] (Reads s.number most_read waits NotNow ∷ []) sound refl refl (λ p. (p, refl))
-  read_heard m s waits End says live sound = handled_silent m s Ends (first_of nothing_said says) (Reads s.number most_read waits End) tt refl sound
-  read_heard m s waits Failed says live sound = handled_silent m s Faults (first_of nothing_said says) (Reads s.number most_read waits Failed) tt refl sound
+  read_heard m s waits End says live sound = handled_silent m s Ends (first_answer_of nothing_said says) (Reads s.number most_read waits End) tt refl sound
+  read_heard m s waits Failed says live sound = handled_silent m s Faults (first_answer_of nothing_said says) (Reads s.number most_read waits Failed) tt refl sound
 
   quiet : Quiet r Hearing
-  unfolding Hearing Gone taken_in heard_of has_stalled Sounds Unheard
+  unfolding Hearing Gone taken_in octets_heard_in_entries has_stalled Sounds Unheard
   quiet = record {
     none = λ s sound. silently s s [] [] sound refl refl (λ p. (p, refl));
     then_ = λ s t u xs ys cs ds p q sound. let a = p sound in heard_then s t u xs ys cs ds a (q a.sound);
@@ -387,19 +387,19 @@ module _ (stays : ReleaseStays) (breaks_release : BreaksRelease) (uses : Uses) (
 
   -- ---- a session and all that came at it
 
-  record HeardTo (s : Session ModelEnd) (xs : List Entry) (cs : List Call) : Type 0 where
+  record HeardTo (s : Session ModelEnd) (xs : List JournalEntry) (cs : List Call) : Type 0 where
     sound : Sound s
     rest : List ℕ
-    is : heard_of xs ++ rest ≡ taken_in cs
+    is : octets_heard_in_entries xs ++ rest ≡ taken_in cs
     whole : has_stalled xs ≡ false → rest ≡ []
     gone : is_released model_ends s ≡ false → has_stalled xs ≡ false
 
-  record HeardAll (xs : List Entry) (cs : List Call) : Type 0 where
+  record HeardAll (xs : List JournalEntry) (cs : List Call) : Type 0 where
     rest : List ℕ
-    is : heard_of xs ++ rest ≡ taken_in cs
+    is : octets_heard_in_entries xs ++ rest ≡ taken_in cs
     whole : has_stalled xs ≡ false → rest ≡ []
 
-  heard_to : (s t : Session ModelEnd) (xs ys : List Entry) (cs ds : List Call) → HeardTo s xs cs → Hearing s t ys ds → HeardTo t (xs ++ ys) (cs ++ ds)
+  heard_to : (s t : Session ModelEnd) (xs ys : List JournalEntry) (cs ds : List Call) → HeardTo s xs cs → Hearing s t ys ds → HeardTo t (xs ++ ys) (cs ++ ds)
   unfolding Hearing
   heard_to s t xs ys cs ds h q =
       let b = q h.sound in
@@ -408,7 +408,7 @@ module _ (stays : ReleaseStays) (breaks_release : BreaksRelease) (uses : Uses) (
           sound = b.sound;
           rest = h.rest;
           is =
-              ap (λ z. z ++ h.rest) (heard_of-append xs ys ∙ ap (λ z. heard_of xs ++ z) (b.silent p).0 ∙ append-nil (heard_of xs))
+              ap (λ z. z ++ h.rest) (heard_of-append xs ys ∙ ap (λ z. octets_heard_in_entries xs ++ z) (b.silent p).0 ∙ append-nil (octets_heard_in_entries xs))
               ∙ h.is
               ∙ sym (taken_in-append cs ds ∙ ap (λ z. taken_in cs ++ z) (b.silent p).1 ∙ append-nil (taken_in cs));
           whole = λ q. h.whole (first_calm xs ys q);
@@ -421,16 +421,16 @@ module _ (stays : ReleaseStays) (breaks_release : BreaksRelease) (uses : Uses) (
               rest = b.rest;
               is =
                   ap (λ z. z ++ b.rest) (heard_of-append xs ys)
-                  ∙ append_assoc (heard_of xs) (heard_of ys) b.rest
-                  ∙ ap (λ z. heard_of xs ++ z) b.is
-                  ∙ ap (λ z. z ++ taken_in ds) (sym (append-nil (heard_of xs)) ∙ ap (λ z. heard_of xs ++ z) (sym (h.whole c)) ∙ h.is)
+                  ∙ append_assoc (octets_heard_in_entries xs) (octets_heard_in_entries ys) b.rest
+                  ∙ ap (λ z. octets_heard_in_entries xs ++ z) b.is
+                  ∙ ap (λ z. z ++ taken_in ds) (sym (append-nil (octets_heard_in_entries xs)) ∙ ap (λ z. octets_heard_in_entries xs ++ z) (sym (h.whole c)) ∙ h.is)
                   ∙ sym (taken_in-append cs ds);
               whole = λ q. b.whole (rest_calm xs ys q);
               gone = λ e. let d = b.gone e in both_calm xs ys c d.1;
             }
       ]
 
-  abbrev Q : Session ModelEnd → Session ModelEnd → List Entry → List Call → Type 0
+  abbrev Q : Session ModelEnd → Session ModelEnd → List JournalEntry → List Call → Type 0
   Q = Both Own Hearing
 
   any_given : AllGiven (λ g. Unit {0})
@@ -447,23 +447,23 @@ new_sound : (conn : ℕ) (k : ModelEnd) (mind : Mind) → Sound (begun conn k mi
 new_sound conn k mind = record { broken = λ p. absurd (true≢false (sym p)); closing = λ p. absurd (true≢false (sym p)) }
 
 module _ (stays : ReleaseStays) (breaks_release : BreaksRelease) (uses : Uses) (plan : Plan) where
-  abbrev P : Session ModelEnd → Session ModelEnd → List Entry → List Call → Type 0
+  abbrev P : Session ModelEnd → Session ModelEnd → List JournalEntry → List Call → Type 0
   P = Q stays breaks_release uses (rules_of plan)
 
   p_calls : AllLeft (rules_of plan) P
   p_calls = all_left_of (rules_of plan) P (q_calls stays breaks_release uses (rules_of plan))
 
-  abbrev To : Session ModelEnd → List Entry → List Call → Type 0
+  abbrev To : Session ModelEnd → List JournalEntry → List Call → Type 0
   To = HeardTo stays breaks_release uses (rules_of plan)
 
-  abbrev All : List Entry → List Call → Type 0
+  abbrev All : List JournalEntry → List Call → Type 0
   All = HeardAll stays breaks_release uses (rules_of plan)
 
-  abbrev own : (s t : Session ModelEnd) (xs : List Entry) (cs : List Call) → P s t xs cs → Own s t xs cs
+  abbrev own : (s t : Session ModelEnd) (xs : List JournalEntry) (cs : List Call) → P s t xs cs → Own s t xs cs
   own s t xs cs p = p.0
 
   keeps : Keeps plan P To All
-  unfolding taken_in heard_of has_stalled
+  unfolding taken_in octets_heard_in_entries has_stalled
   keeps = record {
     visit = λ s t xs ys cs ds h q. heard_to stays breaks_release uses (rules_of plan) s t xs ys cs ds h q.1;
     close = λ s t xs ys cs ds over h q.
@@ -481,7 +481,7 @@ module _ (stays : ReleaseStays) (breaks_release : BreaksRelease) (uses : Uses) (
     unserved = λ m conn handed. record { rest = []; is = refl; whole = λ p. refl };
   }
 
-  abbrev begins : Caller → Loop ModelEnd → Given
+  abbrev begins : Caller → Loop ModelEnd → GivenToSession
   begins caller l = Begins caller.engine plan.rbc (next_u64 l.words).0
 
   first : (caller : Caller) (l : Loop ModelEnd) (conn : ℕ) (mind : Mind) (says : Says)
@@ -496,12 +496,12 @@ module _ (stays : ReleaseStays) (breaks_release : BreaksRelease) (uses : Uses) (
       record {
         sound = steady_handled r (λ g. Unit {0}) Sounds (sounds_steadily stays breaks_release r) (any_usual stays breaks_release uses r) m s g says tt (new_sound conn (calling model_ends plan caller l) mind);
         rest = [];
-        is = append-nil (heard_of (handled model_ends r m s g says).1) ∙ steady_handled r IsUnheard Unheard (unheard r) usual_unheard m s g says tt;
+        is = append-nil (octets_heard_in_entries (handled model_ends r m s g says).1) ∙ steady_handled r IsUnheard Unheard (unheard r) usual_unheard m s g says tt;
         whole = λ p. refl;
         gone = λ p. (steady_handled r (λ g. Unit {0}) (Gone stays breaks_release uses r) (gone stays breaks_release uses r) (any_usual stays breaks_release uses r) m s g says tt p).1;
       }
 
-  heard_so : (o : Option (Session ModelEnd)) (conn : ℕ) (xs : List Entry) (cs : List Call) → Fits plan P p_calls own To All keeps o conn xs cs → All xs cs
+  heard_so : (o : Option (Session ModelEnd)) (conn : ℕ) (xs : List JournalEntry) (cs : List Call) → Fits plan P p_calls own To All keeps o conn xs cs → All xs cs
   unfolding Fits
   heard_so None conn xs cs h = h
   heard_so (Some s) conn xs cs h = record { rest = h.1.rest; is = h.1.is; whole = h.1.whole }
@@ -509,10 +509,10 @@ module _ (stays : ReleaseStays) (breaks_release : BreaksRelease) (uses : Uses) (
   all_so : (o : Out (Course ModelEnd)) → Knows plan P p_calls own To All keeps o.entries o.calls o.state.loop.sessions → AreHeard o
   all_so o k conn =
       let xs = of conn o.entries in
-      let h = heard_so (session_of conn o.state.loop.sessions) conn xs (calls_at conn o.calls) (k.fits conn) in
+      let h = heard_so (session_of_connection conn o.state.loop.sessions) conn xs (calls_at conn o.calls) (k.fits conn) in
       record {
         beginning = record { rest = h.rest; is = h.is ∙ sym (taken_at conn o.calls) };
-        all = λ p. sym (append-nil (heard_of xs)) ∙ ap (λ z. heard_of xs ++ z) (sym (h.whole p)) ∙ h.is ∙ sym (taken_at conn o.calls);
+        all = λ p. sym (append-nil (octets_heard_in_entries xs)) ∙ ap (λ z. octets_heard_in_entries xs ++ z) (sym (h.whole p)) ∙ h.is ∙ sym (taken_at conn o.calls);
       }
 
 pub octets_are_heard : ReleaseStays → BreaksRelease → Uses → OctetsAreHeard

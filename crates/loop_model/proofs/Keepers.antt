@@ -5,23 +5,23 @@ use Rattle.std.specs.Prelude.{◌==◌, if◌then◌else◌}
 use Rattle.std.proofs.lemmas.Bool.{cases_Bool}
 use Rattle.er_users.specs.Users.{Mind}
 use Rattle.link_trait.specs.Wires.{Call, Reading, Gave, NotNow, End, Failed}
-use Rattle.loop_model.specs.Journals.{Entry}
-use Rattle.loop_model.specs.Outs.{Out, first_of}
+use Rattle.loop_model.specs.Journals.{JournalEntry}
+use Rattle.loop_model.specs.Outs.{Out, first_answer_of}
 use Rattle.loop_model.specs.Sessions.{Rules, Session, Ticks, is_released, nothing_said, handled}
-use Rattle.loop_model.specs.Visits.{Wrote, written, closed, stays, settled, rests, rests_behind, Visit, Tick, Read, Write, Expire, Met, is_due, came, read_once, served, visited}
+use Rattle.loop_model.specs.Visits.{Wrote, session_behind_writing, closed, stays, session_kept_or_closed, rests, rests_behind, Visit, Tick, Read, Write, Expire, Met, is_due, came, read_once, served, visited}
 use Rattle.loop_model.specs.Loops.{Plan, rules_of, Loop, visit_at, begun, answering}
-use Rattle.loop_model.specs.Turnings.{IsKept, AreKept, OthersAreClosed}
+use Rattle.loop_model.specs.Turnings.{IsKeptSession, AreKept, OthersAreClosed}
 use Rattle.loop_model.proofs.Loopwise.{Loopwise, wise_run}
 
-kept_settled : (s : Session ModelEnd) → AreKept (settled model_ends s).state
-unfolding settled
+kept_settled : (s : Session ModelEnd) → AreKept (session_kept_or_closed model_ends s).state
+unfolding session_kept_or_closed
 kept_settled s = elim (cases_Bool (s.broken || (is_released model_ends s && (length s.output == 0)))) [ inl p ↦ rw p tt | inr p ↦ subst (λ (b : Bool). AreKept (if b then closed s else stays s).state) (sym p) (p, tt) ]
 
 pub kept_rests : (r : Rules) (m : ℕ) (s : Session ModelEnd) (a : Wrote) → AreKept (rests model_ends r m s a).state
 unfolding rests
-kept_rests r m s a = kept_settled (written model_ends r m s a).state
+kept_rests r m s a = kept_settled (session_behind_writing model_ends r m s a).state
 
-kept_behind : (r : Rules) (m : ℕ) (reading : Reading) (s : Session ModelEnd) (a : Met) → IsKept s → AreKept (rests_behind model_ends reading r m (came model_ends reading r m s a.says).0 a.wrote).state
+kept_behind : (r : Rules) (m : ℕ) (reading : Reading) (s : Session ModelEnd) (a : Met) → IsKeptSession s → AreKept (rests_behind model_ends reading r m (came model_ends reading r m s a.says).0 a.wrote).state
 kept_behind r m (Gave octets) s a p = kept_rests r m (came model_ends (Gave octets) r m s a.says).0 a.wrote
 kept_behind r m NotNow s a p = (p, tt)
 kept_behind r m End s a p = kept_rests r m (came model_ends End r m s a.says).0 a.wrote
@@ -31,10 +31,10 @@ kept_out : (b : Bool) (x y : Out (List (Session ModelEnd))) → AreKept x.state 
 kept_out true x y p q = p
 kept_out false x y p q = q
 
-kept_visited : (r : Rules) (m : ℕ) (visit : Visit) (s : Session ModelEnd) (a : Met) → IsKept s → AreKept (visited model_ends r m visit s a).state
+kept_visited : (r : Rules) (m : ℕ) (visit : Visit) (s : Session ModelEnd) (a : Met) → IsKeptSession s → AreKept (visited model_ends r m visit s a).state
 unfolding visited served read_once
 kept_visited r m Tick s a p =
-    let h = handled model_ends r m s Ticks (first_of nothing_said a.says) in
+    let h = handled model_ends r m s Ticks (first_answer_of nothing_said a.says) in
     kept_out (is_due m (model_ends.deadline s.end)) _ _ (kept_rests r m h.0 a.wrote) (p, tt)
 kept_visited r m Read s a p = kept_out (is_released model_ends s) _ _ (p, tt) (kept_behind r m a.reading s a p)
 kept_visited r m Write s a p = kept_rests r m s a.wrote
@@ -53,10 +53,10 @@ kept_visit r m visit n (s ∷ ss) a p =
       | inr q ↦ rw q (p.0, kept_visit r m visit n ss a p.1)
     ]
 
-kept_begun : (plan : Plan) (l : Loop ModelEnd) (conn : ℕ) (mind : Mind) → IsKept (begun conn (answering model_ends plan l) mind)
+kept_begun : (plan : Plan) (l : Loop ModelEnd) (conn : ℕ) (mind : Mind) → IsKeptSession (begun conn (answering model_ends plan l) mind)
 kept_begun plan l conn mind = refl
 
-Keeps : List (Session ModelEnd) → List (Session ModelEnd) → List Entry → List Call → Type 0
+Keeps : List (Session ModelEnd) → List (Session ModelEnd) → List JournalEntry → List Call → Type 0
 Keeps ss ts xs cs = AreKept ss → AreKept ts
 
 wise : (plan : Plan) → Loopwise plan Keeps

@@ -4,14 +4,14 @@ use Rattle.std.proofs.Common.{◌≡◌, ℕ, ◌<◌, ◌≤◌, List, [], ◌�
 use Rattle.er_users.specs.Users.{Mind}
 use Rattle.rand_core.specs.Stream.{next_u64}
 use Rattle.link_trait.specs.Wires.{Call, Closes}
-use Rattle.loop_model.specs.Journals.{Entry}
-use Rattle.loop_model.specs.Outs.{Out, first_of}
-use Rattle.loop_model.specs.Sessions.{Rules, Session, Given, Begins, nothing_said}
+use Rattle.loop_model.specs.Journals.{JournalEntry}
+use Rattle.loop_model.specs.Outs.{Out, first_answer_of}
+use Rattle.loop_model.specs.Sessions.{Rules, Session, GivenToSession, Begins, nothing_said}
 use Rattle.loop_model.specs.Visits.{Met, served}
 use Rattle.loop_model.specs.Loops.{Plan, rules_of, numbers, Loop, next_user, begun, Caller, calling, called_by, called, Course, asks, Turn, run, Dialled, opens, dials_to, dials}
 use Rattle.loop_model.specs.Parts.{opened_in, Rises}
 use Rattle.loop_model.specs.Laws.{IsServing, IsDialling, IsFew}
-use Rattle.loop_model.specs.Lawful.{IsOrderly, TurnsAreLawful, JournalsAreLawful}
+use Rattle.loop_model.specs.Lawful.{HasOrderlySessions, TurnsAreLawful, JournalsAreLawful}
 use Rattle.loop_model.proofs.EndKeepings.{steps_alike, made_stands, shows_alike, release_stays, breaks_release, uses_octets}
 use Rattle.loop_model.proofs.Projections.{opened_in-append}
 use Rattle.loop_model.proofs.Steadies.{Usual, Left, Stays, Closed, left_served, steady_handled}
@@ -52,12 +52,12 @@ turns_are_lawful plan c a orderly going = record {
 any_usual : Usual (λ g. Unit {0})
 any_usual = record { sends = λ text. tt; leaves = λ sub. tt; takes = tt }
 
-served_own : (r : Rules) (m : ℕ) (s : Session ModelEnd) (g : Given) (a : Met)
+served_own : (r : Rules) (m : ℕ) (s : Session ModelEnd) (g : GivenToSession) (a : Met)
     → Left Own s (served model_ends r m s g a).state (served model_ends r m s g a).entries (served model_ends r m s g a).calls
 served_own r m s g a =
-    left_served r Own (own_calls r).quiet m s g a (steady_handled r (λ g. Unit {0}) Own (own_steady r) any_usual m s g (first_of nothing_said a.says) tt)
+    left_served r Own (own_calls r).quiet m s g a (steady_handled r (λ g. Unit {0}) Own (own_steady r) any_usual m s g (first_answer_of nothing_said a.says) tt)
 
-left_ordered : (conn : ℕ) (s : Session ModelEnd) (ts : List (Session ModelEnd)) (xs : List Entry) (cs : List Call) → 0 < conn → s.number ≡ conn → Left Own s ts xs cs
+left_ordered : (conn : ℕ) (s : Session ModelEnd) (ts : List (Session ModelEnd)) (xs : List JournalEntry) (cs : List Call) → 0 < conn → s.number ≡ conn → Left Own s ts xs cs
     → Ordered conn ts
 unfolding UpTo
 left_ordered conn s ts xs cs up num (Stays t p q) =
@@ -65,7 +65,7 @@ left_ordered conn s ts xs cs up num (Stays t p q) =
     subst (λ z. Ordered conn z) (sym p) (record { rises = (subst (λ z. 0 < z) (sym e) up, tt); up_to = ((let h : t.number ≤ conn = omega arith in h), tt) })
 left_ordered conn s ts xs cs up num (Closed t ds over p e q) = subst (λ z. Ordered conn z) (sym p) (record { rises = tt; up_to = tt })
 
-left_opens : (s : Session ModelEnd) (ts : List (Session ModelEnd)) (xs : List Entry) (cs : List Call) → Left Own s ts xs cs → opened_in cs ≡ []
+left_opens : (s : Session ModelEnd) (ts : List (Session ModelEnd)) (xs : List JournalEntry) (cs : List Call) → Left Own s ts xs cs → opened_in cs ≡ []
 unfolding opened_in
 left_opens s ts xs cs (Stays t p q) = q.opens
 left_opens s ts xs cs (Closed t ds over p e q) = ap opened_in e ∙ opened_in-append ds (Closes t.number ∷ []) ∙ ap (λ z. z ++ []) q.opens
@@ -121,7 +121,7 @@ dial_so plan caller (Some conn) c address a none rises =
 
 -- ---- the whole
 
-serving_orderly : (plan : Plan) (c : Course ModelEnd) (turns : List Turn) → IsServing plan c turns → IsOrderly (run model_ends plan c turns).state
+serving_orderly : (plan : Plan) (c : Course ModelEnd) (turns : List Turn) → IsServing plan c turns → HasOrderlySessions (run model_ends plan c turns).state
 serving_orderly plan c turns h = record {
   few = few_are_live plan c turns (subst IsFew (sym h.none) (omega arith));
   rise = sessions_rise plan c turns h;
@@ -129,7 +129,7 @@ serving_orderly plan c turns h = record {
 }
 
 dialling_orderly : (plan : Plan) (caller : Caller) (c : Course ModelEnd) (address : List ℕ) (a : Dialled) → IsDialling plan caller c address a
-    → IsOrderly (dials model_ends plan caller c address a).state
+    → HasOrderlySessions (dials model_ends plan caller c address a).state
 unfolding dials
 dialling_orderly plan caller c address a h =
     let d = dial_so plan caller a.conn c address a h.none h.rises in record { few = d.few; rise = d.rise; kept = dialling_kept plan caller c address a h }

@@ -1,5 +1,6 @@
 -- What is one connection's of a run: a relation between a session, its events and its calls so far, that each visit keeps, holds of each
 -- live session throughout, and what it comes to at a close holds of each connection that is no longer live.
+use Rattle.trace_model.specs.Checks.{most_live}
 use Rattle.loop_model.specs.Ends.{ModelEnd, model_ends}
 use Rattle.std.proofs.Common.{if◌then◌else◌, ◌≡◌, ℕ, ◌<◌, inl, inr, true, false, List, [], ◌∷◌, ◌++◌, Option, Some, None, refl, sym, ◌∙◌, ap, subst, append-nil, append_assoc, arith, eqb-true, eq-eqb, ne_eqb}
 use Rattle.std.specs.Prelude.{◌==◌}
@@ -12,11 +13,11 @@ use Rattle.link_trait.specs.Wires.{Call, Turns, Closes}
 use Rattle.link_trait.specs.declared.wires.Conn.{Conn}
 use Rattle.link_trait.specs.declared.wires.Happening.{Happening}
 use Rattle.link_trait.specs.declared.wires.Happening.TheVariants as happening
-use Rattle.loop_model.specs.Journals.{Entry}
+use Rattle.loop_model.specs.Journals.{JournalEntry}
 use Rattle.loop_model.specs.Sessions.{Session}
 use Rattle.loop_model.specs.Visits.{Met, Visit, visited}
-use Rattle.loop_model.specs.Loops.{Plan, rules_of, Loop, most_live, visit_at, until, begun, answering, Course, Turn, run}
-use Rattle.loop_model.specs.Parts.{session_of, of, calls_at, opened_by, opened_in, Rises, newest}
+use Rattle.loop_model.specs.Loops.{Plan, rules_of, Loop, visit_at, until, begun, answering, Course, Turn, run}
+use Rattle.loop_model.specs.Parts.{session_of_connection, of, calls_at, opened_by, opened_in, Rises, newest}
 use Rattle.loop_model.proofs.Projections.{split_if, of-append, calls_at-append, opened_in-append, rises_first, rises_rest, newest-append}
 use Rattle.loop_model.proofs.Loopwise.{Loopwise, wise_run}
 use Rattle.loop_model.proofs.Steadies.{is_over, Left, Stays, Closed, AllLeft}
@@ -29,43 +30,43 @@ other_way m n p = ne_eqb n m (λ e. eqb-false m n p (sym e))
 
 unfoldable pub Apart : List (Session ModelEnd) → Type 0
 Apart [] = Unit {0}
-Apart (s ∷ ss) = (session_of s.number ss ≡ None) × Apart ss
+Apart (s ∷ ss) = (session_of_connection s.number ss ≡ None) × Apart ss
 
 -- what comes of a visit is the session's own
-pub record Own (s t : Session ModelEnd) (xs : List Entry) (cs : List Call) : Type 0 where
+pub record Own (s t : Session ModelEnd) (xs : List JournalEntry) (cs : List Call) : Type 0 where
   pub number : t.number ≡ s.number
   pub entries : (conn : ℕ) → of conn xs ≡ (if s.number == conn then xs else [])
   pub calls : (conn : ℕ) → calls_at conn cs ≡ (if s.number == conn then cs else [])
   pub opens : opened_in cs ≡ []
 
 -- a relation that each visit keeps, and what it comes to
-pub record Keeps (plan : Plan) (Q : Session ModelEnd → Session ModelEnd → List Entry → List Call → Type 0) (K : Session ModelEnd → List Entry → List Call → Type 0) (E : List Entry → List Call → Type 0) : Type 0 where
-  pub visit : (s t : Session ModelEnd) (xs ys : List Entry) (cs ds : List Call) → K s xs cs → Q s t ys ds → K t (xs ++ ys) (cs ++ ds)
-  pub close : (s t : Session ModelEnd) (xs ys : List Entry) (cs ds : List Call) → is_over t ≡ true → K s xs cs → Q s t ys ds → E (xs ++ ys) (cs ++ (ds ++ Closes t.number ∷ []))
+pub record Keeps (plan : Plan) (Q : Session ModelEnd → Session ModelEnd → List JournalEntry → List Call → Type 0) (K : Session ModelEnd → List JournalEntry → List Call → Type 0) (E : List JournalEntry → List Call → Type 0) : Type 0 where
+  pub visit : (s t : Session ModelEnd) (xs ys : List JournalEntry) (cs ds : List Call) → K s xs cs → Q s t ys ds → K t (xs ++ ys) (cs ++ ds)
+  pub close : (s t : Session ModelEnd) (xs ys : List JournalEntry) (cs ds : List Call) → is_over t ≡ true → K s xs cs → Q s t ys ds → E (xs ++ ys) (cs ++ (ds ++ Closes t.number ∷ []))
   pub open_ : (l : Loop ModelEnd) (conn : ℕ) (mind : Mind)
       → K (begun conn (answering model_ends plan l) mind) (record { moment = l.moment; conn = conn; event = event.Answer plan.rbc (next_u64 l.words).0; outcomes = [] } ∷ []) []
   pub never : E [] []
   pub full : (m conn : ℕ) → E (record { moment = m; conn = conn; event = event.Full most_live; outcomes = [] } ∷ []) (Closes conn ∷ [])
   pub unserved : (m conn handed : ℕ) → E (record { moment = m; conn = conn; event = event.Unserved handed; outcomes = [] } ∷ []) (Closes conn ∷ [])
 
-module _ (plan : Plan) (Q : Session ModelEnd → Session ModelEnd → List Entry → List Call → Type 0) (c : AllLeft (rules_of plan) Q) (own : (s t : Session ModelEnd) (xs : List Entry) (cs : List Call) → Q s t xs cs → Own s t xs cs)
-    (K : Session ModelEnd → List Entry → List Call → Type 0) (E : List Entry → List Call → Type 0) (k : Keeps plan Q K E) where
+module _ (plan : Plan) (Q : Session ModelEnd → Session ModelEnd → List JournalEntry → List Call → Type 0) (c : AllLeft (rules_of plan) Q) (own : (s t : Session ModelEnd) (xs : List JournalEntry) (cs : List Call) → Q s t xs cs → Own s t xs cs)
+    (K : Session ModelEnd → List JournalEntry → List Call → Type 0) (E : List JournalEntry → List Call → Type 0) (k : Keeps plan Q K E) where
   -- ---- one visit of a number
 
-  unfoldable pub LeftAt : Session ModelEnd → Option (Session ModelEnd) → List Entry → List Call → Type 0
+  unfoldable pub LeftAt : Session ModelEnd → Option (Session ModelEnd) → List JournalEntry → List Call → Type 0
   LeftAt s (Some t) xs cs = Q s t xs cs
   LeftAt s None xs cs = (t : Session ModelEnd) × (ds : List Call) × (is_over t ≡ true) × (cs ≡ ds ++ Closes t.number ∷ []) × Q s t xs ds
 
-  pub data Moved (n : ℕ) (ss ts : List (Session ModelEnd)) (xs : List Entry) (cs : List Call) : Type 0 where
-    Absent : session_of n ss ≡ None → ts ≡ ss → xs ≡ [] → cs ≡ [] → Moved n ss ts xs cs
-    Found : (s : Session ModelEnd) → session_of n ss ≡ Some s → s.number ≡ n
-        → ((conn : ℕ) → (n == conn) ≡ false → session_of conn ts ≡ session_of conn ss)
-        → LeftAt s (session_of n ts) xs cs → Apart ts → Moved n ss ts xs cs
+  pub data Moved (n : ℕ) (ss ts : List (Session ModelEnd)) (xs : List JournalEntry) (cs : List Call) : Type 0 where
+    Absent : session_of_connection n ss ≡ None → ts ≡ ss → xs ≡ [] → cs ≡ [] → Moved n ss ts xs cs
+    Found : (s : Session ModelEnd) → session_of_connection n ss ≡ Some s → s.number ≡ n
+        → ((conn : ℕ) → (n == conn) ≡ false → session_of_connection conn ts ≡ session_of_connection conn ss)
+        → LeftAt s (session_of_connection n ts) xs cs → Apart ts → Moved n ss ts xs cs
 
   -- at the head
-  here : (s : Session ModelEnd) (ss ts : List (Session ModelEnd)) (xs : List Entry) (cs : List Call) → Apart (s ∷ ss)
+  here : (s : Session ModelEnd) (ss ts : List (Session ModelEnd)) (xs : List JournalEntry) (cs : List Call) → Apart (s ∷ ss)
       → Left Q s ts xs cs → Moved s.number (s ∷ ss) (ts ++ ss) xs cs
-  unfolding session_of Apart LeftAt
+  unfolding session_of_connection Apart LeftAt
   here s ss ts xs cs a (Stays t p q) =
       let num : t.number ≡ s.number = (own s t xs cs q).number in
       let at_t : (t.number == s.number) ≡ true = eq-eqb t.number s.number num in
@@ -73,7 +74,7 @@ module _ (plan : Plan) (Q : Session ModelEnd → Session ModelEnd → List Entry
       (Found s (rw (same s.number) refl) refl
       (λ conn ne. rw (subst (λ z. (z == conn) ≡ false) (sym num) ne, ne) refl)
       (rw at_t q)
-      (subst (λ z. session_of z ss ≡ None) (sym num) a.0, a.1))
+      (subst (λ z. session_of_connection z ss ≡ None) (sym num) a.0, a.1))
   here s ss ts xs cs a (Closed t ds over p e q) =
       rw p
       (Found s (rw (same s.number) refl) refl
@@ -83,7 +84,7 @@ module _ (plan : Plan) (Q : Session ModelEnd → Session ModelEnd → List Entry
 
   pub moved : (m : ℕ) (visit : Visit) (n : ℕ) (ss : List (Session ModelEnd)) (a : Met) → Apart ss
       → Moved n ss (visit_at (visited model_ends (rules_of plan) m visit) n ss a).state (visit_at (visited model_ends (rules_of plan) m visit) n ss a).entries (visit_at (visited model_ends (rules_of plan) m visit) n ss a).calls
-  unfolding visit_at session_of Apart
+  unfolding visit_at session_of_connection Apart
   moved m visit n [] a p = Absent refl refl refl refl
   moved m visit n (s ∷ ss) a p =
       let o = visited model_ends (rules_of plan) m visit s a in
@@ -95,7 +96,7 @@ module _ (plan : Plan) (Q : Session ModelEnd → Session ModelEnd → List Entry
         | inr e ↦ rw e (there n s ss (visit_at (visited model_ends (rules_of plan) m visit) n ss a).state (visit_at (visited model_ends (rules_of plan) m visit) n ss a).entries (visit_at (visited model_ends (rules_of plan) m visit) n ss a).calls e p (moved m visit n ss a p.1))
       ]
     where
-      there : (n : ℕ) (s : Session ModelEnd) (ss ts : List (Session ModelEnd)) (xs : List Entry) (cs : List Call) → (s.number == n) ≡ false → Apart (s ∷ ss)
+      there : (n : ℕ) (s : Session ModelEnd) (ss ts : List (Session ModelEnd)) (xs : List JournalEntry) (cs : List Call) → (s.number == n) ≡ false → Apart (s ∷ ss)
           → Moved n ss ts xs cs → Moved n (s ∷ ss) (s ∷ ts) xs cs
       there n s ss ts xs cs ne p (Absent f e x y) = Absent (rw ne f) (ap (λ zs. s ∷ zs) e) x y
       there n s ss ts xs cs ne p (Found u f num others left apart) =
@@ -106,21 +107,21 @@ module _ (plan : Plan) (Q : Session ModelEnd → Session ModelEnd → List Entry
 
   -- ---- what is known of all connections
 
-  unfoldable pub Fits : Option (Session ModelEnd) → ℕ → List Entry → List Call → Type 0
+  unfoldable pub Fits : Option (Session ModelEnd) → ℕ → List JournalEntry → List Call → Type 0
   Fits None conn xs cs = E xs cs
   Fits (Some s) conn xs cs = (s.number ≡ conn) × K s xs cs
 
-  pub record Knows (js : List Entry) (bs : List Call) (ss : List (Session ModelEnd)) : Type 0 where
-    pub fits : (conn : ℕ) → Fits (session_of conn ss) conn (of conn js) (calls_at conn bs)
+  pub record Knows (js : List JournalEntry) (bs : List Call) (ss : List (Session ModelEnd)) : Type 0 where
+    pub fits : (conn : ℕ) → Fits (session_of_connection conn ss) conn (of conn js) (calls_at conn bs)
     pub apart : Apart ss
-    pub low : (conn : ℕ) → newest 0 (opened_in bs) < conn → (of conn js ≡ []) × (calls_at conn bs ≡ []) × (session_of conn ss ≡ None)
+    pub low : (conn : ℕ) → newest 0 (opened_in bs) < conn → (of conn js ≡ []) × (calls_at conn bs ≡ []) × (session_of_connection conn ss ≡ None)
 
-  pub record OwnAt (s : Session ModelEnd) (xs : List Entry) (cs : List Call) : Type 0 where
+  pub record OwnAt (s : Session ModelEnd) (xs : List JournalEntry) (cs : List Call) : Type 0 where
     pub entries : (conn : ℕ) → of conn xs ≡ (if s.number == conn then xs else [])
     pub calls : (conn : ℕ) → calls_at conn cs ≡ (if s.number == conn then cs else [])
     pub opens : opened_in cs ≡ []
 
-  pub own_left : (s : Session ModelEnd) (left : Option (Session ModelEnd)) (xs : List Entry) (cs : List Call) → LeftAt s left xs cs → OwnAt s xs cs
+  pub own_left : (s : Session ModelEnd) (left : Option (Session ModelEnd)) (xs : List JournalEntry) (cs : List Call) → LeftAt s left xs cs → OwnAt s xs cs
   unfolding LeftAt calls_at opened_in
   own_left s (Some t) xs cs q = let o = own s t xs cs q in record { entries = o.entries; calls = o.calls; opens = o.opens }
   own_left s None xs cs (t, ds, over, e, q) =
@@ -134,13 +135,13 @@ module _ (plan : Plan) (Q : Session ModelEnd → Session ModelEnd → List Entry
         opens = rw (e, opened_in-append ds (Closes t.number ∷ []), o.opens) refl;
       }
 
-  pub fits_left : (s : Session ModelEnd) (left : Option (Session ModelEnd)) (n : ℕ) (js xs : List Entry) (bs cs : List Call) → s.number ≡ n → K s js bs → LeftAt s left xs cs
+  pub fits_left : (s : Session ModelEnd) (left : Option (Session ModelEnd)) (n : ℕ) (js xs : List JournalEntry) (bs cs : List Call) → s.number ≡ n → K s js bs → LeftAt s left xs cs
       → Fits left n (js ++ xs) (bs ++ cs)
   unfolding LeftAt Fits
   fits_left s (Some t) n js xs bs cs num h q = ((own s t xs cs q).number ∙ num, k.visit s t js xs bs cs h q)
   fits_left s None n js xs bs cs num h (t, ds, over, e, q) = rw e (k.close s t js xs bs ds over h q)
 
-  pub knows_moved : (n : ℕ) (js xs : List Entry) (bs cs : List Call) (ss ts : List (Session ModelEnd)) → Knows js bs ss → Moved n ss ts xs cs → Knows (js ++ xs) (bs ++ cs) ts
+  pub knows_moved : (n : ℕ) (js xs : List JournalEntry) (bs cs : List Call) (ss ts : List (Session ModelEnd)) → Knows js bs ss → Moved n ss ts xs cs → Knows (js ++ xs) (bs ++ cs) ts
   unfolding Fits
   knows_moved n js xs bs cs ss ts h (Absent f e x y) = rw (e, x, y, append-nil js, append-nil bs) h
   knows_moved n js xs bs cs ss ts h (Found s f num others left apart) = record {
@@ -149,8 +150,8 @@ module _ (plan : Plan) (Q : Session ModelEnd → Session ModelEnd → List Entry
         (elim (cases_Bool (s.number == conn)) [
           | inl p ↦
               rw p
-              (subst (λ z. Fits (session_of z ts) z (of z js ++ xs) (calls_at z bs ++ cs)) (sym num ∙ eqb-true s.number conn p)
-              (fits_left s (session_of n ts) n (of n js) xs (calls_at n bs) cs num at_n.1 left))
+              (subst (λ z. Fits (session_of_connection z ts) z (of z js ++ xs) (calls_at z bs ++ cs)) (sym num ∙ eqb-true s.number conn p)
+              (fits_left s (session_of_connection n ts) n (of n js) xs (calls_at n bs) cs num at_n.1 left))
           | inr p ↦
               rw (p, append-nil (of conn js), append-nil (calls_at conn bs), others conn (subst (λ z. (z == conn) ≡ false) num p))
               (h.fits conn)
@@ -167,19 +168,19 @@ module _ (plan : Plan) (Q : Session ModelEnd → Session ModelEnd → List Entry
   }
     where
       o : OwnAt s xs cs
-      o = own_left s (session_of n ts) xs cs left
+      o = own_left s (session_of_connection n ts) xs cs left
 
       at_n : (s.number ≡ n) × K s (of n js) (calls_at n bs)
       at_n = rw f at (h.fits n)
 
-      not_it : (conn : ℕ) → session_of conn ss ≡ None → (s.number == conn) ≡ false
-      not_it conn none = ne_eqb s.number conn (λ e. (let x : session_of conn ss ≡ Some s = subst (λ z. session_of z ss ≡ Some s) (sym num ∙ e) f in cc))
+      not_it : (conn : ℕ) → session_of_connection conn ss ≡ None → (s.number == conn) ≡ false
+      not_it conn none = ne_eqb s.number conn (λ e. (let x : session_of_connection conn ss ≡ Some s = subst (λ z. session_of_connection z ss ≡ Some s) (sym num ∙ e) f in cc))
 
   -- ---- turns and openings
 
-  session_of-last : (conn : ℕ) (ss : List (Session ModelEnd)) (s : Session ModelEnd) → session_of conn ss ≡ None
-      → session_of conn (ss ++ s ∷ []) ≡ (if s.number == conn then Some s else None)
-  unfolding session_of
+  session_of-last : (conn : ℕ) (ss : List (Session ModelEnd)) (s : Session ModelEnd) → session_of_connection conn ss ≡ None
+      → session_of_connection conn (ss ++ s ∷ []) ≡ (if s.number == conn then Some s else None)
+  unfolding session_of_connection
   session_of-last conn [] s none = refl
   session_of-last conn (t ∷ ss) s none =
       elim (cases_Bool (t.number == conn)) [
@@ -188,13 +189,13 @@ module _ (plan : Plan) (Q : Session ModelEnd → Session ModelEnd → List Entry
       ]
 
   session_of-other : (conn : ℕ) (ss : List (Session ModelEnd)) (s : Session ModelEnd) → (s.number == conn) ≡ false
-      → session_of conn (ss ++ s ∷ []) ≡ session_of conn ss
-  unfolding session_of
+      → session_of_connection conn (ss ++ s ∷ []) ≡ session_of_connection conn ss
+  unfolding session_of_connection
   session_of-other conn [] s ne = rw ne refl
   session_of-other conn (t ∷ ss) s ne = ap (λ z. if t.number == conn then Some t else z) (session_of-other conn ss s ne)
 
-  apart_last : (ss : List (Session ModelEnd)) (s : Session ModelEnd) → Apart ss → session_of s.number ss ≡ None → Apart (ss ++ s ∷ [])
-  unfolding Apart session_of
+  apart_last : (ss : List (Session ModelEnd)) (s : Session ModelEnd) → Apart ss → session_of_connection s.number ss ≡ None → Apart (ss ++ s ∷ [])
+  unfolding Apart session_of_connection
   apart_last [] s p none = (refl, tt)
   apart_last (t ∷ ss) s p none =
       elim (cases_Bool (t.number == s.number)) [
@@ -212,7 +213,7 @@ module _ (plan : Plan) (Q : Session ModelEnd → Session ModelEnd → List Entry
   turn_opens bs until happening =
       opened_in-append bs (Turns until happening ∷ []) ∙ ap (λ z. opened_in bs ++ z) (append-nil (opened_by happening))
 
-  pub knows_turned : (js : List Entry) (bs : List Call) (ss : List (Session ModelEnd)) (until : Option ℕ) (happening : Happening) → opened_by happening ≡ []
+  pub knows_turned : (js : List JournalEntry) (bs : List Call) (ss : List (Session ModelEnd)) (until : Option ℕ) (happening : Happening) → opened_by happening ≡ []
       → Knows js bs ss → Knows (js ++ []) (bs ++ Turns until happening ∷ []) ss
   knows_turned js bs ss until happening none h = rw (append-nil js) (record {
     fits = λ conn. rw (turn_at conn bs until happening) (h.fits conn);
@@ -233,18 +234,18 @@ module _ (plan : Plan) (Q : Session ModelEnd → Session ModelEnd → List Entry
   newest_now bs until conn =
       ap (λ z. newest 0 z) (turn_opens bs until (happening.Accepted conn)) ∙ newest-append 0 (opened_in bs) (conn.0 ∷ [])
 
-  one_of : (conn : ℕ) (x : Entry) → of conn (x ∷ []) ≡ (if x.conn == conn then x ∷ [] else [])
+  one_of : (conn : ℕ) (x : JournalEntry) → of conn (x ∷ []) ≡ (if x.conn == conn then x ∷ [] else [])
   unfolding of
   one_of conn x = refl
 
-  pub knows_opened : (js : List Entry) (bs : List Call) (l : Loop ModelEnd) (until : Option ℕ) (conn : Conn) (mind : Mind)
+  pub knows_opened : (js : List JournalEntry) (bs : List Call) (l : Loop ModelEnd) (until : Option ℕ) (conn : Conn) (mind : Mind)
       → newest 0 (opened_in bs) < conn.0 → Knows js bs l.sessions
       → Knows (js ++ record { moment = l.moment; conn = conn.0; event = event.Answer plan.rbc (next_u64 l.words).0; outcomes = [] } ∷ [])
       (bs ++ Turns until (happening.Accepted conn) ∷ []) (l.sessions ++ begun conn.0 (answering model_ends plan l) mind ∷ [])
   unfolding Fits
   knows_opened js bs l until conn mind above h =
       let s = begun conn.0 (answering model_ends plan l) mind in
-      let x : Entry = record { moment = l.moment; conn = conn.0; event = event.Answer plan.rbc (next_u64 l.words).0; outcomes = [] } in
+      let x : JournalEntry = record { moment = l.moment; conn = conn.0; event = event.Answer plan.rbc (next_u64 l.words).0; outcomes = [] } in
       let new = h.low conn.0 above in
       record {
         fits = λ n.
@@ -280,14 +281,14 @@ module _ (plan : Plan) (Q : Session ModelEnd → Session ModelEnd → List Entry
       ap (λ z. newest 0 z) (opened_in-append bs (Turns until (happening.Accepted conn) ∷ Closes conn.0 ∷ []))
       ∙ newest-append 0 (opened_in bs) (conn.0 ∷ [])
 
-  pub knows_away : (js : List Entry) (bs : List Call) (ss : List (Session ModelEnd)) (m : ℕ) (why : Event) (until : Option ℕ) (conn : Conn)
+  pub knows_away : (js : List JournalEntry) (bs : List Call) (ss : List (Session ModelEnd)) (m : ℕ) (why : Event) (until : Option ℕ) (conn : Conn)
       → newest 0 (opened_in bs) < conn.0
       → E (record { moment = m; conn = conn.0; event = why; outcomes = [] } ∷ []) (Closes conn.0 ∷ []) → Knows js bs ss
       → Knows (js ++ record { moment = m; conn = conn.0; event = why; outcomes = [] } ∷ [])
       (bs ++ Turns until (happening.Accepted conn) ∷ Closes conn.0 ∷ []) ss
   unfolding Fits
   knows_away js bs ss m why until conn above e_away h =
-      let x : Entry = record { moment = m; conn = conn.0; event = why; outcomes = [] } in
+      let x : JournalEntry = record { moment = m; conn = conn.0; event = why; outcomes = [] } in
       record {
         fits = λ n.
             rw (of-append n js (x ∷ []), one_of n x, away_at n bs until conn)
@@ -312,8 +313,8 @@ module _ (plan : Plan) (Q : Session ModelEnd → Session ModelEnd → List Entry
 
   -- ---- a whole run
 
-  Goes : List (Session ModelEnd) → List (Session ModelEnd) → List Entry → List Call → Type 0
-  Goes ss ts xs cs = (js : List Entry) (bs : List Call) → Rises (newest 0 (opened_in bs)) (opened_in cs) → Knows js bs ss → Knows (js ++ xs) (bs ++ cs) ts
+  Goes : List (Session ModelEnd) → List (Session ModelEnd) → List JournalEntry → List Call → Type 0
+  Goes ss ts xs cs = (js : List JournalEntry) (bs : List Call) → Rises (newest 0 (opened_in bs)) (opened_in cs) → Knows js bs ss → Knows (js ++ xs) (bs ++ cs) ts
 
   goes : Loopwise plan Goes
   unfolding Goes
@@ -336,7 +337,7 @@ module _ (plan : Plan) (Q : Session ModelEnd → Session ModelEnd → List Entry
   }
 
   pub knows_none : Knows [] [] []
-  unfolding Fits of calls_at opened_in session_of Apart
+  unfolding Fits of calls_at opened_in session_of_connection Apart
   knows_none = record { fits = λ conn. k.never; apart = tt; low = λ conn lt. (refl, refl, refl) }
 
   -- from no sessions on, where the connections that are accepted have rising numbers
@@ -346,7 +347,7 @@ module _ (plan : Plan) (Q : Session ModelEnd → Session ModelEnd → List Entry
   knows_run c turns none rises = wise_run plan Goes goes c turns [] [] rises (rw none knows_none)
 
   -- from what is known of a journal and a record
-  pub knows_on : (c : Course ModelEnd) (turns : List Turn) (js : List Entry) (bs : List Call) → Rises (newest 0 (opened_in bs)) (opened_in (run model_ends plan c turns).calls)
+  pub knows_on : (c : Course ModelEnd) (turns : List Turn) (js : List JournalEntry) (bs : List Call) → Rises (newest 0 (opened_in bs)) (opened_in (run model_ends plan c turns).calls)
       → Knows js bs c.loop.sessions → Knows (js ++ (run model_ends plan c turns).entries) (bs ++ (run model_ends plan c turns).calls) (run model_ends plan c turns).state.loop.sessions
   unfolding Goes
   knows_on c turns js bs rises h = wise_run plan Goes goes c turns js bs rises h

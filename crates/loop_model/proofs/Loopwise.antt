@@ -1,5 +1,6 @@
 -- A relation between the sessions before and behind, the journal and the calls between them holds of a whole run, where it holds of each
 -- visit, each turn and each opening.
+use Rattle.trace_model.specs.Checks.{most_live}
 use Rattle.loop_model.specs.Ends.{ModelEnd, model_ends}
 use Rattle.std.proofs.Common.{◌≡◌, ℕ, inl, inr, true, false, List, [], ◌∷◌, ◌++◌, length, drop, Option, Some, None, refl}
 use Rattle.std.specs.Prelude.{nat_lt}
@@ -11,17 +12,17 @@ use Rattle.link_trait.specs.Wires.{Call, Turns, Closes}
 use Rattle.link_trait.specs.declared.wires.Conn.{Conn}
 use Rattle.link_trait.specs.declared.wires.Happening.{Happening}
 use Rattle.link_trait.specs.declared.wires.Happening.TheVariants as happening
-use Rattle.loop_model.specs.Journals.{Entry}
-use Rattle.loop_model.specs.Outs.{Out, exactly, first_of}
+use Rattle.loop_model.specs.Journals.{JournalEntry}
+use Rattle.loop_model.specs.Outs.{Out, exactly, first_answer_of}
 use Rattle.loop_model.specs.Sessions.{Session}
 use Rattle.loop_model.specs.Visits.{Met, nothing_met, Visit, Tick, Read, Write, Expire, visited}
-use Rattle.loop_model.specs.Loops.{Plan, rules_of, Loop, most_live, visit_at, numbers, swept, Sweeps, before, until, next_user, begun, answering, answered_by, accepted, visited_at, happened, Halt, Course, asks, Turn, readied, turned_unless, went_unless, went, nothing_comes, run}
+use Rattle.loop_model.specs.Loops.{Plan, rules_of, Loop, visit_at, numbers, swept, Sweeps, before, until, next_user, begun, answering, answered_by, accepted, visited_at, happened, Halt, Course, asks, Turn, readied, turned_unless, went_unless, went, nothing_comes, run}
 use Rattle.loop_model.specs.Parts.{opened_by}
 use Rattle.loop_model.proofs.Steadies.{acts_lift}
 
-pub record Loopwise (plan : Plan) (R : List (Session ModelEnd) → List (Session ModelEnd) → List Entry → List Call → Type 0) : Type 0 where
+pub record Loopwise (plan : Plan) (R : List (Session ModelEnd) → List (Session ModelEnd) → List JournalEntry → List Call → Type 0) : Type 0 where
   pub none : (ss : List (Session ModelEnd)) → R ss ss [] []
-  pub then_ : (ss ts us : List (Session ModelEnd)) (xs ys : List Entry) (cs ds : List Call) → R ss ts xs cs → R ts us ys ds → R ss us (xs ++ ys) (cs ++ ds)
+  pub then_ : (ss ts us : List (Session ModelEnd)) (xs ys : List JournalEntry) (cs ds : List Call) → R ss ts xs cs → R ts us ys ds → R ss us (xs ++ ys) (cs ++ ds)
   pub visit : (m : ℕ) (visit : Visit) (n : ℕ) (ss : List (Session ModelEnd)) (a : Met)
       → R ss (visit_at (visited model_ends (rules_of plan) m visit) n ss a).state (visit_at (visited model_ends (rules_of plan) m visit) n ss a).entries (visit_at (visited model_ends (rules_of plan) m visit) n ss a).calls
   pub turned : (ss : List (Session ModelEnd)) (until : Option ℕ) (happening : Happening) → opened_by happening ≡ [] → R ss ss [] (Turns until happening ∷ [])
@@ -34,14 +35,14 @@ pub record Loopwise (plan : Plan) (R : List (Session ModelEnd) → List (Session
   pub unserved : (ss : List (Session ModelEnd)) (m handed : ℕ) (until : Option ℕ) (conn : Conn)
       → R ss ss (record { moment = m; conn = conn.0; event = event.Unserved handed; outcomes = [] } ∷ []) (Turns until (happening.Accepted conn) ∷ Closes conn.0 ∷ [])
 
-module _ (plan : Plan) (R : List (Session ModelEnd) → List (Session ModelEnd) → List Entry → List Call → Type 0) (w : Loopwise plan R) where
+module _ (plan : Plan) (R : List (Session ModelEnd) → List (Session ModelEnd) → List JournalEntry → List Call → Type 0) (w : Loopwise plan R) where
   pub wise_swept : (m : ℕ) (visit : Visit) (ns : List ℕ) (ss : List (Session ModelEnd)) (answers : List Met)
       → R ss (swept (visited model_ends (rules_of plan) m visit) ns ss answers).state (swept (visited model_ends (rules_of plan) m visit) ns ss answers).entries (swept (visited model_ends (rules_of plan) m visit) ns ss answers).calls
   unfolding swept
   wise_swept m visit [] ss answers = w.none ss
   wise_swept m visit (n ∷ ns) ss answers =
-      w.then_ _ _ _ _ _ _ _ (w.visit m visit n ss (first_of nothing_met answers))
-      (wise_swept m visit ns (visit_at (visited model_ends (rules_of plan) m visit) n ss (first_of nothing_met answers)).state (drop 1 answers))
+      w.then_ _ _ _ _ _ _ _ (w.visit m visit n ss (first_answer_of nothing_met answers))
+      (wise_swept m visit ns (visit_at (visited model_ends (rules_of plan) m visit) n ss (first_answer_of nothing_met answers)).state (drop 1 answers))
 
   pub wise_before : (m : ℕ) (ss : List (Session ModelEnd)) (a : Sweeps)
       → R ss (before model_ends (rules_of plan) m ss a).state (before model_ends (rules_of plan) m ss a).entries (before model_ends (rules_of plan) m ss a).calls

@@ -1,5 +1,6 @@
 -- A relation between what a loop has before and behind, the journal and the calls between them holds of a whole run, where it holds of
 -- each visit at the loop's moment, each turn, each opening, and each answer of the clock.
+use Rattle.trace_model.specs.Checks.{most_live}
 use Rattle.loop_model.specs.Ends.{ModelEnd, model_ends}
 use Rattle.std.proofs.Common.{◌≡◌, ℕ, max, inl, inr, true, false, List, [], ◌∷◌, ◌++◌, length, drop, Option, Some, None, refl}
 use Rattle.std.specs.Prelude.{nat_lt}
@@ -11,16 +12,16 @@ use Rattle.link_trait.specs.Wires.{Call, Turns, Closes}
 use Rattle.link_trait.specs.declared.wires.Conn.{Conn}
 use Rattle.link_trait.specs.declared.wires.Happening.{Happening}
 use Rattle.link_trait.specs.declared.wires.Happening.TheVariants as happening
-use Rattle.loop_model.specs.Journals.{Entry}
-use Rattle.loop_model.specs.Outs.{Out, exactly, first_of}
+use Rattle.loop_model.specs.Journals.{JournalEntry}
+use Rattle.loop_model.specs.Outs.{Out, exactly, first_answer_of}
 use Rattle.loop_model.specs.Visits.{Met, nothing_met, Visit, Tick, Read, Write, Expire, visited}
-use Rattle.loop_model.specs.Loops.{Plan, rules_of, Loop, most_live, with_sessions, visit_at, numbers, swept, Sweeps, before, until, next_user, one_less, begun, answering, answered_by, accepted, visited_at, happened, Halt, Course, asks, Turn, readied, turned_unless, went_unless, went, nothing_comes, run}
+use Rattle.loop_model.specs.Loops.{Plan, rules_of, Loop, with_sessions, visit_at, numbers, swept, Sweeps, before, until, next_user, one_less, begun, answering, answered_by, accepted, visited_at, happened, Halt, Course, asks, Turn, readied, turned_unless, went_unless, went, nothing_comes, run}
 use Rattle.loop_model.specs.Parts.{opened_by}
 use Rattle.loop_model.proofs.Steadies.{acts_lift}
 
-pub record Momentwise (plan : Plan) (R : Loop ModelEnd → Loop ModelEnd → List Entry → List Call → Type 0) : Type 0 where
+pub record Momentwise (plan : Plan) (R : Loop ModelEnd → Loop ModelEnd → List JournalEntry → List Call → Type 0) : Type 0 where
   pub none : (l : Loop ModelEnd) → R l l [] []
-  pub then_ : (l k n : Loop ModelEnd) (xs ys : List Entry) (cs ds : List Call) → R l k xs cs → R k n ys ds → R l n (xs ++ ys) (cs ++ ds)
+  pub then_ : (l k n : Loop ModelEnd) (xs ys : List JournalEntry) (cs ds : List Call) → R l k xs cs → R k n ys ds → R l n (xs ++ ys) (cs ++ ds)
   pub asked : (l : Loop ModelEnd) (at : ℕ) → R l (record l { moment = max l.moment at }) [] []
   pub visit : (l : Loop ModelEnd) (visit : Visit) (n : ℕ) (a : Met)
       → R l (with_sessions l (visit_at (visited model_ends (rules_of plan) l.moment visit) n l.sessions a).state)
@@ -35,15 +36,15 @@ pub record Momentwise (plan : Plan) (R : Loop ModelEnd → Loop ModelEnd → Lis
   pub unserved : (l : Loop ModelEnd) (until : Option ℕ) (conn : Conn) → nat_lt (length l.sessions) most_live ≡ true → next_user l.users ≡ None
       → R l l (record { moment = l.moment; conn = conn.0; event = event.Unserved plan.handed; outcomes = [] } ∷ []) (Turns until (happening.Accepted conn) ∷ Closes conn.0 ∷ [])
 
-module _ (plan : Plan) (R : Loop ModelEnd → Loop ModelEnd → List Entry → List Call → Type 0) (w : Momentwise plan R) where
+module _ (plan : Plan) (R : Loop ModelEnd → Loop ModelEnd → List JournalEntry → List Call → Type 0) (w : Momentwise plan R) where
   moment_swept : (visit : Visit) (ns : List ℕ) (l : Loop ModelEnd) (answers : List Met)
       → R l (with_sessions l (swept (visited model_ends (rules_of plan) l.moment visit) ns l.sessions answers).state)
       (swept (visited model_ends (rules_of plan) l.moment visit) ns l.sessions answers).entries (swept (visited model_ends (rules_of plan) l.moment visit) ns l.sessions answers).calls
   unfolding swept
   moment_swept visit [] l answers = w.none l
   moment_swept visit (n ∷ ns) l answers =
-      w.then_ _ _ _ _ _ _ _ (w.visit l visit n (first_of nothing_met answers))
-      (moment_swept visit ns (with_sessions l (visit_at (visited model_ends (rules_of plan) l.moment visit) n l.sessions (first_of nothing_met answers)).state) (drop 1 answers))
+      w.then_ _ _ _ _ _ _ _ (w.visit l visit n (first_answer_of nothing_met answers))
+      (moment_swept visit ns (with_sessions l (visit_at (visited model_ends (rules_of plan) l.moment visit) n l.sessions (first_answer_of nothing_met answers)).state) (drop 1 answers))
 
   moment_before : (l : Loop ModelEnd) (a : Sweeps)
       → R l (with_sessions l (before model_ends (rules_of plan) l.moment l.sessions a).state)

@@ -5,20 +5,20 @@ use Rattle.std.specs.Prelude.{nat_lt}
 use Rattle.std.proofs.lemmas.Bool.{cases_Bool}
 use Rattle.er_users.specs.Users.{Mind}
 use Rattle.rand_core.specs.Stream.{next_u64}
-use Rattle.trace_model.specs.Checks.{names, role_of}
+use Rattle.trace_model.specs.Checks.{names, role_of, most_live}
 use Rattle.link_trait.specs.Wires.{Call, Dials, Turns}
 use Rattle.link_trait.specs.declared.wires.Conn.{Conn}
 use Rattle.link_trait.specs.declared.wires.Happening.{Happening}
 use Rattle.link_trait.specs.declared.wires.Happening.TheVariants as happening
-use Rattle.loop_model.specs.Journals.{Entry}
-use Rattle.loop_model.specs.Outs.{first_of}
+use Rattle.loop_model.specs.Journals.{JournalEntry}
+use Rattle.loop_model.specs.Outs.{first_answer_of}
 use Rattle.loop_model.specs.Sessions.{Rules, Session, fed, dealt, handled}
 use Rattle.loop_model.specs.Visits.{Met, nothing_met, Visit, Tick, Read, Write, Expire, visited, served}
-use Rattle.loop_model.specs.Loops.{Plan, rules_of, Loop, most_live, visit_at, numbers, swept, Sweeps, before, until, next_user, answered_by, accepted, happened, Caller, called_by, called, Halt, Course, asks, Turn, readied, turned_unless, went_unless, went, run, Dialled, opens, dials_to, dials}
-use Rattle.loop_model.specs.Openings.{openings, closed_by, answer_of, opening_of, openings_due, openings_unless, OpeningsAreTold, call_of, call_by, first_event, BeginsWith, DialIsOpened}
+use Rattle.loop_model.specs.Loops.{Plan, rules_of, Loop, visit_at, numbers, swept, Sweeps, before, until, next_user, answered_by, accepted, happened, Caller, called_by, called, Halt, Course, asks, Turn, readied, turned_unless, went_unless, went, run, Dialled, opens, dials_to, dials}
+use Rattle.loop_model.specs.Openings.{openings, closed_by, answer_or_unserved, event_of_accepted_connection, openings_due, openings_unless, OpeningsAreTold, call_or_unserved, call_by, first_event, BeginsWith, DialIsOpened}
 use Rattle.loop_model.proofs.Replaying.{ArePlain, plain_visit}
 
-openings-append : (xs ys : List Entry) → openings (xs ++ ys) ≡ openings xs ++ openings ys
+openings-append : (xs ys : List JournalEntry) → openings (xs ++ ys) ≡ openings xs ++ openings ys
 unfolding openings
 openings-append [] ys = refl
 openings-append (x ∷ xs) ys =
@@ -27,10 +27,10 @@ openings-append (x ∷ xs) ys =
       | inr p ↦ rw p (openings-append xs ys)
     ]
 
-none_two : (xs ys : List Entry) → openings xs ≡ [] → openings ys ≡ [] → openings (xs ++ ys) ≡ []
+none_two : (xs ys : List JournalEntry) → openings xs ≡ [] → openings ys ≡ [] → openings (xs ++ ys) ≡ []
 none_two xs ys p q = openings-append xs ys ∙ ap (λ z. z ++ openings ys) p ∙ q
 
-plain_none : (m n : ℕ) (xs : List Entry) → ArePlain m n xs → openings xs ≡ []
+plain_none : (m n : ℕ) (xs : List JournalEntry) → ArePlain m n xs → openings xs ≡ []
 unfolding openings
 plain_none m n [] p = refl
 plain_none m n (x ∷ xs) p = rw p.0.role (plain_none m n xs p.1)
@@ -45,9 +45,9 @@ module _ (r : Rules) (m : ℕ) where
   unfolding swept openings
   swept_none visit [] ss answers = refl
   swept_none visit (n ∷ ns) ss answers =
-      let o = visit_at (visited model_ends r m visit) n ss (first_of nothing_met answers) in
+      let o = visit_at (visited model_ends r m visit) n ss (first_answer_of nothing_met answers) in
       none_two o.entries (swept (visited model_ends r m visit) ns o.state (drop 1 answers)).entries
-      (visit_none visit n ss (first_of nothing_met answers)) (swept_none visit ns o.state (drop 1 answers))
+      (visit_none visit n ss (first_answer_of nothing_met answers)) (swept_none visit ns o.state (drop 1 answers))
 
   before_none : (ss : List (Session ModelEnd)) (a : Sweeps) → openings (before model_ends r m ss a).entries ≡ []
   unfolding before
@@ -58,17 +58,17 @@ module _ (r : Rules) (m : ℕ) where
 
 -- ---- a turn
 
-answered_so : (user : Option Mind) (plan : Plan) (l : Loop ModelEnd) (conn : ℕ) → openings (answered_by model_ends user plan l conn).entries ≡ (conn, answer_of user plan (next_u64 l.words).0) ∷ []
+answered_so : (user : Option Mind) (plan : Plan) (l : Loop ModelEnd) (conn : ℕ) → openings (answered_by model_ends user plan l conn).entries ≡ (conn, answer_or_unserved user plan (next_u64 l.words).0) ∷ []
 unfolding openings
 answered_so None plan l conn = refl
 answered_so (Some mind) plan l conn = refl
 
-accepted_so : (plan : Plan) (l : Loop ModelEnd) (conn : ℕ) → openings (accepted model_ends plan l conn).entries ≡ (conn, opening_of plan l) ∷ []
+accepted_so : (plan : Plan) (l : Loop ModelEnd) (conn : ℕ) → openings (accepted model_ends plan l conn).entries ≡ (conn, event_of_accepted_connection plan l) ∷ []
 unfolding accepted openings
 accepted_so plan l conn =
     elim (cases_Bool (nat_lt (length l.sessions) most_live)) [ inl p ↦ rw p (answered_so (next_user l.users) plan l conn) | inr p ↦ rw p refl ]
 
-happened_so : (plan : Plan) (l : Loop ModelEnd) (what : Happening) (a : Met) → openings (happened model_ends plan l what a).entries ≡ openings_due what (opening_of plan l)
+happened_so : (plan : Plan) (l : Loop ModelEnd) (what : Happening) (a : Met) → openings (happened model_ends plan l what a).entries ≡ openings_due what (event_of_accepted_connection plan l)
 unfolding happened openings
 happened_so plan l (happening.Accepted conn) a = accepted_so plan l conn.0
 happened_so plan l (happening.Readable conn) a = visit_none (rules_of plan) l.moment Read conn.0 l.sessions a
@@ -77,7 +77,7 @@ happened_so plan l happening.Quiet a = refl
 happened_so plan l happening.Ended a = refl
 happened_so plan l happening.Failed a = refl
 
-turned_so : (halt : Option Halt) (plan : Plan) (d : Course ModelEnd) (a : Turn) → openings (turned_unless model_ends halt plan d a).entries ≡ openings_unless halt a.happening (opening_of plan d.loop)
+turned_so : (halt : Option Halt) (plan : Plan) (d : Course ModelEnd) (a : Turn) → openings (turned_unless model_ends halt plan d a).entries ≡ openings_unless halt a.happening (event_of_accepted_connection plan d.loop)
 unfolding openings
 turned_so (Some halt) plan d a = refl
 turned_so None plan d a = happened_so plan (asks a.second d).loop a.happening a.met
@@ -87,7 +87,7 @@ unfolding readied
 readied_none plan c a = let d = asks a.first c in before_none (rules_of plan) d.loop.moment d.loop.sessions a.sweeps
 
 went_so : (halt : Option Halt) (plan : Plan) (c : Course ModelEnd) (a : Turn) → halt ≡ None
-    → openings (went_unless model_ends halt plan c a).entries ≡ openings_unless (readied model_ends plan c a).state.halt a.happening (opening_of plan (readied model_ends plan c a).state.loop)
+    → openings (went_unless model_ends halt plan c a).entries ≡ openings_unless (readied model_ends plan c a).state.halt a.happening (event_of_accepted_connection plan (readied model_ends plan c a).state.loop)
 went_so (Some halt) plan c a p = absurd (let q : ⊥ = cc in q)
 went_so None plan c a p =
     let d = readied model_ends plan c a in
@@ -96,29 +96,29 @@ went_so None plan c a p =
 
 -- ---- calls
 
-answered_calls : (user : Option Mind) (plan : Plan) (l : Loop ModelEnd) (conn : ℕ) → (answered_by model_ends user plan l conn).calls ≡ closed_by (role_of (answer_of user plan (next_u64 l.words).0)) conn
+answered_calls : (user : Option Mind) (plan : Plan) (l : Loop ModelEnd) (conn : ℕ) → (answered_by model_ends user plan l conn).calls ≡ closed_by (role_of (answer_or_unserved user plan (next_u64 l.words).0)) conn
 answered_calls None plan l conn = refl
 answered_calls (Some mind) plan l conn = refl
 
-accepted_calls : (plan : Plan) (l : Loop ModelEnd) (conn : ℕ) → (accepted model_ends plan l conn).calls ≡ closed_by (role_of (opening_of plan l)) conn
+accepted_calls : (plan : Plan) (l : Loop ModelEnd) (conn : ℕ) → (accepted model_ends plan l conn).calls ≡ closed_by (role_of (event_of_accepted_connection plan l)) conn
 unfolding accepted
 accepted_calls plan l conn =
     elim (cases_Bool (nat_lt (length l.sessions) most_live)) [ inl p ↦ rw p (answered_calls (next_user l.users) plan l conn) | inr p ↦ rw p refl ]
 
 happened_calls : (plan : Plan) (l : Loop ModelEnd) (what : Happening) (a : Met) (conn : Conn) → what ≡ happening.Accepted conn
-    → (happened model_ends plan l what a).calls ≡ closed_by (role_of (opening_of plan l)) conn.0
+    → (happened model_ends plan l what a).calls ≡ closed_by (role_of (event_of_accepted_connection plan l)) conn.0
 unfolding happened
 happened_calls plan l what a conn p = ap (λ z. (happened model_ends plan l z a).calls) p ∙ accepted_calls plan l conn.0
 
 turned_calls : (halt : Option Halt) (plan : Plan) (d : Course ModelEnd) (a : Turn) (conn : Conn) → halt ≡ None → a.happening ≡ happening.Accepted conn
-    → (turned_unless model_ends halt plan d a).calls ≡ Turns (until model_ends d.loop.sessions) a.happening ∷ closed_by (role_of (opening_of plan d.loop)) conn.0
+    → (turned_unless model_ends halt plan d a).calls ≡ Turns (until model_ends d.loop.sessions) a.happening ∷ closed_by (role_of (event_of_accepted_connection plan d.loop)) conn.0
 turned_calls (Some halt) plan d a conn p q = absurd (let x : ⊥ = cc in x)
 turned_calls None plan d a conn p q =
     ap (λ z. Turns (until model_ends d.loop.sessions) a.happening ∷ z) (happened_calls plan (asks a.second d).loop a.happening a.met conn q)
 
 went_calls : (halt : Option Halt) (plan : Plan) (c : Course ModelEnd) (a : Turn) (conn : Conn) → halt ≡ None → (readied model_ends plan c a).state.halt ≡ None → a.happening ≡ happening.Accepted conn
     → (went_unless model_ends halt plan c a).calls
-    ≡ (readied model_ends plan c a).calls ++ Turns (until model_ends (readied model_ends plan c a).state.loop.sessions) a.happening ∷ closed_by (role_of (opening_of plan (readied model_ends plan c a).state.loop)) conn.0
+    ≡ (readied model_ends plan c a).calls ++ Turns (until model_ends (readied model_ends plan c a).state.loop.sessions) a.happening ∷ closed_by (role_of (event_of_accepted_connection plan (readied model_ends plan c a).state.loop)) conn.0
 went_calls (Some halt) plan c a conn p q e = absurd (let x : ⊥ = cc in x)
 went_calls None plan c a conn p q e =
     let d = readied model_ends plan c a in ap (λ z. d.calls ++ z) (turned_calls d.state.halt plan d.state a conn q e)
@@ -132,13 +132,13 @@ openings_are_told = record {
 
 -- ---- a dial
 
-first_called : (user : Option Mind) (plan : Plan) (caller : Caller) (l : Loop ModelEnd) (conn : ℕ) (a : Met) (ys : List Entry)
-    → first_event ((called_by model_ends user plan caller l conn a).entries ++ ys) ≡ Some (conn, call_of user plan caller (next_u64 l.words).0)
+first_called : (user : Option Mind) (plan : Plan) (caller : Caller) (l : Loop ModelEnd) (conn : ℕ) (a : Met) (ys : List JournalEntry)
+    → first_event ((called_by model_ends user plan caller l conn a).entries ++ ys) ≡ Some (conn, call_or_unserved user plan caller (next_u64 l.words).0)
 unfolding served handled dealt fed
 first_called None plan caller l conn a ys = refl
 first_called (Some mind) plan caller l conn a ys = refl
 
-begins_called : (user : Option Mind) (plan : Plan) (caller : Caller) (l : Loop ModelEnd) (conn : ℕ) (a : Met) → BeginsWith (called_by model_ends user plan caller l conn a).calls (closed_by (role_of (call_of user plan caller (next_u64 l.words).0)) conn)
+begins_called : (user : Option Mind) (plan : Plan) (caller : Caller) (l : Loop ModelEnd) (conn : ℕ) (a : Met) → BeginsWith (called_by model_ends user plan caller l conn a).calls (closed_by (role_of (call_or_unserved user plan caller (next_u64 l.words).0)) conn)
 begins_called None plan caller l conn a = record { rest = []; is = refl }
 begins_called (Some mind) plan caller l conn a = record { rest = (called_by model_ends (Some mind) plan caller l conn a).calls; is = refl }
 

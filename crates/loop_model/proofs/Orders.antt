@@ -1,13 +1,14 @@
 -- At most 256 connections are live, and their sessions are in rising number.
+use Rattle.trace_model.specs.Checks.{most_live}
 use Rattle.loop_model.specs.Ends.{ModelEnd, model_ends}
 use Rattle.std.proofs.Common.{◌≡◌, ℕ, suc, ◌+◌, ◌<◌, ◌≤◌, inl, inr, List, [], ◌∷◌, ◌++◌, length, refl, sym, ◌∙◌, ap, subst, arith, length-append, ltb-true}
 use Rattle.std.specs.Prelude.{◌==◌}
 use Rattle.std.proofs.lemmas.Bool.{cases_Bool}
 use Rattle.link_trait.specs.Wires.{Call, Closes}
-use Rattle.loop_model.specs.Journals.{Entry}
+use Rattle.loop_model.specs.Journals.{JournalEntry}
 use Rattle.loop_model.specs.Sessions.{Rules, Session}
 use Rattle.loop_model.specs.Visits.{Met, Visit, visited}
-use Rattle.loop_model.specs.Loops.{Plan, rules_of, most_live, visit_at, numbers}
+use Rattle.loop_model.specs.Loops.{Plan, rules_of, visit_at, numbers}
 use Rattle.loop_model.specs.Parts.{opened_in, Rises, newest}
 use Rattle.loop_model.specs.Laws.{IsFew, FewAreLive, SessionsRise}
 use Rattle.loop_model.proofs.Projections.{opened_in-append, rises_first, rises_rest, newest-append}
@@ -24,7 +25,7 @@ own_calls r = usual_calls r (λ g. Unit {0}) Own (own_steady r) all_given own_ba
 
 -- ---- how many
 
-pub left_few : (s : Session ModelEnd) (ts : List (Session ModelEnd)) (xs : List Entry) (cs : List Call) → Left Own s ts xs cs → length ts ≤ 1
+pub left_few : (s : Session ModelEnd) (ts : List (Session ModelEnd)) (xs : List JournalEntry) (cs : List Call) → Left Own s ts xs cs → length ts ≤ 1
 left_few s ts xs cs (Stays t p q) = subst (λ z. length z ≤ 1) (sym p) (omega arith)
 left_few s ts xs cs (Closed t ds over p e q) = subst (λ z. length z ≤ 1) (sym p) (omega arith)
 
@@ -41,7 +42,7 @@ visit_few r m visit n (s ∷ ss) a =
       | inr p ↦ rw p (let h : length (visit_at (visited model_ends r m visit) n ss a).state ≤ length ss = visit_few r m visit n ss a in omega arith)
     ]
 
-unfoldable pub Few : List (Session ModelEnd) → List (Session ModelEnd) → List Entry → List Call → Type 0
+unfoldable pub Few : List (Session ModelEnd) → List (Session ModelEnd) → List JournalEntry → List Call → Type 0
 Few ss ts xs cs = IsFew ss → IsFew ts
 
 pub few : (plan : Plan) → Loopwise plan Few
@@ -79,12 +80,12 @@ up_to_more a b [] p q = tt
 up_to_more a b (n ∷ ns) p q = (let h : n ≤ a = q.0 in omega arith, up_to_more a b ns p q.1)
 
 -- what a visit of the first session leaves
-rises_left : (from : ℕ) (s : Session ModelEnd) (ss ts : List (Session ModelEnd)) (xs : List Entry) (cs : List Call) → Left Own s ts xs cs
+rises_left : (from : ℕ) (s : Session ModelEnd) (ss ts : List (Session ModelEnd)) (xs : List JournalEntry) (cs : List Call) → Left Own s ts xs cs
     → Rises from (numbers (s ∷ ss)) → Rises from (numbers (ts ++ ss))
 rises_left from s ss ts xs cs (Stays t p q) h = rw p (subst (λ z. (from < z) × Rises z (numbers ss)) (sym q.number) h)
 rises_left from s ss ts xs cs (Closed t ds over p e q) h = rw p (rises_down from s.number (numbers ss) (let x : from < s.number = h.0 in omega arith) h.1)
 
-up_to_left : (top : ℕ) (s : Session ModelEnd) (ss ts : List (Session ModelEnd)) (xs : List Entry) (cs : List Call) → Left Own s ts xs cs
+up_to_left : (top : ℕ) (s : Session ModelEnd) (ss ts : List (Session ModelEnd)) (xs : List JournalEntry) (cs : List Call) → Left Own s ts xs cs
     → UpTo top (numbers (s ∷ ss)) → UpTo top (numbers (ts ++ ss))
 unfolding UpTo
 up_to_left top s ss ts xs cs (Stays t p q) h = rw p (subst (λ z. (z ≤ top) × UpTo top (numbers ss)) (sym q.number) h)
@@ -119,7 +120,7 @@ visit_opens r m visit n (s ∷ ss) a =
       | inr p ↦ rw p (visit_opens r m visit n ss a)
     ]
   where
-    left_opens : (s : Session ModelEnd) (ts : List (Session ModelEnd)) (xs : List Entry) (cs : List Call) → Left Own s ts xs cs → opened_in cs ≡ []
+    left_opens : (s : Session ModelEnd) (ts : List (Session ModelEnd)) (xs : List JournalEntry) (cs : List Call) → Left Own s ts xs cs → opened_in cs ≡ []
     left_opens s ts xs cs (Stays t p q) = q.opens
     left_opens s ts xs cs (Closed t ds over p e q) = ap opened_in e ∙ opened_in-append ds (Closes t.number ∷ []) ∙ ap (λ z. z ++ []) q.opens
 
@@ -141,7 +142,7 @@ pub record Ordered (top : ℕ) (ss : List (Session ModelEnd)) : Type 0 where
   pub rises : Rises 0 (numbers ss)
   pub up_to : UpTo top (numbers ss)
 
-unfoldable pub InOrder : List (Session ModelEnd) → List (Session ModelEnd) → List Entry → List Call → Type 0
+unfoldable pub InOrder : List (Session ModelEnd) → List (Session ModelEnd) → List JournalEntry → List Call → Type 0
 InOrder ss ts xs cs = (top : ℕ) → Rises top (opened_in cs) → Ordered top ss → Ordered (newest top (opened_in cs)) ts
 
 ordered_more : (a b : ℕ) (ss : List (Session ModelEnd)) → a ≤ b → Ordered a ss → Ordered b ss

@@ -1,5 +1,6 @@
 -- A relation between the sessions before and behind, and what is done between them in its order, holds of a whole run, where it holds of each visit, each
 -- turn and each opening.
+use Rattle.trace_model.specs.Checks.{most_live}
 use Rattle.loop_model.specs.Ends.{ModelEnd, model_ends}
 use Rattle.std.proofs.Common.{◌≡◌, ℕ, inl, inr, List, [], ◌∷◌, ◌++◌, length, drop, Option, Some, None, refl}
 use Rattle.std.specs.Prelude.{nat_lt}
@@ -11,21 +12,21 @@ use Rattle.link_trait.specs.Wires.{Turns, Closes}
 use Rattle.link_trait.specs.declared.wires.Conn.{Conn}
 use Rattle.link_trait.specs.declared.wires.Happening.{Happening}
 use Rattle.link_trait.specs.declared.wires.Happening.TheVariants as happening
-use Rattle.loop_model.specs.Journals.{Entry}
-use Rattle.loop_model.specs.Deeds.{Deed, Printing, Calling}
-use Rattle.loop_model.specs.Outs.{Out, acts, exactly, first_of}
+use Rattle.loop_model.specs.Journals.{JournalEntry}
+use Rattle.loop_model.specs.Deeds.{LoopDeed, Printing, Calling}
+use Rattle.loop_model.specs.Outs.{Out, acts, exactly, first_answer_of}
 use Rattle.loop_model.specs.Sessions.{Session}
 use Rattle.loop_model.specs.Visits.{Met, nothing_met, Visit, Tick, Read, Write, Expire, visited}
-use Rattle.loop_model.specs.Loops.{Plan, rules_of, Loop, most_live, visit_at, numbers, swept, Sweeps, before, until, next_user, begun, answering, answered_by, accepted, visited_at, happened, Halt, Course, asks, Turn, readied, turned_unless, went_unless, went, nothing_comes, run}
+use Rattle.loop_model.specs.Loops.{Plan, rules_of, Loop, visit_at, numbers, swept, Sweeps, before, until, next_user, begun, answering, answered_by, accepted, visited_at, happened, Halt, Course, asks, Turn, readied, turned_unless, went_unless, went, nothing_comes, run}
 use Rattle.loop_model.specs.Parts.{opened_by}
 
 -- what is done where a connection is turned away
-abbrev pub away : Option ℕ → Conn → Entry → List Deed
+abbrev pub away : Option ℕ → Conn → JournalEntry → List LoopDeed
 away until conn x = Calling (Turns until (happening.Accepted conn)) ∷ Printing x ∷ Calling (Closes conn.0) ∷ []
 
-pub record Orderwise (plan : Plan) (R : List (Session ModelEnd) → List (Session ModelEnd) → List Deed → Type 0) : Type 0 where
+pub record Orderwise (plan : Plan) (R : List (Session ModelEnd) → List (Session ModelEnd) → List LoopDeed → Type 0) : Type 0 where
   pub none : (ss : List (Session ModelEnd)) → R ss ss []
-  pub then_ : (ss ts us : List (Session ModelEnd)) (ds es : List Deed) → R ss ts ds → R ts us es → R ss us (ds ++ es)
+  pub then_ : (ss ts us : List (Session ModelEnd)) (ds es : List LoopDeed) → R ss ts ds → R ts us es → R ss us (ds ++ es)
   pub visit : (m : ℕ) (visit : Visit) (n : ℕ) (ss : List (Session ModelEnd)) (a : Met)
       → R ss (visit_at (visited model_ends (rules_of plan) m visit) n ss a).state (visit_at (visited model_ends (rules_of plan) m visit) n ss a).order
   pub turned : (ss : List (Session ModelEnd)) (until : Option ℕ) (happening : Happening) → opened_by happening ≡ [] → R ss ss (Calling (Turns until happening) ∷ [])
@@ -37,14 +38,14 @@ pub record Orderwise (plan : Plan) (R : List (Session ModelEnd) → List (Sessio
   pub unserved : (ss : List (Session ModelEnd)) (m handed : ℕ) (until : Option ℕ) (conn : Conn)
       → R ss ss (away until conn (record { moment = m; conn = conn.0; event = event.Unserved handed; outcomes = [] }))
 
-module _ (plan : Plan) (R : List (Session ModelEnd) → List (Session ModelEnd) → List Deed → Type 0) (w : Orderwise plan R) where
+module _ (plan : Plan) (R : List (Session ModelEnd) → List (Session ModelEnd) → List LoopDeed → Type 0) (w : Orderwise plan R) where
   swept_wise : (m : ℕ) (visit : Visit) (ns : List ℕ) (ss : List (Session ModelEnd)) (answers : List Met)
       → R ss (swept (visited model_ends (rules_of plan) m visit) ns ss answers).state (swept (visited model_ends (rules_of plan) m visit) ns ss answers).order
   unfolding swept
   swept_wise m visit [] ss answers = w.none ss
   swept_wise m visit (n ∷ ns) ss answers =
-      w.then_ _ _ _ _ _ (w.visit m visit n ss (first_of nothing_met answers))
-      (swept_wise m visit ns (visit_at (visited model_ends (rules_of plan) m visit) n ss (first_of nothing_met answers)).state (drop 1 answers))
+      w.then_ _ _ _ _ _ (w.visit m visit n ss (first_answer_of nothing_met answers))
+      (swept_wise m visit ns (visit_at (visited model_ends (rules_of plan) m visit) n ss (first_answer_of nothing_met answers)).state (drop 1 answers))
 
   before_wise : (m : ℕ) (ss : List (Session ModelEnd)) (a : Sweeps)
       → R ss (before model_ends (rules_of plan) m ss a).state (before model_ends (rules_of plan) m ss a).order

@@ -4,9 +4,9 @@ use Rattle.std.proofs.Common.{if◌then◌else◌, ◌≡◌, ℕ, Bool, true, f
 use Rattle.std.specs.Prelude.{◌==◌}
 use Rattle.link_trait.specs.Wires.{Call, Reading, Gave, NotNow, End, Failed, Reads, Writes}
 use Rattle.link_trait.specs.declared.wires.WriteAnswer.TheVariants as write
-use Rattle.loop_model.specs.Journals.{Entry}
-use Rattle.loop_model.specs.Outs.{first_of}
-use Rattle.loop_model.specs.Sessions.{Rules, Session, is_released, Given, Hears, Ticks, Ends, Faults, Stalls, end_after, outcomes_of, entry_of, octets_in, breaks, Says, nothing_said}
+use Rattle.loop_model.specs.Journals.{JournalEntry}
+use Rattle.loop_model.specs.Outs.{first_answer_of}
+use Rattle.loop_model.specs.Sessions.{Rules, Session, is_released, GivenToSession, Hears, Ticks, Ends, Faults, Stalls, end_after, outcomes_of_given_event, entry_of, octets_in, breaks, Says, nothing_said}
 use Rattle.loop_model.specs.Visits.{most_read, came}
 use Rattle.loop_model.specs.Parts.{of, calls_at, opened_in}
 use Rattle.loop_model.proofs.Projections.{of-append, calls_at-append, opened_in-append, split_if}
@@ -14,26 +14,26 @@ use Rattle.loop_model.proofs.Steadies.{SteadyAt, Steady, steady_at, Usual, Quiet
 use Rattle.loop_model.proofs.Lives.{Own}
 
 -- each bare call
-pub record Bare (Q : Session ModelEnd → Session ModelEnd → List Entry → List Call → Type 0) : Type 0 where
+pub record Bare (Q : Session ModelEnd → Session ModelEnd → List JournalEntry → List Call → Type 0) : Type 0 where
   pub wrote : (s : Session ModelEnd) (n : ℕ) → s.broken ≡ false → Q s (record s { output = drop n s.output }) [] (Writes s.number s.output (write.Some n) ∷ [])
   pub put_off : (s : Session ModelEnd) → Q s s [] (Writes s.number s.output write.NotNow ∷ [])
   pub failed : (s : Session ModelEnd) → Q s s [] (Writes s.number s.output write.Failed ∷ [])
   pub breaks : (s : Session ModelEnd) → is_released model_ends s ≡ true → Q s (record s { broken = true }) [] []
 
 -- all that the loop gives an end by itself is allowed
-pub record AllGiven (Allowed : Given → Type 0) : Type 0 where
+pub record AllGiven (Allowed : GivenToSession → Type 0) : Type 0 where
   pub usual : Usual Allowed
   pub hears : (octets : List ℕ) → Allowed (Hears octets)
   pub ticks : Allowed Ticks
   pub ends : Allowed Ends
   pub faults : Allowed Faults
 
-module _ (r : Rules) (m : ℕ) (Allowed : Given → Type 0) (Q : Session ModelEnd → Session ModelEnd → List Entry → List Call → Type 0) (q : SteadyAt r m Allowed Q) (all : AllGiven Allowed) (b : Bare Q) where
+module _ (r : Rules) (m : ℕ) (Allowed : GivenToSession → Type 0) (Q : Session ModelEnd → Session ModelEnd → List JournalEntry → List Call → Type 0) (q : SteadyAt r m Allowed Q) (all : AllGiven Allowed) (b : Bare Q) where
   came_at : (s : Session ModelEnd) (reading : Reading) (says : List Says) → Q s (came model_ends reading r m s says).0 (came model_ends reading r m s says).1 []
   came_at s (Gave octets) says = pours_at r m Allowed Q q all.usual all.hears s octets says
   came_at s NotNow says = q.none s
-  came_at s End says = handled_at r m Allowed Q q all.usual s Ends (first_of nothing_said says) all.ends
-  came_at s Failed says = handled_at r m Allowed Q q all.usual s Faults (first_of nothing_said says) all.faults
+  came_at s End says = handled_at r m Allowed Q q all.usual s Ends (first_answer_of nothing_said says) all.ends
+  came_at s Failed says = handled_at r m Allowed Q q all.usual s Faults (first_answer_of nothing_said says) all.faults
 
   pub usual_quiet_at : QuietAt r m Q
   usual_quiet_at = record {
@@ -53,7 +53,7 @@ module _ (r : Rules) (m : ℕ) (Allowed : Given → Type 0) (Q : Session ModelEn
   }
 
 -- at every moment
-module _ (r : Rules) (Allowed : Given → Type 0) (Q : Session ModelEnd → Session ModelEnd → List Entry → List Call → Type 0) (q : Steady r Allowed Q) (all : AllGiven Allowed) (b : Bare Q) where
+module _ (r : Rules) (Allowed : GivenToSession → Type 0) (Q : Session ModelEnd → Session ModelEnd → List JournalEntry → List Call → Type 0) (q : Steady r Allowed Q) (all : AllGiven Allowed) (b : Bare Q) where
   pub usual_quiet : Quiet r Q
   usual_quiet = record {
     none = q.none;
@@ -70,10 +70,10 @@ module _ (r : Rules) (Allowed : Given → Type 0) (Q : Session ModelEnd → Sess
 
 -- ---- two at once
 
-abbrev pub Both : (P Q : Session ModelEnd → Session ModelEnd → List Entry → List Call → Type 0) → Session ModelEnd → Session ModelEnd → List Entry → List Call → Type 0
+abbrev pub Both : (P Q : Session ModelEnd → Session ModelEnd → List JournalEntry → List Call → Type 0) → Session ModelEnd → Session ModelEnd → List JournalEntry → List Call → Type 0
 Both P Q s t xs cs = P s t xs cs × Q s t xs cs
 
-pub steady_both : (r : Rules) (Allowed : Given → Type 0) (P Q : Session ModelEnd → Session ModelEnd → List Entry → List Call → Type 0)
+pub steady_both : (r : Rules) (Allowed : GivenToSession → Type 0) (P Q : Session ModelEnd → Session ModelEnd → List JournalEntry → List Call → Type 0)
     → Steady r Allowed P → Steady r Allowed Q → Steady r Allowed (Both P Q)
 steady_both r Allowed P Q p q = record {
   none = λ s. (p.none s, q.none s);
@@ -84,7 +84,7 @@ steady_both r Allowed P Q p q = record {
   parts = λ s told at gone. (p.parts s told at gone, q.parts s told at gone);
 }
 
-pub calls_both : (r : Rules) (P Q : Session ModelEnd → Session ModelEnd → List Entry → List Call → Type 0) → Calls r P → Calls r Q → Calls r (Both P Q)
+pub calls_both : (r : Rules) (P Q : Session ModelEnd → Session ModelEnd → List JournalEntry → List Call → Type 0) → Calls r P → Calls r Q → Calls r (Both P Q)
 calls_both r P Q p q = record {
   quiet = record {
     none = λ s. (p.none s, q.none s);
@@ -98,7 +98,7 @@ calls_both r P Q p q = record {
   read = λ m s a live. (p.read m s a live, q.read m s a live);
 }
 
-pub bare_both : (P Q : Session ModelEnd → Session ModelEnd → List Entry → List Call → Type 0) → Bare P → Bare Q → Bare (Both P Q)
+pub bare_both : (P Q : Session ModelEnd → Session ModelEnd → List JournalEntry → List Call → Type 0) → Bare P → Bare Q → Bare (Both P Q)
 bare_both P Q p q = record {
   wrote = λ s n whole. (p.wrote s n whole, q.wrote s n whole);
   put_off = λ s. (p.put_off s, q.put_off s);
@@ -123,7 +123,7 @@ own_same : (s t : Session ModelEnd) → t.number ≡ s.number → Own s t [] []
 unfolding of calls_at opened_in
 own_same s t e = record { number = e; entries = λ conn. if_nil (s.number == conn); calls = λ conn. if_nil (s.number == conn); opens = refl }
 
-own_one : (s t : Session ModelEnd) (x : Entry) → t.number ≡ s.number → x.conn ≡ s.number → Own s t (x ∷ []) []
+own_one : (s t : Session ModelEnd) (x : JournalEntry) → t.number ≡ s.number → x.conn ≡ s.number → Own s t (x ∷ []) []
 unfolding of calls_at opened_in
 own_one s t x e f = record {
   number = e;
@@ -132,7 +132,7 @@ own_one s t x e f = record {
   opens = refl;
 }
 
-own_two : (s t : Session ModelEnd) (x y : Entry) → t.number ≡ s.number → x.conn ≡ s.number → y.conn ≡ s.number → Own s t (x ∷ y ∷ []) []
+own_two : (s t : Session ModelEnd) (x y : JournalEntry) → t.number ≡ s.number → x.conn ≡ s.number → y.conn ≡ s.number → Own s t (x ∷ y ∷ []) []
 unfolding of calls_at opened_in
 own_two s t x y e f g = record {
   number = e;
@@ -144,7 +144,7 @@ own_two s t x y e f g = record {
   opens = refl;
 }
 
-own_then : (s t u : Session ModelEnd) (xs ys : List Entry) (cs ds : List Call) → Own s t xs cs → Own t u ys ds → Own s u (xs ++ ys) (cs ++ ds)
+own_then : (s t u : Session ModelEnd) (xs ys : List JournalEntry) (cs ds : List Call) → Own s t xs cs → Own t u ys ds → Own s u (xs ++ ys) (cs ++ ds)
 own_then s t u xs ys cs ds a b = record {
   number = b.number ∙ a.number;
   entries = λ conn.
@@ -163,7 +163,7 @@ own_steady r = record {
   none = λ s. own_same s s refl;
   then_ = own_then;
   given = λ m s g allowed fits.
-      own_one s (record s { end = end_after model_ends r m s.end g; output = s.output ++ octets_in (outcomes_of model_ends r m s.end g); broken = s.broken || breaks g }) (entry_of model_ends r m s g) refl refl;
+      own_one s (record s { end = end_after model_ends r m s.end g; output = s.output ++ octets_in (outcomes_of_given_event model_ends r m s.end g); broken = s.broken || breaks g }) (entry_of model_ends r m s g) refl refl;
   stalls = λ m s g allowed fits.
       own_two s (record s { end = end_after model_ends r m (end_after model_ends r m s.end g) Stalls; broken = true }) (entry_of model_ends r m s g)
       (entry_of model_ends r m (record s { end = end_after model_ends r m s.end g }) Stalls) refl refl refl;
@@ -185,8 +185,8 @@ unfolding of calls_at opened_in
 own_reads s waits reading = record { number = refl; entries = λ conn. if_nil (s.number == conn); calls = λ conn. refl; opens = refl }
 
 -- a steady relation that allows less
-pub steady_less : (r : Rules) (A B : Given → Type 0) (Q : Session ModelEnd → Session ModelEnd → List Entry → List Call → Type 0)
-    → ((g : Given) → B g → A g) → Steady r A Q → Steady r B Q
+pub steady_less : (r : Rules) (A B : GivenToSession → Type 0) (Q : Session ModelEnd → Session ModelEnd → List JournalEntry → List Call → Type 0)
+    → ((g : GivenToSession) → B g → A g) → Steady r A Q → Steady r B Q
 steady_less r A B Q less q = record {
   none = q.none;
   then_ = q.then_;

@@ -10,8 +10,8 @@ use Rattle.link_trait.specs.declared.wires.Happening.TheVariants as happening
 use Rattle.loop_model.specs.Sessions.{Rules, Session, is_released}
 use Rattle.loop_model.specs.Visits.{most_read, Met, Read, came, rests_behind, visited, read_once}
 use Rattle.loop_model.specs.Loops.{Plan, rules_of, until, visit_at, happened, Halt, Course, asks, Turn, readied, turned_unless, went_unless, went}
-use Rattle.loop_model.specs.Parts.{session_of}
-use Rattle.loop_model.specs.Turnings.{IsRead, IsReadBy, AreRead, HasTaken, IsProgress, ReadableProgress}
+use Rattle.loop_model.specs.Parts.{session_of_connection}
+use Rattle.loop_model.specs.Turnings.{IsRead, IsReadBy, AreRead, HasTaken, HasReadProgress, ReadableProgress}
 
 -- a call among others
 record IsAmong (call : Call) (calls : List Call) : Type 0 where
@@ -22,9 +22,9 @@ record IsAmong (call : Call) (calls : List Call) : Type 0 where
 among_rest : (call : Call) (cs ds : List Call) → IsAmong call ds → IsAmong call (cs ++ ds)
 among_rest call cs ds a = record { first = cs ++ a.first; rest = a.rest; is = ap (λ z. cs ++ z) a.is ∙ sym (append_assoc cs a.first (call ∷ a.rest)) }
 
-among_visit : (r : Rules) (m n : ℕ) (ss : List (Session ModelEnd)) (s : Session ModelEnd) (a : Met) → session_of n ss ≡ Some s → is_released model_ends s ≡ false
+among_visit : (r : Rules) (m n : ℕ) (ss : List (Session ModelEnd)) (s : Session ModelEnd) (a : Met) → session_of_connection n ss ≡ Some s → is_released model_ends s ≡ false
     → IsAmong (Reads n most_read a.waits a.reading) (visit_at (visited model_ends r m Read) n ss a).calls
-unfolding visit_at session_of visited read_once
+unfolding visit_at session_of_connection visited read_once
 among_visit r m n [] s a e live = absurd (let x : ⊥ = cc in x)
 among_visit r m n (t ∷ ss) s a e live =
     elim (cases_Bool (t.number == n)) [
@@ -47,7 +47,7 @@ has_taken waits NotNow p q = omega arith
 has_taken waits End p q = omega arith
 has_taken waits Failed p q = tt
 
-progress_of : (conn waits : ℕ) (reading : Reading) (calls : List Call) → IsAmong (Reads conn most_read waits reading) calls → AreRead calls → IsProgress conn calls
+progress_of : (conn waits : ℕ) (reading : Reading) (calls : List Call) → IsAmong (Reads conn most_read waits reading) calls → AreRead calls → HasReadProgress conn calls
 progress_of conn waits reading calls a reads = record {
   first = a.first;
   waits = waits;
@@ -58,7 +58,7 @@ progress_of conn waits reading calls a reads = record {
 }
 
 turned_among : (halt : Option Halt) (plan : Plan) (d : Course ModelEnd) (a : Turn) (what : Happening) (conn : Conn) (s : Session ModelEnd) → halt ≡ None → a.happening ≡ what → what ≡ happening.Readable conn
-    → session_of conn.0 d.loop.sessions ≡ Some s → is_released model_ends s ≡ false
+    → session_of_connection conn.0 d.loop.sessions ≡ Some s → is_released model_ends s ≡ false
     → IsAmong (Reads conn.0 most_read a.met.waits a.met.reading) (turned_unless model_ends halt plan d a).calls
 unfolding happened
 turned_among (Some halt) plan d a what conn s p e f is live = absurd (let x : ⊥ = cc in x)
@@ -69,7 +69,7 @@ turned_among None plan d a what conn s p e f is live =
     (among_visit (rules_of plan) l.moment conn.0 l.sessions s a.met is live))
 
 went_among : (halt : Option Halt) (plan : Plan) (c : Course ModelEnd) (a : Turn) (conn : Conn) (s : Session ModelEnd) → halt ≡ None → (readied model_ends plan c a).state.halt ≡ None
-    → a.happening ≡ happening.Readable conn → session_of conn.0 (readied model_ends plan c a).state.loop.sessions ≡ Some s → is_released model_ends s ≡ false
+    → a.happening ≡ happening.Readable conn → session_of_connection conn.0 (readied model_ends plan c a).state.loop.sessions ≡ Some s → is_released model_ends s ≡ false
     → IsAmong (Reads conn.0 most_read a.met.waits a.met.reading) (went_unless model_ends halt plan c a).calls
 went_among (Some halt) plan c a conn s p q e is live = absurd (let x : ⊥ = cc in x)
 went_among None plan c a conn s p q e is live =

@@ -3,10 +3,10 @@ use Rattle.std.proofs.Common.{if◌then◌else◌, ◌≡◌, ℕ, ◌<◌, ◌�
 use Rattle.std.specs.Prelude.{◌==◌}
 use Rattle.std.proofs.lemmas.Bool.{cases_Bool}
 use Rattle.link_trait.specs.Wires.{Call}
-use Rattle.loop_model.specs.Journals.{Entry}
-use Rattle.loop_model.specs.Parts.{of, is_at, calls_at, opens, opened_in, Rises, newest}
+use Rattle.loop_model.specs.Journals.{JournalEntry}
+use Rattle.loop_model.specs.Parts.{of, is_at, calls_at, connections_opened_by_call, opened_in, Rises, newest}
 
-pub of-append : (conn : ℕ) (xs ys : List Entry) → of conn (xs ++ ys) ≡ of conn xs ++ of conn ys
+pub of-append : (conn : ℕ) (xs ys : List JournalEntry) → of conn (xs ++ ys) ≡ of conn xs ++ of conn ys
 unfolding of
 of-append conn [] ys = refl
 of-append conn (x ∷ xs) ys =
@@ -28,7 +28,7 @@ pub opened_in-append : (cs ds : List Call) → opened_in (cs ++ ds) ≡ opened_i
 unfolding opened_in
 opened_in-append [] ds = refl
 opened_in-append (call ∷ cs) ds =
-    ap (λ zs. opens call ++ zs) (opened_in-append cs ds) ∙ sym (append_assoc (opens call) (opened_in cs) (opened_in ds))
+    ap (λ zs. connections_opened_by_call call ++ zs) (opened_in-append cs ds) ∙ sym (append_assoc (connections_opened_by_call call) (opened_in cs) (opened_in ds))
 
 pub rises_first : (from : ℕ) (ms ns : List ℕ) → Rises from (ms ++ ns) → Rises from ms
 rises_first from [] ns p = tt

@@ -1,4 +1,5 @@
 -- One read a readable turn, and none elsewhere.
+use Rattle.trace_model.specs.Checks.{most_live}
 use Rattle.loop_model.specs.Ends.{ModelEnd, model_ends}
 use Rattle.std.proofs.Common.{if◌then◌else◌, ◌≡◌, ℕ, inl, inr, List, [], ◌∷◌, ◌++◌, length, drop, Option, Some, None, refl, sym, ◌∙◌, ap, subst, append-nil, append_assoc, eqb-true}
 use Rattle.std.specs.Prelude.{◌==◌, nat_lt}
@@ -7,12 +8,12 @@ use Rattle.er_users.specs.Users.{Mind}
 use Rattle.link_trait.specs.Wires.{Call, Reading, Closes}
 use Rattle.link_trait.specs.declared.wires.Happening.{Happening}
 use Rattle.link_trait.specs.declared.wires.Happening.TheVariants as happening
-use Rattle.loop_model.specs.Journals.{Entry}
-use Rattle.loop_model.specs.Outs.{Out, first_of}
+use Rattle.loop_model.specs.Journals.{JournalEntry}
+use Rattle.loop_model.specs.Outs.{Out, first_answer_of}
 use Rattle.loop_model.specs.Sessions.{Rules, Session, is_released}
 use Rattle.loop_model.specs.Visits.{Wrote, rests_behind, Met, nothing_met, Tick, Read, Write, Expire, came, read_once, visited}
-use Rattle.loop_model.specs.Loops.{Plan, rules_of, Loop, most_live, visit_at, numbers, swept, Sweeps, before, next_user, answered_by, accepted, happened, Halt, Course, asks, Turn, readied, turned_unless, went_unless, went}
-use Rattle.loop_model.specs.Parts.{session_of}
+use Rattle.loop_model.specs.Loops.{Plan, rules_of, Loop, visit_at, numbers, swept, Sweeps, before, next_user, answered_by, accepted, happened, Halt, Course, asks, Turn, readied, turned_unless, went_unless, went}
+use Rattle.loop_model.specs.Parts.{session_of_connection}
 use Rattle.loop_model.specs.Laws.{reads_by, reads_of, to_be_read_of, to_be_read, to_be_read_unless, OneReadATurn}
 use Rattle.loop_model.proofs.Steadies.{Steady, Quiet, Left, Stays, Closed, quiet_at, left_tick_at, left_write_at, left_expire_at, left_behind_at}
 use Rattle.loop_model.proofs.Owns.{Bare, AllGiven, usual_quiet}
@@ -22,7 +23,7 @@ unfolding reads_of
 reads_of-append [] ds = refl
 reads_of-append (call ∷ cs) ds = ap (λ z. reads_by call ++ z) (reads_of-append cs ds) ∙ sym (append_assoc (reads_by call) (reads_of cs) (reads_of ds))
 
-NoRead : Session ModelEnd → Session ModelEnd → List Entry → List Call → Type 0
+NoRead : Session ModelEnd → Session ModelEnd → List JournalEntry → List Call → Type 0
 NoRead s t xs cs = reads_of cs ≡ []
 
 steady : (r : Rules) → Steady r (λ g. Unit {0}) NoRead
@@ -46,7 +47,7 @@ all_given = record { usual = record { sends = λ text. tt; leaves = λ sub. tt; 
 quiet : (r : Rules) → Quiet r NoRead
 quiet r = usual_quiet r (λ g. Unit {0}) NoRead (steady r) all_given bare
 
-left_none : (s : Session ModelEnd) (ts : List (Session ModelEnd)) (xs : List Entry) (cs : List Call) → Left NoRead s ts xs cs → reads_of cs ≡ []
+left_none : (s : Session ModelEnd) (ts : List (Session ModelEnd)) (xs : List JournalEntry) (cs : List Call) → Left NoRead s ts xs cs → reads_of cs ≡ []
 unfolding NoRead reads_of
 left_none s ts xs cs (Stays t p q) = q
 left_none s ts xs cs (Closed t ds over p e q) = ap reads_of e ∙ reads_of-append ds (Closes t.number ∷ []) ∙ append-nil (reads_of ds) ∙ q
@@ -62,9 +63,9 @@ module _ (f : Session ModelEnd → Met → Out (List (Session ModelEnd))) (none 
   unfolding swept reads_of
   swept_none [] ss answers = refl
   swept_none (n ∷ ns) ss answers =
-      let o = visit_at f n ss (first_of nothing_met answers) in
+      let o = visit_at f n ss (first_answer_of nothing_met answers) in
       reads_of-append o.calls (swept f ns o.state (drop 1 answers)).calls
-      ∙ ap (λ z. z ++ reads_of (swept f ns o.state (drop 1 answers)).calls) (visit_none n ss (first_of nothing_met answers))
+      ∙ ap (λ z. z ++ reads_of (swept f ns o.state (drop 1 answers)).calls) (visit_none n ss (first_answer_of nothing_met answers))
       ∙ swept_none ns o.state (drop 1 answers)
 
 tick_none : (r : Rules) (m : ℕ) (s : Session ModelEnd) (a : Met) → reads_of (visited model_ends r m Tick s a).calls ≡ []
@@ -97,8 +98,8 @@ one_read r m s a =
       | inr p ↦ rw p (ap (λ z. s.number ∷ z) (behind_none r m a.reading (came model_ends a.reading r m s a.says).0 a.wrote))
     ]
 
-read_at : (r : Rules) (m n : ℕ) (ss : List (Session ModelEnd)) (a : Met) → reads_of (visit_at (visited model_ends r m Read) n ss a).calls ≡ to_be_read_of n (session_of n ss)
-unfolding visit_at session_of reads_of
+read_at : (r : Rules) (m n : ℕ) (ss : List (Session ModelEnd)) (a : Met) → reads_of (visit_at (visited model_ends r m Read) n ss a).calls ≡ to_be_read_of n (session_of_connection n ss)
+unfolding visit_at session_of_connection reads_of
 read_at r m n [] a = refl
 read_at r m n (s ∷ ss) a =
     elim (cases_Bool (s.number == n)) [

@@ -1,4 +1,5 @@
 -- A record begins with one listen or one dial, and a loop halts as closed exactly where it dials and no session is left.
+use Rattle.trace_model.specs.Checks.{most_live}
 use Rattle.loop_model.specs.Ends.{ModelEnd, model_ends}
 use Rattle.std.proofs.Common.{◌≡◌, ◌⊎◌, ℕ, inl, inr, Bool, true, false, ◌&&◌, List, [], ◌∷◌, ◌++◌, length, drop, Option, Some, None, refl, sym, ◌∙◌, ap, subst, append-nil, append_assoc, true≢false, eqb-true, arith}
 use Rattle.std.specs.Prelude.{◌==◌, nat_lt}
@@ -8,25 +9,25 @@ use Rattle.rand_core.specs.Stream.{next_u64}
 use Rattle.link_trait.specs.Wires.{Call, Listens, Dials, Reading, Reads, Closes}
 use Rattle.link_trait.specs.declared.wires.Happening.{Happening}
 use Rattle.link_trait.specs.declared.wires.Happening.TheVariants as happening
-use Rattle.loop_model.specs.Journals.{Entry}
-use Rattle.loop_model.specs.Outs.{Out, still, next, acts, exactly, first_of}
+use Rattle.loop_model.specs.Journals.{JournalEntry}
+use Rattle.loop_model.specs.Outs.{Out, still, next, acts, exactly, first_answer_of}
 use Rattle.loop_model.specs.Sessions.{Rules, Session, Begins, nothing_said}
 use Rattle.loop_model.specs.Visits.{most_read, Met, nothing_met, Visit, Tick, Read, Write, Expire, visited}
-use Rattle.loop_model.specs.Loops.{Plan, rules_of, Loop, most_live, visit_at, numbers, swept, before, next_user, begun, answered_by, accepted, happened, Caller, calling, called_by, called, Halt, OnEnded, OnClosed, OnFailed, Course, asks, halt_by, halt_behind, Turn, readied, turned_unless, went_unless, went, nothing_comes, run, serves, Dialled, opens, dials_to, dials}
-use Rattle.loop_model.specs.Laws.{turn_of, turns_of, GoesOn, AllGoOn}
-use Rattle.loop_model.specs.Records.{opening_by, openings_of, BeginsOnly, FailsAtOnce, RecordsBegin, HaltsClosed, ClosedExactly, HaltsRest}
+use Rattle.loop_model.specs.Loops.{Plan, rules_of, Loop, visit_at, numbers, swept, before, next_user, begun, answered_by, accepted, happened, Caller, calling, called_by, called, Halt, OnEnded, OnClosed, OnFailed, Course, asks, halt_by, halt_behind, Turn, readied, turned_unless, went_unless, went, nothing_comes, run, serves, Dialled, opens, dials_to, dials}
+use Rattle.loop_model.specs.Laws.{happenings_in_call, turns_of, GoesOn, AllGoOn}
+use Rattle.loop_model.specs.Records.{listen_or_dial_in, openings_of, BeginsOnly, FailsAtOnce, RecordsBegin, HaltsClosed, ClosedExactly, HaltsRest}
 use Rattle.loop_model.proofs.Steadies.{Steady, Calls, Left, Stays, Closed, left_served, left_visited, steady_handled}
 use Rattle.loop_model.proofs.Owns.{Bare, AllGiven, usual_calls}
 
 turns_of-append : (cs ds : List Call) → turns_of (cs ++ ds) ≡ turns_of cs ++ turns_of ds
 unfolding turns_of
 turns_of-append [] ds = refl
-turns_of-append (call ∷ cs) ds = ap (λ z. turn_of call ++ z) (turns_of-append cs ds) ∙ sym (append_assoc (turn_of call) (turns_of cs) (turns_of ds))
+turns_of-append (call ∷ cs) ds = ap (λ z. happenings_in_call call ++ z) (turns_of-append cs ds) ∙ sym (append_assoc (happenings_in_call call) (turns_of cs) (turns_of ds))
 
 openings_of-append : (cs ds : List Call) → openings_of (cs ++ ds) ≡ openings_of cs ++ openings_of ds
 unfolding openings_of
 openings_of-append [] ds = refl
-openings_of-append (call ∷ cs) ds = ap (λ z. opening_by call ++ z) (openings_of-append cs ds) ∙ sym (append_assoc (opening_by call) (openings_of cs) (openings_of ds))
+openings_of-append (call ∷ cs) ds = ap (λ z. listen_or_dial_in call ++ z) (openings_of-append cs ds) ∙ sym (append_assoc (listen_or_dial_in call) (openings_of cs) (openings_of ds))
 
 -- ---- calls that are at a connection
 
@@ -44,11 +45,11 @@ calm_two cs ds p q = record {
   turns = turns_of-append cs ds ∙ ap (λ z. z ++ turns_of ds) p.turns ∙ q.turns;
 }
 
-calm_one : (call : Call) → opening_by call ≡ [] → turn_of call ≡ [] → AreCalm (call ∷ [])
+calm_one : (call : Call) → listen_or_dial_in call ≡ [] → happenings_in_call call ≡ [] → AreCalm (call ∷ [])
 unfolding openings_of turns_of
 calm_one call p q = record { openings = ap (λ z. z ++ []) p; turns = ap (λ z. z ++ []) q }
 
-Calm : Session ModelEnd → Session ModelEnd → List Entry → List Call → Type 0
+Calm : Session ModelEnd → Session ModelEnd → List JournalEntry → List Call → Type 0
 Calm s t xs cs = AreCalm cs
 
 steady : (r : Rules) → Steady r (λ g. Unit {0}) Calm
@@ -76,7 +77,7 @@ read_calm s waits reading = calm_one _ refl refl
 calls : (r : Rules) → Calls r Calm
 calls r = usual_calls r (λ g. Unit {0}) Calm (steady r) all_given bare read_calm
 
-left_calm : (s : Session ModelEnd) (ts : List (Session ModelEnd)) (xs : List Entry) (cs : List Call) → Left Calm s ts xs cs → AreCalm cs
+left_calm : (s : Session ModelEnd) (ts : List (Session ModelEnd)) (xs : List JournalEntry) (cs : List Call) → Left Calm s ts xs cs → AreCalm cs
 unfolding Calm
 left_calm s ts xs cs (Stays t p q) = q
 left_calm s ts xs cs (Closed t ds over p e q) = subst AreCalm (sym e) (calm_two ds (Closes t.number ∷ []) q (calm_one (Closes t.number) refl refl))
@@ -94,8 +95,8 @@ swept_calm : (r : Rules) (m : ℕ) (visit : Visit) (ns : List ℕ) (ss : List (S
 unfolding swept
 swept_calm r m visit [] ss answers = calm_none
 swept_calm r m visit (n ∷ ns) ss answers =
-    let o = visit_at (visited model_ends r m visit) n ss (first_of nothing_met answers) in
-    calm_two o.calls (swept (visited model_ends r m visit) ns o.state (drop 1 answers)).calls (visit_calm r m visit n ss (first_of nothing_met answers))
+    let o = visit_at (visited model_ends r m visit) n ss (first_answer_of nothing_met answers) in
+    calm_two o.calls (swept (visited model_ends r m visit) ns o.state (drop 1 answers)).calls (visit_calm r m visit n ss (first_answer_of nothing_met answers))
     (swept_calm r m visit ns o.state (drop 1 answers))
 
 readied_calm : (plan : Plan) (c : Course ModelEnd) (a : Turn) → AreCalm (readied model_ends plan c a).calls
@@ -133,7 +134,7 @@ called_calm (Some mind) plan caller l conn a =
     let r = rules_of plan in
     let s = begun conn (calling model_ends plan caller l) mind in
     let g = Begins caller.engine plan.rbc (next_u64 l.words).0 in
-    left_calm s _ _ _ (left_served r Calm (calls r).quiet l.moment s g a (steady_handled r (λ g. Unit {0}) Calm (steady r) all_given.usual l.moment s g (first_of nothing_said a.says) tt))
+    left_calm s _ _ _ (left_served r Calm (calls r).quiet l.moment s g a (steady_handled r (λ g. Unit {0}) Calm (steady r) all_given.usual l.moment s g (first_answer_of nothing_said a.says) tt))
 
 -- ---- turns
 

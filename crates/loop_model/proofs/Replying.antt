@@ -8,19 +8,19 @@ use Rattle.er_trace.specs.declared.event.Event.{Event}
 use Rattle.er_trace.specs.declared.event.Event.TheVariants as event
 use Rattle.er_users.specs.Users.{Mind}
 use Rattle.rand_core.specs.Stream.{next_u64}
-use Rattle.trace_model.specs.Checks.{opens as opens_end, role_of}
+use Rattle.trace_model.specs.Checks.{is_opening_role as opens_end, role_of, most_live}
 use Rattle.link_trait.specs.Wires.{Call, Dials, Turns, Closes}
 use Rattle.link_trait.specs.declared.wires.Conn.{Conn}
 use Rattle.link_trait.specs.declared.wires.Happening.TheVariants as happening
-use Rattle.loop_model.specs.Journals.{Entry}
-use Rattle.loop_model.specs.Outs.{first_of}
+use Rattle.loop_model.specs.Journals.{JournalEntry}
+use Rattle.loop_model.specs.Outs.{first_answer_of}
 use Rattle.loop_model.specs.Sessions.{Session, nothing_said, handled}
 use Rattle.loop_model.specs.Visits.{Met, Visit, visited, served}
-use Rattle.loop_model.specs.Loops.{Plan, rules_of, Loop, most_live, with_sessions, visit_at, next_user, other_users, begun, answering, Caller, calling, called_by, called, Course, asks, Turn, run, Dialled, opens, dials_to, dials}
-use Rattle.loop_model.specs.Parts.{session_of, of, opened_in, Rises, newest}
+use Rattle.loop_model.specs.Loops.{Plan, rules_of, Loop, with_sessions, visit_at, next_user, other_users, begun, answering, Caller, calling, called_by, called, Course, asks, Turn, run, Dialled, opens, dials_to, dials}
+use Rattle.loop_model.specs.Parts.{session_of_connection, of, opened_in, Rises, newest}
 use Rattle.loop_model.specs.Laws.{IsServing, IsDialling}
 use Rattle.loop_model.specs.Points.{speech_of, user_of, AreDeclined, IsSpoken, UsersReply}
-use Rattle.loop_model.specs.Told.{IsHeard, UsersHear}
+use Rattle.loop_model.specs.Told.{HasUserHeard, UsersHear}
 use Rattle.loop_model.proofs.Projections.{of-append, opened_in-append as opens-append, rises_first, rises_rest, newest-append}
 use Rattle.loop_model.proofs.Steadies.{Calls, AllLeft, all_left_of, Left as LeftBy, Stays, Closed, steady_handled, left_served}
 use Rattle.loop_model.proofs.Lives.{Own, Keeps, LeftAt, own_left, Moved, Absent, Found, moved, Knows, knows_none, knows_moved, knows_turned, accepted_above, knows_opened, knows_away}
@@ -35,21 +35,21 @@ use Rattle.loop_model.specs.Speeches.{Spoke, leads-append}
 -- ---- which user
 
 -- the users that are left
-unfoldable left_behind : List Entry → List Mind → List Mind
+unfoldable left_behind : List JournalEntry → List Mind → List Mind
 left_behind [] users = users
 left_behind (x ∷ xs) users = if opens_end (role_of x.event) then left_behind xs (other_users users) else left_behind xs users
 
 -- no end is opened
-plain_declined : (m n : ℕ) (xs : List Entry) → ArePlain m n xs → AreDeclined xs
+plain_declined : (m n : ℕ) (xs : List JournalEntry) → ArePlain m n xs → AreDeclined xs
 plain_declined m n [] p = tt
 plain_declined m n (x ∷ xs) p = (ap opens_end p.0.role, plain_declined m n xs p.1)
 
-no_user : (conn : ℕ) (xs : List Entry) (users : List Mind) → AreDeclined xs → user_of conn xs users ≡ None
+no_user : (conn : ℕ) (xs : List JournalEntry) (users : List Mind) → AreDeclined xs → user_of conn xs users ≡ None
 unfolding user_of
 no_user conn [] users p = refl
 no_user conn (x ∷ xs) users p = rw p.0 (no_user conn xs users p.1)
 
-user_same : (conn : ℕ) (js xs : List Entry) (users : List Mind) → AreDeclined xs → user_of conn (js ++ xs) users ≡ user_of conn js users
+user_same : (conn : ℕ) (js xs : List JournalEntry) (users : List Mind) → AreDeclined xs → user_of conn (js ++ xs) users ≡ user_of conn js users
 unfolding user_of
 user_same conn [] xs users p = no_user conn xs users p
 user_same conn (x ∷ js) xs users p =
@@ -58,7 +58,7 @@ user_same conn (x ∷ js) xs users p =
       | inr q ↦ rw q (user_same conn js xs users p)
     ]
 
-left_same : (js xs : List Entry) (users : List Mind) → AreDeclined xs → left_behind (js ++ xs) users ≡ left_behind js users
+left_same : (js xs : List JournalEntry) (users : List Mind) → AreDeclined xs → left_behind (js ++ xs) users ≡ left_behind js users
 unfolding left_behind
 left_same [] [] users p = refl
 left_same [] (x ∷ xs) users p = rw p.0 (left_same [] xs users p.1)
@@ -66,13 +66,13 @@ left_same (x ∷ js) xs users p =
     elim (cases_Bool (opens_end (role_of x.event))) [ inl q ↦ rw q (left_same js xs (other_users users) p) | inr q ↦ rw q (left_same js xs users p) ]
 
 -- an end is opened
-left_less : (js : List Entry) (x : Entry) (users : List Mind) → opens_end (role_of x.event) ≡ true → left_behind (js ++ x ∷ []) users ≡ other_users (left_behind js users)
+left_less : (js : List JournalEntry) (x : JournalEntry) (users : List Mind) → opens_end (role_of x.event) ≡ true → left_behind (js ++ x ∷ []) users ≡ other_users (left_behind js users)
 unfolding left_behind
 left_less [] x users p = rw p refl
 left_less (y ∷ js) x users p =
     elim (cases_Bool (opens_end (role_of y.event))) [ inl q ↦ rw q (left_less js x (other_users users) p) | inr q ↦ rw q (left_less js x users p) ]
 
-user_other : (conn : ℕ) (js : List Entry) (x : Entry) (users : List Mind) → (x.conn == conn) ≡ false → user_of conn (js ++ x ∷ []) users ≡ user_of conn js users
+user_other : (conn : ℕ) (js : List JournalEntry) (x : JournalEntry) (users : List Mind) → (x.conn == conn) ≡ false → user_of conn (js ++ x ∷ []) users ≡ user_of conn js users
 unfolding user_of
 user_other conn [] x users p =
     elim (cases_Bool (opens_end (role_of x.event))) [ inl q ↦ rw (q, p) refl | inr q ↦ rw q refl ]
@@ -82,10 +82,10 @@ user_other conn (y ∷ js) x users p =
       | inr q ↦ rw q (user_other conn js x users p)
     ]
 
-not_head : (y : Entry) (ys : List Entry) → y ∷ ys ≡ [] → ⊥
+not_head : (y : JournalEntry) (ys : List JournalEntry) → y ∷ ys ≡ [] → ⊥
 not_head y ys e = cc
 
-user_new : (conn : ℕ) (js : List Entry) (x : Entry) (users : List Mind) → of conn js ≡ [] → (x.conn == conn) ≡ true → opens_end (role_of x.event) ≡ true
+user_new : (conn : ℕ) (js : List JournalEntry) (x : JournalEntry) (users : List Mind) → of conn js ≡ [] → (x.conn == conn) ≡ true → opens_end (role_of x.event) ≡ true
     → user_of conn (js ++ x ∷ []) users ≡ next_user (left_behind js users)
 unfolding user_of left_behind of
 user_new conn [] x users none p o = rw (o, p) refl
@@ -99,7 +99,7 @@ user_new conn (y ∷ js) x users none p o =
           ]
     ]
 
-user_none : (conn : ℕ) (js : List Entry) (users : List Mind) → of conn js ≡ [] → user_of conn js users ≡ None
+user_none : (conn : ℕ) (js : List JournalEntry) (users : List Mind) → of conn js ≡ [] → user_of conn js users ≡ None
 unfolding user_of of
 user_none conn [] users none = refl
 user_none conn (y ∷ js) users none =
@@ -112,7 +112,7 @@ user_none conn (y ∷ js) users none =
           ]
     ]
 
-one_of : (conn : ℕ) (x : Entry) → of conn (x ∷ []) ≡ (if x.conn == conn then x ∷ [] else [])
+one_of : (conn : ℕ) (x : JournalEntry) → of conn (x ∷ []) ≡ (if x.conn == conn then x ∷ [] else [])
 unfolding of
 one_of conn x = refl
 
@@ -131,7 +131,7 @@ call_ready plan caller l conn mind = record { waits = refl; gone = λ e. absurd 
 module _ (waits : WaitsMove) (bring : OctetsBring) (stays : ReleaseStays) (breaks_release : BreaksRelease) (wants_none : ReleasedWantNone) (tells_none : ReleasedTellNone)
     (plan : Plan) (users : List Mind)
   where
-    abbrev Q : Session ModelEnd → Session ModelEnd → List Entry → List Call → Type 0
+    abbrev Q : Session ModelEnd → Session ModelEnd → List JournalEntry → List Call → Type 0
     Q = Both Own (Speaks (rules_of plan))
 
     q_each : Calls (rules_of plan) Q
@@ -140,13 +140,13 @@ module _ (waits : WaitsMove) (bring : OctetsBring) (stays : ReleaseStays) (break
     q_calls : AllLeft (rules_of plan) Q
     q_calls = all_left_of (rules_of plan) Q q_each
 
-    own : (s t : Session ModelEnd) (xs : List Entry) (cs : List Call) → Q s t xs cs → Own s t xs cs
+    own : (s t : Session ModelEnd) (xs : List JournalEntry) (cs : List Call) → Q s t xs cs → Own s t xs cs
     own s t xs cs q = q.0
 
-    abbrev K : Session ModelEnd → List Entry → List Call → Type 0
+    abbrev K : Session ModelEnd → List JournalEntry → List Call → Type 0
     K s xs cs = Unit {0}
 
-    abbrev E : List Entry → List Call → Type 0
+    abbrev E : List JournalEntry → List Call → Type 0
     E xs cs = Unit {0}
 
     keeps : Keeps plan Q K E
@@ -159,20 +159,20 @@ module _ (waits : WaitsMove) (bring : OctetsBring) (stays : ReleaseStays) (break
       unserved = λ m conn handed. tt;
     }
 
-    abbrev Known : List Entry → List Call → List (Session ModelEnd) → Type 0
+    abbrev Known : List JournalEntry → List Call → List (Session ModelEnd) → Type 0
     Known js bs ss = Knows plan Q q_calls own K E keeps js bs ss
 
     -- a connection whose user is this one
-    SaidBy : Option (Session ModelEnd) → Option Mind → List Entry → Type 0
+    SaidBy : Option (Session ModelEnd) → Option Mind → List JournalEntry → Type 0
     SaidBy None user xs = IsSpoken user xs
     SaidBy (Some s) user xs = (mind : Mind) × (user ≡ Some mind) × Ready s × Spoke model_ends (rules_of plan) mind s xs
 
-    record Said (l : Loop ModelEnd) (js : List Entry) (bs : List Call) : Type 0 where
+    record Said (l : Loop ModelEnd) (js : List JournalEntry) (bs : List Call) : Type 0 where
       known : Known js bs l.sessions
       left : left_behind js users ≡ l.users
-      said : (conn : ℕ) → SaidBy (session_of conn l.sessions) (user_of conn js users) (of conn js)
+      said : (conn : ℕ) → SaidBy (session_of_connection conn l.sessions) (user_of conn js users) (of conn js)
 
-    said_on : (s : Session ModelEnd) (left : Option (Session ModelEnd)) (user : Option Mind) (js xs : List Entry) (cs : List Call)
+    said_on : (s : Session ModelEnd) (left : Option (Session ModelEnd)) (user : Option Mind) (js xs : List JournalEntry) (cs : List Call)
         → LeftAt plan Q q_calls own K E keeps s left xs cs → SaidBy (Some s) user js → SaidBy left user (js ++ xs)
     unfolding LeftAt SaidBy Speaks
     said_on s (Some t) user js xs cs q (mind, e, ready, p) =
@@ -184,23 +184,23 @@ module _ (waits : WaitsMove) (bring : OctetsBring) (stays : ReleaseStays) (break
         let c = b.spoke p.last p.is in
         subst (λ z. IsSpoken z (js ++ xs)) (sym e) (c.last, leads-append (speech_of mind) (speech_of p.last) (speech_of c.last) js xs p.leads c.leads)
 
-    said_moved : (n : ℕ) (js xs : List Entry) (cs : List Call) (ss ts : List (Session ModelEnd)) → Moved plan Q q_calls own K E keeps n ss ts xs cs → AreDeclined xs
-        → ((conn : ℕ) → SaidBy (session_of conn ss) (user_of conn js users) (of conn js))
-        → (conn : ℕ) → SaidBy (session_of conn ts) (user_of conn (js ++ xs) users) (of conn (js ++ xs))
+    said_moved : (n : ℕ) (js xs : List JournalEntry) (cs : List Call) (ss ts : List (Session ModelEnd)) → Moved plan Q q_calls own K E keeps n ss ts xs cs → AreDeclined xs
+        → ((conn : ℕ) → SaidBy (session_of_connection conn ss) (user_of conn js users) (of conn js))
+        → (conn : ℕ) → SaidBy (session_of_connection conn ts) (user_of conn (js ++ xs) users) (of conn (js ++ xs))
     said_moved n js xs cs ss ts (Absent f e x y) none said conn = rw (e, x, append-nil js) (said conn)
     said_moved n js xs cs ss ts (Found s f num others left apart) none said conn =
-        let o = own_left plan Q q_calls own K E keeps s (session_of n ts) xs cs left in
+        let o = own_left plan Q q_calls own K E keeps s (session_of_connection n ts) xs cs left in
         rw (user_same conn js xs users none, of-append conn js xs, o.entries conn)
         (elim (cases_Bool (s.number == conn)) [
           | inl p ↦
               rw p
-              (subst (λ z. SaidBy (session_of z ts) (user_of z js users) (of z js ++ xs)) (sym num ∙ eqb-true s.number conn p)
-              (said_on s (session_of n ts) (user_of n js users) (of n js) xs cs left (subst (λ z. SaidBy z (user_of n js users) (of n js)) f (said n))))
+              (subst (λ z. SaidBy (session_of_connection z ts) (user_of z js users) (of z js ++ xs)) (sym num ∙ eqb-true s.number conn p)
+              (said_on s (session_of_connection n ts) (user_of n js users) (of n js) xs cs left (subst (λ z. SaidBy z (user_of n js users) (of n js)) f (said n))))
           | inr p ↦ rw (p, append-nil (of conn js), others conn (subst (λ z. (z == conn) ≡ false) num p)) (said conn)
         ])
 
-    Goes : Loop ModelEnd → Loop ModelEnd → List Entry → List Call → Type 0
-    Goes l k xs cs = (js : List Entry) (bs : List Call) → Rises (newest 0 (opened_in bs)) (opened_in cs) → Said l js bs → Said k (js ++ xs) (bs ++ cs)
+    Goes : Loop ModelEnd → Loop ModelEnd → List JournalEntry → List Call → Type 0
+    Goes l k xs cs = (js : List JournalEntry) (bs : List Call) → Rises (newest 0 (opened_in bs)) (opened_in cs) → Said l js bs → Said k (js ++ xs) (bs ++ cs)
 
     goes_visit : (l : Loop ModelEnd) (visit : Visit) (n : ℕ) (a : Met)
         → Goes l (with_sessions l (visit_at (visited model_ends (rules_of plan) l.moment visit) n l.sessions a).state)
@@ -216,13 +216,13 @@ module _ (waits : WaitsMove) (bring : OctetsBring) (stays : ReleaseStays) (break
           said = said_moved n js o.entries o.calls l.sessions o.state m none h.said;
         }
 
-    session_last : (conn : ℕ) (ss : List (Session ModelEnd)) (s : Session ModelEnd) → (s.number == conn) ≡ false → session_of conn (ss ++ s ∷ []) ≡ session_of conn ss
-    unfolding session_of
+    session_last : (conn : ℕ) (ss : List (Session ModelEnd)) (s : Session ModelEnd) → (s.number == conn) ≡ false → session_of_connection conn (ss ++ s ∷ []) ≡ session_of_connection conn ss
+    unfolding session_of_connection
     session_last conn [] s ne = rw ne refl
     session_last conn (t ∷ ss) s ne = ap (λ z. if t.number == conn then Some t else z) (session_last conn ss s ne)
 
-    session_new : (conn : ℕ) (ss : List (Session ModelEnd)) (s : Session ModelEnd) → session_of conn ss ≡ None → (s.number == conn) ≡ true → session_of conn (ss ++ s ∷ []) ≡ Some s
-    unfolding session_of
+    session_new : (conn : ℕ) (ss : List (Session ModelEnd)) (s : Session ModelEnd) → session_of_connection conn ss ≡ None → (s.number == conn) ≡ true → session_of_connection conn (ss ++ s ∷ []) ≡ Some s
+    unfolding session_of_connection
     session_new conn [] s none p = rw p refl
     session_new conn (t ∷ ss) s none p =
         elim (cases_Bool (t.number == conn)) [
@@ -235,7 +235,7 @@ module _ (waits : WaitsMove) (bring : OctetsBring) (stays : ReleaseStays) (break
     unfolding Goes SaidBy
     goes_away l why until conn not js bs rises h =
         let above = accepted_above plan Q q_calls own K E keeps bs (Closes conn.0 ∷ []) until conn rises in
-        let x : Entry = record { moment = l.moment; conn = conn.0; event = why; outcomes = [] } in
+        let x : JournalEntry = record { moment = l.moment; conn = conn.0; event = why; outcomes = [] } in
         let new = h.known.low conn.0 above in
         record {
           known = knows_away plan Q q_calls own K E keeps js bs l.sessions l.moment why until conn above tt h.known;
@@ -271,7 +271,7 @@ module _ (waits : WaitsMove) (bring : OctetsBring) (stays : ReleaseStays) (break
       };
       opened = λ l until conn mind fits is js bs rises h.
           let above = accepted_above plan Q q_calls own K E keeps bs [] until conn rises in
-          let x : Entry = record { moment = l.moment; conn = conn.0; event = event.Answer plan.rbc (next_u64 l.words).0; outcomes = [] } in
+          let x : JournalEntry = record { moment = l.moment; conn = conn.0; event = event.Answer plan.rbc (next_u64 l.words).0; outcomes = [] } in
           let s = begun conn.0 (answering model_ends plan l) mind in
           record {
             known = knows_opened plan Q q_calls own K E keeps js bs l until conn mind above h.known;
@@ -291,20 +291,20 @@ module _ (waits : WaitsMove) (bring : OctetsBring) (stays : ReleaseStays) (break
       unserved = λ l until conn fits is. goes_away l (event.Unserved plan.handed) until conn refl;
     }
 
-    spoken_at : (o : Option (Session ModelEnd)) (user : Option Mind) (xs : List Entry) → SaidBy o user xs → IsSpoken user xs
+    spoken_at : (o : Option (Session ModelEnd)) (user : Option Mind) (xs : List JournalEntry) → SaidBy o user xs → IsSpoken user xs
     unfolding SaidBy
     spoken_at None user xs h = h
     spoken_at (Some s) user xs (mind, e, ready, p) = subst (λ z. IsSpoken z xs) (sym e) (p.last, p.leads)
 
-    heard_by : (o : Option (Session ModelEnd)) (user : Option Mind) (xs : List Entry) → SaidBy o user xs → IsHeard o user xs
+    heard_by : (o : Option (Session ModelEnd)) (user : Option Mind) (xs : List JournalEntry) → SaidBy o user xs → HasUserHeard o user xs
     unfolding SaidBy
     heard_by None user xs h = tt
     heard_by (Some s) user xs (mind, e, ready, p) = (mind, e, ready_told (rules_of plan) mind s xs ready p)
 
     run_said : (c : Course ModelEnd) (turns : List Turn) → IsServing plan c turns → c.loop.users ≡ users
-        → (conn : ℕ) → SaidBy (session_of conn (run model_ends plan c turns).state.loop.sessions) (user_of conn (run model_ends plan c turns).entries users)
+        → (conn : ℕ) → SaidBy (session_of_connection conn (run model_ends plan c turns).state.loop.sessions) (user_of conn (run model_ends plan c turns).entries users)
         (of conn (run model_ends plan c turns).entries)
-    unfolding Goes SaidBy opened_in session_of user_of of left_behind
+    unfolding Goes SaidBy opened_in session_of_connection user_of of left_behind
     run_said c turns h e conn =
         let start : Said c.loop [] [] = record {
           known = rw h.none (knows_none plan Q q_calls own K E keeps);
@@ -315,28 +315,28 @@ module _ (waits : WaitsMove) (bring : OctetsBring) (stays : ReleaseStays) (break
 
     -- ---- a dial
 
-    record SaidFirst (l : Loop ModelEnd) (xs : List Entry) : Type 0 where
+    record SaidFirst (l : Loop ModelEnd) (xs : List JournalEntry) : Type 0 where
       left : left_behind xs users ≡ l.users
-      said : (conn : ℕ) → SaidBy (session_of conn l.sessions) (user_of conn xs users) (of conn xs)
+      said : (conn : ℕ) → SaidBy (session_of_connection conn l.sessions) (user_of conn xs users) (of conn xs)
 
-    own_only : (conn n : ℕ) (xs : List Entry) → of n xs ≡ (if conn == n then xs else []) → (conn == n) ≡ true → of n xs ≡ xs
+    own_only : (conn n : ℕ) (xs : List JournalEntry) → of n xs ≡ (if conn == n then xs else []) → (conn == n) ≡ true → of n xs ≡ xs
     own_only conn n xs e p = e ∙ ap (λ (b : Bool). if b then xs else []) p
 
-    own_none : (conn n : ℕ) (xs : List Entry) → of n xs ≡ (if conn == n then xs else []) → (conn == n) ≡ false → of n xs ≡ []
+    own_none : (conn n : ℕ) (xs : List JournalEntry) → of n xs ≡ (if conn == n then xs else []) → (conn == n) ≡ false → of n xs ≡ []
     own_none conn n xs e p = e ∙ ap (λ (b : Bool). if b then xs else []) p
 
-    first_user : (caller : Caller) (l : Loop ModelEnd) (conn n : ℕ) (mind : Mind) (xs : List Entry) → CallsSo plan caller l conn mind xs → (conn == n) ≡ true
+    first_user : (caller : Caller) (l : Loop ModelEnd) (conn n : ℕ) (mind : Mind) (xs : List JournalEntry) → CallsSo plan caller l conn mind xs → (conn == n) ≡ true
         → user_of n xs users ≡ next_user users
     unfolding user_of
     first_user caller l conn n mind xs c p = subst (λ z. user_of n z users ≡ next_user users) (sym c.is) (rw p refl)
 
-    first_left : (caller : Caller) (l : Loop ModelEnd) (conn : ℕ) (mind : Mind) (xs : List Entry) → CallsSo plan caller l conn mind xs → left_behind xs users ≡ other_users users
+    first_left : (caller : Caller) (l : Loop ModelEnd) (conn : ℕ) (mind : Mind) (xs : List JournalEntry) → CallsSo plan caller l conn mind xs → left_behind xs users ≡ other_users users
     unfolding left_behind
     first_left caller l conn mind xs c =
         subst (λ z. left_behind z users ≡ other_users users) (sym c.is) (left_same [] c.rest (other_users users) (plain_declined l.moment conn c.rest c.plain))
 
     -- what the opening leaves, at each connection
-    first_at : (caller : Caller) (l : Loop ModelEnd) (conn n : ℕ) (mind : Mind) (o : Option (Session ModelEnd)) (xs : List Entry) → CallsSo plan caller l conn mind xs
+    first_at : (caller : Caller) (l : Loop ModelEnd) (conn n : ℕ) (mind : Mind) (o : Option (Session ModelEnd)) (xs : List JournalEntry) → CallsSo plan caller l conn mind xs
         → next_user users ≡ Some mind → of n xs ≡ (if conn == n then xs else []) → SaidBy o (Some mind) xs
         → SaidBy (if conn == n then o else None) (user_of n xs users) (of n xs)
     unfolding SaidBy of
@@ -346,8 +346,8 @@ module _ (waits : WaitsMove) (bring : OctetsBring) (stays : ReleaseStays) (break
           | inr p ↦ rw (p, own_none conn n xs mine p, user_none n xs users (own_none conn n xs mine p)) tt
         ]
 
-    one_session : (n : ℕ) (t : Session ModelEnd) (conn : ℕ) → t.number ≡ conn → session_of n (t ∷ []) ≡ (if conn == n then Some t else None)
-    unfolding session_of
+    one_session : (n : ℕ) (t : Session ModelEnd) (conn : ℕ) → t.number ≡ conn → session_of_connection n (t ∷ []) ≡ (if conn == n then Some t else None)
+    unfolding session_of_connection
     one_session n t conn e = subst (λ z. (if t.number == n then Some t else None) ≡ (if z == n then Some t else None)) e refl
 
     abbrev no_one : Option (Session ModelEnd)
@@ -357,10 +357,10 @@ module _ (waits : WaitsMove) (bring : OctetsBring) (stays : ReleaseStays) (break
     none_if true = refl
     none_if false = refl
 
-    first_left_by : (caller : Caller) (l : Loop ModelEnd) (conn : ℕ) (mind : Mind) (ts : List (Session ModelEnd)) (xs : List Entry) (cs : List Call) → CallsSo plan caller l conn mind xs
+    first_left_by : (caller : Caller) (l : Loop ModelEnd) (conn : ℕ) (mind : Mind) (ts : List (Session ModelEnd)) (xs : List JournalEntry) (cs : List Call) → CallsSo plan caller l conn mind xs
         → next_user users ≡ Some mind → LeftBy Q (begun conn (calling model_ends plan caller l) mind) ts xs cs
-        → (n : ℕ) → SaidBy (session_of n ts) (user_of n xs users) (of n xs)
-    unfolding Speaks SaidBy session_of
+        → (n : ℕ) → SaidBy (session_of_connection n ts) (user_of n xs users) (of n xs)
+    unfolding Speaks SaidBy session_of_connection
     first_left_by caller l conn mind ts xs cs c is (Stays t p q) n =
         let b = q.1 (call_ready plan caller l conn mind) in
         let d = b.spoke mind refl in
@@ -369,15 +369,15 @@ module _ (waits : WaitsMove) (bring : OctetsBring) (stays : ReleaseStays) (break
     first_left_by caller l conn mind ts xs cs c is (Closed t ds over p e q) n =
         let b = q.1 (call_ready plan caller l conn mind) in
         let d = b.spoke mind refl in
-        subst (λ z. SaidBy z (user_of n xs users) (of n xs)) (sym (ap (λ z. session_of n z) p ∙ no_session n ∙ none_if (conn == n)))
+        subst (λ z. SaidBy z (user_of n xs users) (of n xs)) (sym (ap (λ z. session_of_connection n z) p ∙ no_session n ∙ none_if (conn == n)))
         (first_at caller l conn n mind None xs c is (q.0.entries n) (d.last, d.leads))
       where
-        no_session : (n : ℕ) → session_of {E = ModelEnd} n [] ≡ None
+        no_session : (n : ℕ) → session_of_connection {E = ModelEnd} n [] ≡ None
         no_session n = refl
 
     called_said : (user : Option Mind) (caller : Caller) (l : Loop ModelEnd) (conn : ℕ) (a : Met) → l.sessions ≡ [] → l.users ≡ users → next_user l.users ≡ user
         → SaidFirst (called_by model_ends user plan caller l conn a).state (called_by model_ends user plan caller l conn a).entries
-    unfolding Speaks SaidBy session_of user_of of left_behind
+    unfolding Speaks SaidBy session_of_connection user_of of left_behind
     called_said None caller l conn a none e is = record {
       left = sym e;
       said = λ n.
@@ -389,7 +389,7 @@ module _ (waits : WaitsMove) (bring : OctetsBring) (stays : ReleaseStays) (break
         let m = l.moment in
         let s = begun conn (calling model_ends plan caller l) mind in
         let g = begins plan caller l in
-        let says = first_of nothing_said a.says in
+        let says = first_answer_of nothing_said a.says in
         let o = served model_ends r m s g a in
         let c = served_so plan caller l conn mind a in
         let q : Q s (handled model_ends r m s g says).0 (handled model_ends r m s g says).1 [] = (
@@ -403,7 +403,7 @@ module _ (waits : WaitsMove) (bring : OctetsBring) (stays : ReleaseStays) (break
 
     dial_on : (caller : Caller) (d : Course ModelEnd) (conn : ℕ) (address : List ℕ) (a : Met) (turns : List Turn) → d.loop.sessions ≡ [] → d.loop.users ≡ users
         → Rises 0 (opened_in (Dials address (Some conn) ∷ ((opens model_ends plan caller d conn a).calls ++ (run model_ends plan (opens model_ends plan caller d conn a).state turns).calls)))
-        → (n : ℕ) → SaidBy (session_of n (run model_ends plan (opens model_ends plan caller d conn a).state turns).state.loop.sessions)
+        → (n : ℕ) → SaidBy (session_of_connection n (run model_ends plan (opens model_ends plan caller d conn a).state turns).state.loop.sessions)
         (user_of n ((opens model_ends plan caller d conn a).entries ++ (run model_ends plan (opens model_ends plan caller d conn a).state turns).entries) users)
         (of n ((opens model_ends plan caller d conn a).entries ++ (run model_ends plan (opens model_ends plan caller d conn a).state turns).entries))
     unfolding Goes called
@@ -423,14 +423,14 @@ module _ (waits : WaitsMove) (bring : OctetsBring) (stays : ReleaseStays) (break
 
     dial_to : (conn : Option ℕ) (caller : Caller) (c : Course ModelEnd) (address : List ℕ) (a : Dialled) → c.loop.sessions ≡ [] → c.loop.users ≡ users
         → Rises 0 (opened_in (dials_to model_ends conn plan caller c address a).calls)
-        → (n : ℕ) → SaidBy (session_of n (dials_to model_ends conn plan caller c address a).state.loop.sessions)
+        → (n : ℕ) → SaidBy (session_of_connection n (dials_to model_ends conn plan caller c address a).state.loop.sessions)
         (user_of n (dials_to model_ends conn plan caller c address a).entries users) (of n (dials_to model_ends conn plan caller c address a).entries)
-    unfolding SaidBy session_of user_of of
+    unfolding SaidBy session_of_connection user_of of
     dial_to None caller c address a none is rises n = rw none tt
     dial_to (Some conn) caller c address a none is rises n = dial_on caller (asks a.first c) conn address a.met a.turns none is rises n
 
     dial_said : (caller : Caller) (c : Course ModelEnd) (address : List ℕ) (a : Dialled) → IsDialling plan caller c address a → c.loop.users ≡ users
-        → (n : ℕ) → SaidBy (session_of n (dials model_ends plan caller c address a).state.loop.sessions)
+        → (n : ℕ) → SaidBy (session_of_connection n (dials model_ends plan caller c address a).state.loop.sessions)
         (user_of n (dials model_ends plan caller c address a).entries users) (of n (dials model_ends plan caller c address a).entries)
     unfolding dials
     dial_said caller c address a h is n = dial_to a.conn caller c address a h.none is h.rises n
@@ -439,27 +439,27 @@ module _ (waits : WaitsMove) (bring : OctetsBring) (stays : ReleaseStays) (break
         → (conn : ℕ) → IsSpoken (user_of conn (run model_ends plan c turns).entries users) (of conn (run model_ends plan c turns).entries)
     run_spoken c turns h e conn =
         let o = run model_ends plan c turns in
-        spoken_at (session_of conn o.state.loop.sessions) (user_of conn o.entries users) (of conn o.entries) (run_said c turns h e conn)
+        spoken_at (session_of_connection conn o.state.loop.sessions) (user_of conn o.entries users) (of conn o.entries) (run_said c turns h e conn)
 
     run_heard : (c : Course ModelEnd) (turns : List Turn) → IsServing plan c turns → c.loop.users ≡ users
-        → (conn : ℕ) → IsHeard (session_of conn (run model_ends plan c turns).state.loop.sessions) (user_of conn (run model_ends plan c turns).entries users)
+        → (conn : ℕ) → HasUserHeard (session_of_connection conn (run model_ends plan c turns).state.loop.sessions) (user_of conn (run model_ends plan c turns).entries users)
         (of conn (run model_ends plan c turns).entries)
     run_heard c turns h e conn =
         let o = run model_ends plan c turns in
-        heard_by (session_of conn o.state.loop.sessions) (user_of conn o.entries users) (of conn o.entries) (run_said c turns h e conn)
+        heard_by (session_of_connection conn o.state.loop.sessions) (user_of conn o.entries users) (of conn o.entries) (run_said c turns h e conn)
 
     dial_spoken : (caller : Caller) (c : Course ModelEnd) (address : List ℕ) (a : Dialled) → IsDialling plan caller c address a → c.loop.users ≡ users
         → (n : ℕ) → IsSpoken (user_of n (dials model_ends plan caller c address a).entries users) (of n (dials model_ends plan caller c address a).entries)
     dial_spoken caller c address a h is n =
         let o = dials model_ends plan caller c address a in
-        spoken_at (session_of n o.state.loop.sessions) (user_of n o.entries users) (of n o.entries) (dial_said caller c address a h is n)
+        spoken_at (session_of_connection n o.state.loop.sessions) (user_of n o.entries users) (of n o.entries) (dial_said caller c address a h is n)
 
     dial_heard : (caller : Caller) (c : Course ModelEnd) (address : List ℕ) (a : Dialled) → IsDialling plan caller c address a → c.loop.users ≡ users
-        → (n : ℕ) → IsHeard (session_of n (dials model_ends plan caller c address a).state.loop.sessions) (user_of n (dials model_ends plan caller c address a).entries users)
+        → (n : ℕ) → HasUserHeard (session_of_connection n (dials model_ends plan caller c address a).state.loop.sessions) (user_of n (dials model_ends plan caller c address a).entries users)
         (of n (dials model_ends plan caller c address a).entries)
     dial_heard caller c address a h is n =
         let o = dials model_ends plan caller c address a in
-        heard_by (session_of n o.state.loop.sessions) (user_of n o.entries users) (of n o.entries) (dial_said caller c address a h is n)
+        heard_by (session_of_connection n o.state.loop.sessions) (user_of n o.entries users) (of n o.entries) (dial_said caller c address a h is n)
 
 pub users_reply : WaitsMove → OctetsBring → ReleaseStays → BreaksRelease → ReleasedWantNone → ReleasedTellNone → UsersReply
 users_reply waits bring stays breaks_release wants_none tells_none = record {

@@ -9,9 +9,9 @@ use Rattle.loop_model.proofs.EndKeepings.{left_by, is_octets, WaitsMove, OctetsB
 use Rattle.er_end_model.specs.Ends as end
 use Rattle.er_users.specs.Users.{Mind, Heard, Said, said}
 use Rattle.link_trait.specs.Wires.{Call, Reading, Gave, NotNow, End, Failed, Reads}
-use Rattle.loop_model.specs.Journals.{Entry}
-use Rattle.loop_model.specs.Outs.{runs, exactly, first_of}
-use Rattle.loop_model.specs.Sessions.{Rules, Session, Given, Begins, Hears, Sends, Takes, Leaves, Ticks, Ends, Faults, Stalls, event_of, most_output, is_released, end_after, outcomes_of, octets_in, breaks, joined, fed, replied, heard_in, leave_of, sends_of, hears, silence, dealt, waiting, takes_all, parts, Says, nothing_said, handled, poured, pours}
+use Rattle.loop_model.specs.Journals.{JournalEntry}
+use Rattle.loop_model.specs.Outs.{part_for_each_answer, exactly, first_answer_of}
+use Rattle.loop_model.specs.Sessions.{Rules, Session, GivenToSession, Begins, Hears, Sends, Takes, Leaves, Ticks, Ends, Faults, Stalls, event_of, most_output, is_released, end_after, outcomes_of_given_event, octets_in, breaks, joined, fed, replied, heard_by_user, leave_of, sends_of, user_after_hearing, silent_answer, dealt, count_waiting_in_session, takes_all, parts, Says, nothing_said, handled, poured, pours}
 use Rattle.loop_model.specs.Visits.{most_read, came}
 use Rattle.loop_model.proofs.Steadies.{Steady, Quiet, Calls, runs_lift}
 use Rattle.loop_model.proofs.Owns.{Bare, AllGiven, usual_calls}
@@ -25,17 +25,17 @@ one_less [] n e = absurd (omega arith)
 one_less (m ∷ ms) n e = omega arith
 
 -- a released session stays released
-unfoldable pub StaysGone : Session ModelEnd → Session ModelEnd → List Entry → List Call → Type 0
+unfoldable pub StaysGone : Session ModelEnd → Session ModelEnd → List JournalEntry → List Call → Type 0
 StaysGone s t xs cs = is_released model_ends s ≡ true → is_released model_ends t ≡ true
 
 pub record Sound (s : Session ModelEnd) : Type 0 where
   pub broken : s.broken ≡ true → is_released model_ends s ≡ true
   pub closing : is_some s.closing ≡ true → is_released model_ends s ≡ true
 
-unfoldable pub Sounds : Session ModelEnd → Session ModelEnd → List Entry → List Call → Type 0
+unfoldable pub Sounds : Session ModelEnd → Session ModelEnd → List JournalEntry → List Call → Type 0
 Sounds s t xs cs = Sound s → Sound t
 
-unfoldable pub Rests : Session ModelEnd → Session ModelEnd → List Entry → List Call → Type 0
+unfoldable pub Rests : Session ModelEnd → Session ModelEnd → List JournalEntry → List Call → Type 0
 Rests s t xs cs = waiting_in s.end ≡ [] → waiting_in t.end ≡ []
 
 pub parts_end : (release : Option Release) (mind : Option Mind) (at : ℕ) (s : Session ModelEnd) → (parts release mind at s).end ≡ s.end
@@ -44,29 +44,29 @@ parts_end (Some release) None at s = refl
 parts_end (Some release) (Some mind) at s = refl
 
 module _ (waits : WaitsMove) (bring : OctetsBring) (r : Rules) where
-  pub ended_waits : (m : ℕ) (k : ModelEnd) (g : Given) → is_octets (event_of r g) ≡ false → waiting_in (end_after model_ends r m k g) ≡ left_by (event_of r g) (waiting_in k)
+  pub ended_waits : (m : ℕ) (k : ModelEnd) (g : GivenToSession) → is_octets (event_of r g) ≡ false → waiting_in (end_after model_ends r m k g) ≡ left_by (event_of r g) (waiting_in k)
   unfolding end_after
   ended_waits m k g p =
       waits m (event_of r g) k (bring m (event_of r g) k p)
 
-  pub fed_waits : (m : ℕ) (s : Session ModelEnd) (g : Given) → is_octets (event_of r g) ≡ false → waiting_in (fed model_ends r m s g).0.end ≡ left_by (event_of r g) (waiting_in s.end)
+  pub fed_waits : (m : ℕ) (s : Session ModelEnd) (g : GivenToSession) → is_octets (event_of r g) ≡ false → waiting_in (fed model_ends r m s g).0.end ≡ left_by (event_of r g) (waiting_in s.end)
   unfolding fed joined
   fed_waits m s g p =
-      elim (cases_Bool (nat_lt most_output (length s.output + length (octets_in (outcomes_of model_ends r m s.end g))))) [
+      elim (cases_Bool (nat_lt most_output (length s.output + length (octets_in (outcomes_of_given_event model_ends r m s.end g))))) [
         | inl q ↦ rw q (ended_waits m (end_after model_ends r m s.end g) Stalls refl ∙ ended_waits m s.end g p)
         | inr q ↦ rw q (ended_waits m s.end g p)
       ]
 
   sends_waits : (m : ℕ) (s : Session ModelEnd) (texts : List (List ℕ)) (leave : Option ℕ)
-      → waiting_in (runs (replied model_ends r m) s (sends_of texts ++ leave_of leave)).0.end ≡ waiting_in s.end
-  unfolding runs
+      → waiting_in (part_for_each_answer (replied model_ends r m) s (sends_of texts ++ leave_of leave)).0.end ≡ waiting_in s.end
+  unfolding part_for_each_answer
   sends_waits m s [] None = refl
   sends_waits m s [] (Some sub) = fed_waits m s (Leaves sub) refl
   sends_waits m s (text ∷ texts) leave = sends_waits m (replied model_ends r m s (Sends text)).0 texts leave ∙ fed_waits m s (Sends text) refl
 
   replies_waits : (m : ℕ) (s : Session ModelEnd) (mind : Option Mind) (heard : Option Heard) (free : Said)
-      → waiting_in (runs (replied model_ends r m) s (hears mind heard free).1).0.end ≡ waiting_in s.end
-  unfolding runs
+      → waiting_in (part_for_each_answer (replied model_ends r m) s (user_after_hearing mind heard free).1).0.end ≡ waiting_in s.end
+  unfolding part_for_each_answer
   replies_waits m s None heard free = refl
   replies_waits m s (Some mind) None free = refl
   replies_waits m s (Some mind) (Some heard) free = let a = said mind.kind mind heard free in sends_waits m s a.texts a.leave
@@ -75,24 +75,24 @@ module _ (waits : WaitsMove) (bring : OctetsBring) (r : Rules) where
   unfolding dealt
   dealt_take m s free =
       let a = fed model_ends r m s Takes in
-      let heard = heard_in (outcomes_of model_ends r m s.end Takes) in
-      replies_waits m (record a.0 { mind = (hears s.mind heard free).0 }) s.mind heard free ∙ fed_waits m s Takes refl
+      let heard = heard_by_user (outcomes_of_given_event model_ends r m s.end Takes) in
+      replies_waits m (record a.0 { mind = (user_after_hearing s.mind heard free).0 }) s.mind heard free ∙ fed_waits m s Takes refl
 
   all_taken : (m n : ℕ) (frees : List Said) (s : Session ModelEnd) → length (waiting_in s.end) ≡ n
-      → waiting_in (runs (λ t free. dealt model_ends r m t Takes free) s (exactly n silence frees)).0.end ≡ []
-  unfolding runs exactly
+      → waiting_in (part_for_each_answer (λ t free. dealt model_ends r m t Takes free) s (exactly n silent_answer frees)).0.end ≡ []
+  unfolding part_for_each_answer exactly
   all_taken m zero frees s e = none_left (waiting_in s.end) e
   all_taken m (suc n) [] s e =
-      all_taken m n [] (dealt model_ends r m s Takes silence).0 (ap length (dealt_take m s silence) ∙ one_less (waiting_in s.end) n e)
+      all_taken m n [] (dealt model_ends r m s Takes silent_answer).0 (ap length (dealt_take m s silent_answer) ∙ one_less (waiting_in s.end) n e)
   all_taken m (suc n) (free ∷ frees) s e =
       all_taken m n frees (dealt model_ends r m s Takes free).0 (ap length (dealt_take m s free) ∙ one_less (waiting_in s.end) n e)
 
-  pub handled_none : (m : ℕ) (s : Session ModelEnd) (g : Given) (says : Says) → waiting_in (handled model_ends r m s g says).0.end ≡ []
+  pub handled_none : (m : ℕ) (s : Session ModelEnd) (g : GivenToSession) (says : Says) → waiting_in (handled model_ends r m s g says).0.end ≡ []
   unfolding handled takes_all
   handled_none m s g says =
       let a = dealt model_ends r m s g says.first in
       let b = takes_all model_ends r m a.0 says.rest in
-      ap waiting_in (parts_end b.0.end.core.released b.0.mind (m + r.setup) b.0) ∙ all_taken m (waiting model_ends a.0) says.rest a.0 (length-drop a.0.end.core.upper.used a.0.end.core.upper.accepted)
+      ap waiting_in (parts_end b.0.end.core.released b.0.mind (m + r.setup) b.0) ∙ all_taken m (count_waiting_in_session model_ends a.0) says.rest a.0 (length-drop a.0.end.core.upper.used a.0.end.core.upper.accepted)
 
   rests_pours : (m : ℕ) (s : Session ModelEnd) (octets : List ℕ) (says : List Says) → Rests s (pours model_ends r m s octets says).0 [] []
   unfolding Rests pours poured
@@ -105,8 +105,8 @@ module _ (waits : WaitsMove) (bring : OctetsBring) (r : Rules) where
   unfolding Rests
   rests_came m s (Gave octets) says = rests_pours m s octets says
   rests_came m s NotNow says = λ e. e
-  rests_came m s End says = λ e. handled_none m s Ends (first_of nothing_said says)
-  rests_came m s Failed says = λ e. handled_none m s Faults (first_of nothing_said says)
+  rests_came m s End says = λ e. handled_none m s Ends (first_answer_of nothing_said says)
+  rests_came m s Failed says = λ e. handled_none m s Faults (first_answer_of nothing_said says)
 
   rests_quiet : Quiet r Rests
   unfolding Rests
@@ -129,11 +129,11 @@ module _ (stays : ReleaseStays) (breaks_release : BreaksRelease) (r : Rules) whe
   stays_on m event k None e p = absurd (true≢false (sym p))
   stays_on m event k (Some why) e p = ap is_some (stays m event k why e)
 
-  pub stays_released : (m : ℕ) (k : ModelEnd) (g : Given) → is_some k.core.released ≡ true → is_some (end_after model_ends r m k g).core.released ≡ true
+  pub stays_released : (m : ℕ) (k : ModelEnd) (g : GivenToSession) → is_some k.core.released ≡ true → is_some (end_after model_ends r m k g).core.released ≡ true
   unfolding end_after
   stays_released m k g p = stays_on m (event_of r g) k k.core.released refl p
 
-  pub breaks_released : (m : ℕ) (k : ModelEnd) (g : Given) → breaks g ≡ true → is_some (end_after model_ends r m k g).core.released ≡ true
+  pub breaks_released : (m : ℕ) (k : ModelEnd) (g : GivenToSession) → breaks g ≡ true → is_some (end_after model_ends r m k g).core.released ≡ true
   unfolding end_after
   breaks_released m k (Begins engine rbc rb) p = absurd (true≢false (sym p))
   breaks_released m k (Hears octets) p = absurd (true≢false (sym p))
@@ -145,7 +145,7 @@ module _ (stays : ReleaseStays) (breaks_release : BreaksRelease) (r : Rules) whe
   breaks_released m k Faults p = breaks_release.fault m k
   breaks_released m k Stalls p = breaks_release.stalled m k
 
-  given_released : (m : ℕ) (s : Session ModelEnd) (g : Given) → Sound s → (b : Bool) → s.broken ≡ b → (b || breaks g) ≡ true → is_some (end_after model_ends r m s.end g).core.released ≡ true
+  given_released : (m : ℕ) (s : Session ModelEnd) (g : GivenToSession) → Sound s → (b : Bool) → s.broken ≡ b → (b || breaks g) ≡ true → is_some (end_after model_ends r m s.end g).core.released ≡ true
   given_released m s g h true e p = stays_released m s.end g (h.broken e)
   given_released m s g h false e p = breaks_released m s.end g p
 

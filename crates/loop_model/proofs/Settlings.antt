@@ -8,14 +8,14 @@ use Rattle.safety_automaton.specs.Keys.{key_at}
 use Rattle.link_trait.specs.Wires.{Call, Reading, Gave, NotNow, End, Failed, Reads, Closes, given_of}
 use Rattle.link_trait.specs.declared.wires.WriteAnswer.{WriteAnswer}
 use Rattle.link_trait.specs.declared.wires.WriteAnswer.TheVariants as write
-use Rattle.loop_model.specs.Journals.{Entry, lines_of}
-use Rattle.loop_model.specs.Outs.{Out, next, makes, acts, exactly, first_of}
+use Rattle.loop_model.specs.Journals.{JournalEntry, trace_lines_of}
+use Rattle.loop_model.specs.Outs.{Out, next, makes, acts, exactly, first_answer_of}
 use Rattle.loop_model.specs.Sessions.{Rules, Session, Ticks, is_released, nothing_said, handled}
 use Rattle.loop_model.specs.Outs as outs
-use Rattle.loop_model.specs.Visits.{most_read, Going, after_write, writes_once, writes, flowed, Wrote, written_unless, written, closed, stays, settled, rests, Visit, Tick, Read, Write, Expire, Met, is_due, came, read_once, rests_behind, served, visited}
+use Rattle.loop_model.specs.Visits.{most_read, Going, after_write, writes_once, writes, flowed, Wrote, written_unless, session_behind_writing, closed, stays, session_kept_or_closed, rests, Visit, Tick, Read, Write, Expire, Met, is_due, came, read_once, rests_behind, served, visited}
 use Rattle.loop_model.specs.Loops.{Plan, rules_of}
 use Rattle.loop_model.specs.Parts.{of, calls_at}
-use Rattle.loop_model.specs.Laws.{octets_of}
+use Rattle.loop_model.specs.Laws.{octets_of_entries}
 use Rattle.trace_model.specs.Connections.{end_behind}
 use Rattle.loop_model.specs.Faulted.{is_gone, has_failed}
 use Rattle.loop_model.specs.Writings.{AllTakeOne, last_answer, has_broken}
@@ -32,30 +32,30 @@ use Rattle.loop_model.proofs.Writing as writing
 use Rattle.loop_model.proofs.Printings as printings
 
 -- what a visit that closes nothing at a closing moment leaves: a session stays, or it is closed, since it broke off, or is released and nothing waits
-data Settled (Q : Session ModelEnd → Session ModelEnd → List Entry → List Call → Type 0) (s : Session ModelEnd) (ts : List (Session ModelEnd)) (xs : List Entry) (cs : List Call) : Type 0 where
+data Settled (Q : Session ModelEnd → Session ModelEnd → List JournalEntry → List Call → Type 0) (s : Session ModelEnd) (ts : List (Session ModelEnd)) (xs : List JournalEntry) (cs : List Call) : Type 0 where
   Stays : (t : Session ModelEnd) → ts ≡ t ∷ [] → Settled Q s ts xs cs
   Closed : (t : Session ModelEnd) (ds : List Call) → (t.broken || (is_released model_ends t && (length t.output == 0))) ≡ true → cs ≡ ds ++ Closes t.number ∷ []
       → Q s t xs ds → Settled Q s ts xs cs
 
-module _ (r : Rules) (m : ℕ) (Q : Session ModelEnd → Session ModelEnd → List Entry → List Call → Type 0) (c : CallsAt r m Q) where
-  settled_so : (s t : Session ModelEnd) (xs : List Entry) (cs : List Call) → Q s t xs cs
-      → Settled Q s (settled model_ends t).state (xs ++ (settled model_ends t).entries) (cs ++ (settled model_ends t).calls)
-  unfolding settled
+module _ (r : Rules) (m : ℕ) (Q : Session ModelEnd → Session ModelEnd → List JournalEntry → List Call → Type 0) (c : CallsAt r m Q) where
+  settled_so : (s t : Session ModelEnd) (xs : List JournalEntry) (cs : List Call) → Q s t xs cs
+      → Settled Q s (session_kept_or_closed model_ends t).state (xs ++ (session_kept_or_closed model_ends t).entries) (cs ++ (session_kept_or_closed model_ends t).calls)
+  unfolding session_kept_or_closed
   settled_so s t xs cs p =
       elim (cases_Bool (t.broken || (is_released model_ends t && (length t.output == 0)))) [
         | inl q ↦ rw (q, append-nil xs) (Closed t cs q refl p)
         | inr q ↦ rw q (Stays t refl)
       ]
 
-  rests_so : (s t : Session ModelEnd) (a : Wrote) (xs : List Entry) (cs : List Call) → Q s t xs cs
+  rests_so : (s t : Session ModelEnd) (a : Wrote) (xs : List JournalEntry) (cs : List Call) → Q s t xs cs
       → Settled Q s (rests model_ends r m t a).state (xs ++ (rests model_ends r m t a).entries) (cs ++ (rests model_ends r m t a).calls)
   unfolding rests
   rests_so s t a xs cs p =
-      let w = written model_ends r m t a in
-      rw (← append_assoc xs w.entries (settled model_ends w.state).entries, ← append_assoc cs w.calls (settled model_ends w.state).calls)
+      let w = session_behind_writing model_ends r m t a in
+      rw (← append_assoc xs w.entries (session_kept_or_closed model_ends w.state).entries, ← append_assoc cs w.calls (session_kept_or_closed model_ends w.state).calls)
       (settled_so s w.state (xs ++ w.entries) (cs ++ w.calls) (c.then_ _ _ _ _ _ _ _ p (written_at r m Q c.quiet t a)))
 
-  behind_so : (reading : Reading) (s t : Session ModelEnd) (a : Wrote) (xs : List Entry) (cs : List Call) → Q s t xs cs
+  behind_so : (reading : Reading) (s t : Session ModelEnd) (a : Wrote) (xs : List JournalEntry) (cs : List Call) → Q s t xs cs
       → Settled Q s (rests_behind model_ends reading r m t a).state (xs ++ (rests_behind model_ends reading r m t a).entries) (cs ++ (rests_behind model_ends reading r m t a).calls)
   behind_so (Gave octets) s t a xs cs p = rests_so s t a xs cs p
   behind_so NotNow s t a xs cs p = Stays t refl
@@ -66,7 +66,7 @@ module _ (r : Rules) (m : ℕ) (Q : Session ModelEnd → Session ModelEnd → Li
       → Settled Q s (served model_ends r m s Ticks a).state (served model_ends r m s Ticks a).entries (served model_ends r m s Ticks a).calls
   unfolding served
   served_so s a due =
-      let says = first_of nothing_said a.says in
+      let says = first_answer_of nothing_said a.says in
       let h = handled model_ends r m s Ticks says in rests_so s h.0 a.wrote h.1 [] (c.ticked s says due)
 
   read_so : (s : Session ModelEnd) (a : Met) → is_released model_ends s ≡ false
@@ -109,14 +109,14 @@ none_stays : (t : Session ModelEnd) (ts : List (Session ModelEnd)) → ts ≡ t 
 none_stays t ts p q = let l : length (t ∷ []) ≡ 0 = ap length (sym p ∙ q) in omega arith
 
 module _ (steps : StepsAlike) (made : MadeStands) (plan : Plan) (allowed : AllAllowed plan.settings) where
-  abbrev Each : Session ModelEnd → Session ModelEnd → List Entry → List Call → Type 0
+  abbrev Each : Session ModelEnd → Session ModelEnd → List JournalEntry → List Call → Type 0
   Each = Both writing.Each (printings.Q steps made plan allowed)
 
   each_calls : Calls (rules_of plan) Each
   each_calls = calls_both (rules_of plan) writing.Each (printings.Q steps made plan allowed) (writing.each_calls (rules_of plan)) (printings.q_each steps made plan allowed)
 
-  behind_own : (s t : Session ModelEnd) (xs : List Entry) (ds : List Call) → Each s t xs ds → is_released model_ends t ≡ true
-      → is_gone (end_behind plan.settings (key_at plan.keys) s.number (Some s.end) (lines_of xs)) ≡ true
+  behind_own : (s t : Session ModelEnd) (xs : List JournalEntry) (ds : List Call) → Each s t xs ds → is_released model_ends t ≡ true
+      → is_gone (end_behind plan.settings (key_at plan.keys) s.number (Some s.end) (trace_lines_of xs)) ≡ true
   unfolding printings.Goes printings.Going
   behind_own s t xs ds e gone =
       let own : of s.number xs ≡ xs = e.0.0.0.entries s.number ∙ ap (λ (b : Bool). if b then xs else []) (same s.number) in
@@ -125,7 +125,7 @@ module _ (steps : StepsAlike) (made : MadeStands) (plan : Plan) (allowed : AllAl
       ∙ ap (λ (z : ModelEnd). is_some z.core.released) leads.stands
       ∙ gone
 
-  given_own : (s t : Session ModelEnd) (xs : List Entry) (ds : List Call) → Each s t xs ds → given_of s.number (ds ++ Closes t.number ∷ []) ≡ given_in ds
+  given_own : (s t : Session ModelEnd) (xs : List JournalEntry) (ds : List Call) → Each s t xs ds → given_of s.number (ds ++ Closes t.number ∷ []) ≡ given_in ds
   unfolding calls_at
   given_own s t xs ds e =
       let own : calls_at s.number ds ≡ ds = e.0.0.0.calls s.number ∙ ap (λ (b : Bool). if b then ds else []) (same s.number) in
@@ -134,15 +134,15 @@ module _ (steps : StepsAlike) (made : MadeStands) (plan : Plan) (allowed : AllAl
       ∙ ap given_in (calls_at-append s.number ds (Closes t.number ∷ []) ∙ ap (λ z. z ++ calls_at s.number (Closes t.number ∷ [])) own ∙ ap (λ (b : Bool). ds ++ (if b then Closes t.number ∷ [] else [])) at)
       ∙ givings.closed_given [] ds t.number
 
-  broke : (s t : Session ModelEnd) (xs : List Entry) (ds : List Call) → Each s t xs ds → s.broken ≡ false → t.broken ≡ true
+  broke : (s t : Session ModelEnd) (xs : List JournalEntry) (ds : List Call) → Each s t xs ds → s.broken ≡ false → t.broken ≡ true
       → (has_broken xs || has_failed (ds ++ Closes t.number ∷ [])) ≡ true
   unfolding writing.Off
   broke s t xs ds e whole p =
       ap (λ z. has_broken xs || z) (closed_failed [] ds t.number)
       ∙ or_true s.broken (has_broken xs || has_failed ds) (sym e.0.1 ∙ p) whole
 
-  drained : (s t : Session ModelEnd) (xs : List Entry) (ds : List Call) → Each s t xs ds → t.broken ≡ false → (length t.output == 0) ≡ true
-      → given_in ds ≡ s.output ++ octets_of xs
+  drained : (s t : Session ModelEnd) (xs : List JournalEntry) (ds : List Call) → Each s t xs ds → t.broken ≡ false → (length t.output == 0) ≡ true
+      → given_in ds ≡ s.output ++ octets_of_entries xs
   drained s t xs ds e whole none =
       let g = e.0.0.1 in
       let empty : g.rest ≡ [] = (g.whole whole).1 ∙ nothing_in t.output none in
@@ -195,13 +195,13 @@ unless_first r m false s a octet octets p e =
     let w = writes s a.answers in first_then s.number s.output w.calls (flowed model_ends r m w.state a.says).calls (writes_first s a.answers octet octets e)
 
 pub writable_is_written : WritableIsWritten
-unfolding visited rests written
+unfolding visited rests session_behind_writing
 writable_is_written r m s a octet octets whole e =
-    let w = written model_ends r m s a.wrote in
-    first_then s.number s.output w.calls (settled model_ends w.state).calls (unless_first r m s.broken s a.wrote octet octets whole e)
+    let w = session_behind_writing model_ends r m s a.wrote in
+    first_then s.number s.output w.calls (session_kept_or_closed model_ends w.state).calls (unless_first r m s.broken s a.wrote octet octets whole e)
 
 first_of_two : (a b : Session ModelEnd) → a ∷ [] ≡ b ∷ [] → a ≡ b
-first_of_two a b e = ap (λ z. outs.first_of a z) e
+first_of_two a b e = ap (λ z. outs.first_answer_of a z) e
 
 settled_put_off : (w : Out (Session ModelEnd)) (t : Session ModelEnd) (b : Bool) → (w.state.broken || (is_released model_ends w.state && (length w.state.output == 0))) ≡ b
     → ((last : Option WriteAnswer) → AllTakeOne w.calls → w.state.broken ≡ false → (w.state.output ≡ []) ⊎ (last_answer last w.calls ≡ Some write.NotNow))
@@ -218,16 +218,16 @@ settled_put_off w t false p done is all =
 
 rests_put_off : (r : Rules) (m : ℕ) (h t : Session ModelEnd) (a : Wrote) → (rests model_ends r m h a).state ≡ t ∷ [] → AllTakeOne (rests model_ends r m h a).calls
     → IsPutOff t (rests model_ends r m h a).calls
-unfolding rests settled
+unfolding rests session_kept_or_closed
 rests_put_off r m h t a is all =
-    let w = written model_ends r m h a in
+    let w = session_behind_writing model_ends r m h a in
     settled_put_off w t (w.state.broken || (is_released model_ends w.state && (length w.state.output == 0))) refl (writing.written_so r m h a).done is all
 
 pub visits_write : VisitsWrite
 unfolding visited served
 visits_write = record {
   ticked = λ r m s t a due is all.
-      let h = handled model_ends r m s Ticks (first_of nothing_said a.says) in
+      let h = handled model_ends r m s Ticks (first_answer_of nothing_said a.says) in
       rw due (rests_put_off r m h.0 t a.wrote (rw due at is) (rw due at all));
   writable = λ r m s t a is all. rests_put_off r m s t a.wrote is all;
 }

@@ -16,12 +16,12 @@ use Rattle.er_trace.specs.declared.event.Event.{Event}
 use Rattle.er_trace.specs.declared.event.Event.TheVariants as event
 use Rattle.er_trace.specs.Texts.{entry_words}
 use Rattle.trace_model.specs.Connections.{happens, happens_at, end_behind, end_at}
-use Rattle.trace_model.specs.Checks.{Role, Opens, Declines, Belongs, role_of, opens, names, is_named, is_opened, last_moment, is_live, opened_in, live_count, most_live, no_key, key_check, role_check, fault_of}
+use Rattle.trace_model.specs.Checks.{Role, Opens, Declines, Belongs, role_of, is_opening_role, names, is_named, is_opened, last_moment, is_live, connections_opened_in_trace, live_count, most_live, no_key, key_check, role_check, fault_of_trace_event}
 use Rattle.trace_model.specs.Printed.{outcomes_text, entry_text, entries_text}
 use Rattle.trace_model.specs.Replays.{AreTaken}
-use Rattle.loop_model.specs.Journals.{Entry, line_of, lines_of}
+use Rattle.loop_model.specs.Journals.{JournalEntry, trace_line_of, trace_lines_of}
 use Rattle.loop_model.specs.Sessions.{Session}
-use Rattle.loop_model.specs.Parts.{session_of, of}
+use Rattle.loop_model.specs.Parts.{session_of_connection, of}
 
 -- ---- one event
 
@@ -72,8 +72,8 @@ role_none Opens settings finds before e p = rw (p.0, p.2) (key_check_none finds 
 role_none Declines settings finds before e p = rw p refl
 role_none Belongs settings finds before e p = rw p refl
 
-no_fault : (settings : Settings) (finds : Finds) (before : List Event_line) (e : Event_line) → Passes settings finds before e → fault_of settings finds before e ≡ None
-unfolding fault_of
+no_fault : (settings : Settings) (finds : Finds) (before : List Event_line) (e : Event_line) → Passes settings finds before e → fault_of_trace_event settings finds before e ≡ None
+unfolding fault_of_trace_event
 no_fault settings finds before e p = rw p.moment (role_none (role_of e.event) settings finds before e p.role)
 
 -- ---- events one behind the other
@@ -89,10 +89,10 @@ all_pass-append settings finds before (x ∷ xs) ys p q =
     (p.0, all_pass-append settings finds (before ++ x ∷ []) xs ys p.1 (subst (λ z. AllPass settings finds z ys) (sym (append_assoc before (x ∷ []) xs)) q))
 
 taken_from : (settings : Settings) (finds : Finds) (before first rest : List Event_line) (e : Event_line)
-    → AllPass settings finds before (first ++ e ∷ rest) → fault_of settings finds (before ++ first) e ≡ None
+    → AllPass settings finds before (first ++ e ∷ rest) → fault_of_trace_event settings finds (before ++ first) e ≡ None
 taken_from settings finds before [] rest e p = rw (append-nil before) (no_fault settings finds before e p.0)
 taken_from settings finds before (x ∷ first) rest e p =
-    subst (λ z. fault_of settings finds z e ≡ None) (append_assoc before (x ∷ []) first) (taken_from settings finds (before ++ x ∷ []) first rest e p.1)
+    subst (λ z. fault_of_trace_event settings finds z e ≡ None) (append_assoc before (x ∷ []) first) (taken_from settings finds (before ++ x ∷ []) first rest e p.1)
 
 pub are_taken : (settings : Settings) (finds : Finds) (es : List Event_line) → AllPass settings finds [] es → AreTaken settings finds es
 are_taken settings finds es p first e rest is = taken_from settings finds [] first rest e (subst (λ z. AllPass settings finds [] z) is p)
@@ -112,17 +112,17 @@ named_plain conn es = any_plain (λ e. names (role_of e.event) && (e.conn == con
 
 opened_plain : (conn : ℕ) (es : List Event_line) → is_opened conn (map plain es) ≡ is_opened conn es
 unfolding is_opened
-opened_plain conn es = any_plain (λ e. opens (role_of e.event) && (e.conn == conn)) (λ e. refl) es
+opened_plain conn es = any_plain (λ e. is_opening_role (role_of e.event) && (e.conn == conn)) (λ e. refl) es
 
 last_plain : (es : List Event_line) → last_moment (map plain es) ≡ last_moment es
 unfolding last_moment
 last_plain [] = refl
 last_plain (e ∷ es) = ap (λ z. max e.moment z) (last_plain es)
 
-opened_in_plain : (es : List Event_line) → opened_in (map plain es) ≡ opened_in es
-unfolding opened_in
+opened_in_plain : (es : List Event_line) → connections_opened_in_trace (map plain es) ≡ connections_opened_in_trace es
+unfolding connections_opened_in_trace
 opened_in_plain [] = refl
-opened_in_plain (e ∷ es) = ap (λ z. if opens (role_of e.event) then e.conn ∷ z else z) (opened_in_plain es)
+opened_in_plain (e ∷ es) = ap (λ z. if is_opening_role (role_of e.event) then e.conn ∷ z else z) (opened_in_plain es)
 
 end_plain : (settings : Settings) (finds : Finds) (conn : ℕ) (m : Option End) (es : List Event_line) → end_behind settings finds conn m (map plain es) ≡ end_behind settings finds conn m es
 unfolding end_behind
@@ -141,7 +141,7 @@ unfolding live_count
 live_plain settings finds es =
     ap (λ z. length (filter (λ conn. is_live (end_at settings finds conn (map plain es))) z)) (opened_in_plain es)
     ∙ ap length (filter_same (λ conn. is_live (end_at settings finds conn (map plain es))) (λ conn. is_live (end_at settings finds conn es))
-    (λ conn. ap is_live (end_plain settings finds conn None es)) (opened_in es))
+    (λ conn. ap is_live (end_plain settings finds conn None es)) (connections_opened_in_trace es))
 
 has_key_plain : (finds : Finds) (e : Event_line) (what : Event) → HasKey finds (plain e) what → HasKey finds e what
 has_key_plain finds e (event.Call engine rbc rb) p = p
@@ -181,67 +181,67 @@ all_pass_plain settings finds before (e ∷ es) p = (
 
 -- ---- the events of a journal
 
-pub lines-append : (xs ys : List Entry) → lines_of (xs ++ ys) ≡ lines_of xs ++ lines_of ys
+pub lines-append : (xs ys : List JournalEntry) → trace_lines_of (xs ++ ys) ≡ trace_lines_of xs ++ trace_lines_of ys
 lines-append [] ys = refl
-lines-append (x ∷ xs) ys = ap (λ z. line_of x ∷ z) (lines-append xs ys)
+lines-append (x ∷ xs) ys = ap (λ z. trace_line_of x ∷ z) (lines-append xs ys)
 
 -- no moment is above this one
-abbrev pub UpTo : ℕ → List Entry → Type 0
+abbrev pub UpTo : ℕ → List JournalEntry → Type 0
 UpTo m [] = Unit {0}
 UpTo m (x ∷ xs) = (x.moment ≤ m) × UpTo m xs
 
-pub up_to-append : (m : ℕ) (xs ys : List Entry) → UpTo m xs → UpTo m ys → UpTo m (xs ++ ys)
+pub up_to-append : (m : ℕ) (xs ys : List JournalEntry) → UpTo m xs → UpTo m ys → UpTo m (xs ++ ys)
 up_to-append m [] ys p q = q
 up_to-append m (x ∷ xs) ys p q = (p.0, up_to-append m xs ys p.1 q)
 
-pub up_to_more : (m n : ℕ) (xs : List Entry) → m ≤ n → UpTo m xs → UpTo n xs
+pub up_to_more : (m n : ℕ) (xs : List JournalEntry) → m ≤ n → UpTo m xs → UpTo n xs
 up_to_more m n [] p q = tt
 up_to_more m n (x ∷ xs) p q = (let h : x.moment ≤ m = q.0 in omega arith, up_to_more m n xs p q.1)
 
-pub last_up_to : (m : ℕ) (xs : List Entry) → UpTo m xs → last_moment (lines_of xs) ≤ m
+pub last_up_to : (m : ℕ) (xs : List JournalEntry) → UpTo m xs → last_moment (trace_lines_of xs) ≤ m
 unfolding last_moment
 last_up_to m [] p = omega arith
 last_up_to m (x ∷ xs) p = max-le p.0 (last_up_to m xs p.1)
 
-pub not_before : (m : ℕ) (xs : List Entry) → UpTo m xs → nat_lt m (last_moment (lines_of xs)) ≡ false
-not_before m xs p = le-ltb m (last_moment (lines_of xs)) (last_up_to m xs p)
+pub not_before : (m : ℕ) (xs : List JournalEntry) → UpTo m xs → nat_lt m (last_moment (trace_lines_of xs)) ≡ false
+not_before m xs p = le-ltb m (last_moment (trace_lines_of xs)) (last_up_to m xs p)
 
 -- what is named and opened is so in the events of its own number
 and_false : (a : Bool) → (a && false) ≡ false
 and_false true = refl
 and_false false = refl
 
-any_own : (test : Event → Bool) (conn : ℕ) (xs : List Entry)
-    → list_any (λ (e : Event_line). test e.event && (e.conn == conn)) (lines_of xs) ≡ list_any (λ (e : Event_line). test e.event && (e.conn == conn)) (lines_of (of conn xs))
+any_own : (test : Event → Bool) (conn : ℕ) (xs : List JournalEntry)
+    → list_any (λ (e : Event_line). test e.event && (e.conn == conn)) (trace_lines_of xs) ≡ list_any (λ (e : Event_line). test e.event && (e.conn == conn)) (trace_lines_of (of conn xs))
 unfolding of
 any_own test conn [] = refl
 any_own test conn (x ∷ xs) = elim (cases_Bool (x.conn == conn)) [
   | inl p ↦ rw p (rw p (ap (λ z. (test x.event && true) || z) (any_own test conn xs)))
-  | inr p ↦ rw p (ap (λ z. z || list_any (λ (e : Event_line). test e.event && (e.conn == conn)) (lines_of xs)) (and_false (test x.event)) ∙ any_own test conn xs)
+  | inr p ↦ rw p (ap (λ z. z || list_any (λ (e : Event_line). test e.event && (e.conn == conn)) (trace_lines_of xs)) (and_false (test x.event)) ∙ any_own test conn xs)
 ]
 
-pub named_own : (conn : ℕ) (xs : List Entry) → is_named conn (lines_of xs) ≡ is_named conn (lines_of (of conn xs))
+pub named_own : (conn : ℕ) (xs : List JournalEntry) → is_named conn (trace_lines_of xs) ≡ is_named conn (trace_lines_of (of conn xs))
 unfolding is_named
 named_own conn xs = any_own (λ e. names (role_of e)) conn xs
 
-pub opened_own : (conn : ℕ) (xs : List Entry) → is_opened conn (lines_of xs) ≡ is_opened conn (lines_of (of conn xs))
+pub opened_own : (conn : ℕ) (xs : List JournalEntry) → is_opened conn (trace_lines_of xs) ≡ is_opened conn (trace_lines_of (of conn xs))
 unfolding is_opened
-opened_own conn xs = any_own (λ e. opens (role_of e)) conn xs
+opened_own conn xs = any_own (λ e. is_opening_role (role_of e)) conn xs
 
-pub unnamed : (conn : ℕ) (xs : List Entry) → of conn xs ≡ [] → is_named conn (lines_of xs) ≡ false
+pub unnamed : (conn : ℕ) (xs : List JournalEntry) → of conn xs ≡ [] → is_named conn (trace_lines_of xs) ≡ false
 unfolding is_named
-unnamed conn xs e = named_own conn xs ∙ ap (λ z. is_named conn (lines_of z)) e
+unnamed conn xs e = named_own conn xs ∙ ap (λ z. is_named conn (trace_lines_of z)) e
 
 or_first : (a b : Bool) → a ≡ true → (a || b) ≡ true
 or_first true b p = refl
 or_first false b p = absurd (true≢false (sym p))
 
-pub opened_more : (conn : ℕ) (xs ys : List Entry) → is_opened conn (lines_of xs) ≡ true → is_opened conn (lines_of (xs ++ ys)) ≡ true
+pub opened_more : (conn : ℕ) (xs ys : List JournalEntry) → is_opened conn (trace_lines_of xs) ≡ true → is_opened conn (trace_lines_of (xs ++ ys)) ≡ true
 unfolding is_opened
 opened_more conn xs ys p =
     ap (λ z. is_opened conn z) (lines-append xs ys)
-    ∙ list_any-append (λ (e : Event_line). opens (role_of e.event) && (e.conn == conn)) (lines_of xs) (lines_of ys)
-    ∙ or_first (is_opened conn (lines_of xs)) (is_opened conn (lines_of ys)) p
+    ∙ list_any-append (λ (e : Event_line). is_opening_role (role_of e.event) && (e.conn == conn)) (trace_lines_of xs) (trace_lines_of ys)
+    ∙ or_first (is_opened conn (trace_lines_of xs)) (is_opened conn (trace_lines_of ys)) p
 
 -- ---- how many are live
 
@@ -250,10 +250,10 @@ count : ℕ → List ℕ → ℕ
 count n [] = 0
 count n (k ∷ ks) = (if k == n then 1 else 0) + count n ks
 
-pub opened_in-append : (xs ys : List Event_line) → opened_in (xs ++ ys) ≡ opened_in xs ++ opened_in ys
-unfolding opened_in
+pub opened_in-append : (xs ys : List Event_line) → connections_opened_in_trace (xs ++ ys) ≡ connections_opened_in_trace xs ++ connections_opened_in_trace ys
+unfolding connections_opened_in_trace
 opened_in-append [] ys = refl
-opened_in-append (x ∷ xs) ys = elim (cases_Bool (opens (role_of x.event))) [
+opened_in-append (x ∷ xs) ys = elim (cases_Bool (is_opening_role (role_of x.event))) [
   | inl p ↦ rw p (ap (λ z. x.conn ∷ z) (opened_in-append xs ys))
   | inr p ↦ rw p (opened_in-append xs ys)
 ]
@@ -278,8 +278,8 @@ one_more : (n k : ℕ) (ks : List ℕ) → (k == n) ≡ true → count n (k ∷ 
 unfolding count
 one_more n k ks e = rw e refl
 
-occurs_more : (k : ℕ) (ks : List ℕ) (ss : List (Session ModelEnd)) → is_some (session_of k ss) ≡ true → occurs ks ss + 1 ≤ occurs (k ∷ ks) ss
-unfolding occurs session_of
+occurs_more : (k : ℕ) (ks : List ℕ) (ss : List (Session ModelEnd)) → is_some (session_of_connection k ss) ≡ true → occurs ks ss + 1 ≤ occurs (k ∷ ks) ss
+unfolding occurs session_of_connection
 occurs_more k ks [] p = absurd (true≢false (sym p))
 occurs_more k ks (s ∷ ss) p =
     elim (cases_Bool (s.number == k)) [
@@ -293,7 +293,7 @@ occurs_more k ks (s ∷ ss) p =
           omega arith)
     ]
 
-passing_few : (test : ℕ → Bool) (ss : List (Session ModelEnd)) → ((n : ℕ) → test n ≡ true → is_some (session_of n ss) ≡ true) → (ks : List ℕ) → length (filter test ks) ≤ occurs ks ss
+passing_few : (test : ℕ → Bool) (ss : List (Session ModelEnd)) → ((n : ℕ) → test n ≡ true → is_some (session_of_connection n ss) ≡ true) → (ks : List ℕ) → length (filter test ks) ≤ occurs ks ss
 passing_few test ss there [] = omega arith
 passing_few test ss there (k ∷ ks) =
     let h : length (filter test ks) ≤ occurs ks ss = passing_few test ss there ks in
@@ -308,33 +308,33 @@ occurs_few ks once [] = omega arith
 occurs_few ks once (s ∷ ss) =
     let h : occurs ks ss ≤ length ss = occurs_few ks once ss in let c : count s.number ks ≤ 1 = once s.number in omega arith
 
-count_own : (conn : ℕ) (xs : List Entry) → count conn (opened_in (lines_of xs)) ≡ length (opened_in (lines_of (of conn xs)))
-unfolding count of opened_in
+count_own : (conn : ℕ) (xs : List JournalEntry) → count conn (connections_opened_in_trace (trace_lines_of xs)) ≡ length (connections_opened_in_trace (trace_lines_of (of conn xs)))
+unfolding count of connections_opened_in_trace
 count_own conn [] = refl
 count_own conn (x ∷ xs) =
-    let h : count conn (opened_in (lines_of xs)) ≡ length (opened_in (lines_of (of conn xs))) = count_own conn xs in
+    let h : count conn (connections_opened_in_trace (trace_lines_of xs)) ≡ length (connections_opened_in_trace (trace_lines_of (of conn xs))) = count_own conn xs in
     elim (cases_Bool (x.conn == conn)) [
       | inl p ↦
-          elim (cases_Bool (opens (role_of x.event))) [
+          elim (cases_Bool (is_opening_role (role_of x.event))) [
             | inl q ↦ rw (q, p, q) (omega arith)
             | inr q ↦ rw (p, q) h
           ]
       | inr p ↦
-          elim (cases_Bool (opens (role_of x.event))) [
+          elim (cases_Bool (is_opening_role (role_of x.event))) [
             | inl q ↦ rw (q, p) (omega arith)
             | inr q ↦ rw (p, q) h
           ]
     ]
 
 -- where each live end has a session, and no connection is opened twice
-pub few_live : (settings : Settings) (finds : Finds) (xs : List Entry) (ss : List (Session ModelEnd))
-    → ((n : ℕ) → is_live (end_at settings finds n (lines_of xs)) ≡ true → is_some (session_of n ss) ≡ true)
-    → ((n : ℕ) → length (opened_in (lines_of (of n xs))) ≤ 1)
-    → live_count settings finds (lines_of xs) ≤ length ss
+pub few_live : (settings : Settings) (finds : Finds) (xs : List JournalEntry) (ss : List (Session ModelEnd))
+    → ((n : ℕ) → is_live (end_at settings finds n (trace_lines_of xs)) ≡ true → is_some (session_of_connection n ss) ≡ true)
+    → ((n : ℕ) → length (connections_opened_in_trace (trace_lines_of (of n xs))) ≤ 1)
+    → live_count settings finds (trace_lines_of xs) ≤ length ss
 unfolding live_count
 few_live settings finds xs ss there once =
-    let h = passing_few (λ conn. is_live (end_at settings finds conn (lines_of xs))) ss there (opened_in (lines_of xs)) in
-    let k = occurs_few (opened_in (lines_of xs)) (λ n. subst (λ z. z ≤ 1) (sym (count_own n xs)) (once n)) ss in
+    let h = passing_few (λ conn. is_live (end_at settings finds conn (trace_lines_of xs))) ss there (connections_opened_in_trace (trace_lines_of xs)) in
+    let k = occurs_few (connections_opened_in_trace (trace_lines_of xs)) (λ n. subst (λ z. z ≤ 1) (sym (count_own n xs)) (once n)) ss in
     at_most _ _ _ h k
   where
     at_most : (a b c : ℕ) → a ≤ b → b ≤ c → a ≤ c

@@ -1,4 +1,5 @@
 -- In each turn those are ticked whose deadline has come.
+use Rattle.trace_model.specs.Checks.{most_live}
 use Rattle.loop_model.specs.Ends.{ModelEnd, model_ends}
 use Rattle.std.proofs.Common.{if◌then◌else◌, ◌≡◌, ℕ, ◌+◌, ◌<◌, ◌≤◌, max, inl, inr, Bool, true, false, ◌&&◌, ◌||◌, List, [], ◌∷◌, ◌++◌, length, drop, Option, Some, None, refl, ◌∙◌, ap, subst, append-nil, append_assoc, arith, ne_eqb}
 use Rattle.std.specs.Prelude.{nat_lt, ◌==◌}
@@ -9,24 +10,24 @@ use Rattle.link_trait.specs.declared.wires.WriteAnswer.{WriteAnswer}
 use Rattle.link_trait.specs.declared.wires.WriteAnswer.TheVariants as write
 use Rattle.link_trait.specs.declared.wires.Happening.{Happening}
 use Rattle.link_trait.specs.declared.wires.Happening.TheVariants as happening
-use Rattle.loop_model.specs.Journals.{Entry}
-use Rattle.loop_model.specs.Outs.{Out, changed, acts, exactly, first_of}
-use Rattle.loop_model.specs.Sessions.{Rules, Session, Given, Begins, Hears, Sends, Takes, Leaves, Ticks, Ends, Faults, Stalls, is_released, most_output, written as written_as, outcomes_of, octets_in, joined, fed, Says, nothing_said, handled}
-use Rattle.loop_model.specs.Visits.{Flow, Going, PutOff, Failing, writes_if, writes_once, writes, Wrote, fault_unless, flowed, written_unless, written, settled, rests, rests_behind, Tick, Read, Write, Expire, Met, nothing_met, is_due, came, read_once, served, visited}
-use Rattle.loop_model.specs.Loops.{Plan, rules_of, Loop, most_live, visit_at, numbers, swept, Sweeps, before, next_user, answered_by, accepted, happened, Halt, Course, asks, Turn, readied, turned_unless, went_unless, went}
+use Rattle.loop_model.specs.Journals.{JournalEntry}
+use Rattle.loop_model.specs.Outs.{Out, changed, acts, exactly, first_answer_of}
+use Rattle.loop_model.specs.Sessions.{Rules, Session, GivenToSession, Begins, Hears, Sends, Takes, Leaves, Ticks, Ends, Faults, Stalls, is_released, most_output, journal_event_of_given as written_as, outcomes_of_given_event, octets_in, joined, fed, Says, nothing_said, handled}
+use Rattle.loop_model.specs.Visits.{WritingState, Going, PutOff, Failing, writes_if, writes_once, writes, Wrote, fault_unless, flowed, written_unless, session_behind_writing, session_kept_or_closed, rests, rests_behind, Tick, Read, Write, Expire, Met, nothing_met, is_due, came, read_once, served, visited}
+use Rattle.loop_model.specs.Loops.{Plan, rules_of, Loop, visit_at, numbers, swept, Sweeps, before, next_user, answered_by, accepted, happened, Halt, Course, asks, Turn, readied, turned_unless, went_unless, went}
 use Rattle.loop_model.specs.Parts.{Rises}
 use Rattle.loop_model.specs.Turnings.{is_tick, ticked, due_at, TicksAreDue}
 use Rattle.loop_model.proofs.Steadies.{Steady, Usual, steady_handled, steady_pours, follows_handled, Left, Stays, Closed, left_visited}
 use Rattle.loop_model.proofs.Lives.{Own, same}
 use Rattle.loop_model.proofs.Orders.{own_calls, UpTo, up_to_more}
 
-ticked-append : (xs ys : List Entry) → ticked (xs ++ ys) ≡ ticked xs ++ ticked ys
+ticked-append : (xs ys : List JournalEntry) → ticked (xs ++ ys) ≡ ticked xs ++ ticked ys
 unfolding ticked
 ticked-append [] ys = refl
 ticked-append (x ∷ xs) ys =
     elim (cases_Bool (is_tick x.event)) [ inl p ↦ rw p (ap (λ z. x.conn ∷ z) (ticked-append xs ys)) | inr p ↦ rw p (ticked-append xs ys) ]
 
-abbrev IsNoTick : Given → Type 0
+abbrev IsNoTick : GivenToSession → Type 0
 IsNoTick (Begins engine rbc rb) = Unit {0}
 IsNoTick (Hears octets) = Unit {0}
 IsNoTick (Sends text) = Unit {0}
@@ -37,7 +38,7 @@ IsNoTick Ends = Unit {0}
 IsNoTick Faults = Unit {0}
 IsNoTick Stalls = Unit {0}
 
-no_tick : (k : ModelEnd) (g : Given) → IsNoTick g → is_tick (written_as model_ends k g) ≡ false
+no_tick : (k : ModelEnd) (g : GivenToSession) → IsNoTick g → is_tick (written_as model_ends k g) ≡ false
 no_tick k (Begins engine rbc rb) p = refl
 no_tick k (Hears octets) p = refl
 no_tick k (Sends text) p = refl
@@ -48,10 +49,10 @@ no_tick k Ends p = refl
 no_tick k Faults p = refl
 no_tick k Stalls p = refl
 
-NoTick : Session ModelEnd → Session ModelEnd → List Entry → List Call → Type 0
+NoTick : Session ModelEnd → Session ModelEnd → List JournalEntry → List Call → Type 0
 NoTick s t xs cs = ticked xs ≡ []
 
-none_two : (xs ys : List Entry) → ticked xs ≡ [] → ticked ys ≡ [] → ticked (xs ++ ys) ≡ []
+none_two : (xs ys : List JournalEntry) → ticked xs ≡ [] → ticked ys ≡ [] → ticked (xs ++ ys) ≡ []
 none_two xs ys p q = ticked-append xs ys ∙ ap (λ z. z ++ ticked ys) p ∙ q
 
 steady : (r : Rules) → Steady r IsNoTick NoTick
@@ -69,14 +70,14 @@ usual : Usual IsNoTick
 usual = record { sends = λ text. tt; leaves = λ sub. tt; takes = tt }
 
 module _ (r : Rules) (m : ℕ) where
-  handled_none : (s : Session ModelEnd) (g : Given) (says : Says) → IsNoTick g → ticked (handled model_ends r m s g says).1 ≡ []
+  handled_none : (s : Session ModelEnd) (g : GivenToSession) (says : Says) → IsNoTick g → ticked (handled model_ends r m s g says).1 ≡ []
   unfolding NoTick
   handled_none s g says p = steady_handled r IsNoTick NoTick (steady r) usual m s g says p
 
   fed_tick : (s : Session ModelEnd) → ticked (fed model_ends r m s Ticks).1 ≡ s.number ∷ []
   unfolding ticked fed joined
   fed_tick s =
-      elim (cases_Bool (nat_lt most_output (length s.output + length (octets_in (outcomes_of model_ends r m s.end Ticks))))) [ inl p ↦ rw p refl | inr p ↦ rw p refl ]
+      elim (cases_Bool (nat_lt most_output (length s.output + length (octets_in (outcomes_of_given_event model_ends r m s.end Ticks))))) [ inl p ↦ rw p refl | inr p ↦ rw p refl ]
 
   handled_tick : (s : Session ModelEnd) (says : Says) → ticked (handled model_ends r m s Ticks says).1 ≡ s.number ∷ []
   unfolding NoTick
@@ -86,12 +87,12 @@ module _ (r : Rules) (m : ℕ) where
 
   -- ---- writing
 
-  once_none : (flow : Flow) (s : Session ModelEnd) (a : WriteAnswer) → (writes_if flow s a).entries ≡ []
+  once_none : (flow : WritingState) (s : Session ModelEnd) (a : WriteAnswer) → (writes_if flow s a).entries ≡ []
   once_none Going s a = elim (cases_Bool (length s.output == 0)) [ inl p ↦ rw p refl | inr p ↦ rw p refl ]
   once_none PutOff s a = refl
   once_none Failing s a = refl
 
-  pub acts_none : (answers : List WriteAnswer) (x : Session ModelEnd × Flow) → (acts writes_once x answers).entries ≡ []
+  pub acts_none : (answers : List WriteAnswer) (x : Session ModelEnd × WritingState) → (acts writes_once x answers).entries ≡ []
   unfolding acts writes_once
   acts_none [] x = refl
   acts_none (a ∷ answers) x =
@@ -102,7 +103,7 @@ module _ (r : Rules) (m : ℕ) where
   fault_none true s says = refl
   fault_none false s says = handled_none s Faults says tt
 
-  flowed_none : (flow : Flow) (s : Session ModelEnd) (says : Says) → ticked (flowed model_ends r m (s, flow) says).entries ≡ []
+  flowed_none : (flow : WritingState) (s : Session ModelEnd) (says : Says) → ticked (flowed model_ends r m (s, flow) says).entries ≡ []
   unfolding ticked
   flowed_none Going s says = refl
   flowed_none PutOff s says = refl
@@ -116,18 +117,18 @@ module _ (r : Rules) (m : ℕ) where
       ap (λ z. ticked (z ++ (flowed model_ends r m x.state a.says).entries)) (acts_none (exactly (length s.output) write.NotNow a.answers) (s, Going))
       ∙ flowed_none x.state.1 x.state.0 a.says
 
-  written_none : (s : Session ModelEnd) (a : Wrote) → ticked (written model_ends r m s a).entries ≡ []
-  unfolding written
+  written_none : (s : Session ModelEnd) (a : Wrote) → ticked (session_behind_writing model_ends r m s a).entries ≡ []
+  unfolding session_behind_writing
   written_none s a = unless_none s.broken s a
 
-  pub settled_none : (s : Session ModelEnd) → (settled model_ends s).entries ≡ []
-  unfolding settled
+  pub settled_none : (s : Session ModelEnd) → (session_kept_or_closed model_ends s).entries ≡ []
+  unfolding session_kept_or_closed
   settled_none s = elim (cases_Bool (s.broken || (is_released model_ends s && (length s.output == 0)))) [ inl p ↦ rw p refl | inr p ↦ rw p refl ]
 
   rests_none : (s : Session ModelEnd) (a : Wrote) → ticked (rests model_ends r m s a).entries ≡ []
   unfolding rests
   rests_none s a =
-      let w = written model_ends r m s a in
+      let w = session_behind_writing model_ends r m s a in
       ap (λ z. ticked (w.entries ++ z)) (settled_none w.state) ∙ ap ticked (append-nil w.entries) ∙ written_none s a
 
   -- ---- visits
@@ -135,12 +136,12 @@ module _ (r : Rules) (m : ℕ) where
   tick_visit : (s : Session ModelEnd) (a : Met) → ticked (visited model_ends r m Tick s a).entries ≡ (if is_due m (model_ends.deadline s.end) then s.number ∷ [] else [])
   unfolding visited served ticked
   tick_visit s a =
-      let h = handled model_ends r m s Ticks (first_of nothing_said a.says) in
+      let h = handled model_ends r m s Ticks (first_answer_of nothing_said a.says) in
       elim (cases_Bool (is_due m (model_ends.deadline s.end))) [
         | inl p ↦
             rw p
             (ticked-append h.1 (rests model_ends r m h.0 a.wrote).entries
-            ∙ ap (λ z. z ++ ticked (rests model_ends r m h.0 a.wrote).entries) (handled_tick s (first_of nothing_said a.says))
+            ∙ ap (λ z. z ++ ticked (rests model_ends r m h.0 a.wrote).entries) (handled_tick s (first_answer_of nothing_said a.says))
             ∙ ap (λ z. s.number ∷ z) (rests_none h.0 a.wrote))
         | inr p ↦ rw p refl
       ]
@@ -149,8 +150,8 @@ module _ (r : Rules) (m : ℕ) where
   unfolding NoTick ticked
   came_none (Gave octets) s says = steady_pours r IsNoTick NoTick (steady r) usual (λ octets. tt) m s octets says
   came_none NotNow s says = refl
-  came_none End s says = handled_none s Ends (first_of nothing_said says) tt
-  came_none Failed s says = handled_none s Faults (first_of nothing_said says) tt
+  came_none End s says = handled_none s Ends (first_answer_of nothing_said says) tt
+  came_none Failed s says = handled_none s Faults (first_answer_of nothing_said says) tt
 
   behind_none : (reading : Reading) (s : Session ModelEnd) (a : Wrote) → ticked (rests_behind model_ends reading r m s a).entries ≡ []
   unfolding ticked
@@ -188,8 +189,8 @@ module _ (f : Session ModelEnd → Met → Out (List (Session ModelEnd))) (none 
   unfolding swept ticked
   swept_none [] ss answers = refl
   swept_none (n ∷ ns) ss answers =
-      let o = visit_at f n ss (first_of nothing_met answers) in
-      none_two o.entries (swept f ns o.state (drop 1 answers)).entries (visit_none n ss (first_of nothing_met answers)) (swept_none ns o.state (drop 1 answers))
+      let o = visit_at f n ss (first_answer_of nothing_met answers) in
+      none_two o.entries (swept f ns o.state (drop 1 answers)).entries (visit_none n ss (first_answer_of nothing_met answers)) (swept_none ns o.state (drop 1 answers))
 
 -- a visit of a number behind others
 pub visit_skip : (f : Session ModelEnd → Met → Out (List (Session ModelEnd))) (top n : ℕ) (pre ss : List (Session ModelEnd)) (a : Met) → UpTo top (numbers pre) → top < n
@@ -210,7 +211,7 @@ unfolding UpTo
 up_to_two top [] ts p q = q
 up_to_two top (s ∷ ss) ts p q = (p.0, up_to_two top ss ts p.1 q)
 
-pub left_up_to : (s : Session ModelEnd) (ts : List (Session ModelEnd)) (xs : List Entry) (cs : List Call) → Left Own s ts xs cs → UpTo s.number (numbers ts)
+pub left_up_to : (s : Session ModelEnd) (ts : List (Session ModelEnd)) (xs : List JournalEntry) (cs : List Call) → Left Own s ts xs cs → UpTo s.number (numbers ts)
 unfolding UpTo
 left_up_to s ts xs cs (Stays t p q) = rw p ((let e : t.number ≡ s.number = q.number in omega arith), tt)
 left_up_to s ts xs cs (Closed t ds over p e q) = rw p tt
@@ -225,7 +226,7 @@ module _ (r : Rules) (m : ℕ) where
   swept_ticks [] pre top answers p q = refl
   swept_ticks (s ∷ ss) pre top answers p q =
       let f = visited model_ends r m Tick in
-      let a = first_of nothing_met answers in
+      let a = first_answer_of nothing_met answers in
       let o = f s a in
       let above : top < s.number = q.0 in
       let at : visit_at f s.number (pre ++ s ∷ ss) a ≡ changed (λ now. pre ++ (now ++ ss)) o =

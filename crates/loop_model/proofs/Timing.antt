@@ -1,4 +1,5 @@
 -- Each event has the greatest of the moments that the clock answered so far.
+use Rattle.trace_model.specs.Checks.{most_live}
 use Rattle.loop_model.specs.Ends.{ModelEnd, model_ends}
 use Rattle.std.proofs.Common.{◌≡◌, ℕ, max, inl, inr, List, [], ◌∷◌, ◌++◌, length, drop, Option, Some, None, refl, sym, ◌∙◌, ap, subst, append_assoc}
 use Rattle.std.specs.Prelude.{nat_lt}
@@ -6,20 +7,20 @@ use Rattle.std.proofs.lemmas.Bool.{cases_Bool}
 use Rattle.er_users.specs.Users.{Mind}
 use Rattle.link_trait.specs.declared.wires.Happening.{Happening}
 use Rattle.link_trait.specs.declared.wires.Happening.TheVariants as happening
-use Rattle.loop_model.specs.Journals.{Entry}
-use Rattle.loop_model.specs.Outs.{Out, first_of}
+use Rattle.loop_model.specs.Journals.{JournalEntry}
+use Rattle.loop_model.specs.Outs.{Out, first_answer_of}
 use Rattle.loop_model.specs.Sessions.{Rules, Session}
 use Rattle.loop_model.specs.Visits.{Met, nothing_met, Visit, Tick, Read, Write, Expire, visited}
-use Rattle.loop_model.specs.Loops.{Plan, rules_of, Loop, most_live, visit_at, numbers, swept, Sweeps, before, next_user, answered_by, accepted, happened, Caller, called_by, called, Halt, Course, asks, Turn, readied, turned_unless, went, run, Dialled, dials_to, dials}
+use Rattle.loop_model.specs.Loops.{Plan, rules_of, Loop, visit_at, numbers, swept, Sweeps, before, next_user, answered_by, accepted, happened, Caller, called_by, called, Halt, Course, asks, Turn, readied, turned_unless, went, run, Dialled, dials_to, dials}
 use Rattle.loop_model.specs.Laws.{greatest}
-use Rattle.loop_model.specs.Moments.{AreAt, asked_in, IsTimed, opening, IsOpenedAt, EventsAreTimed}
+use Rattle.loop_model.specs.Moments.{AreAt, asked_in, IsTimedTurn, opening_of_dial, IsOpenedAt, EventsAreTimed}
 use Rattle.loop_model.proofs.Replaying.{ArePlain, plain_visit, served_so}
 
-at-append : (m : ℕ) (xs ys : List Entry) → AreAt m xs → AreAt m ys → AreAt m (xs ++ ys)
+at-append : (m : ℕ) (xs ys : List JournalEntry) → AreAt m xs → AreAt m ys → AreAt m (xs ++ ys)
 at-append m [] ys p q = q
 at-append m (x ∷ xs) ys p q = (p.0, at-append m xs ys p.1 q)
 
-plain_at : (m n : ℕ) (xs : List Entry) → ArePlain m n xs → AreAt m xs
+plain_at : (m n : ℕ) (xs : List JournalEntry) → ArePlain m n xs → AreAt m xs
 plain_at m n [] p = tt
 plain_at m n (x ∷ xs) p = (p.0.moment, plain_at m n xs p.1)
 
@@ -31,9 +32,9 @@ module _ (r : Rules) (m : ℕ) where
   unfolding swept
   swept_at visit [] ss answers = tt
   swept_at visit (n ∷ ns) ss answers =
-      let o = visit_at (visited model_ends r m visit) n ss (first_of nothing_met answers) in
+      let o = visit_at (visited model_ends r m visit) n ss (first_answer_of nothing_met answers) in
       at-append m o.entries (swept (visited model_ends r m visit) ns o.state (drop 1 answers)).entries
-      (visit_at_moment visit n ss (first_of nothing_met answers)) (swept_at visit ns o.state (drop 1 answers))
+      (visit_at_moment visit n ss (first_answer_of nothing_met answers)) (swept_at visit ns o.state (drop 1 answers))
 
   before_at : (ss : List (Session ModelEnd)) (a : Sweeps) → AreAt m (before model_ends r m ss a).entries
   unfolding before
@@ -95,7 +96,7 @@ turned_at None plan d a before m asked moment =
       moment = s.moment ∙ ap (λ z. max z a.second) moment;
     }
 
-went_timed : (halt : Option Halt) (plan : Plan) (c : Course ModelEnd) (a : Turn) → c.halt ≡ halt → halt ≡ None → IsTimed plan c a
+went_timed : (halt : Option Halt) (plan : Plan) (c : Course ModelEnd) (a : Turn) → c.halt ≡ halt → halt ≡ None → IsTimedTurn plan c a
 unfolding went readied
 went_timed (Some halt) plan c a is p = absurd (let q : ⊥ = cc in q)
 went_timed None plan c a is p =
@@ -121,7 +122,7 @@ called_stands (Some mind) plan caller l conn a =
 
 dial_entries : (at : Option ℕ) (plan : Plan) (caller : Caller) (c : Course ModelEnd) (address : List ℕ) (a : Dialled) (conn : ℕ) → at ≡ Some conn
     → (dials_to model_ends at plan caller c address a).entries
-    ≡ (opening plan caller c a conn).entries ++ (run model_ends plan (opening plan caller c a conn).state a.turns).entries
+    ≡ (opening_of_dial plan caller c a conn).entries ++ (run model_ends plan (opening_of_dial plan caller c a conn).state a.turns).entries
 dial_entries at plan caller c address a conn is = rw is refl
 
 opened_at : (plan : Plan) (caller : Caller) (c : Course ModelEnd) (address : List ℕ) (a : Dialled) (conn : ℕ) → a.conn ≡ Some conn

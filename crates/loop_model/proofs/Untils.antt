@@ -3,9 +3,9 @@ use Rattle.loop_model.specs.Ends.{ModelEnd, model_ends}
 use Rattle.std.proofs.Common.{if◌then◌else◌, ◌≡◌, ℕ, ◌<◌, ◌≤◌, min, inl, inr, Bool, true, false, List, [], ◌∷◌, ◌++◌, drop, Option, Some, None, refl, sym, ◌∙◌, ap, subst, append_assoc, append-nil, arith}
 use Rattle.std.specs.Prelude.{◌⊎◌}
 use Rattle.std.proofs.lemmas.Bool.{cases_Bool, cases_lt}
-use Rattle.er_end_model.specs.Steps.{first_of as first_moment}
+use Rattle.er_end_model.specs.Steps.{earlier_of_moments as first_moment}
 use Rattle.link_trait.specs.Wires.{Call, Turns, Closes}
-use Rattle.loop_model.specs.Outs.{Out, next, changed, makes, first_of}
+use Rattle.loop_model.specs.Outs.{Out, next, changed, makes, first_answer_of}
 use Rattle.loop_model.specs.Sessions.{Rules, Session}
 use Rattle.loop_model.specs.Visits.{is_due, closed, stays, Met, nothing_met, Tick, Expire, visited}
 use Rattle.loop_model.specs.Loops.{Plan, visit_at, numbers, swept, Sweeps, before, until, happened, Halt, Course, asks, Turn, readied, turned_unless, went_unless, went}
@@ -145,7 +145,7 @@ unfolding swept
 swept_expire r m [] pre top answers p q = record { state = refl; entries = refl; calls = refl }
 swept_expire r m (s ∷ ss) pre top answers p q =
     let f = visited model_ends r m Expire in
-    let a = first_of nothing_met answers in
+    let a = first_answer_of nothing_met answers in
     let above : top < s.number = q.0 in
     let at : visit_at f s.number (pre ++ s ∷ ss) a ≡ changed (λ now. pre ++ (now ++ ss)) (f s a) =
     visit_skip f top s.number pre (s ∷ ss) a p above ∙ ap (λ z. changed (λ now. pre ++ now) z) (visit_here f s ss a) in
@@ -167,7 +167,7 @@ swept_rises : (r : Rules) (m : ℕ) (ns : List ℕ) (ss : List (Session ModelEnd
 unfolding swept
 swept_rises r m [] ss answers h = h
 swept_rises r m (n ∷ ns) ss answers h =
-    swept_rises r m ns (visit_at (visited model_ends r m Tick) n ss (first_of nothing_met answers)).state (drop 1 answers) (visit_rises r m Tick n 0 ss (first_of nothing_met answers) h)
+    swept_rises r m ns (visit_at (visited model_ends r m Tick) n ss (first_answer_of nothing_met answers)).state (drop 1 answers) (visit_rises r m Tick n 0 ss (first_answer_of nothing_met answers) h)
 
 behind_ticks : (r : Rules) (m : ℕ) (ss : List (Session ModelEnd)) (a : Sweeps) → Rises 0 (numbers ss)
     → Swept m [] (swept (visited model_ends r m Tick) (numbers ss) ss a.ticks).state

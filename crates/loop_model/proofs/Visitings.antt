@@ -6,11 +6,11 @@ use Rattle.std.proofs.lemmas.Bool.{cases_Bool}
 use Rattle.link_trait.specs.Wires.{Turns}
 use Rattle.link_trait.specs.declared.wires.Happening.{Happening}
 use Rattle.link_trait.specs.declared.wires.Happening.TheVariants.{Accepted, Readable, Writable, Quiet, Ended, Failed}
-use Rattle.loop_model.specs.Outs.{Out, still, next, changed, first_of}
+use Rattle.loop_model.specs.Outs.{Out, still, next, changed, first_answer_of}
 use Rattle.loop_model.specs.Sessions.{Rules, Session}
 use Rattle.loop_model.specs.Visits.{Met, nothing_met, Visit, Tick, Read, Write, visited}
 use Rattle.loop_model.specs.Loops.{Plan, rules_of, Loop, visit_at, numbers, swept, until, visited_at, happened, Halt, Course, asks, Turn, readied, turned_unless, went_unless, went}
-use Rattle.loop_model.specs.Parts.{session_of, Rises}
+use Rattle.loop_model.specs.Parts.{session_of_connection, Rises}
 use Rattle.loop_model.specs.Writings.{expired, unexpired}
 use Rattle.loop_model.specs.Visitings.{all_ticked, IsReadied, replaced, IsUnvisited, IsVisitedIf, FollowsSo, TurnsVisit}
 use Rattle.loop_model.proofs.Steadies.{left_visited}
@@ -28,7 +28,7 @@ module _ (r : Rules) (m : ℕ) where
   swept_is [] pre top answers p q = refl
   swept_is (s ∷ ss) pre top answers p q =
       let f = visited model_ends r m Tick in
-      let a = first_of nothing_met answers in
+      let a = first_answer_of nothing_met answers in
       let o = f s a in
       let t = all_ticked r m ss (drop 1 answers) in
       let above : top < s.number = q.0 in
@@ -57,9 +57,9 @@ is_readied plan c a rises =
 
 -- ---- behind a turn
 
-pub visit_one : (f : Session ModelEnd → Met → Out (List (Session ModelEnd))) (n : ℕ) (ss : List (Session ModelEnd)) (s : Session ModelEnd) (a : Met) → session_of n ss ≡ Some s
+pub visit_one : (f : Session ModelEnd → Met → Out (List (Session ModelEnd))) (n : ℕ) (ss : List (Session ModelEnd)) (s : Session ModelEnd) (a : Met) → session_of_connection n ss ≡ Some s
     → visit_at f n ss a ≡ changed (λ now. replaced n now ss) (f s a)
-unfolding visit_at session_of replaced
+unfolding visit_at session_of_connection replaced
 visit_one f n [] s a e = absurd (let x : ⊥ = cc in x)
 visit_one f n (t ∷ ss) s a e =
     elim (cases_Bool (t.number == n)) [
@@ -70,8 +70,8 @@ visit_one f n (t ∷ ss) s a e =
       | inr p ↦ rw p (ap (λ z. changed (λ now. t ∷ now) z) (visit_one f n ss s a (rw p at e)))
     ]
 
-visit_no : (f : Session ModelEnd → Met → Out (List (Session ModelEnd))) (n : ℕ) (ss : List (Session ModelEnd)) (a : Met) → session_of n ss ≡ None → visit_at f n ss a ≡ still ss
-unfolding visit_at session_of
+visit_no : (f : Session ModelEnd → Met → Out (List (Session ModelEnd))) (n : ℕ) (ss : List (Session ModelEnd)) (a : Met) → session_of_connection n ss ≡ None → visit_at f n ss a ≡ still ss
+unfolding visit_at session_of_connection
 visit_no f n [] a e = refl
 visit_no f n (t ∷ ss) a e =
     elim (cases_Bool (t.number == n)) [
@@ -101,7 +101,7 @@ abbrev HappenedSo : Plan → Course ModelEnd → Turn → Happening → Type 0
 HappenedSo plan c a what = whole plan c a (happened model_ends plan (asks a.second (readied model_ends plan c a).state).loop what a.met) (went model_ends plan c a)
 
 visited_so : (plan : Plan) (c : Course ModelEnd) (a : Turn) (visit : Visit) (conn : ℕ) (found : Option (Session ModelEnd))
-    → session_of conn (readied model_ends plan c a).state.loop.sessions ≡ found
+    → session_of_connection conn (readied model_ends plan c a).state.loop.sessions ≡ found
     → whole plan c a (visited_at model_ends plan (asks a.second (readied model_ends plan c a).state).loop visit conn a.met) (went model_ends plan c a)
     → IsVisitedIf plan c a visit conn found
 visited_so plan c a visit conn None e w =
@@ -130,8 +130,8 @@ nothing_so plan c a w = record { entries = w.0 ∙ append-nil (readied model_end
 follows_so : (plan : Plan) (c : Course ModelEnd) (a : Turn) (what : Happening) → HappenedSo plan c a what → FollowsSo plan c a what
 unfolding happened
 follows_so plan c a (Accepted conn) w = tt
-follows_so plan c a (Readable conn) w = visited_so plan c a Read conn.0 (session_of conn.0 (readied model_ends plan c a).state.loop.sessions) refl w
-follows_so plan c a (Writable conn) w = visited_so plan c a Write conn.0 (session_of conn.0 (readied model_ends plan c a).state.loop.sessions) refl w
+follows_so plan c a (Readable conn) w = visited_so plan c a Read conn.0 (session_of_connection conn.0 (readied model_ends plan c a).state.loop.sessions) refl w
+follows_so plan c a (Writable conn) w = visited_so plan c a Write conn.0 (session_of_connection conn.0 (readied model_ends plan c a).state.loop.sessions) refl w
 follows_so plan c a Quiet w = nothing_so plan c a w
 follows_so plan c a Ended w = nothing_so plan c a w
 follows_so plan c a Failed w = nothing_so plan c a w

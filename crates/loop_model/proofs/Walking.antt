@@ -1,5 +1,6 @@
 -- What holds of each event of a connection and the end before it, where it holds of the events that come while no message waits, of takes
 -- while one does, and of all replies.
+use Rattle.trace_model.specs.Checks.{most_live}
 use Rattle.loop_model.specs.Ends.{ModelEnd, model_ends}
 use Rattle.std.proofs.Common.{◌≡◌, ℕ, zero, suc, ◌+◌, ◌≤◌, max, inl, inr, true, ◌||◌, List, [], ◌∷◌, ◌++◌, length, length-drop, drop, Option, Some, None, refl, sym, ◌∙◌, ap, subst, append_assoc, arith}
 use Rattle.std.specs.Prelude.{nat_lt, ◌==◌}
@@ -13,17 +14,17 @@ use Rattle.er_trace.specs.declared.event.Event.{Event}
 use Rattle.er_trace.specs.declared.event.Event.TheVariants as event
 use Rattle.er_users.specs.Users.{Mind, Heard, Said, said}
 use Rattle.rand_core.specs.Stream.{next_u64}
-use Rattle.trace_model.specs.Connections.{called, happens, end_at}
+use Rattle.trace_model.specs.Connections.{end_behind_call, happens, end_at}
 use Rattle.link_trait.specs.Wires.{Call, Reading, Gave, NotNow, End, Failed}
-use Rattle.loop_model.specs.Journals.{Entry, lines_of}
-use Rattle.loop_model.specs.Outs.{Out, runs, exactly, first_of}
-use Rattle.loop_model.specs.Sessions.{Rules, Session, Given, Begins, Hears, Sends, Takes, Leaves, Ticks, Ends, Faults, Stalls, written, most_output, end_after, outcomes_of, entry_of, octets_in, breaks, joined, fed, replied, heard_in, leave_of, sends_of, hears, silence, dealt, waiting, takes_all, Says, nothing_said, handled, poured, pours}
+use Rattle.loop_model.specs.Journals.{JournalEntry, trace_lines_of}
+use Rattle.loop_model.specs.Outs.{Out, part_for_each_answer, exactly, first_answer_of}
+use Rattle.loop_model.specs.Sessions.{Rules, Session, GivenToSession, Begins, Hears, Sends, Takes, Leaves, Ticks, Ends, Faults, Stalls, journal_event_of_given, most_output, end_after, outcomes_of_given_event, entry_of, octets_in, breaks, joined, fed, replied, heard_by_user, leave_of, sends_of, user_after_hearing, silent_answer, dealt, count_waiting_in_session, takes_all, Says, nothing_said, handled, poured, pours}
 use Rattle.loop_model.specs.Visits.{came}
-use Rattle.loop_model.specs.Loops.{Plan, rules_of, Loop, most_live, begun, Caller, calling, Course, Turn, run, Dialled, dials}
-use Rattle.loop_model.specs.Parts.{session_of, of, calls_at}
+use Rattle.loop_model.specs.Loops.{Plan, rules_of, Loop, begun, Caller, calling, Course, Turn, run, Dialled, dials}
+use Rattle.loop_model.specs.Parts.{session_of_connection, of, calls_at}
 use Rattle.loop_model.specs.Laws.{IsServing, IsDialling}
 use Rattle.loop_model.specs.Walks.{EachAt}
-use Rattle.loop_model.specs.Takings.{waiting_at}
+use Rattle.loop_model.specs.Takings.{count_waiting_at_end}
 use Rattle.loop_model.proofs.EndKeepings.{waiting_in, waits_move, octets_bring, steps_alike, made_stands}
 use Rattle.loop_model.proofs.Steadies.{Calls, AllLeft, all_left_of}
 use Rattle.loop_model.proofs.Lives.{Own, Keeps, Fits, Knows, knows_run}
@@ -34,7 +35,7 @@ use Rattle.loop_model.proofs.Resting.{parts_end, dealt_take, handled_none}
 use Rattle.loop_model.proofs.Printings.{behind, behind-append, IsOfEnd, at_own}
 
 -- events that come from outside of a session
-abbrev pub IsFromOutside : Given → Type 0
+abbrev pub IsFromOutside : GivenToSession → Type 0
 IsFromOutside (Begins engine rbc rb) = ⊥
 IsFromOutside (Hears octets) = Unit {0}
 IsFromOutside (Sends text) = ⊥
@@ -45,7 +46,7 @@ IsFromOutside Ends = Unit {0}
 IsFromOutside Faults = Unit {0}
 IsFromOutside Stalls = ⊥
 
-of_end : (g : Given) → IsFromOutside g → IsOfEnd g
+of_end : (g : GivenToSession) → IsFromOutside g → IsOfEnd g
 of_end (Begins engine rbc rb) p = absurd p
 of_end (Hears octets) p = tt
 of_end (Sends text) p = absurd p
@@ -62,13 +63,13 @@ pub record Fitting (P : Option Ended_at → Event → Type 0) : Type 0 where
   pub leaves : (m : Option Ended_at) (sub : ℕ) → P m (event.Release sub)
   pub stalls : (m : Option Ended_at) → P m event.Stalled
   pub takes : (k : ModelEnd) → 1 ≤ model_ends.waiting k → P (Some k) event.Take
-  pub comes : (k : ModelEnd) (g : Given) → IsFromOutside g → model_ends.waiting k ≡ 0 → P (Some k) (written model_ends k g)
+  pub comes : (k : ModelEnd) (g : GivenToSession) → IsFromOutside g → model_ends.waiting k ≡ 0 → P (Some k) (journal_event_of_given model_ends k g)
   pub call : (engine rbc rb : ℕ) → P None (event.Call engine rbc rb)
   pub answer : (rbc ra : ℕ) → P None (event.Answer rbc ra)
   pub full : (count : ℕ) → P None (event.Full count)
   pub unserved : (count : ℕ) → P None (event.Unserved count)
 
-each-append : (settings : Settings) (finds : Finds) (P : Option Ended_at → Event → Type 0) (m : Option Ended_at) (xs ys : List Entry)
+each-append : (settings : Settings) (finds : Finds) (P : Option Ended_at → Event → Type 0) (m : Option Ended_at) (xs ys : List JournalEntry)
     → EachAt settings finds P m xs → EachAt settings finds P (behind settings finds m xs) ys → EachAt settings finds P m (xs ++ ys)
 unfolding behind
 each-append settings finds P m [] ys p q = q
@@ -78,14 +79,14 @@ module _ (P : Option Ended_at → Event → Type 0) (fitting : Fitting P) (plan 
   abbrev r : Rules
   r = rules_of plan
 
-  abbrev Each : Option Ended_at → List Entry → Type 0
+  abbrev Each : Option Ended_at → List JournalEntry → Type 0
   Each m xs = EachAt plan.settings (key_at plan.keys) P m xs
 
-  abbrev Behind : Option Ended_at → List Entry → Option Ended_at
+  abbrev Behind : Option Ended_at → List JournalEntry → Option Ended_at
   Behind m xs = behind plan.settings (key_at plan.keys) m xs
 
   -- events lead from an end to another, and it holds of each
-  record Placed (k : Option Ended_at) (l : ModelEnd) (xs : List Entry) : Type 0 where
+  record Placed (k : Option Ended_at) (l : ModelEnd) (xs : List JournalEntry) : Type 0 where
     each : Each k xs
     is : Behind k xs ≡ Some l
 
@@ -93,14 +94,14 @@ module _ (P : Option Ended_at → Event → Type 0) (fitting : Fitting P) (plan 
   unfolding behind
   placed_none k l e = record { each = tt; is = ap Some (sym e) }
 
-  placed_then : (j : Option Ended_at) (k l : ModelEnd) (xs ys : List Entry) → Placed j k xs → Placed (Some k) l ys → Placed j l (xs ++ ys)
+  placed_then : (j : Option Ended_at) (k l : ModelEnd) (xs ys : List JournalEntry) → Placed j k xs → Placed (Some k) l ys → Placed j l (xs ++ ys)
   placed_then j k l xs ys p q = record {
     each = each-append plan.settings (key_at plan.keys) P j xs ys p.each (subst (λ z. Each z ys) (sym p.is) q.each);
     is = behind-append plan.settings (key_at plan.keys) j xs ys ∙ ap (λ z. Behind z ys) p.is ∙ q.is;
   }
 
-  leads : (now : ℕ) (k : ModelEnd) (g : Given) → IsOfEnd g
-      → (happens plan.settings (key_at plan.keys) now (written model_ends k g) (Some k)).0 ≡ Some (end_after model_ends r now k g)
+  leads : (now : ℕ) (k : ModelEnd) (g : GivenToSession) → IsOfEnd g
+      → (happens plan.settings (key_at plan.keys) now (journal_event_of_given model_ends k g) (Some k)).0 ≡ Some (end_after model_ends r now k g)
   unfolding end_after
   leads now k (Begins engine rbc rb) p = absurd p
   leads now k (Hears octets) p = refl
@@ -112,7 +113,7 @@ module _ (P : Option Ended_at → Event → Type 0) (fitting : Fitting P) (plan 
   leads now k Faults p = refl
   leads now k Stalls p = refl
 
-  placed_one : (m : ℕ) (s : Session ModelEnd) (g : Given) → IsOfEnd g → P (Some s.end) (written model_ends s.end g)
+  placed_one : (m : ℕ) (s : Session ModelEnd) (g : GivenToSession) → IsOfEnd g → P (Some s.end) (journal_event_of_given model_ends s.end g)
       → Placed (Some s.end) (end_after model_ends r m s.end g) (entry_of model_ends r m s g ∷ [])
   unfolding behind
   placed_one m s g p fits = record { each = (fits, tt); is = leads m s.end g p }
@@ -126,14 +127,14 @@ module _ (P : Option Ended_at → Event → Type 0) (fitting : Fitting P) (plan 
         | inr p ↦ rw p (placed_none s.end s.end refl)
       ]
 
-  abbrev fresh : ℕ → Session ModelEnd → Given → Session ModelEnd
+  abbrev fresh : ℕ → Session ModelEnd → GivenToSession → Session ModelEnd
   fresh m s g = record s { end = end_after model_ends r m s.end g; broken = s.broken || breaks g }
 
-  placed_fed : (m : ℕ) (s : Session ModelEnd) (g : Given) → IsOfEnd g → P (Some s.end) (written model_ends s.end g)
+  placed_fed : (m : ℕ) (s : Session ModelEnd) (g : GivenToSession) → IsOfEnd g → P (Some s.end) (journal_event_of_given model_ends s.end g)
       → Placed (Some s.end) (fed model_ends r m s g).0.end (fed model_ends r m s g).1
   unfolding fed
   placed_fed m s g p fits =
-      let octets = octets_in (outcomes_of model_ends r m s.end g) in
+      let octets = octets_in (outcomes_of_given_event model_ends r m s.end g) in
       let t = fresh m s g in
       placed_then (Some s.end) t.end (joined model_ends r m t octets).0.end (entry_of model_ends r m s g ∷ []) (joined model_ends r m t octets).1
       (placed_one m s g p fits) (placed_joined m t octets)
@@ -141,39 +142,39 @@ module _ (P : Option Ended_at → Event → Type 0) (fitting : Fitting P) (plan 
   -- ---- what follows an event
 
   placed_sends : (m : ℕ) (s : Session ModelEnd) (texts : List (List ℕ)) (leave : Option ℕ)
-      → Placed (Some s.end) (runs (replied model_ends r m) s (sends_of texts ++ leave_of leave)).0.end (runs (replied model_ends r m) s (sends_of texts ++ leave_of leave)).1
-  unfolding runs
+      → Placed (Some s.end) (part_for_each_answer (replied model_ends r m) s (sends_of texts ++ leave_of leave)).0.end (part_for_each_answer (replied model_ends r m) s (sends_of texts ++ leave_of leave)).1
+  unfolding part_for_each_answer
   placed_sends m s [] None = placed_none s.end s.end refl
   placed_sends m s [] (Some sub) =
       let a = fed model_ends r m s (Leaves sub) in
       placed_then (Some s.end) a.0.end a.0.end a.1 [] (placed_fed m s (Leaves sub) tt (fitting.leaves (Some s.end) sub)) (placed_none a.0.end a.0.end refl)
   placed_sends m s (text ∷ texts) leave =
       let a = replied model_ends r m s (Sends text) in
-      let b = runs (replied model_ends r m) a.0 (sends_of texts ++ leave_of leave) in
+      let b = part_for_each_answer (replied model_ends r m) a.0 (sends_of texts ++ leave_of leave) in
       placed_then (Some s.end) a.0.end b.0.end a.1 b.1 (placed_fed m s (Sends text) tt (fitting.sends (Some s.end) text)) (placed_sends m a.0 texts leave)
 
   placed_replies : (m : ℕ) (s : Session ModelEnd) (mind : Option Mind) (heard : Option Heard) (free : Said)
-      → Placed (Some s.end) (runs (replied model_ends r m) s (hears mind heard free).1).0.end (runs (replied model_ends r m) s (hears mind heard free).1).1
-  unfolding runs
+      → Placed (Some s.end) (part_for_each_answer (replied model_ends r m) s (user_after_hearing mind heard free).1).0.end (part_for_each_answer (replied model_ends r m) s (user_after_hearing mind heard free).1).1
+  unfolding part_for_each_answer
   placed_replies m s None heard free = placed_none s.end s.end refl
   placed_replies m s (Some mind) None free = placed_none s.end s.end refl
   placed_replies m s (Some mind) (Some heard) free = let a = said mind.kind mind heard free in placed_sends m s a.texts a.leave
 
-  record Rest (k l : ModelEnd) (first xs : List Entry) : Type 0 where
-    rest : List Entry
+  record Rest (k l : ModelEnd) (first xs : List JournalEntry) : Type 0 where
+    rest : List JournalEntry
     is : xs ≡ first ++ rest
     placed : Placed (Some k) l rest
 
-  dealt_rest : (m : ℕ) (s : Session ModelEnd) (g : Given) (free : Said)
+  dealt_rest : (m : ℕ) (s : Session ModelEnd) (g : GivenToSession) (free : Said)
       → Rest (fed model_ends r m s g).0.end (dealt model_ends r m s g free).0.end (fed model_ends r m s g).1 (dealt model_ends r m s g free).1
   unfolding dealt
   dealt_rest m s g free =
       let a = fed model_ends r m s g in
-      let heard = heard_in (outcomes_of model_ends r m s.end g) in
-      let t : Session ModelEnd = record a.0 { mind = (hears s.mind heard free).0 } in
-      record { rest = (runs (replied model_ends r m) t (hears s.mind heard free).1).1; is = refl; placed = placed_replies m t s.mind heard free }
+      let heard = heard_by_user (outcomes_of_given_event model_ends r m s.end g) in
+      let t : Session ModelEnd = record a.0 { mind = (user_after_hearing s.mind heard free).0 } in
+      record { rest = (part_for_each_answer (replied model_ends r m) t (user_after_hearing s.mind heard free).1).1; is = refl; placed = placed_replies m t s.mind heard free }
 
-  placed_dealt : (m : ℕ) (s : Session ModelEnd) (g : Given) (free : Said) → IsOfEnd g → P (Some s.end) (written model_ends s.end g)
+  placed_dealt : (m : ℕ) (s : Session ModelEnd) (g : GivenToSession) (free : Said) → IsOfEnd g → P (Some s.end) (journal_event_of_given model_ends s.end g)
       → Placed (Some s.end) (dealt model_ends r m s g free).0.end (dealt model_ends r m s g free).1
   placed_dealt m s g free p fits =
       let a = fed model_ends r m s g in
@@ -192,27 +193,27 @@ module _ (P : Option Ended_at → Event → Type 0) (fitting : Fitting P) (plan 
   one_less (m ∷ ms) n e = omega arith
 
   placed_all : (m n : ℕ) (frees : List Said) (s : Session ModelEnd) → length (waiting_in s.end) ≡ n
-      → Placed (Some s.end) (runs (λ t free. dealt model_ends r m t Takes free) s (exactly n silence frees)).0.end
-      (runs (λ t free. dealt model_ends r m t Takes free) s (exactly n silence frees)).1
-  unfolding runs exactly
+      → Placed (Some s.end) (part_for_each_answer (λ t free. dealt model_ends r m t Takes free) s (exactly n silent_answer frees)).0.end
+      (part_for_each_answer (λ t free. dealt model_ends r m t Takes free) s (exactly n silent_answer frees)).1
+  unfolding part_for_each_answer exactly
   placed_all m zero frees s e = placed_none s.end s.end refl
   placed_all m (suc n) [] s e =
-      let a = dealt model_ends r m s Takes silence in
-      let b = runs (λ t free. dealt model_ends r m t Takes free) a.0 (exactly n silence []) in
-      placed_then (Some s.end) a.0.end b.0.end a.1 b.1 (placed_dealt m s Takes silence tt (fitting.takes s.end (one_waits s.end n e)))
-      (placed_all m n [] a.0 (ap length (dealt_take waits_move octets_bring r m s silence) ∙ one_less (waiting_in s.end) n e))
+      let a = dealt model_ends r m s Takes silent_answer in
+      let b = part_for_each_answer (λ t free. dealt model_ends r m t Takes free) a.0 (exactly n silent_answer []) in
+      placed_then (Some s.end) a.0.end b.0.end a.1 b.1 (placed_dealt m s Takes silent_answer tt (fitting.takes s.end (one_waits s.end n e)))
+      (placed_all m n [] a.0 (ap length (dealt_take waits_move octets_bring r m s silent_answer) ∙ one_less (waiting_in s.end) n e))
   placed_all m (suc n) (free ∷ frees) s e =
       let a = dealt model_ends r m s Takes free in
-      let b = runs (λ t free. dealt model_ends r m t Takes free) a.0 (exactly n silence frees) in
+      let b = part_for_each_answer (λ t free. dealt model_ends r m t Takes free) a.0 (exactly n silent_answer frees) in
       placed_then (Some s.end) a.0.end b.0.end a.1 b.1 (placed_dealt m s Takes free tt (fitting.takes s.end (one_waits s.end n e)))
       (placed_all m n frees a.0 (ap length (dealt_take waits_move octets_bring r m s free) ∙ one_less (waiting_in s.end) n e))
 
   placed_takes : (m : ℕ) (s : Session ModelEnd) (frees : List Said)
       → Placed (Some s.end) (takes_all model_ends r m s frees).0.end (takes_all model_ends r m s frees).1
   unfolding takes_all
-  placed_takes m s frees = placed_all m (waiting model_ends s) frees s (length-drop s.end.core.upper.used s.end.core.upper.accepted)
+  placed_takes m s frees = placed_all m (count_waiting_in_session model_ends s) frees s (length-drop s.end.core.upper.used s.end.core.upper.accepted)
 
-  handled_rest : (m : ℕ) (s : Session ModelEnd) (g : Given) (says : Says)
+  handled_rest : (m : ℕ) (s : Session ModelEnd) (g : GivenToSession) (says : Says)
       → Rest (fed model_ends r m s g).0.end (handled model_ends r m s g says).0.end (fed model_ends r m s g).1 (handled model_ends r m s g says).1
   unfolding handled
   handled_rest m s g says =
@@ -228,7 +229,7 @@ module _ (P : Option Ended_at → Event → Type 0) (fitting : Fitting P) (plan 
             (placed_then (Some (fed model_ends r m s g).0.end) a.0.end b.0.end d.rest b.1 d.placed (placed_takes m a.0 says.rest));
       }
 
-  placed_handled : (m : ℕ) (s : Session ModelEnd) (g : Given) (says : Says) → IsOfEnd g → P (Some s.end) (written model_ends s.end g)
+  placed_handled : (m : ℕ) (s : Session ModelEnd) (g : GivenToSession) (says : Says) → IsOfEnd g → P (Some s.end) (journal_event_of_given model_ends s.end g)
       → Placed (Some s.end) (handled model_ends r m s g says).0.end (handled model_ends r m s g says).1
   placed_handled m s g says p fits =
       let a = fed model_ends r m s g in
@@ -241,25 +242,25 @@ module _ (P : Option Ended_at → Event → Type 0) (fitting : Fitting P) (plan 
   none_waits : (k : ModelEnd) → waiting_in k ≡ [] → model_ends.waiting k ≡ 0
   none_waits k e = sym (length-drop k.core.upper.used k.core.upper.accepted) ∙ ap length e
 
-  record Ran (s t : Session ModelEnd) (xs : List Entry) : Type 0 where
+  record Ran (s t : Session ModelEnd) (xs : List JournalEntry) : Type 0 where
     placed : Placed (Some s.end) t.end xs
     none : waiting_in t.end ≡ []
 
-  Goes : Session ModelEnd → Session ModelEnd → List Entry → List Call → Type 0
+  Goes : Session ModelEnd → Session ModelEnd → List JournalEntry → List Call → Type 0
   Goes s t xs cs = waiting_in s.end ≡ [] → Ran s t xs
 
   goes_same : (s t : Session ModelEnd) (cs : List Call) → t.end ≡ s.end → Goes s t [] cs
   unfolding Goes
   goes_same s t cs e none = record { placed = placed_none s.end t.end e; none = ap waiting_in e ∙ none }
 
-  goes_then : (s t u : Session ModelEnd) (xs ys : List Entry) (cs ds : List Call) → Goes s t xs cs → Goes t u ys ds → Goes s u (xs ++ ys) (cs ++ ds)
+  goes_then : (s t u : Session ModelEnd) (xs ys : List JournalEntry) (cs ds : List Call) → Goes s t xs cs → Goes t u ys ds → Goes s u (xs ++ ys) (cs ++ ds)
   unfolding Goes
   goes_then s t u xs ys cs ds p q none =
       let a = p none in
       let b = q a.none in
       record { placed = placed_then (Some s.end) t.end u.end xs ys a.placed b.placed; none = b.none }
 
-  goes_handled : (m : ℕ) (s : Session ModelEnd) (g : Given) (says : Says) (cs : List Call) → IsFromOutside g
+  goes_handled : (m : ℕ) (s : Session ModelEnd) (g : GivenToSession) (says : Says) (cs : List Call) → IsFromOutside g
       → Goes s (handled model_ends r m s g says).0 (handled model_ends r m s g says).1 cs
   unfolding Goes
   goes_handled m s g says cs p none = record {
@@ -275,12 +276,12 @@ module _ (P : Option Ended_at → Event → Type 0) (fitting : Fitting P) (plan 
         | inr p ↦ rw p (goes_handled m x.0 (Hears x.1) says [] tt)
       ]
 
-  goes_all : (m : ℕ) (says : List Says) (x : Session ModelEnd × List ℕ) → Goes x.0 (runs (poured model_ends r m) x says).0.0 (runs (poured model_ends r m) x says).1 []
-  unfolding runs
+  goes_all : (m : ℕ) (says : List Says) (x : Session ModelEnd × List ℕ) → Goes x.0 (part_for_each_answer (poured model_ends r m) x says).0.0 (part_for_each_answer (poured model_ends r m) x says).1 []
+  unfolding part_for_each_answer
   goes_all m [] x = goes_same x.0 x.0 [] refl
   goes_all m (a ∷ says) x =
       let b = poured model_ends r m x a in
-      let d = runs (poured model_ends r m) b.0 says in
+      let d = part_for_each_answer (poured model_ends r m) b.0 says in
       goes_then x.0 b.0.0 d.0.0 b.1 d.1 [] [] (goes_poured m x a) (goes_all m says b.0)
 
   goes_pours : (m : ℕ) (s : Session ModelEnd) (octets : List ℕ) (says : List Says) (cs : List Call)
@@ -292,8 +293,8 @@ module _ (P : Option Ended_at → Event → Type 0) (fitting : Fitting P) (plan 
       → Goes s (came model_ends reading r m s says).0 (came model_ends reading r m s says).1 cs
   goes_came m s (Gave octets) says cs = goes_pours m s octets says cs
   goes_came m s NotNow says cs = goes_same s s cs refl
-  goes_came m s End says cs = goes_handled m s Ends (first_of nothing_said says) cs tt
-  goes_came m s Failed says cs = goes_handled m s Faults (first_of nothing_said says) cs tt
+  goes_came m s End says cs = goes_handled m s Ends (first_answer_of nothing_said says) cs tt
+  goes_came m s Failed says cs = goes_handled m s Faults (first_answer_of nothing_said says) cs tt
 
   goes_calls : Calls r Goes
   goes_calls = record {
@@ -311,31 +312,31 @@ module _ (P : Option Ended_at → Event → Type 0) (fitting : Fitting P) (plan 
 
   -- ---- all connections
 
-  abbrev Q : Session ModelEnd → Session ModelEnd → List Entry → List Call → Type 0
+  abbrev Q : Session ModelEnd → Session ModelEnd → List JournalEntry → List Call → Type 0
   Q = Both Own Goes
 
   q_calls : AllLeft r Q
   q_calls = all_left_of r Q (calls_both r Own Goes (own_calls r) goes_calls)
 
-  own : (s t : Session ModelEnd) (xs : List Entry) (cs : List Call) → Q s t xs cs → Own s t xs cs
+  own : (s t : Session ModelEnd) (xs : List JournalEntry) (cs : List Call) → Q s t xs cs → Own s t xs cs
   own s t xs cs p = p.0
 
-  record Known (s : Session ModelEnd) (xs : List Entry) (cs : List Call) : Type 0 where
+  record Known (s : Session ModelEnd) (xs : List JournalEntry) (cs : List Call) : Type 0 where
     placed : Placed None s.end xs
     none : waiting_in s.end ≡ []
 
-  record Gone (xs : List Entry) (cs : List Call) : Type 0 where
+  record Gone (xs : List JournalEntry) (cs : List Call) : Type 0 where
     each : Each None xs
-    none : waiting_at (Behind None xs) ≡ 0
+    none : count_waiting_at_end (Behind None xs) ≡ 0
 
-  known_more : (s t : Session ModelEnd) (xs ys : List Entry) (cs ds : List Call) → Known s xs cs → Q s t ys ds → Known t (xs ++ ys) (cs ++ ds)
+  known_more : (s t : Session ModelEnd) (xs ys : List JournalEntry) (cs ds : List Call) → Known s xs cs → Q s t ys ds → Known t (xs ++ ys) (cs ++ ds)
   unfolding Goes
   known_more s t xs ys cs ds h q =
       let a = q.1 h.none in
       record { placed = placed_then None s.end t.end xs ys h.placed a.placed; none = a.none }
 
-  known_gone : (s : Session ModelEnd) (xs : List Entry) (cs ds : List Call) → Known s xs cs → Gone xs ds
-  known_gone s xs cs ds h = record { each = h.placed.each; none = ap waiting_at h.placed.is ∙ none_waits s.end h.none }
+  known_gone : (s : Session ModelEnd) (xs : List JournalEntry) (cs ds : List Call) → Known s xs cs → Gone xs ds
+  known_gone s xs cs ds h = record { each = h.placed.each; none = ap count_waiting_at_end h.placed.is ∙ none_waits s.end h.none }
 
   keeps : Keeps plan Q Known Gone
   unfolding behind
@@ -350,7 +351,7 @@ module _ (P : Option Ended_at → Event → Type 0) (fitting : Fitting P) (plan 
 
   -- ---- the session that a dial opens
 
-  abbrev begins : Caller → Loop ModelEnd → Given
+  abbrev begins : Caller → Loop ModelEnd → GivenToSession
   begins caller l = Begins caller.engine plan.rbc (next_u64 l.words).0
 
   first_one : (caller : Caller) (l : Loop ModelEnd) (conn : ℕ) (mind : Mind) → key_at plan.keys l.moment caller.engine plan.rbc ≡ Some caller.kmac
@@ -361,7 +362,7 @@ module _ (P : Option Ended_at → Event → Type 0) (fitting : Fitting P) (plan 
       let word = (next_u64 l.words).0 in
       record {
         each = (fitting.call caller.engine plan.rbc word, tt);
-        is = ap (λ z. (called plan.settings l.moment caller.engine plan.rbc word z None).0) key;
+        is = ap (λ z. (end_behind_call plan.settings l.moment caller.engine plan.rbc word z None).0) key;
       }
 
   first_fed : (caller : Caller) (l : Loop ModelEnd) (conn : ℕ) (mind : Mind) → key_at plan.keys l.moment caller.engine plan.rbc ≡ Some caller.kmac
@@ -372,7 +373,7 @@ module _ (P : Option Ended_at → Event → Type 0) (fitting : Fitting P) (plan 
       let m = l.moment in
       let g = begins caller l in
       let s = begun conn (calling model_ends plan caller l) mind in
-      let octets = octets_in (outcomes_of model_ends r m s.end g) in
+      let octets = octets_in (outcomes_of_given_event model_ends r m s.end g) in
       let t = fresh m s g in
       placed_then None t.end (joined model_ends r m t octets).0.end (entry_of model_ends r m s g ∷ []) (joined model_ends r m t octets).1
       (first_one caller l conn mind key) (placed_joined m t octets)
@@ -398,7 +399,7 @@ module _ (P : Option Ended_at → Event → Type 0) (fitting : Fitting P) (plan 
 
   -- ---- both loops
 
-  gone_in : (s : Option (Session ModelEnd)) (conn : ℕ) (xs : List Entry) (cs : List Call) → Fits plan Q q_calls own Known Gone keeps s conn xs cs → Gone xs cs
+  gone_in : (s : Option (Session ModelEnd)) (conn : ℕ) (xs : List JournalEntry) (cs : List Call) → Fits plan Q q_calls own Known Gone keeps s conn xs cs → Gone xs cs
   unfolding Fits
   gone_in None conn xs cs h = h
   gone_in (Some s) conn xs cs h = known_gone s xs cs cs h.1
@@ -406,11 +407,11 @@ module _ (P : Option Ended_at → Event → Type 0) (fitting : Fitting P) (plan 
   -- it holds of each event of each connection, and no message waits behind the last
   pub record Walked (o : Out (Course ModelEnd)) : Type 0 where
     pub each : (conn : ℕ) → EachAt plan.settings (key_at plan.keys) P None (of conn o.entries)
-    pub none : (conn : ℕ) → waiting_at (end_at plan.settings (key_at plan.keys) conn (lines_of o.entries)) ≡ 0
-    pub ends : (conn : ℕ) (s : Session ModelEnd) → session_of conn o.state.loop.sessions ≡ Some s
-        → end_at plan.settings (key_at plan.keys) conn (lines_of o.entries) ≡ Some s.end
+    pub none : (conn : ℕ) → count_waiting_at_end (end_at plan.settings (key_at plan.keys) conn (trace_lines_of o.entries)) ≡ 0
+    pub ends : (conn : ℕ) (s : Session ModelEnd) → session_of_connection conn o.state.loop.sessions ≡ Some s
+        → end_at plan.settings (key_at plan.keys) conn (trace_lines_of o.entries) ≡ Some s.end
 
-  led : (found : Option (Session ModelEnd)) (conn : ℕ) (xs : List Entry) (cs : List Call) (s : Session ModelEnd) → found ≡ Some s
+  led : (found : Option (Session ModelEnd)) (conn : ℕ) (xs : List JournalEntry) (cs : List Call) (s : Session ModelEnd) → found ≡ Some s
       → Fits plan Q q_calls own Known Gone keeps found conn xs cs → Behind None xs ≡ Some s.end
   unfolding Fits
   led None conn xs cs s e h = absurd (let x : ⊥ = cc in x)
@@ -421,13 +422,13 @@ module _ (P : Option Ended_at → Event → Type 0) (fitting : Fitting P) (plan 
 
   walked : (o : Out (Course ModelEnd)) → AllAllowed plan.settings → Knows plan Q q_calls own Known Gone keeps o.entries o.calls o.state.loop.sessions → Walked o
   walked o allowed k = record {
-    each = λ conn. (gone_in (session_of conn o.state.loop.sessions) conn (of conn o.entries) (calls_at conn o.calls) (k.fits conn)).each;
+    each = λ conn. (gone_in (session_of_connection conn o.state.loop.sessions) conn (of conn o.entries) (calls_at conn o.calls) (k.fits conn)).each;
     none = λ conn.
-        ap waiting_at (at_own steps_alike made_stands plan allowed conn None o.entries)
-        ∙ (gone_in (session_of conn o.state.loop.sessions) conn (of conn o.entries) (calls_at conn o.calls) (k.fits conn)).none;
+        ap count_waiting_at_end (at_own steps_alike made_stands plan allowed conn None o.entries)
+        ∙ (gone_in (session_of_connection conn o.state.loop.sessions) conn (of conn o.entries) (calls_at conn o.calls) (k.fits conn)).none;
     ends = λ conn s e.
         at_own steps_alike made_stands plan allowed conn None o.entries
-        ∙ led (session_of conn o.state.loop.sessions) conn (of conn o.entries) (calls_at conn o.calls) s e (k.fits conn);
+        ∙ led (session_of_connection conn o.state.loop.sessions) conn (of conn o.entries) (calls_at conn o.calls) s e (k.fits conn);
   }
 
   pub walked_serving : (c : Course ModelEnd) (turns : List Turn) → IsServing plan c turns → Walked (run model_ends plan c turns)

@@ -7,17 +7,17 @@ use Rattle.er_users.specs.Users.{Mind}
 use Rattle.rand_core.specs.Stream.{Stream, next_u64}
 use Rattle.trace_model.specs.Checks.{Belongs, role_of}
 use Rattle.link_trait.specs.Wires.{Call}
-use Rattle.loop_model.specs.Journals.{Entry}
+use Rattle.loop_model.specs.Journals.{JournalEntry}
 use Rattle.loop_model.specs.Visits.{Met, visited, served}
 use Rattle.loop_model.specs.Loops.{Plan, rules_of, Loop, visit_at, next_user, begun, Caller, calling, called_by, called, Course, asks, run, Dialled, opens, dials_to, dials}
-use Rattle.loop_model.specs.Turnings.{word_of, words_of, AreNext, WordsAreNext}
+use Rattle.loop_model.specs.Turnings.{word_of, random_words_of_entries, AreNext, WordsAreNext}
 use Rattle.loop_model.proofs.Momentwise.{Momentwise, moment_run}
 use Rattle.loop_model.proofs.Replaying.{ArePlain, plain_visit, begins, served_so}
 
-words_of-append : (xs ys : List Entry) → words_of (xs ++ ys) ≡ words_of xs ++ words_of ys
-unfolding words_of
+words_of-append : (xs ys : List JournalEntry) → random_words_of_entries (xs ++ ys) ≡ random_words_of_entries xs ++ random_words_of_entries ys
+unfolding random_words_of_entries
 words_of-append [] ys = refl
-words_of-append (x ∷ xs) ys = ap (λ z. word_of x.event ++ z) (words_of-append xs ys) ∙ sym (append_assoc (word_of x.event) (words_of xs) (words_of ys))
+words_of-append (x ∷ xs) ys = ap (λ z. word_of x.event ++ z) (words_of-append xs ys) ∙ sym (append_assoc (word_of x.event) (random_words_of_entries xs) (random_words_of_entries ys))
 
 no_word : (e : Event) → role_of e ≡ Belongs → word_of e ≡ []
 no_word (event.Call engine rbc rb) p = absurd (let x : ⊥ = cc in x)
@@ -33,10 +33,10 @@ no_word event.Stalled p = refl
 no_word (event.Full count) p = refl
 no_word (event.Unserved count) p = refl
 
-no_words : (m n : ℕ) (xs : List Entry) → ArePlain m n xs → words_of xs ≡ []
-unfolding words_of
+no_words : (m n : ℕ) (xs : List JournalEntry) → ArePlain m n xs → random_words_of_entries xs ≡ []
+unfolding random_words_of_entries
 no_words m n [] p = refl
-no_words m n (x ∷ xs) p = ap (λ z. z ++ words_of xs) (no_word x.event p.0.role) ∙ no_words m n xs p.1
+no_words m n (x ∷ xs) p = ap (λ z. z ++ random_words_of_entries xs) (no_word x.event p.0.role) ∙ no_words m n xs p.1
 
 -- the stream behind so many words
 after : List ℕ → Stream → Stream
@@ -53,28 +53,28 @@ unfolding after
 after-append [] vs stream = refl
 after-append (w ∷ ws) vs stream = after-append ws vs (next_u64 stream).1
 
-record Draws (from to : Stream) (xs : List Entry) : Type 0 where
-  next : AreNext (words_of xs) from
-  left : to ≡ after (words_of xs) from
+record Draws (from to : Stream) (xs : List JournalEntry) : Type 0 where
+  next : AreNext (random_words_of_entries xs) from
+  left : to ≡ after (random_words_of_entries xs) from
 
-draws_none : (stream : Stream) (xs : List Entry) → words_of xs ≡ [] → Draws stream stream xs
+draws_none : (stream : Stream) (xs : List JournalEntry) → random_words_of_entries xs ≡ [] → Draws stream stream xs
 unfolding after
 draws_none stream xs e = record {
   next = subst (λ z. AreNext z stream) (sym e) tt;
   left = ap (λ z. after z stream) (sym e);
 }
 
-draws_then : (a b c : Stream) (xs ys : List Entry) → Draws a b xs → Draws b c ys → Draws a c (xs ++ ys)
+draws_then : (a b c : Stream) (xs ys : List JournalEntry) → Draws a b xs → Draws b c ys → Draws a c (xs ++ ys)
 draws_then a b c xs ys p q = record {
-  next = subst (λ z. AreNext z a) (sym (words_of-append xs ys)) (next-append (words_of xs) (words_of ys) a p.next (subst (λ z. AreNext (words_of ys) z) p.left q.next));
-  left = q.left ∙ ap (λ z. after (words_of ys) z) p.left ∙ sym (after-append (words_of xs) (words_of ys) a) ∙ ap (λ z. after z a) (sym (words_of-append xs ys));
+  next = subst (λ z. AreNext z a) (sym (words_of-append xs ys)) (next-append (random_words_of_entries xs) (random_words_of_entries ys) a p.next (subst (λ z. AreNext (random_words_of_entries ys) z) p.left q.next));
+  left = q.left ∙ ap (λ z. after (random_words_of_entries ys) z) p.left ∙ sym (after-append (random_words_of_entries xs) (random_words_of_entries ys) a) ∙ ap (λ z. after z a) (sym (words_of-append xs ys));
 }
 
-Goes : Loop ModelEnd → Loop ModelEnd → List Entry → List Call → Type 0
+Goes : Loop ModelEnd → Loop ModelEnd → List JournalEntry → List Call → Type 0
 Goes l k xs cs = Draws l.words k.words xs
 
 wise : (plan : Plan) → Momentwise plan Goes
-unfolding Goes words_of after
+unfolding Goes random_words_of_entries after
 wise plan = record {
   none = λ l. draws_none l.words [] refl;
   then_ = λ l k n xs ys cs ds p q. draws_then l.words k.words n.words xs ys p q;
@@ -90,21 +90,21 @@ wise plan = record {
 
 called_draws : (user : Option Mind) (plan : Plan) (caller : Caller) (l : Loop ModelEnd) (conn : ℕ) (a : Met)
     → Draws l.words (called_by model_ends user plan caller l conn a).state.words (called_by model_ends user plan caller l conn a).entries
-unfolding words_of after
+unfolding random_words_of_entries after
 called_draws None plan caller l conn a = record { next = tt; left = refl }
 called_draws (Some mind) plan caller l conn a =
     let o = served model_ends (rules_of plan) l.moment (begun conn (calling model_ends plan caller l) mind) (begins plan caller l) a in
     let c = served_so plan caller l conn mind a in
-    let e : words_of o.entries ≡ (next_u64 l.words).0 ∷ [] =
-    ap words_of c.is ∙ ap (λ z. (next_u64 l.words).0 ∷ z) (no_words l.moment conn c.rest c.plain) in
+    let e : random_words_of_entries o.entries ≡ (next_u64 l.words).0 ∷ [] =
+    ap random_words_of_entries c.is ∙ ap (λ z. (next_u64 l.words).0 ∷ z) (no_words l.moment conn c.rest c.plain) in
     record {
       next = subst (λ z. AreNext z l.words) (sym e) (refl, tt);
       left = ap (λ z. after z l.words) (sym e);
     }
 
 dial_draws : (conn : Option ℕ) (plan : Plan) (caller : Caller) (c : Course ModelEnd) (address : List ℕ) (a : Dialled)
-    → AreNext (words_of (dials_to model_ends conn plan caller c address a).entries) c.loop.words
-unfolding called words_of Goes
+    → AreNext (random_words_of_entries (dials_to model_ends conn plan caller c address a).entries) c.loop.words
+unfolding called random_words_of_entries Goes
 dial_draws None plan caller c address a = tt
 dial_draws (Some conn) plan caller c address a =
     let d = asks a.first c in

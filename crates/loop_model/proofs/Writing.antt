@@ -7,19 +7,19 @@ use Rattle.std.proofs.lemmas.Bool.{cases_Bool}
 use Rattle.link_trait.specs.Wires.{Call, Reading, Gave, NotNow, End, Failed, Reads, Writes, Closes}
 use Rattle.link_trait.specs.declared.wires.WriteAnswer.{WriteAnswer}
 use Rattle.link_trait.specs.declared.wires.WriteAnswer.TheVariants as write
-use Rattle.loop_model.specs.Journals.{Entry}
-use Rattle.loop_model.specs.Outs.{Out, still, next, makes, acts, exactly, first_of}
-use Rattle.loop_model.specs.Sessions.{Rules, Session, Given, Begins, Hears, Sends, Takes, Leaves, Ticks, Ends, Faults, Stalls, is_released, most_output, outcomes_of, octets_in, breaks, written as written_as, joined, fed, Says, nothing_said, handled}
-use Rattle.loop_model.specs.Visits.{most_read, Flow, Going, PutOff, Failing, after_write, writes_once, writes, Wrote, fault_unless, flowed, written_unless, written, settled, rests, Visit, Tick, Read, Write, Expire, Met, is_due, came, read_once, rests_behind, served, visited}
+use Rattle.loop_model.specs.Journals.{JournalEntry}
+use Rattle.loop_model.specs.Outs.{Out, still, next, makes, acts, exactly, first_answer_of}
+use Rattle.loop_model.specs.Sessions.{Rules, Session, GivenToSession, Begins, Hears, Sends, Takes, Leaves, Ticks, Ends, Faults, Stalls, is_released, most_output, outcomes_of_given_event, octets_in, breaks, journal_event_of_given as written_as, joined, fed, Says, nothing_said, handled}
+use Rattle.loop_model.specs.Visits.{most_read, WritingState, Going, PutOff, Failing, after_write, writes_once, writes, Wrote, fault_unless, flowed, written_unless, session_behind_writing, session_kept_or_closed, rests, Visit, Tick, Read, Write, Expire, Met, is_due, came, read_once, rests_behind, served, visited}
 use Rattle.loop_model.specs.Loops.{Plan, rules_of, Loop, next_user, begun, answering, Caller, calling, called_by, called, Course, asks, Turn, run, Dialled, opens, dials_to, dials}
-use Rattle.loop_model.specs.Parts.{session_of, of, calls_at}
-use Rattle.loop_model.specs.Laws.{IsServing, IsDialling, octets_of}
+use Rattle.loop_model.specs.Parts.{session_of_connection, of, calls_at}
+use Rattle.loop_model.specs.Laws.{IsServing, IsDialling, octets_of_entries}
 use Rattle.loop_model.specs.Faulted.{has_failed}
 use Rattle.loop_model.specs.Writings as specs
-use Rattle.loop_model.specs.Writings.{left_after, is_break, has_broken, IsAllGiven, AllAreGiven, AllWait, RestWaits, IsWhole, LiveAreWhole, AllTakeOne, answered, last_answer, IsWritten, OutputIsWritten}
+use Rattle.loop_model.specs.Writings.{left_after, is_break, has_broken, IsAllGiven, AllAreGiven, AllWait, RestWaits, HasWholeConnections, LiveAreWhole, AllTakeOne, write_answer_behind_call, last_answer, IsOutputWritten, OutputIsWritten}
 use Rattle.er_users.specs.Users.{Mind}
 use Rattle.rand_core.specs.Stream.{next_u64}
-use Rattle.loop_model.specs.Turnings.{IsKept, AreKept}
+use Rattle.loop_model.specs.Turnings.{IsKeptSession, AreKept}
 use Rattle.loop_model.proofs.Keepers.{kept_rests, others_are_closed}
 use Rattle.loop_model.proofs.Steadies.{Steady, follows_handled, steady_handled, steady_pours, quiet_at, written_at, over_settled, over_due, Left, Stays, Closed, AllLeft, Calls}
 use Rattle.loop_model.proofs.Lives.{Own, Keeps, Fits, Knows, knows_run}
@@ -31,7 +31,7 @@ use Rattle.loop_model.proofs.Givings as givings
 
 -- ---- what breaks off stays so
 
-Broken : Session ModelEnd → Session ModelEnd → List Entry → List Call → Type 0
+Broken : Session ModelEnd → Session ModelEnd → List JournalEntry → List Call → Type 0
 Broken s t xs cs = s.broken ≡ true → t.broken ≡ true
 
 or_left : (a b : Bool) → a ≡ true → (a || b) ≡ true
@@ -56,7 +56,7 @@ breaking r = record {
 fed_broken : (r : Rules) (m : ℕ) (s : Session ModelEnd) → (fed model_ends r m s Faults).0.broken ≡ true
 unfolding fed joined
 fed_broken r m s =
-    elim (cases_Bool (nat_lt most_output (length s.output + length (octets_in (outcomes_of model_ends r m s.end Faults))))) [ inl p ↦ rw p refl | inr p ↦ rw p (or_right s.broken) ]
+    elim (cases_Bool (nat_lt most_output (length s.output + length (octets_in (outcomes_of_given_event model_ends r m s.end Faults))))) [ inl p ↦ rw p refl | inr p ↦ rw p (or_right s.broken) ]
 
 pub handled_broken : (r : Rules) (m : ℕ) (s : Session ModelEnd) (says : Says) → (handled model_ends r m s Faults says).0.broken ≡ true
 unfolding Broken
@@ -95,7 +95,7 @@ module _ (r : Rules) (m : ℕ) where
   unless_broken true s says = refl
   unless_broken false s says = handled_broken r m s says
 
-  abbrev flow : Session ModelEnd × Flow → List WriteAnswer → Says → Out (Session ModelEnd)
+  abbrev flow : Session ModelEnd × WritingState → List WriteAnswer → Says → Out (Session ModelEnd)
   flow x answers says = next (acts writes_once x answers) (λ y. flowed model_ends r m y says)
 
   abbrev answer : Session ModelEnd → WriteAnswer → List WriteAnswer → Says → Out (Session ModelEnd)
@@ -183,8 +183,8 @@ module _ (r : Rules) (m : ℕ) where
     done = λ last all p. flow_done s (exactly (length s.output) write.NotNow a.answers) a.says last (long_enough s a) all p;
   }
 
-  pub written_so : (s : Session ModelEnd) (a : Wrote) → WroteSo s (written model_ends r m s a)
-  unfolding written
+  pub written_so : (s : Session ModelEnd) (a : Wrote) → WroteSo s (session_behind_writing model_ends r m s a)
+  unfolding session_behind_writing
   written_so s a = unless_so s.broken s a refl
 
 -- ---- a visit
@@ -196,7 +196,7 @@ pub record Goes (s t : Session ModelEnd) (cs : List Call) : Type 0 where
       → (t.output ≡ []) ⊎ ((last_answer last cs ≡ Some write.NotNow) ⊎ ((t.output ≡ s.output) × (last_answer last cs ≡ last)))
 
 -- it broke off before, or by an event or a call
-unfoldable pub Off : Session ModelEnd → Session ModelEnd → List Entry → List Call → Type 0
+unfoldable pub Off : Session ModelEnd → Session ModelEnd → List JournalEntry → List Call → Type 0
 Off s t xs cs = t.broken ≡ (s.broken || (has_broken xs || has_failed cs))
 
 or_assoc : (a b c : Bool) → (a || (b || c)) ≡ ((a || b) || c)
@@ -219,21 +219,21 @@ or_two false true false d = refl
 or_two false false true d = refl
 or_two false false false d = refl
 
-broken-append : (xs ys : List Entry) → has_broken (xs ++ ys) ≡ (has_broken xs || has_broken ys)
+broken-append : (xs ys : List JournalEntry) → has_broken (xs ++ ys) ≡ (has_broken xs || has_broken ys)
 unfolding has_broken
 broken-append [] ys = refl
 broken-append (x ∷ xs) ys = ap (λ z. is_break x.event || z) (broken-append xs ys) ∙ or_assoc (is_break x.event) (has_broken xs) (has_broken ys)
 
-off-append : (xs ys : List Entry) (cs ds : List Call) → ((has_broken xs || has_failed cs) || (has_broken ys || has_failed ds)) ≡ (has_broken (xs ++ ys) || has_failed (cs ++ ds))
+off-append : (xs ys : List JournalEntry) (cs ds : List Call) → ((has_broken xs || has_failed cs) || (has_broken ys || has_failed ds)) ≡ (has_broken (xs ++ ys) || has_failed (cs ++ ds))
 off-append xs ys cs ds = rw (broken-append xs ys, failed-append cs ds) (or_two (has_broken xs) (has_failed cs) (has_broken ys) (has_failed ds))
 
-off_then : (s t u : Session ModelEnd) (xs ys : List Entry) (cs ds : List Call) → Off s t xs cs → Off t u ys ds → Off s u (xs ++ ys) (cs ++ ds)
+off_then : (s t u : Session ModelEnd) (xs ys : List JournalEntry) (cs ds : List Call) → Off s t xs cs → Off t u ys ds → Off s u (xs ++ ys) (cs ++ ds)
 unfolding Off
 off_then s t u xs ys cs ds p q =
     q ∙ ap (λ z. z || (has_broken ys || has_failed ds)) p ∙ sym (or_assoc s.broken (has_broken xs || has_failed cs) (has_broken ys || has_failed ds))
     ∙ ap (λ z. s.broken || z) (off-append xs ys cs ds)
 
-breaks_so : (k : ModelEnd) (g : Given) → is_break (written_as model_ends k g) ≡ breaks g
+breaks_so : (k : ModelEnd) (g : GivenToSession) → is_break (written_as model_ends k g) ≡ breaks g
 breaks_so k (Begins engine rbc rb) = refl
 breaks_so k (Hears octets) = refl
 breaks_so k (Sends text) = refl
@@ -261,9 +261,9 @@ pub off_read : (r : Rules) (m : ℕ) (s : Session ModelEnd) (waits : ℕ) (readi
 unfolding Off has_broken has_failed
 off_read r m s waits (Gave octets) says = steady_pours r (λ g. Unit {0}) Off (off_steady r) givings.all_given.usual (λ octets. tt) m s octets says
 off_read r m s waits NotNow says = or_none s.broken
-off_read r m s waits End says = steady_handled r (λ g. Unit {0}) Off (off_steady r) givings.all_given.usual m s Ends (first_of nothing_said says) tt
+off_read r m s waits End says = steady_handled r (λ g. Unit {0}) Off (off_steady r) givings.all_given.usual m s Ends (first_answer_of nothing_said says) tt
 off_read r m s waits Failed says =
-    handled_broken r m s (first_of nothing_said says) ∙ or_top s.broken (has_broken (handled model_ends r m s Faults (first_of nothing_said says)).1)
+    handled_broken r m s (first_answer_of nothing_said says) ∙ or_top s.broken (has_broken (handled model_ends r m s Faults (first_answer_of nothing_said says)).1)
 
 off_calls : (r : Rules) → Calls r Off
 unfolding Off has_broken has_failed
@@ -282,7 +282,7 @@ off_calls r = record {
 
 -- ---- all that is known of a visit
 
-abbrev pub Each : Session ModelEnd → Session ModelEnd → List Entry → List Call → Type 0
+abbrev pub Each : Session ModelEnd → Session ModelEnd → List JournalEntry → List Call → Type 0
 Each = Both givings.Q Off
 
 each_steady : (r : Rules) → Steady r (λ g. Unit {0}) Each
@@ -291,7 +291,7 @@ each_steady r = steady_both r (λ g. Unit {0}) givings.Q Off (givings.q_steady r
 pub each_calls : (r : Rules) → Calls r Each
 each_calls r = calls_both r givings.Q Off (givings.q_each r) (off_calls r)
 
-record Visits (s t : Session ModelEnd) (xs : List Entry) (cs : List Call) : Type 0 where
+record Visits (s t : Session ModelEnd) (xs : List JournalEntry) (cs : List Call) : Type 0 where
   each : Each s t xs cs
   goes : Goes s t cs
 
@@ -299,9 +299,9 @@ stands : (r : Rules) (s : Session ModelEnd) → Visits s s [] []
 unfolding left_after last_answer
 stands r s = record { each = (each_steady r).none s; goes = record { left = λ p. refl; done = λ last all p. inr (inr (refl, refl)) } }
 
-pub left_settled : (Q : Session ModelEnd → Session ModelEnd → List Entry → List Call → Type 0) (s t : Session ModelEnd) (xs : List Entry) (cs : List Call) → Q s t xs cs
-    → Left Q s (settled model_ends t).state (xs ++ (settled model_ends t).entries) (cs ++ (settled model_ends t).calls)
-unfolding settled
+pub left_settled : (Q : Session ModelEnd → Session ModelEnd → List JournalEntry → List Call → Type 0) (s t : Session ModelEnd) (xs : List JournalEntry) (cs : List Call) → Q s t xs cs
+    → Left Q s (session_kept_or_closed model_ends t).state (xs ++ (session_kept_or_closed model_ends t).entries) (cs ++ (session_kept_or_closed model_ends t).calls)
+unfolding session_kept_or_closed
 left_settled Q s t xs cs p =
     elim (cases_Bool (t.broken || (is_released model_ends t && (length t.output == 0)))) [
       | inl q ↦ rw (q, append-nil xs) (Closed t cs (over_settled t.broken (is_released model_ends t) (length t.output == 0) (is_some t.closing) q) refl refl p)
@@ -327,13 +327,13 @@ append_none (x ∷ xs) ys p = absurd (let q : ⊥ = cc in q)
 
 module _ (r : Rules) (m : ℕ) where
   -- the output of a session is written behind events
-  left_rests : (s h : Session ModelEnd) (a : Wrote) (xs : List Entry) (ps : List Call) → Each s h xs ps → NoWrite ps → (h.broken ≡ false → h.output ≡ [] → s.output ≡ [])
+  left_rests : (s h : Session ModelEnd) (a : Wrote) (xs : List JournalEntry) (ps : List Call) → Each s h xs ps → NoWrite ps → (h.broken ≡ false → h.output ≡ [] → s.output ≡ [])
       → Left Visits s (rests model_ends r m h a).state (xs ++ (rests model_ends r m h a).entries) (ps ++ (rests model_ends r m h a).calls)
   unfolding rests
   left_rests s h a xs ps each bare empty =
-      let w = written model_ends r m h a in
+      let w = session_behind_writing model_ends r m h a in
       let so = written_so r m h a in
-      rw (← append_assoc xs w.entries (settled model_ends w.state).entries, ← append_assoc ps w.calls (settled model_ends w.state).calls)
+      rw (← append_assoc xs w.entries (session_kept_or_closed model_ends w.state).entries, ← append_assoc ps w.calls (session_kept_or_closed model_ends w.state).calls)
       (left_settled Visits s w.state (xs ++ w.entries) (ps ++ w.calls) (record {
         each = (each_calls r).then_ s h w.state xs w.entries ps w.calls each (written_at r m Each (quiet_at r Each (each_calls r).quiet m) h a);
         goes = record {
@@ -343,14 +343,14 @@ module _ (r : Rules) (m : ℕ) where
         };
       }))
 
-  emptied : (s h : Session ModelEnd) (xs : List Entry) (ps : List Call) → Gives s h xs ps → given_in ps ≡ [] → h.broken ≡ false → h.output ≡ [] → s.output ≡ []
+  emptied : (s h : Session ModelEnd) (xs : List JournalEntry) (ps : List Call) → Gives s h xs ps → given_in ps ≡ [] → h.broken ≡ false → h.output ≡ [] → s.output ≡ []
   emptied s h xs ps g none p e =
-      append_none s.output (octets_of xs) (g.is ∙ ap (λ z. z ++ g.rest) none ∙ (g.whole p).1 ∙ e)
+      append_none s.output (octets_of_entries xs) (g.is ∙ ap (λ z. z ++ g.rest) none ∙ (g.whole p).1 ∙ e)
 
-  left_served : (s : Session ModelEnd) (g : Given) (a : Met) → Left Visits s (served model_ends r m s g a).state (served model_ends r m s g a).entries (served model_ends r m s g a).calls
+  left_served : (s : Session ModelEnd) (g : GivenToSession) (a : Met) → Left Visits s (served model_ends r m s g a).state (served model_ends r m s g a).entries (served model_ends r m s g a).calls
   unfolding served given_in
   left_served s g a =
-      let says = first_of nothing_said a.says in
+      let says = first_answer_of nothing_said a.says in
       let h = handled model_ends r m s g says in
       let each = steady_handled r (λ g. Unit {0}) Each (each_steady r) givings.all_given.usual m s g says tt in
       left_rests s h.0 a.wrote h.1 [] each no_call (emptied s h.0 h.1 [] each.0.1 refl)
@@ -395,10 +395,10 @@ all_left r = record { at_visit = λ visit m s a. left_at r m visit s a; at_rest 
 
 -- ---- a session and all that came at it
 
-own : (s t : Session ModelEnd) (xs : List Entry) (cs : List Call) → Visits s t xs cs → Own s t xs cs
+own : (s t : Session ModelEnd) (xs : List JournalEntry) (cs : List Call) → Visits s t xs cs → Own s t xs cs
 own s t xs cs v = v.each.0.0
 
-record Holds_so (s : Session ModelEnd) (xs : List Entry) (cs : List Call) : Type 0 where
+record Holds_so (s : Session ModelEnd) (xs : List JournalEntry) (cs : List Call) : Type 0 where
   given : Given_so s xs cs
   left : s.broken ≡ false → s.output ≡ left_after [] cs
   done : AllTakeOne cs → s.broken ≡ false → (s.output ≡ []) ⊎ (last_answer None cs ≡ Some write.NotNow)
@@ -412,7 +412,7 @@ left-append before (call ∷ cs) ds = left-append (specs.left_at call before) cs
 last-append : (last : Option WriteAnswer) (cs ds : List Call) → last_answer last (cs ++ ds) ≡ last_answer (last_answer last cs) ds
 unfolding last_answer
 last-append last [] ds = refl
-last-append last (call ∷ cs) ds = last-append (answered call last) cs ds
+last-append last (call ∷ cs) ds = last-append (write_answer_behind_call call last) cs ds
 
 all_first : (cs ds : List Call) → AllTakeOne (cs ++ ds) → AllTakeOne cs
 all_first [] ds p = tt
@@ -433,7 +433,7 @@ done_more s t cs ds g p all before =
       ]
     ]
 
-more : (s t : Session ModelEnd) (xs ys : List Entry) (cs ds : List Call) → Holds_so s xs cs → Visits s t ys ds → Holds_so t (xs ++ ys) (cs ++ ds)
+more : (s t : Session ModelEnd) (xs ys : List JournalEntry) (cs ds : List Call) → Holds_so s xs cs → Visits s t ys ds → Holds_so t (xs ++ ys) (cs ++ ds)
 unfolding Off
 more s t xs ys cs ds h v =
     let g = v.each.0.1 in
@@ -445,8 +445,8 @@ more s t xs ys cs ds h v =
     }
 
 -- what it comes to at a close
-Over : List Entry → List Call → Type 0
-Over xs cs = has_broken xs ≡ false → has_failed cs ≡ false → left_after [] cs ≡ [] → given_in cs ≡ octets_of xs
+Over : List JournalEntry → List Call → Type 0
+Over xs cs = has_broken xs ≡ false → has_failed cs ≡ false → left_after [] cs ≡ [] → given_in cs ≡ octets_of_entries xs
 
 both_false : (a b : Bool) → a ≡ false → b ≡ false → (a || b) ≡ false
 both_false true b p q = absurd (true≢false p)
@@ -460,16 +460,16 @@ closed_left : (cs ds : List Call) (n : ℕ) → left_after [] (cs ++ (ds ++ Clos
 unfolding left_after
 closed_left cs ds n = ap (λ z. left_after [] z) (sym (append_assoc cs ds (Closes n ∷ []))) ∙ left-append [] (cs ++ ds) (Closes n ∷ [])
 
-over_of : (t : Session ModelEnd) (xs : List Entry) (cs ds : List Call) → Holds_so t xs (cs ++ ds) → Over xs (cs ++ (ds ++ Closes t.number ∷ []))
+over_of : (t : Session ModelEnd) (xs : List JournalEntry) (cs ds : List Call) → Holds_so t xs (cs ++ ds) → Over xs (cs ++ (ds ++ Closes t.number ∷ []))
 unfolding Over
-over_of t xs cs ds h whole written left =
-    let failed : has_failed (cs ++ ds) ≡ false = sym (closed_failed cs ds t.number) ∙ written in
+over_of t xs cs ds h whole session_behind_writing left =
+    let failed : has_failed (cs ++ ds) ≡ false = sym (closed_failed cs ds t.number) ∙ session_behind_writing in
     let calm : t.broken ≡ false = h.off ∙ both_false (has_broken xs) (has_failed (cs ++ ds)) whole failed in
     let none : t.output ≡ [] = h.left calm ∙ sym (closed_left cs ds t.number) ∙ left in
     givings.closed_given cs ds t.number ∙ sym (append-nil (given_in (cs ++ ds)))
     ∙ ap (λ z. given_in (cs ++ ds) ++ z) (sym (h.given.whole calm ∙ none)) ∙ h.given.is
 
-new_so : (s : Session ModelEnd) (x : List Entry) → s.output ≡ [] → s.broken ≡ false → octets_of x ≡ [] → has_broken x ≡ false → Holds_so s x []
+new_so : (s : Session ModelEnd) (x : List JournalEntry) → s.output ≡ [] → s.broken ≡ false → octets_of_entries x ≡ [] → has_broken x ≡ false → Holds_so s x []
 unfolding given_in left_after has_failed
 new_so s x e b none whole = record {
   given = record { rest = []; is = sym none; whole = λ p. sym e };
@@ -479,7 +479,7 @@ new_so s x e b none whole = record {
 }
 
 keeps : (plan : Plan) → Keeps plan Visits Holds_so Over
-unfolding Over given_in octets_of has_broken
+unfolding Over given_in octets_of_entries has_broken
 keeps plan = record {
   visit = λ s t xs ys cs ds h v. more s t xs ys cs ds h v;
   close = λ s t xs ys cs ds over h v. over_of t (xs ++ ys) cs ds (more s t xs ys cs ds h v);
@@ -493,12 +493,12 @@ some_same : (t s : Session ModelEnd) → Some t ≡ Some s → t ≡ s
 some_same t s e = cc
 
 -- the session of a number is one of those
-kept_of : (conn : ℕ) (ss : List (Session ModelEnd)) (s : Session ModelEnd) → AreKept ss → session_of conn ss ≡ Some s → IsKept s
-unfolding session_of
+kept_of : (conn : ℕ) (ss : List (Session ModelEnd)) (s : Session ModelEnd) → AreKept ss → session_of_connection conn ss ≡ Some s → IsKeptSession s
+unfolding session_of_connection
 kept_of conn [] s p e = absurd (let q : ⊥ = cc in q)
 kept_of conn (t ∷ ss) s p e =
     elim (cases_Bool (t.number == conn)) [
-      | inl q ↦ let same : Some t ≡ Some s = rw q at e in subst IsKept (some_same t s same) p.0
+      | inl q ↦ let same : Some t ≡ Some s = rw q at e in subst IsKeptSession (some_same t s same) p.0
       | inr q ↦ kept_of conn ss s p.1 (rw q at e)
     ]
 
@@ -508,32 +508,32 @@ module _ (plan : Plan) where
   abbrev Known : Out (Course ModelEnd) → Type 0
   Known o = Knows plan Visits (all_left (rules_of plan)) own Holds_so Over (keeps plan) o.entries o.calls o.state.loop.sessions
 
-  abbrev Fit : Option (Session ModelEnd) → ℕ → List Entry → List Call → Type 0
+  abbrev Fit : Option (Session ModelEnd) → ℕ → List JournalEntry → List Call → Type 0
   Fit s conn xs cs = Fits plan Visits (all_left (rules_of plan)) own Holds_so Over (keeps plan) s conn xs cs
 
   serving : (c : Course ModelEnd) (turns : List Turn) → IsServing plan c turns → Known (run model_ends plan c turns)
   serving c turns h = knows_run plan Visits (all_left (rules_of plan)) own Holds_so Over (keeps plan) c turns h.none h.rises
 
   dialling : (caller : Caller) (c : Course ModelEnd) (address : List ℕ) (a : Dialled) → IsDialling plan caller c address a → Known (dials model_ends plan caller c address a)
-  unfolding octets_of has_broken
+  unfolding octets_of_entries has_broken
   dialling caller c address a h =
       knows_dial_served plan caller Visits (all_left (rules_of plan)) own Holds_so Over (keeps plan)
       (λ l conn mind. new_so (begun conn (calling model_ends plan caller l) mind) [] refl refl refl refl) (λ m s g a. left_served (rules_of plan) m s g a)
       (max c.loop.moment a.first) c address a h.none refl h.rises
 
   -- one that is live
-  live : (o : Out (Course ModelEnd)) → Known o → (conn : ℕ) (s : Session ModelEnd) → session_of conn o.state.loop.sessions ≡ Some s → Holds_so s (of conn o.entries) (calls_at conn o.calls)
+  live : (o : Out (Course ModelEnd)) → Known o → (conn : ℕ) (s : Session ModelEnd) → session_of_connection conn o.state.loop.sessions ≡ Some s → Holds_so s (of conn o.entries) (calls_at conn o.calls)
   unfolding Fits
   live o k conn s is =
       let f : (s.number ≡ conn) × Holds_so s (of conn o.entries) (calls_at conn o.calls) = rw is at (k.fits conn) in f.1
 
-  live_all : (s : Session ModelEnd) (xs : List Entry) (cs : List Call) → Holds_so s xs cs → has_broken xs ≡ false → has_failed cs ≡ false → left_after [] cs ≡ [] → given_in cs ≡ octets_of xs
-  live_all s xs cs h whole written left =
-      let calm : s.broken ≡ false = h.off ∙ both_false (has_broken xs) (has_failed cs) whole written in
+  live_all : (s : Session ModelEnd) (xs : List JournalEntry) (cs : List Call) → Holds_so s xs cs → has_broken xs ≡ false → has_failed cs ≡ false → left_after [] cs ≡ [] → given_in cs ≡ octets_of_entries xs
+  live_all s xs cs h whole session_behind_writing left =
+      let calm : s.broken ≡ false = h.off ∙ both_false (has_broken xs) (has_failed cs) whole session_behind_writing in
       sym (append-nil (given_in cs)) ∙ ap (λ z. given_in cs ++ z) (sym (h.given.whole calm ∙ h.left calm ∙ left)) ∙ h.given.is
 
-  given_all : (s : Option (Session ModelEnd)) (conn : ℕ) (xs : List Entry) (cs : List Call) → Fit s conn xs cs
-      → has_broken xs ≡ false → has_failed cs ≡ false → left_after [] cs ≡ [] → given_in cs ≡ octets_of xs
+  given_all : (s : Option (Session ModelEnd)) (conn : ℕ) (xs : List JournalEntry) (cs : List Call) → Fit s conn xs cs
+      → has_broken xs ≡ false → has_failed cs ≡ false → left_after [] cs ≡ [] → given_in cs ≡ octets_of_entries xs
   unfolding Fits Over
   given_all None conn xs cs h = h
   given_all (Some s) conn xs cs h = live_all s xs cs h.1
@@ -541,9 +541,9 @@ module _ (plan : Plan) where
   all_given : (o : Out (Course ModelEnd)) → Known o → IsAllGiven plan o
   all_given o k conn order =
       givings.given_at conn o.calls
-      ∙ given_all (session_of conn o.state.loop.sessions) conn (of conn o.entries) (calls_at conn o.calls) (k.fits conn) order.whole order.written order.left
+      ∙ given_all (session_of_connection conn o.state.loop.sessions) conn (of conn o.entries) (calls_at conn o.calls) (k.fits conn) order.whole order.written order.left
 
-  calm_of : (o : Out (Course ModelEnd)) (conn : ℕ) (s : Session ModelEnd) → AreKept o.state.loop.sessions → session_of conn o.state.loop.sessions ≡ Some s → s.broken ≡ false
+  calm_of : (o : Out (Course ModelEnd)) (conn : ℕ) (s : Session ModelEnd) → AreKept o.state.loop.sessions → session_of_connection conn o.state.loop.sessions ≡ Some s → s.broken ≡ false
   calm_of o conn s kept is = (neither s.broken (is_released model_ends s && (length s.output == 0)) (kept_of conn o.state.loop.sessions s kept is)).0
 
   all_wait : (o : Out (Course ModelEnd)) → Known o → AreKept o.state.loop.sessions → AllWait plan o
@@ -555,12 +555,12 @@ module _ (plan : Plan) where
         left = h.left calm;
       }
 
-  is_whole : (o : Out (Course ModelEnd)) → Known o → AreKept o.state.loop.sessions → IsWhole plan o
+  is_whole : (o : Out (Course ModelEnd)) → Known o → AreKept o.state.loop.sessions → HasWholeConnections plan o
   is_whole o k kept conn s is =
       let h = live o k conn s is in
       neither (has_broken (of conn o.entries)) (has_failed (calls_at conn o.calls)) (sym h.off ∙ calm_of o conn s kept is)
 
-  is_written : (o : Out (Course ModelEnd)) → Known o → AreKept o.state.loop.sessions → IsWritten plan o
+  is_written : (o : Out (Course ModelEnd)) → Known o → AreKept o.state.loop.sessions → IsOutputWritten plan o
   is_written o k kept conn s is all = (live o k conn s is).done all (calm_of o conn s kept is)
 
   -- ---- no session is left that broke off
@@ -574,7 +574,7 @@ module _ (plan : Plan) where
   called_kept (Some mind) caller l conn a p =
       let r = rules_of plan in
       kept_rests r l.moment
-      (handled model_ends r l.moment (begun conn (calling model_ends plan caller l) mind) (Begins caller.engine plan.rbc (next_u64 l.words).0) (first_of nothing_said a.says)).0 a.wrote
+      (handled model_ends r l.moment (begun conn (calling model_ends plan caller l) mind) (Begins caller.engine plan.rbc (next_u64 l.words).0) (first_answer_of nothing_said a.says)).0 a.wrote
 
   dial_kept : (conn : Option ℕ) (caller : Caller) (c : Course ModelEnd) (address : List ℕ) (a : Dialled) → AreKept c.loop.sessions → AreKept (dials_to model_ends conn plan caller c address a).state.loop.sessions
   unfolding called

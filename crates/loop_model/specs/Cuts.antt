@@ -1,6 +1,6 @@
 -- How the octets that are read are cut into events: behind each frame that they close, and nowhere else. Behind the event that released
 -- a connection all that is left of a read is one event.
-use Rattle.loop_model.specs.Ends.{ModelEnd, model_ends, used_of}
+use Rattle.loop_model.specs.Ends.{ModelEnd, model_ends, octet_count_used_by_end}
 use Rattle.std.specs.Prelude.{ℕ, ◌≡◌, Bool, true, false, not, ◌||◌, List, [], ◌∷◌, ◌++◌, length, Option, Some, None, is_some}
 use Rattle.hdlc_frames.specs.Deframing.{has_verdicts}
 use Rattle.hdlc_station_model.specs.Events.{news}
@@ -11,12 +11,12 @@ use Rattle.er_end_model.specs.Ends.{End}
 use Rattle.er_trace.specs.declared.event.Event.{Event}
 use Rattle.er_trace.specs.declared.event.Event.TheVariants.{Call, Answer, Octets, Send, Take, Release, Tick, Ended, Fault, Stalled, Full, Unserved}
 use Rattle.trace_model.specs.Connections.{happens}
-use Rattle.loop_model.specs.Journals.{Entry}
+use Rattle.loop_model.specs.Journals.{JournalEntry}
 use Rattle.loop_model.specs.Outs.{Out}
 use Rattle.loop_model.specs.Sessions.{Session}
 use Rattle.loop_model.specs.Loops.{Plan, numbers, Course, Turn, went}
-use Rattle.loop_model.specs.Parts.{session_of, of, Rises}
-use Rattle.loop_model.specs.Laws.{Holds}
+use Rattle.loop_model.specs.Parts.{session_of_connection, of, Rises}
+use Rattle.loop_model.specs.Laws.{HoldsOfEachLoop}
 use Rattle.loop_model.specs.Points.{is_stalled}
 use Rattle.loop_model.specs.Walks.{EachAt}
 
@@ -25,7 +25,7 @@ use Rattle.loop_model.specs.Walks.{EachAt}
 -- octets come to an end, and it uses all of them at once: none but the last one closes a frame, or the end is released
 abbrev pub IsUsedUp : Option End → List ℕ → Type 0
 IsUsedUp None octets = ⊥
-IsUsedUp (Some m) octets = used_of m octets ≡ length octets
+IsUsedUp (Some m) octets = octet_count_used_by_end m octets ≡ length octets
 
 abbrev pub IsCut : Option End → Event → Type 0
 IsCut m (Call engine rbc rb) = Unit {0}
@@ -46,18 +46,18 @@ abbrev pub AreCut : Plan → Out (Course ModelEnd) → Type 0
 AreCut plan o = (conn : ℕ) → EachAt plan.settings (key_at plan.keys) IsCut None (of conn o.entries)
 
 abbrev pub EventsAreCut : Type 0
-EventsAreCut = Holds AreCut
+EventsAreCut = HoldsOfEachLoop AreCut
 
 -- ---- the events of one turn
 
 -- whether octets close a frame, behind all that came
-unfoldable pub closes : (came : List ℕ) → List ℕ → Bool
-closes came [] = false
-closes came (octet ∷ octets) = has_verdicts (news came (octet ∷ [])) || closes (came ++ octet ∷ []) octets
+unfoldable pub closes_any_frame : (came : List ℕ) → List ℕ → Bool
+closes_any_frame came [] = false
+closes_any_frame came (octet ∷ octets) = has_verdicts (news came (octet ∷ [])) || closes_any_frame (came ++ octet ∷ []) octets
 
 abbrev pub are_left_over : Option End → List ℕ → Bool
 are_left_over None octets = true
-are_left_over (Some m) octets = is_some m.core.released || not (closes m.stream octets)
+are_left_over (Some m) octets = is_some m.core.released || not (closes_any_frame m.stream octets)
 
 -- octets that come to a released end, or close no frame
 abbrev pub is_left_over : Option End → Event → Bool
@@ -89,15 +89,15 @@ is_octets (Full count) = false
 is_octets (Unserved count) = false
 
 -- whether octets come
-unfoldable pub has_octets : List Entry → Bool
-has_octets [] = false
-has_octets (x ∷ xs) = is_octets x.event || has_octets xs
+unfoldable pub has_octets_event : List JournalEntry → Bool
+has_octets_event [] = false
+has_octets_event (x ∷ xs) = is_octets x.event || has_octets_event xs
 
 -- no octets follow on those that are left over
-abbrev pub LeftOverIsLast : Settings → Finds → Option End → List Entry → Type 0
+abbrev pub LeftOverIsLast : Settings → Finds → Option End → List JournalEntry → Type 0
 LeftOverIsLast settings finds m [] = Unit {0}
 LeftOverIsLast settings finds m (x ∷ xs) =
-    (is_left_over m x.event ≡ true → has_octets xs ≡ false) × LeftOverIsLast settings finds (happens settings finds x.moment x.event m).0 xs
+    (is_left_over m x.event ≡ true → has_octets_event xs ≡ false) × LeftOverIsLast settings finds (happens settings finds x.moment x.event m).0 xs
 
 -- the end of a session
 abbrev pub end_of : Option (Session ModelEnd) → Option End
@@ -108,17 +108,17 @@ end_of (Some s) = Some s.end
 abbrev pub TurnsCut : Type 0
 TurnsCut =
     (plan : Plan) (c : Course ModelEnd) (a : Turn) (conn : ℕ) → c.halt ≡ None → Rises 0 (numbers c.loop.sessions)
-    → LeftOverIsLast plan.settings (key_at plan.keys) (end_of (session_of conn c.loop.sessions)) (of conn (went model_ends plan c a).entries)
+    → LeftOverIsLast plan.settings (key_at plan.keys) (end_of (session_of_connection conn c.loop.sessions)) (of conn (went model_ends plan c a).entries)
 
 -- ---- behind a stall
 
 -- no octets follow on an event `stalled`: what is left of that read is dropped
-abbrev pub EndAtStall : List Entry → Type 0
+abbrev pub EndAtStall : List JournalEntry → Type 0
 EndAtStall [] = Unit {0}
-EndAtStall (x ∷ xs) = (is_stalled x.event ≡ true → has_octets xs ≡ false) × EndAtStall xs
+EndAtStall (x ∷ xs) = (is_stalled x.event ≡ true → has_octets_event xs ≡ false) × EndAtStall xs
 
 abbrev pub AreDropped : Plan → Out (Course ModelEnd) → Type 0
 AreDropped plan o = (conn : ℕ) → EndAtStall (of conn o.entries)
 
 abbrev pub RestsAreDropped : Type 0
-RestsAreDropped = Holds AreDropped
+RestsAreDropped = HoldsOfEachLoop AreDropped

@@ -1,26 +1,26 @@
 -- What the loop does that is seen from outside, in one order: it prints the lines of events, and it calls the wires (this profile).
 use Rattle.std.specs.Prelude.{ℕ, List, [], ◌∷◌, ◌++◌}
 use Rattle.link_trait.specs.Wires.{Call}
-use Rattle.loop_model.specs.Journals.{Entry, entry_text}
+use Rattle.loop_model.specs.Journals.{JournalEntry, entry_text}
 
 -- the lines of an event are printed; a call on the wires is made
-pub data Deed : Type 0 where
-  Printing : Entry → Deed
-  Calling : Call → Deed
+pub data LoopDeed : Type 0 where
+  Printing : JournalEntry → LoopDeed
+  Calling : Call → LoopDeed
 
 -- the events of deeds, and their calls
-unfoldable pub entries_in : List Deed → List Entry
+unfoldable pub entries_in : List LoopDeed → List JournalEntry
 entries_in [] = []
 entries_in (Printing x ∷ deeds) = x ∷ entries_in deeds
 entries_in (Calling call ∷ deeds) = entries_in deeds
 
-unfoldable pub calls_in : List Deed → List Call
+unfoldable pub calls_in : List LoopDeed → List Call
 calls_in [] = []
 calls_in (Printing x ∷ deeds) = calls_in deeds
 calls_in (Calling call ∷ deeds) = call ∷ calls_in deeds
 
 -- events that are printed one after the other
-abbrev pub printings : List Entry → List Deed
+abbrev pub printings : List JournalEntry → List LoopDeed
 printings [] = []
 printings (x ∷ xs) = Printing x ∷ printings xs
 
@@ -34,7 +34,7 @@ abbrev pub octet_signs : List ℕ → List Sign
 octet_signs [] = []
 octet_signs (octet ∷ octets) = Octet octet ∷ octet_signs octets
 
-unfoldable pub signs : List Deed → List Sign
+unfoldable pub signs : List LoopDeed → List Sign
 signs [] = []
 signs (Printing x ∷ deeds) = octet_signs (entry_text x) ++ signs deeds
 signs (Calling call ∷ deeds) = OnWires call ∷ signs deeds

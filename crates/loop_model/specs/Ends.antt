@@ -6,7 +6,7 @@ use Rattle.hdlc_station_model.specs.Events.{news}
 use Rattle.er_end_model.specs.Outcomes.{Outcome}
 use Rattle.er_end_model.specs.Layers as layers
 use Rattle.er_end_model.specs.Steps as steps
-use Rattle.er_end_model.specs.Ends.{Opening, Event, Start, Come, Send, Take, Leave, Tick, Ended, Fault, Stalled, End, opened, step}
+use Rattle.er_end_model.specs.Ends.{Opening, Event, Start, Come, Send, Take, Leave, Tick, Ended, Fault, Stalled, End, opened, step_event}
 
 -- what ends of a kind do
 pub record EndOps (E : Type 0) : Type 0 where
@@ -37,13 +37,13 @@ used_behind came (octet ∷ octets) =
     if has_verdicts (news came (octet ∷ [])) then 1 else 1 + used_behind (came ++ octet ∷ []) octets
 
 -- a released end uses all
-abbrev pub used_of : End → List ℕ → ℕ
-used_of m octets = if is_some m.core.released then length octets else used_behind m.stream octets
+abbrev pub octet_count_used_by_end : End → List ℕ → ℕ
+octet_count_used_by_end m octets = if is_some m.core.released then length octets else used_behind m.stream octets
 
 -- an event, of octets those that are used
 abbrev pub used_part : End → Event → Event
 used_part m Start = Start
-used_part m (Come finds octets) = Come finds (take (used_of m octets) octets)
+used_part m (Come finds octets) = Come finds (take (octet_count_used_by_end m octets) octets)
 used_part m (Send user) = Send user
 used_part m Take = Take
 used_part m (Leave sub) = Leave sub
@@ -55,9 +55,9 @@ used_part m Stalled = Stalled
 abbrev pub model_ends : EndOps End
 model_ends = record {
   opens = opened;
-  happens = λ now event m. (step now (used_part m event) m).0;
-  tells = λ now event m. (step now (used_part m event) m).1;
-  used = used_of;
+  happens = λ now event m. (step_event now (used_part m event) m).0;
+  tells = λ now event m. (step_event now (used_part m event) m).1;
+  used = octet_count_used_by_end;
   waiting = λ m. layers.model.untaken m.core.upper;
   deadline = λ m. steps.deadline layers.model m.core;
   released = λ m. m.core.released;

@@ -3,9 +3,9 @@
 use Rattle.std.specs.Prelude.{◌<◌, ◌^◌, List, [], ◌∷◌}
 use Rattle.er_base.specs.Octets.{AreOctets}
 use Rattle.er_trace.specs.Ranges.{IsOctet}
-use Rattle.er_trace.specs.Texts.{IsReadable}
+use Rattle.er_trace.specs.Texts.{IsReadableEntry}
 use Rattle.er_end_model.specs.Outcomes.{SendRefusal, RefusedReleased, RefusedNotConnected, RefusedLength, RefusedFull, Outcome, ConnectedTo, Accepted, Taken, NothingToTake, Refused, WasReleased, Octets}
-use Rattle.loop_model.specs.Journals.{Entry, line_of}
+use Rattle.loop_model.specs.Journals.{JournalEntry, trace_line_of}
 
 -- a reason and a sub-reason in octets, a number in eight of them
 abbrev pub RefusalHasOctets : SendRefusal → Type 0
@@ -28,10 +28,10 @@ HaveOctets [] = Unit {0}
 HaveOctets (outcome ∷ outcomes) = HasOctets outcome × HaveOctets outcomes
 
 -- an event whose line is in the grammar, and whose outcomes have octets
-pub record IsInGrammar (x : Entry) : Type 0 where
-  pub event : IsReadable (line_of x)
+pub record IsInGrammar (x : JournalEntry) : Type 0 where
+  pub event : IsReadableEntry (trace_line_of x)
   pub outcomes : HaveOctets x.outcomes
 
-abbrev pub AreInGrammar : List Entry → Type 0
+abbrev pub AreInGrammar : List JournalEntry → Type 0
 AreInGrammar [] = Unit {0}
 AreInGrammar (x ∷ xs) = IsInGrammar x × AreInGrammar xs

@@ -9,28 +9,28 @@ use Rattle.er_trace.specs.Texts.{header_words, entry_words}
 use Rattle.trace_model.specs.Printed.{outcomes_text}
 
 -- an event at a connection, at a moment, and its outcomes
-pub record Entry : Type 0 where
+pub record JournalEntry : Type 0 where
   pub moment : ℕ
   pub conn : ℕ
   pub event : Event
   pub outcomes : List Outcome
 
 -- the lines of an event: its own, then those of its outcomes
-unfoldable pub entry_text : Entry → List ℕ
+unfoldable pub entry_text : JournalEntry → List ℕ
 entry_text x = line_text (entry_words x.moment x.conn x.event) ++ outcomes_text x.conn x.outcomes
 
 -- the text of a journal behind the header
-abbrev pub text : List Entry → List ℕ
+abbrev pub text : List JournalEntry → List ℕ
 text [] = []
 text (x ∷ xs) = entry_text x ++ text xs
 
 -- the header, which says the settings
-unfoldable pub header : Settings → List ℕ
-header settings = line_text (header_words settings)
+unfoldable pub trace_header : Settings → List ℕ
+trace_header settings = line_text (header_words settings)
 
 -- an event of a journal as one of a trace, whose number of a line doesn't matter
-abbrev pub line_of : Entry → Event_line
-line_of x = record { line = 0; moment = x.moment; conn = x.conn; event = x.event }
+abbrev pub trace_line_of : JournalEntry → Event_line
+trace_line_of x = record { line = 0; moment = x.moment; conn = x.conn; event = x.event }
 
-abbrev pub lines_of : List Entry → List Event_line
-lines_of xs = map line_of xs
+abbrev pub trace_lines_of : List JournalEntry → List Event_line
+trace_lines_of xs = map trace_line_of xs

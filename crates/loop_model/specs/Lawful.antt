@@ -4,23 +4,23 @@ use Rattle.std.specs.Prelude.{ℕ, ◌≡◌, max, None}
 use Rattle.safety_automaton.specs.Keys.{key_at}
 use Rattle.loop_model.specs.Outs.{Out}
 use Rattle.loop_model.specs.Loops.{Plan, numbers, Course, Turn, readied, went}
-use Rattle.loop_model.specs.Parts.{session_of, of, Rises}
-use Rattle.loop_model.specs.Laws.{IsFew, IsIsolated, IsPrinted, AreAccounted, AreOnOpen, reads_of, to_be_read_unless, Holds}
+use Rattle.loop_model.specs.Parts.{session_of_connection, of, Rises}
+use Rattle.loop_model.specs.Laws.{IsFew, IsIsolated, IsPrinted, AreAccounted, AreOnOpen, reads_of, to_be_read_unless, HoldsOfEachLoop}
 use Rattle.loop_model.specs.Points.{AreHeard}
 use Rattle.loop_model.specs.Turnings.{ticked, due_at, ended, ends_of, AreKept}
 use Rattle.loop_model.specs.Faulted.{AreFaultsTold}
-use Rattle.loop_model.specs.Openings.{openings, openings_unless, opening_of}
+use Rattle.loop_model.specs.Openings.{openings, openings_unless, event_of_accepted_connection}
 use Rattle.loop_model.specs.Takings.{AllTaken}
-use Rattle.loop_model.specs.Moments.{IsTimed}
+use Rattle.loop_model.specs.Moments.{IsTimedTurn}
 use Rattle.loop_model.specs.Expiries.{ClosesInTime}
 use Rattle.loop_model.specs.Walks.{AreLed}
 use Rattle.loop_model.specs.Cuts.{LeftOverIsLast, end_of, AreCut, AreDropped}
-use Rattle.loop_model.specs.Writings.{WaitsUntil, IsAllGiven, AllWait, IsWritten, IsWhole}
+use Rattle.loop_model.specs.Writings.{WaitsUntil, IsAllGiven, AllWait, IsOutputWritten, HasWholeConnections}
 
 -- ---- a turn
 
 -- the connections that are live between two turns: few, in rising number, and none that is to be closed
-pub record IsOrderly (c : Course ModelEnd) : Type 0 where
+pub record HasOrderlySessions (c : Course ModelEnd) : Type 0 where
   pub few : IsFew c.loop.sessions
   pub rise : Rises 0 (numbers c.loop.sessions)
   pub kept : AreKept c.loop.sessions
@@ -28,21 +28,21 @@ pub record IsOrderly (c : Course ModelEnd) : Type 0 where
 -- one turn of a loop that has come so far
 pub record IsLawfulTurn (plan : Plan) (c : Course ModelEnd) (a : Turn) : Type 0 where
   -- each connection that is accepted has one event that opens it, or says why it isn't opened, and no other has one
-  pub openings : openings (went model_ends plan c a).entries ≡ openings_unless (readied model_ends plan c a).state.halt a.happening (opening_of plan (readied model_ends plan c a).state.loop)
+  pub openings : openings (went model_ends plan c a).entries ≡ openings_unless (readied model_ends plan c a).state.halt a.happening (event_of_accepted_connection plan (readied model_ends plan c a).state.loop)
   -- a connection is read from once exactly where it is readable, live and not released, and no other is
   pub reads : reads_of (went model_ends plan c a).calls ≡ to_be_read_unless (readied model_ends plan c a).state.halt a.happening (readied model_ends plan c a).state.loop.sessions
   -- of the octets that are read only the last may close no frame, or come to a released end
   pub cut : (conn : ℕ)
-      → LeftOverIsLast plan.settings (key_at plan.keys) (end_of (session_of conn c.loop.sessions)) (of conn (went model_ends plan c a).entries)
+      → LeftOverIsLast plan.settings (key_at plan.keys) (end_of (session_of_connection conn c.loop.sessions)) (of conn (went model_ends plan c a).entries)
   -- each live connection is ticked, once, in rising number, exactly where its deadline is at or below the moment before the turn
   pub ticks : ticked (went model_ends plan c a).entries ≡ due_at (max c.loop.moment a.first) c.loop.sessions
   -- the turn waits until the least of the deadlines and closing moments that are left
   pub until : (readied model_ends plan c a).state.halt ≡ None → WaitsUntil plan c a
   -- each event has the greatest moment that the clock answered so far
-  pub timed : IsTimed plan c a
+  pub timed : IsTimedTurn plan c a
 
 abbrev pub TurnsAreLawful : Type 0
-TurnsAreLawful = (plan : Plan) (c : Course ModelEnd) (a : Turn) → IsOrderly c → c.halt ≡ None → IsLawfulTurn plan c a
+TurnsAreLawful = (plan : Plan) (c : Course ModelEnd) (a : Turn) → HasOrderlySessions c → c.halt ≡ None → IsLawfulTurn plan c a
 
 -- ---- the whole
 
@@ -66,13 +66,13 @@ pub record IsLawfulJournal (plan : Plan) (o : Out (Course ModelEnd)) : Type 0 wh
   pub accounted : AreAccounted o
   pub given : IsAllGiven plan o
   pub waits : AllWait plan o
-  pub written : IsWritten plan o
+  pub written : IsOutputWritten plan o
   -- no call is made on a closed connection; none that broke off is live; a released one has its closing moment
   pub on_open : AreOnOpen o
-  pub whole : IsWhole plan o
+  pub whole : HasWholeConnections plan o
   pub closing : ClosesInTime plan o
   -- what comes next is a turn as above
-  pub orderly : IsOrderly o.state
+  pub orderly : HasOrderlySessions o.state
 
 abbrev pub JournalsAreLawful : Type 0
-JournalsAreLawful = Holds IsLawfulJournal
+JournalsAreLawful = HoldsOfEachLoop IsLawfulJournal

@@ -1,5 +1,6 @@
 -- What holds of the loop, whatever the outside answers. Where a law speaks of connections that were accepted, their numbers rise, as
 -- those of wires do.
+use Rattle.trace_model.specs.Checks.{most_live}
 use Rattle.loop_model.specs.Ends.{ModelEnd, model_ends}
 use Rattle.std.specs.Prelude.{ℕ, ◌≡◌, ◌+◌, ◌≤◌, max, Bool, true, false, if◌then◌else◌, List, [], ◌∷◌, ◌++◌, length, Option, Some, None}
 use Rattle.safety_automaton.specs.Keys.{key_at}
@@ -16,11 +17,11 @@ use Rattle.link_trait.specs.declared.wires.Happening.{Happening}
 use Rattle.link_trait.specs.declared.wires.Happening.TheVariants as happening
 use Rattle.link_trait.specs.declared.wires.WriteAnswer.{WriteAnswer}
 use Rattle.link_trait.specs.declared.wires.WriteAnswer.TheVariants as write
-use Rattle.loop_model.specs.Journals.{Entry, text, line_of, lines_of}
+use Rattle.loop_model.specs.Journals.{JournalEntry, text, trace_line_of, trace_lines_of}
 use Rattle.loop_model.specs.Outs.{Out}
 use Rattle.loop_model.specs.Sessions.{Session, is_released, octets_in}
-use Rattle.loop_model.specs.Loops.{Plan, most_live, numbers, Caller, Halt, OnEnded, OnClosed, OnFailed, Course, Turn, readied, went, run, Dialled, dials}
-use Rattle.loop_model.specs.Parts.{session_of, of, calls_at, opened_in, Rises}
+use Rattle.loop_model.specs.Loops.{Plan, numbers, Caller, Halt, OnEnded, OnClosed, OnFailed, Course, Turn, readied, went, run, Dialled, dials}
+use Rattle.loop_model.specs.Parts.{session_of_connection, of, calls_at, opened_in, Rises}
 
 -- a loop that serves: it begins with no session, and the connections that are accepted have rising numbers
 pub record IsServing (plan : Plan) (c : Course ModelEnd) (turns : List Turn) : Type 0 where
@@ -39,25 +40,25 @@ pub record IsDialling (plan : Plan) (caller : Caller) (c : Course ModelEnd) (add
 -- ---- the journal
 
 -- each event has the outcomes that the end model gives to the last of its connection's events so far, those of all others left out
-abbrev pub AreTold : Settings → Finds → List Event_line → List Entry → Type 0
-AreTold settings finds before [] = Unit {0}
-AreTold settings finds before (x ∷ xs) =
-    (x.outcomes ≡ trace.outcomes_at settings finds before (line_of x)) × AreTold settings finds (before ++ line_of x ∷ []) xs
+abbrev pub HaveModelOutcomes : Settings → Finds → List Event_line → List JournalEntry → Type 0
+HaveModelOutcomes settings finds before [] = Unit {0}
+HaveModelOutcomes settings finds before (x ∷ xs) =
+    (x.outcomes ≡ trace.outcomes_at settings finds before (trace_line_of x)) × HaveModelOutcomes settings finds (before ++ trace_line_of x ∷ []) xs
 
 -- whichever session answered for a connection: its outcomes are those of its own events
 abbrev pub IsIsolated : Plan → Out (Course ModelEnd) → Type 0
-IsIsolated plan o = AreTold plan.settings (key_at plan.keys) [] o.entries
+IsIsolated plan o = HaveModelOutcomes plan.settings (key_at plan.keys) [] o.entries
 
 -- what is printed of the journal behind the header is the printed text of its events
 abbrev pub IsPrinted : Plan → Out (Course ModelEnd) → Type 0
-IsPrinted plan o = text o.entries ≡ trace.entries_text plan.settings (key_at plan.keys) [] (lines_of o.entries)
+IsPrinted plan o = text o.entries ≡ trace.entries_text plan.settings (key_at plan.keys) [] (trace_lines_of o.entries)
 
 -- ---- octets given
 
 -- the octets for the line among the outcomes of events
-unfoldable pub octets_of : List Entry → List ℕ
-octets_of [] = []
-octets_of (x ∷ xs) = octets_in x.outcomes ++ octets_of xs
+unfoldable pub octets_of_entries : List JournalEntry → List ℕ
+octets_of_entries [] = []
+octets_of_entries (x ∷ xs) = octets_in x.outcomes ++ octets_of_entries xs
 
 pub record IsBeginning (xs ys : List ℕ) : Type 0 where
   pub rest : List ℕ
@@ -65,7 +66,7 @@ pub record IsBeginning (xs ys : List ℕ) : Type 0 where
 
 -- the octets given to a connection are a beginning of the joined octets of its outcomes
 abbrev pub AreAccounted : Out (Course ModelEnd) → Type 0
-AreAccounted o = (conn : ℕ) → IsBeginning (given_of conn o.calls) (octets_of (of conn o.entries))
+AreAccounted o = (conn : ℕ) → IsBeginning (given_of conn o.calls) (octets_of_entries (of conn o.entries))
 
 -- ---- calls on open connections
 
@@ -107,7 +108,7 @@ one_if true = 1
 one_if false = 0
 
 -- how many events are `fault`
-unfoldable pub faults : List Entry → ℕ
+unfoldable pub faults : List JournalEntry → ℕ
 faults [] = 0
 faults (x ∷ xs) = one_if (is_fault x.event) + faults xs
 
@@ -147,22 +148,22 @@ pub record FaultsHaveFailed : Type 0 where
 -- ---- both loops
 
 -- what holds of each loop that serves, and of each that dials
-pub record Holds (Law : Plan → Out (Course ModelEnd) → Type 0) : Type 0 where
+pub record HoldsOfEachLoop (Law : Plan → Out (Course ModelEnd) → Type 0) : Type 0 where
   pub serving : (plan : Plan) (c : Course ModelEnd) (turns : List Turn) → IsServing plan c turns → Law plan (run model_ends plan c turns)
   pub dialling : (plan : Plan) (caller : Caller) (c : Course ModelEnd) (address : List ℕ) (a : Dialled) → IsDialling plan caller c address a
       → Law plan (dials model_ends plan caller c address a)
 
 abbrev pub ConnectionsAreIsolated : Type 0
-ConnectionsAreIsolated = Holds IsIsolated
+ConnectionsAreIsolated = HoldsOfEachLoop IsIsolated
 
 abbrev pub JournalIsPrinted : Type 0
-JournalIsPrinted = Holds IsPrinted
+JournalIsPrinted = HoldsOfEachLoop IsPrinted
 
 abbrev pub OctetsAreAccounted : Type 0
-OctetsAreAccounted = Holds (λ plan o. AreAccounted o)
+OctetsAreAccounted = HoldsOfEachLoop (λ plan o. AreAccounted o)
 
 abbrev pub CallsAreOnOpen : Type 0
-CallsAreOnOpen = Holds (λ plan o. AreOnOpen o)
+CallsAreOnOpen = HoldsOfEachLoop (λ plan o. AreOnOpen o)
 
 -- ---- reads
 
@@ -187,7 +188,7 @@ to_be_read_of conn (Some s) = if is_released model_ends s then [] else conn ∷ 
 -- the connection that is to be read from behind a happening
 abbrev pub to_be_read : Happening → List (Session ModelEnd) → List ℕ
 to_be_read (happening.Accepted conn) ss = []
-to_be_read (happening.Readable conn) ss = to_be_read_of conn.0 (session_of conn.0 ss)
+to_be_read (happening.Readable conn) ss = to_be_read_of conn.0 (session_of_connection conn.0 ss)
 to_be_read (happening.Writable conn) ss = []
 to_be_read happening.Quiet ss = []
 to_be_read happening.Ended ss = []
@@ -206,17 +207,17 @@ OneReadATurn =
 -- ---- turns and the clock
 
 -- the happenings of the turns
-abbrev pub turn_of : wires.Call → List Happening
-turn_of (Listens address listens) = []
-turn_of (Dials address conn) = []
-turn_of (Turns until happening) = happening ∷ []
-turn_of (Reads conn size waits reading) = []
-turn_of (Writes conn piece answer) = []
-turn_of (Closes conn) = []
+abbrev pub happenings_in_call : wires.Call → List Happening
+happenings_in_call (Listens address listens) = []
+happenings_in_call (Dials address conn) = []
+happenings_in_call (Turns until happening) = happening ∷ []
+happenings_in_call (Reads conn size waits reading) = []
+happenings_in_call (Writes conn piece answer) = []
+happenings_in_call (Closes conn) = []
 
 unfoldable pub turns_of : List wires.Call → List Happening
 turns_of [] = []
-turns_of (call ∷ calls) = turn_of call ++ turns_of calls
+turns_of (call ∷ calls) = happenings_in_call call ++ turns_of calls
 
 -- the wires neither ended nor failed
 abbrev pub GoesOn : Happening → Type 0
@@ -259,13 +260,13 @@ pub record RunsSo (plan : Plan) (o : Out (Course ModelEnd)) : Type 0 where
   pub moment : o.state.loop.moment ≡ greatest 0 o.state.asked
 
 -- a course that begins
-pub record Begins (c : Course ModelEnd) : Type 0 where
+pub record IsCourseAtBeginning (c : Course ModelEnd) : Type 0 where
   pub turns : c.turns ≡ 0
   pub halt : c.halt ≡ None
   pub moment : c.loop.moment ≡ greatest 0 c.asked
 
 abbrev pub TurnsAreCounted : Type 0
-TurnsAreCounted = (plan : Plan) (c : Course ModelEnd) (turns : List Turn) → Begins c → RunsSo plan (run model_ends plan c turns)
+TurnsAreCounted = (plan : Plan) (c : Course ModelEnd) (turns : List Turn) → IsCourseAtBeginning c → RunsSo plan (run model_ends plan c turns)
 
 -- ---- live connections
 

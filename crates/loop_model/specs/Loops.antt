@@ -1,11 +1,12 @@
 -- The loop over the sessions of many connections (this profile): before each turn ticks and closings, then the turn, then what happened.
+use Rattle.trace_model.specs.Checks.{most_live}
 use Rattle.std.specs.Prelude.{ℕ, ◌+◌, ◌-◌, ◌==◌, nat_lt, max, Bool, true, false, ◌&&◌, if◌then◌else◌, List, [], ◌∷◌, ◌++◌, length, take, drop, slice_get, Option, Some, None}
 use Rattle.rand_core.specs.Stream.{Stream, next_u64}
 use Rattle.er_settings.specs.Values.{Settings}
 use Rattle.des_block.specs.declared.triple_key.TripleKey.{TripleKey}
 use Rattle.safety_automaton.specs.Keys as keys
 use Rattle.er_end_model.specs.Ends.{Call as CallsWith, Answer as AnswersWith}
-use Rattle.er_end_model.specs.Steps.{first_of as first_moment}
+use Rattle.er_end_model.specs.Steps.{earlier_of_moments as first_moment}
 use Rattle.er_trace.specs.declared.event.Event.{Event}
 use Rattle.er_trace.specs.declared.event.Event.TheVariants as event
 use Rattle.er_users.specs.Users.{Mind}
@@ -13,8 +14,8 @@ use Rattle.link_trait.specs.Wires.{Listens, Dials, Turns, Closes}
 use Rattle.link_trait.specs.declared.wires.Happening.{Happening}
 use Rattle.link_trait.specs.declared.wires.Happening.TheVariants as happening
 use Rattle.loop_model.specs.Ends.{EndOps}
-use Rattle.loop_model.specs.Journals.{Entry, header, text}
-use Rattle.loop_model.specs.Outs.{Out, still, next, changed, prints, makes, acts, exactly, first_of}
+use Rattle.loop_model.specs.Journals.{JournalEntry, trace_header, text}
+use Rattle.loop_model.specs.Outs.{Out, still, next, changed, prints, makes, acts, exactly, first_answer_of}
 use Rattle.loop_model.specs.Sessions.{Rules, Session, Begins}
 use Rattle.loop_model.specs.Visits.{Met, nothing_met, Visit, Tick, Read, Write, Expire, visited, served, wakes}
 
@@ -22,7 +23,7 @@ use Rattle.loop_model.specs.Visits.{Met, nothing_met, Visit, Tick, Read, Write, 
 -- how many turns are to be done, and whether it dials its one connection
 pub record Plan : Type 0 where
   pub settings : Settings
-  pub keys : List keys.Entry
+  pub keys : List keys.KmacEntry
   pub rbc : ℕ
   pub handed : ℕ
   pub turns : ℕ
@@ -38,10 +39,6 @@ pub record Loop (E : Type 0) : Type 0 where
   pub users : List Mind
   pub moment : ℕ
   pub words : Stream
-
--- the most connections that are live
-abbrev pub most_live : ℕ
-most_live = 256
 
 abbrev pub with_sessions : {E : Type 0} → Loop E → List (Session E) → Loop E
 with_sessions l ss = record l { sessions = ss }
@@ -62,7 +59,7 @@ numbers (s ∷ ss) = s.number ∷ numbers ss
 -- the sessions of these numbers are visited, one after the other
 unfoldable pub swept : {E : Type 0} → (Session E → Met → Out (List (Session E))) → List ℕ → List (Session E) → List Met → Out (List (Session E))
 swept f [] ss answers = still ss
-swept f (n ∷ ns) ss answers = next (visit_at f n ss (first_of nothing_met answers)) (λ now. swept f ns now (drop 1 answers))
+swept f (n ∷ ns) ss answers = next (visit_at f n ss (first_answer_of nothing_met answers)) (λ now. swept f ns now (drop 1 answers))
 
 -- ---- before a turn
 
@@ -73,7 +70,7 @@ pub record Sweeps : Type 0 where
 -- ---- openings
 
 -- an event without outcomes
-abbrev pub plain_event : {E : Type 0} → Loop E → ℕ → Event → Entry
+abbrev pub plain_event : {E : Type 0} → Loop E → ℕ → Event → JournalEntry
 plain_event l conn event = record { moment = l.moment; conn = conn; event = event; outcomes = [] }
 
 -- a connection that gets no session: its event, and then it is closed
@@ -171,10 +168,10 @@ pub record Dialled : Type 0 where
 -- ---- what is printed: the header, once it listens or has dialled, and the journal
 
 abbrev pub if_header : Bool → Settings → List ℕ
-if_header true settings = header settings
+if_header true settings = trace_header settings
 if_header false settings = []
 
-unfoldable pub printed : Bool → Plan → List Entry → List ℕ
+unfoldable pub printed : Bool → Plan → List JournalEntry → List ℕ
 printed began plan entries = if_header began plan.settings ++ text entries
 
 -- ---- what the loop does

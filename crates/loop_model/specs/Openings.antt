@@ -4,18 +4,18 @@ use Rattle.std.specs.Prelude.{ℕ, ◌≡◌, nat_lt, if◌then◌else◌, List,
 use Rattle.rand_core.specs.Stream.{next_u64}
 use Rattle.er_trace.specs.declared.event.Event.{Event}
 use Rattle.er_trace.specs.declared.event.Event.TheVariants.{Call, Answer, Full, Unserved}
-use Rattle.trace_model.specs.Checks.{Role, Opens, Declines, Belongs, names, role_of}
+use Rattle.trace_model.specs.Checks.{Role, Opens, Declines, Belongs, names, role_of, most_live}
 use Rattle.er_users.specs.Users.{Mind}
 use Rattle.link_trait.specs.Wires as wires
 use Rattle.link_trait.specs.Wires.{Dials, Turns, Closes}
 use Rattle.link_trait.specs.declared.wires.Conn.{Conn}
 use Rattle.link_trait.specs.declared.wires.Happening.{Happening}
 use Rattle.link_trait.specs.declared.wires.Happening.TheVariants as happening
-use Rattle.loop_model.specs.Journals.{Entry}
-use Rattle.loop_model.specs.Loops.{Plan, Loop, most_live, until, next_user, Caller, Halt, Course, Turn, readied, went, Dialled, dials}
+use Rattle.loop_model.specs.Journals.{JournalEntry}
+use Rattle.loop_model.specs.Loops.{Plan, Loop, until, next_user, Caller, Halt, Course, Turn, readied, went, Dialled, dials}
 
 -- the events that open a connection, or say why it isn't opened, each with its connection, in order
-unfoldable pub openings : List Entry → List (ℕ × Event)
+unfoldable pub openings : List JournalEntry → List (ℕ × Event)
 openings [] = []
 openings (x ∷ xs) = if names (role_of x.event) then (x.conn, x.event) ∷ openings xs else openings xs
 
@@ -28,13 +28,13 @@ closed_by Belongs conn = []
 -- ---- one that was accepted
 
 -- `unserved` where no user is left, else `answer` with this random word
-abbrev pub answer_of : Option Mind → Plan → (word : ℕ) → Event
-answer_of None plan word = Unserved plan.handed
-answer_of (Some mind) plan word = Answer plan.rbc word
+abbrev pub answer_or_unserved : Option Mind → Plan → (word : ℕ) → Event
+answer_or_unserved None plan word = Unserved plan.handed
+answer_or_unserved (Some mind) plan word = Answer plan.rbc word
 
 -- `full` where 256 connections are live; else that, with the user and the random word that come next
-abbrev pub opening_of : Plan → Loop ModelEnd → Event
-opening_of plan l = if nat_lt (length l.sessions) most_live then answer_of (next_user l.users) plan (next_u64 l.words).0 else Full most_live
+abbrev pub event_of_accepted_connection : Plan → Loop ModelEnd → Event
+event_of_accepted_connection plan l = if nat_lt (length l.sessions) most_live then answer_or_unserved (next_user l.users) plan (next_u64 l.words).0 else Full most_live
 
 -- what is due behind a happening
 abbrev pub openings_due : Happening → Event → List (ℕ × Event)
@@ -53,25 +53,25 @@ openings_unless None happening event = openings_due happening event
 -- and else no call follows the turn
 pub record OpeningsAreTold : Type 0 where
   pub events : (plan : Plan) (c : Course ModelEnd) (a : Turn) → c.halt ≡ None
-      → openings (went model_ends plan c a).entries ≡ openings_unless (readied model_ends plan c a).state.halt a.happening (opening_of plan (readied model_ends plan c a).state.loop)
+      → openings (went model_ends plan c a).entries ≡ openings_unless (readied model_ends plan c a).state.halt a.happening (event_of_accepted_connection plan (readied model_ends plan c a).state.loop)
   pub closed : (plan : Plan) (c : Course ModelEnd) (a : Turn) (conn : Conn) → c.halt ≡ None → (readied model_ends plan c a).state.halt ≡ None
       → a.happening ≡ happening.Accepted conn
       → (went model_ends plan c a).calls
-      ≡ (readied model_ends plan c a).calls ++ Turns (until model_ends (readied model_ends plan c a).state.loop.sessions) a.happening ∷ closed_by (role_of (opening_of plan (readied model_ends plan c a).state.loop)) conn.0
+      ≡ (readied model_ends plan c a).calls ++ Turns (until model_ends (readied model_ends plan c a).state.loop.sessions) a.happening ∷ closed_by (role_of (event_of_accepted_connection plan (readied model_ends plan c a).state.loop)) conn.0
 
 -- ---- the one that was dialled
 
 -- `unserved 0` where no user was handed in, else `call` with its two numbers and this random word
-abbrev pub call_of : Option Mind → Plan → Caller → (word : ℕ) → Event
-call_of None plan caller word = Unserved 0
-call_of (Some mind) plan caller word = Call caller.engine plan.rbc word
+abbrev pub call_or_unserved : Option Mind → Plan → Caller → (word : ℕ) → Event
+call_or_unserved None plan caller word = Unserved 0
+call_or_unserved (Some mind) plan caller word = Call caller.engine plan.rbc word
 
 -- with the user and the random word that come next
 abbrev pub call_by : Plan → Caller → Loop ModelEnd → Event
-call_by plan caller l = call_of (next_user l.users) plan caller (next_u64 l.words).0
+call_by plan caller l = call_or_unserved (next_user l.users) plan caller (next_u64 l.words).0
 
 -- the first event, with its connection
-abbrev pub first_event : List Entry → Option (ℕ × Event)
+abbrev pub first_event : List JournalEntry → Option (ℕ × Event)
 first_event [] = None
 first_event (x ∷ xs) = Some (x.conn, x.event)
 

@@ -1,5 +1,6 @@
 -- Lemmas: the events and the calls of each part of the loop are those of its one order; for the proofs of this crate and of those above.
 use Rattle.std.proofs.Common.{ℕ, Bool, true, false, if◌then◌else◌, List, [], ◌∷◌, ◌++◌, length, drop, Option, Some, None}
+use Rattle.trace_model.specs.Checks.{most_live}
 use Rattle.std.specs.Prelude.{◌==◌, ◌&&◌, ◌||◌, nat_lt}
 use Rattle.rand_core.specs.Stream.{next_u64}
 use Rattle.er_trace.specs.declared.event.Event.{Event}
@@ -11,11 +12,11 @@ use Rattle.link_trait.specs.declared.wires.Happening.TheVariants as happening
 use Rattle.link_trait.specs.declared.wires.WriteAnswer.{WriteAnswer}
 use Rattle.link_trait.specs.declared.wires.WriteAnswer.TheVariants as write
 use Rattle.loop_model.specs.Ends.{EndOps}
-use Rattle.loop_model.specs.Outs.{Out, HasOrder, still, next, changed, prints, makes, acts, exactly, first_of}
+use Rattle.loop_model.specs.Outs.{Out, HasOrder, still, next, changed, prints, makes, acts, exactly, first_answer_of}
 use Rattle.loop_model.specs.Signs.{order_still, order_next, order_changed, order_prints, order_makes}
-use Rattle.loop_model.specs.Sessions.{Rules, Session, is_released, Given, Begins, Ticks, Says, nothing_said, handled}
-use Rattle.loop_model.specs.Visits.{most_read, Flow, Going, PutOff, Failing, after_write, writes_if, writes_once, writes, Wrote, closed, stays, Visit, Tick, Read, Write, Expire, Met, nothing_met, is_due, fault_unless, flowed, written_unless, written, settled, rests, came, read_once, rests_behind, served, visited}
-use Rattle.loop_model.specs.Loops.{Plan, rules_of, Loop, most_live, plain_event, turned_away, visit_at, numbers, swept, Sweeps, next_user, begun, one_less, with_sessions, Caller, Halt, Course, asks, halts, OnFailed, Turn, nothing_comes, Dialled, before, until, answered_by, accepted, calling, called_by, called, visited_at, happened, readied, turn, follows, turned_unless, went_unless, went, run, opens, dials_to, dials}
+use Rattle.loop_model.specs.Sessions.{Rules, Session, is_released, GivenToSession, Begins, Ticks, Says, nothing_said, handled}
+use Rattle.loop_model.specs.Visits.{most_read, WritingState, Going, PutOff, Failing, after_write, writes_if, writes_once, writes, Wrote, closed, stays, Visit, Tick, Read, Write, Expire, Met, nothing_met, is_due, fault_unless, flowed, written_unless, session_behind_writing, session_kept_or_closed, rests, came, read_once, rests_behind, served, visited}
+use Rattle.loop_model.specs.Loops.{Plan, rules_of, Loop, plain_event, turned_away, visit_at, numbers, swept, Sweeps, next_user, begun, one_less, with_sessions, Caller, Halt, Course, asks, halts, OnFailed, Turn, nothing_comes, Dialled, before, until, answered_by, accepted, calling, called_by, called, visited_at, happened, readied, turn, follows, turned_unless, went_unless, went, run, opens, dials_to, dials}
 
 order_if : {S : Type 0} (b : Bool) (x y : Out S) → HasOrder x → HasOrder y → HasOrder (if b then x else y)
 order_if true x y p q = p
@@ -26,7 +27,7 @@ unfolding acts
 order_acts f p s [] = order_still s
 order_acts f p s (a ∷ answers) = order_next (f s a) (λ t. acts f t answers) (p s a) (order_acts f p (f s a).state answers)
 
-order_writes_if : {E : Type 0} (flow : Flow) (s : Session E) (answer : WriteAnswer) → HasOrder (writes_if flow s answer)
+order_writes_if : {E : Type 0} (flow : WritingState) (s : Session E) (answer : WriteAnswer) → HasOrder (writes_if flow s answer)
 order_writes_if Going s answer =
     order_if (length s.output == 0) (still (s, Going)) (makes (Writes s.number s.output answer) (after_write answer s)) (order_still (s, Going))
     (order_makes (Writes s.number s.output answer) (after_write answer s))
@@ -51,13 +52,13 @@ pub order_swept : {E : Type 0} (f : Session E → Met → Out (List (Session E))
 unfolding swept
 order_swept f p [] ss answers = order_still ss
 order_swept f p (n ∷ ns) ss answers =
-    let o = visit_at f n ss (first_of nothing_met answers) in
-    order_next o (λ now. swept f ns now (drop 1 answers)) (order_visit_at f p n ss (first_of nothing_met answers)) (order_swept f p ns o.state (drop 1 answers))
+    let o = visit_at f n ss (first_answer_of nothing_met answers) in
+    order_next o (λ now. swept f ns now (drop 1 answers)) (order_visit_at f p n ss (first_answer_of nothing_met answers)) (order_swept f p ns o.state (drop 1 answers))
 
 module _ {E : Type 0} (o : EndOps E) where
   -- ---- visits
 
-  order_flowed : (r : Rules) (m : ℕ) (x : Session E × Flow) (says : Says) → HasOrder (flowed o r m x says)
+  order_flowed : (r : Rules) (m : ℕ) (x : Session E × WritingState) (says : Says) → HasOrder (flowed o r m x says)
   order_flowed r m (s, Going) says = order_still s
   order_flowed r m (s, PutOff) says = order_still s
   order_flowed r m (s, Failing) says = order_prints (fault_unless o (is_released o s) r m s says)
@@ -66,17 +67,17 @@ module _ {E : Type 0} (o : EndOps E) where
   order_unless true r m s a = order_still s
   order_unless false r m s a = order_next (writes s a.answers) (λ x. flowed o r m x a.says) (order_writes s a.answers) (order_flowed r m (writes s a.answers).state a.says)
 
-  order_written : (r : Rules) (m : ℕ) (s : Session E) (a : Wrote) → HasOrder (written o r m s a)
-  unfolding written
+  order_written : (r : Rules) (m : ℕ) (s : Session E) (a : Wrote) → HasOrder (session_behind_writing o r m s a)
+  unfolding session_behind_writing
   order_written r m s a = order_unless s.broken r m s a
 
-  order_settled : (s : Session E) → HasOrder (settled o s)
-  unfolding settled
+  order_settled : (s : Session E) → HasOrder (session_kept_or_closed o s)
+  unfolding session_kept_or_closed
   order_settled s = order_if (s.broken || (is_released o s && (length s.output == 0))) (closed s) (stays s) (order_makes (Closes s.number) []) (order_still (s ∷ []))
 
   order_rests : (r : Rules) (m : ℕ) (s : Session E) (a : Wrote) → HasOrder (rests o r m s a)
   unfolding rests
-  order_rests r m s a = order_next (written o r m s a) (settled o) (order_written r m s a) (order_settled (written o r m s a).state)
+  order_rests r m s a = order_next (session_behind_writing o r m s a) (session_kept_or_closed o) (order_written r m s a) (order_settled (session_behind_writing o r m s a).state)
 
   order_behind : (reading : Reading) (r : Rules) (m : ℕ) (s : Session E) (a : Wrote) → HasOrder (rests_behind o reading r m s a)
   order_behind (Gave octets) r m s a = order_rests r m s a
@@ -90,10 +91,10 @@ module _ {E : Type 0} (o : EndOps E) where
       order_next (makes (Reads s.number most_read a.waits a.reading) s) (λ t. prints (came o a.reading r m t a.says)) (order_makes (Reads s.number most_read a.waits a.reading) s)
       (order_prints (came o a.reading r m s a.says))
 
-  pub order_served : (r : Rules) (m : ℕ) (s : Session E) (g : Given) (a : Met) → HasOrder (served o r m s g a)
+  pub order_served : (r : Rules) (m : ℕ) (s : Session E) (g : GivenToSession) (a : Met) → HasOrder (served o r m s g a)
   unfolding served
   order_served r m s g a =
-      let h = handled o r m s g (first_of nothing_said a.says) in
+      let h = handled o r m s g (first_answer_of nothing_said a.says) in
       order_next (prints h) (λ t. rests o r m t a.wrote) (order_prints h) (order_rests r m h.0 a.wrote)
 
   pub order_visited : (r : Rules) (m : ℕ) (visit : Visit) (s : Session E) (a : Met) → HasOrder (visited o r m visit s a)

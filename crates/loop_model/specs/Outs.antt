@@ -1,16 +1,16 @@
 -- The words in which the loop is defined: what a part of it gives, one part behind another, and a part once for each answer.
 use Rattle.std.specs.Prelude.{◌≡◌, ℕ, zero, suc, List, [], ◌∷◌, ◌++◌}
 use Rattle.link_trait.specs.Wires.{Call}
-use Rattle.loop_model.specs.Journals.{Entry}
-use Rattle.loop_model.specs.Deeds.{Deed, Calling, entries_in, calls_in, printings}
+use Rattle.loop_model.specs.Journals.{JournalEntry}
+use Rattle.loop_model.specs.Deeds.{LoopDeed, Calling, entries_in, calls_in, printings}
 
 -- what a part of the loop gives: the state behind it, the events of the journal, the calls on the wires; and these events and calls in the one
 -- order in which they come
 pub record Out (S : Type 0) : Type 0 where
   pub state : S
-  pub entries : List Entry
+  pub entries : List JournalEntry
   pub calls : List Call
-  pub order : List Deed
+  pub order : List LoopDeed
 
 -- the events and the calls are those of that order
 pub record HasOrder {S : Type 0} (part : Out S) : Type 0 where
@@ -30,7 +30,7 @@ abbrev pub changed : {S T : Type 0} → (S → T) → Out S → Out T
 changed f a = record { state = f a.state; entries = a.entries; calls = a.calls; order = a.order }
 
 -- a part that makes no call
-abbrev pub prints : {S : Type 0} → S × List Entry → Out S
+abbrev pub prints : {S : Type 0} → S × List JournalEntry → Out S
 prints x = record { state = x.0; entries = x.1; calls = []; order = printings x.1 }
 
 -- a call on the wires, and nothing else
@@ -38,9 +38,9 @@ abbrev pub makes : {S : Type 0} → Call → S → Out S
 makes call s = record { state = s; entries = []; calls = call ∷ []; order = Calling call ∷ [] }
 
 -- a part that makes no call, once for each answer
-unfoldable pub runs : {S A : Type 0} → (S → A → S × List Entry) → S → List A → S × List Entry
-runs f s [] = (s, [])
-runs f s (a ∷ answers) = let b = f s a in let c = runs f b.0 answers in (c.0, b.1 ++ c.1)
+unfoldable pub part_for_each_answer : {S A : Type 0} → (S → A → S × List JournalEntry) → S → List A → S × List JournalEntry
+part_for_each_answer f s [] = (s, [])
+part_for_each_answer f s (a ∷ answers) = let b = f s a in let c = part_for_each_answer f b.0 answers in (c.0, b.1 ++ c.1)
 
 -- a part, once for each answer
 unfoldable pub acts : {S A : Type 0} → (S → A → Out S) → S → List A → Out S
@@ -54,6 +54,6 @@ exactly (suc n) plain [] = plain ∷ exactly n plain []
 exactly (suc n) plain (a ∷ answers) = a ∷ exactly n plain answers
 
 -- the first answer, and a plain one where there is none
-abbrev pub first_of : {A : Type 0} → A → List A → A
-first_of plain [] = plain
-first_of plain (a ∷ answers) = a
+abbrev pub first_answer_of : {A : Type 0} → A → List A → A
+first_answer_of plain [] = plain
+first_answer_of plain (a ∷ answers) = a

@@ -3,16 +3,16 @@ use Rattle.std.specs.Prelude.{ℕ, ◌<◌, ◌==◌, Bool, false, if◌then◌e
 use Rattle.link_trait.specs.Wires.{Call, Listens, Dials, Turns, Reads, Writes, Closes}
 use Rattle.link_trait.specs.declared.wires.Happening.{Happening}
 use Rattle.link_trait.specs.declared.wires.Happening.TheVariants as happening
-use Rattle.loop_model.specs.Journals.{Entry}
+use Rattle.loop_model.specs.Journals.{JournalEntry}
 use Rattle.loop_model.specs.Sessions.{Session}
 
 -- the session of a number
-unfoldable pub session_of : {E : Type 0} → ℕ → List (Session E) → Option (Session E)
-session_of conn [] = None
-session_of conn (s ∷ ss) = if s.number == conn then Some s else session_of conn ss
+unfoldable pub session_of_connection : {E : Type 0} → ℕ → List (Session E) → Option (Session E)
+session_of_connection conn [] = None
+session_of_connection conn (s ∷ ss) = if s.number == conn then Some s else session_of_connection conn ss
 
 -- the events of a connection
-unfoldable pub of : ℕ → List Entry → List Entry
+unfoldable pub of : ℕ → List JournalEntry → List JournalEntry
 of conn [] = []
 of conn (x ∷ xs) = if x.conn == conn then x ∷ of conn xs else of conn xs
 
@@ -40,19 +40,19 @@ opened_by happening.Ended = []
 opened_by happening.Failed = []
 
 -- the connection that a call opened
-abbrev pub opens : Call → List ℕ
-opens (Listens address listens) = []
-opens (Dials address None) = []
-opens (Dials address (Some conn)) = conn ∷ []
-opens (Turns until happening) = opened_by happening
-opens (Reads other size waits reading) = []
-opens (Writes other piece answer) = []
-opens (Closes other) = []
+abbrev pub connections_opened_by_call : Call → List ℕ
+connections_opened_by_call (Listens address listens) = []
+connections_opened_by_call (Dials address None) = []
+connections_opened_by_call (Dials address (Some conn)) = conn ∷ []
+connections_opened_by_call (Turns until happening) = opened_by happening
+connections_opened_by_call (Reads other size waits reading) = []
+connections_opened_by_call (Writes other piece answer) = []
+connections_opened_by_call (Closes other) = []
 
 -- the connections that calls opened
 unfoldable pub opened_in : List Call → List ℕ
 opened_in [] = []
-opened_in (call ∷ calls) = opens call ++ opened_in calls
+opened_in (call ∷ calls) = connections_opened_by_call call ++ opened_in calls
 
 -- numbers rise, each above the one before, from this one on; and the last of them
 abbrev pub Rises : ℕ → List ℕ → Type 0

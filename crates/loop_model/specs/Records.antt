@@ -9,18 +9,18 @@ use Rattle.loop_model.specs.Laws.{turns_of, AllGoOn}
 
 -- ---- listens and dials
 
-abbrev pub opening_by : Call → List Call
-opening_by (Listens address listens) = Listens address listens ∷ []
-opening_by (Dials address conn) = Dials address conn ∷ []
-opening_by (Turns until happening) = []
-opening_by (Reads conn size waits reading) = []
-opening_by (Writes conn piece answer) = []
-opening_by (Closes conn) = []
+abbrev pub listen_or_dial_in : Call → List Call
+listen_or_dial_in (Listens address listens) = Listens address listens ∷ []
+listen_or_dial_in (Dials address conn) = Dials address conn ∷ []
+listen_or_dial_in (Turns until happening) = []
+listen_or_dial_in (Reads conn size waits reading) = []
+listen_or_dial_in (Writes conn piece answer) = []
+listen_or_dial_in (Closes conn) = []
 
 -- the listens and the dials among calls
 unfoldable pub openings_of : List Call → List Call
 openings_of [] = []
-openings_of (call ∷ calls) = opening_by call ++ openings_of calls
+openings_of (call ∷ calls) = listen_or_dial_in call ++ openings_of calls
 
 -- a record begins with this call, and behind it stands no listen and no dial
 pub record BeginsOnly (first : Call) (calls : List Call) : Type 0 where
@@ -48,15 +48,15 @@ pub record RecordsBegin : Type 0 where
 -- ---- why a loop halts as closed
 
 -- the loop dials, none of its turns ended or failed, and no session is live
-pub record IsDone (plan : Plan) (o : Out (Course ModelEnd)) : Type 0 where
+pub record IsDialDone (plan : Plan) (o : Out (Course ModelEnd)) : Type 0 where
   pub dials : plan.dials ≡ true
   pub on : AllGoOn (turns_of o.calls)
   pub none : o.state.loop.sessions ≡ []
 
 -- it halted as closed exactly where it is so
 pub record HaltsClosed (plan : Plan) (o : Out (Course ModelEnd)) : Type 0 where
-  pub only : o.state.halt ≡ Some OnClosed → IsDone plan o
-  pub each : IsDone plan o → o.state.halt ≡ Some OnClosed
+  pub only : o.state.halt ≡ Some OnClosed → IsDialDone plan o
+  pub each : IsDialDone plan o → o.state.halt ≡ Some OnClosed
 
 -- of each run from where it was so; of each dial that opened its connection; and a loop that serves never halts so
 pub record ClosedExactly : Type 0 where

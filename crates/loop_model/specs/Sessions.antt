@@ -12,12 +12,12 @@ use Rattle.er_trace.specs.declared.event.Event.TheVariants as event
 use Rattle.er_users.specs.Saying.{is_text}
 use Rattle.er_users.specs.Users.{Mind, mind_of, Callers, Heard, Connected, Message, Refused as NotSent, Released, Said, said, quiet, noting, tells_more}
 use Rattle.loop_model.specs.Ends.{EndOps}
-use Rattle.loop_model.specs.Journals.{Entry}
-use Rattle.loop_model.specs.Outs.{runs, exactly}
+use Rattle.loop_model.specs.Journals.{JournalEntry}
+use Rattle.loop_model.specs.Outs.{part_for_each_answer, exactly}
 
 -- what a session goes by: the keys, and the set-up time in milliseconds
 pub record Rules : Type 0 where
-  pub keys : List keys.Entry
+  pub keys : List keys.KmacEntry
   pub setup : ℕ
 
 pub record Session (E : Type 0) : Type 0 where
@@ -43,19 +43,19 @@ most_output = 262144
 
 -- what is given to the end of a session: an engine's end begins, octets come, the user sends a message, takes one, leaves with a
 -- sub-reason, time went on, the line ended, failed, stalled
-pub data Given : Type 0 where
-  Begins : (engine rbc rb : ℕ) → Given
-  Hears : (octets : List ℕ) → Given
-  Sends : (text : List ℕ) → Given
-  Takes : Given
-  Leaves : (sub : ℕ) → Given
-  Ticks : Given
-  Ends : Given
-  Faults : Given
-  Stalls : Given
+pub data GivenToSession : Type 0 where
+  Begins : (engine rbc rb : ℕ) → GivenToSession
+  Hears : (octets : List ℕ) → GivenToSession
+  Sends : (text : List ℕ) → GivenToSession
+  Takes : GivenToSession
+  Leaves : (sub : ℕ) → GivenToSession
+  Ticks : GivenToSession
+  Ends : GivenToSession
+  Faults : GivenToSession
+  Stalls : GivenToSession
 
 -- as the end takes it
-abbrev pub event_of : Rules → Given → end.Event
+abbrev pub event_of : Rules → GivenToSession → end.Event
 event_of r (Begins engine rbc rb) = end.Start
 event_of r (Hears octets) = end.Come (key_at r.keys) octets
 event_of r (Sends text) = end.Send text
@@ -67,7 +67,7 @@ event_of r Faults = end.Fault
 event_of r Stalls = end.Stalled
 
 -- a connection is closed behind these
-abbrev pub breaks : Given → Bool
+abbrev pub breaks : GivenToSession → Bool
 breaks (Begins engine rbc rb) = false
 breaks (Hears octets) = false
 breaks (Sends text) = false
@@ -90,33 +90,33 @@ octets_in (WasReleased release ∷ outcomes) = octets_in outcomes
 octets_in (Octets octets ∷ outcomes) = octets ++ octets_in outcomes
 
 -- what the user hears of outcomes: that the connection was made; a message that was taken. (No message has another length.)
-abbrev pub heard_in : List Outcome → Option Heard
-heard_in [] = None
-heard_in (ConnectedTo peer ∷ outcomes) = Some (Connected peer)
-heard_in (Accepted message ∷ outcomes) = heard_in outcomes
-heard_in (Taken message ∷ outcomes) = if is_text message then Some (Message message) else None
-heard_in (NothingToTake ∷ outcomes) = heard_in outcomes
-heard_in (Refused refusal ∷ outcomes) = heard_in outcomes
-heard_in (WasReleased release ∷ outcomes) = heard_in outcomes
-heard_in (Octets octets ∷ outcomes) = heard_in outcomes
+abbrev pub heard_by_user : List Outcome → Option Heard
+heard_by_user [] = None
+heard_by_user (ConnectedTo peer ∷ outcomes) = Some (Connected peer)
+heard_by_user (Accepted message ∷ outcomes) = heard_by_user outcomes
+heard_by_user (Taken message ∷ outcomes) = if is_text message then Some (Message message) else None
+heard_by_user (NothingToTake ∷ outcomes) = heard_by_user outcomes
+heard_by_user (Refused refusal ∷ outcomes) = heard_by_user outcomes
+heard_by_user (WasReleased release ∷ outcomes) = heard_by_user outcomes
+heard_by_user (Octets octets ∷ outcomes) = heard_by_user outcomes
 
 -- the replies as events: the texts in their order, then the release by the user who leaves
-abbrev pub leave_of : Option ℕ → List Given
+abbrev pub leave_of : Option ℕ → List GivenToSession
 leave_of None = []
 leave_of (Some sub) = Leaves sub ∷ []
 
-abbrev pub sends_of : List (List ℕ) → List Given
+abbrev pub sends_of : List (List ℕ) → List GivenToSession
 sends_of [] = []
 sends_of (text ∷ texts) = Sends text ∷ sends_of texts
 
-abbrev pub replies : Said → List Given
+abbrev pub replies : Said → List GivenToSession
 replies a = sends_of a.texts ++ leave_of a.leave
 
 -- a user hears: its mind then, and its replies. What a kind of a caller's own says is an answer of the outside, `free`
-abbrev pub hears : Option Mind → Option Heard → Said → Option Mind × List Given
-hears None heard free = (None, [])
-hears (Some mind) None free = (Some mind, [])
-hears (Some mind) (Some heard) free = let a = said mind.kind mind heard free in (Some a.mind, replies a)
+abbrev pub user_after_hearing : Option Mind → Option Heard → Said → Option Mind × List GivenToSession
+user_after_hearing None heard free = (None, [])
+user_after_hearing (Some mind) None free = (Some mind, [])
+user_after_hearing (Some mind) (Some heard) free = let a = said mind.kind mind heard free in (Some a.mind, replies a)
 
 -- why a text of the user was refused, among outcomes
 abbrev pub refused_in : List Outcome → Option SendRefusal
@@ -144,8 +144,8 @@ notes heard None = None
 notes heard (Some mind) = Some (noted heard mind)
 
 -- a plain answer: nothing is said
-abbrev pub silence : Said
-silence = quiet (mind_of Callers [])
+abbrev pub silent_answer : Said
+silent_answer = quiet (mind_of Callers [])
 
 -- a user whose session was released hears of it, with the reason, the sub-reason and who released, and is let go; the session is closed
 -- after the set-up time at the latest
@@ -161,7 +161,7 @@ pub record Says : Type 0 where
   pub rest : List Said
 
 abbrev pub nothing_said : Says
-nothing_said = record { first = silence; rest = [] }
+nothing_said = record { first = silent_answer; rest = [] }
 
 -- ---- sessions over ends of a kind
 
@@ -170,53 +170,53 @@ module _ {E : Type 0} (o : EndOps E) where
   is_released s = is_some (o.released s.end)
 
   -- as the journal has it: of octets those that the end uses
-  abbrev pub written : E → Given → Event
-  written k (Begins engine rbc rb) = event.Call engine rbc rb
-  written k (Hears octets) = event.Octets (take (o.used k octets) octets)
-  written k (Sends text) = event.Send text
-  written k Takes = event.Take
-  written k (Leaves sub) = event.Release sub
-  written k Ticks = event.Tick
-  written k Ends = event.Ended
-  written k Faults = event.Fault
-  written k Stalls = event.Stalled
+  abbrev pub journal_event_of_given : E → GivenToSession → Event
+  journal_event_of_given k (Begins engine rbc rb) = event.Call engine rbc rb
+  journal_event_of_given k (Hears octets) = event.Octets (take (o.used k octets) octets)
+  journal_event_of_given k (Sends text) = event.Send text
+  journal_event_of_given k Takes = event.Take
+  journal_event_of_given k (Leaves sub) = event.Release sub
+  journal_event_of_given k Ticks = event.Tick
+  journal_event_of_given k Ends = event.Ended
+  journal_event_of_given k Faults = event.Fault
+  journal_event_of_given k Stalls = event.Stalled
 
   -- the end behind an event, and its outcomes
-  unfoldable pub end_after : Rules → ℕ → E → Given → E
+  unfoldable pub end_after : Rules → ℕ → E → GivenToSession → E
   end_after r m k g = o.happens m (event_of r g) k
 
-  unfoldable pub outcomes_of : Rules → ℕ → E → Given → List Outcome
-  outcomes_of r m k g = o.tells m (event_of r g) k
+  unfoldable pub outcomes_of_given_event : Rules → ℕ → E → GivenToSession → List Outcome
+  outcomes_of_given_event r m k g = o.tells m (event_of r g) k
 
   -- an event, as the journal has it
-  abbrev pub entry_of : Rules → ℕ → Session E → Given → Entry
-  entry_of r m s g = record { moment = m; conn = s.number; event = written s.end g; outcomes = outcomes_of r m s.end g }
+  abbrev pub entry_of : Rules → ℕ → Session E → GivenToSession → JournalEntry
+  entry_of r m s g = record { moment = m; conn = s.number; event = journal_event_of_given s.end g; outcomes = outcomes_of_given_event r m s.end g }
 
   -- the session stalls: the event follows directly
-  abbrev pub stalled : Rules → ℕ → Session E → Session E × List Entry
+  abbrev pub stalled : Rules → ℕ → Session E → Session E × List JournalEntry
   stalled r m s = (record s { end = end_after r m s.end Stalls; broken = true }, entry_of r m s Stalls ∷ [])
 
   -- octets join those that wait, or the session stalls where all together would be too many
-  unfoldable pub joined : Rules → ℕ → Session E → List ℕ → Session E × List Entry
+  unfoldable pub joined : Rules → ℕ → Session E → List ℕ → Session E × List JournalEntry
   joined r m s octets =
       if nat_lt most_output (length s.output + length octets) then stalled r m s
       else (record s { output = s.output ++ octets }, [])
 
   -- an event is given to the end, and the octets that the end gives join those that wait
-  unfoldable pub fed : Rules → ℕ → Session E → Given → Session E × List Entry
+  unfoldable pub fed : Rules → ℕ → Session E → GivenToSession → Session E × List JournalEntry
   fed r m s g =
-      let b = joined r m (record s { end = end_after r m s.end g; broken = s.broken || breaks g }) (octets_in (outcomes_of r m s.end g)) in
+      let b = joined r m (record s { end = end_after r m s.end g; broken = s.broken || breaks g }) (octets_in (outcomes_of_given_event r m s.end g)) in
       (b.0, entry_of r m s g ∷ b.1)
 
   -- ---- events with what follows them
 
   -- a reply of the user is given to the end; where a text is refused, the user hears that before anything else comes
-  abbrev pub replied : Rules → ℕ → Session E → Given → Session E × List Entry
+  abbrev pub replied : Rules → ℕ → Session E → GivenToSession → Session E × List JournalEntry
   replied r m s (Begins engine rbc rb) = fed r m s (Begins engine rbc rb)
   replied r m s (Hears octets) = fed r m s (Hears octets)
   replied r m s (Sends text) =
       let a = fed r m s (Sends text) in
-      (record a.0 { mind = notes (refusal_heard text (refused_in (outcomes_of r m s.end (Sends text)))) s.mind }, a.1)
+      (record a.0 { mind = notes (refusal_heard text (refused_in (outcomes_of_given_event r m s.end (Sends text)))) s.mind }, a.1)
   replied r m s Takes = fed r m s Takes
   replied r m s (Leaves sub) = fed r m s (Leaves sub)
   replied r m s Ticks = fed r m s Ticks
@@ -225,25 +225,25 @@ module _ {E : Type 0} (o : EndOps E) where
   replied r m s Stalls = fed r m s Stalls
 
   -- an event, what the user hears of it, and the replies
-  unfoldable pub dealt : Rules → ℕ → Session E → Given → Said → Session E × List Entry
+  unfoldable pub dealt : Rules → ℕ → Session E → GivenToSession → Said → Session E × List JournalEntry
   dealt r m s g free =
       let a = fed r m s g in
-      let b = hears s.mind (heard_in (outcomes_of r m s.end g)) free in
-      let c = runs (replied r m) (record a.0 { mind = b.0 }) b.1 in
+      let b = user_after_hearing s.mind (heard_by_user (outcomes_of_given_event r m s.end g)) free in
+      let c = part_for_each_answer (replied r m) (record a.0 { mind = b.0 }) b.1 in
       (c.0, a.1 ++ c.1)
 
   -- the messages that wait are taken
-  abbrev pub waiting : Session E → ℕ
-  waiting s = o.waiting s.end
+  abbrev pub count_waiting_in_session : Session E → ℕ
+  count_waiting_in_session s = o.waiting s.end
 
-  unfoldable pub takes_all : Rules → ℕ → Session E → List Said → Session E × List Entry
-  takes_all r m s frees = runs (λ t free. dealt r m t Takes free) s (exactly (waiting s) silence frees)
+  unfoldable pub takes_all : Rules → ℕ → Session E → List Said → Session E × List JournalEntry
+  takes_all r m s frees = part_for_each_answer (λ t free. dealt r m t Takes free) s (exactly (count_waiting_in_session s) silent_answer frees)
 
   abbrev pub parted : Rules → ℕ → Session E → Session E
   parted r m s = parts (o.released s.end) s.mind (m + r.setup) s
 
   -- an event with all that follows it
-  unfoldable pub handled : Rules → ℕ → Session E → Given → Says → Session E × List Entry
+  unfoldable pub handled : Rules → ℕ → Session E → GivenToSession → Says → Session E × List JournalEntry
   handled r m s g says =
       let a = dealt r m s g says.first in
       let b = takes_all r m a.0 says.rest in
@@ -252,7 +252,7 @@ module _ {E : Type 0} (o : EndOps E) where
   -- ---- octets of a read
 
   -- the next part of them, as far as the end uses it at once; nothing where none is left, or the session broke off
-  unfoldable pub poured : Rules → ℕ → Session E × List ℕ → Says → (Session E × List ℕ) × List Entry
+  unfoldable pub poured : Rules → ℕ → Session E × List ℕ → Says → (Session E × List ℕ) × List JournalEntry
   poured r m x says =
       if (length x.1 == 0) || x.0.broken then (x, [])
       else
@@ -260,7 +260,7 @@ module _ {E : Type 0} (o : EndOps E) where
       ((a.0, drop (o.used x.0.end x.1) x.1), a.1)
 
   -- part by part
-  unfoldable pub pours : Rules → ℕ → Session E → List ℕ → List Says → Session E × List Entry
+  unfoldable pub pours : Rules → ℕ → Session E → List ℕ → List Says → Session E × List JournalEntry
   pours r m s octets says =
-      let a = runs (poured r m) (s, octets) (exactly (length octets) nothing_said says) in
+      let a = part_for_each_answer (poured r m) (s, octets) (exactly (length octets) nothing_said says) in
       (a.0.0, a.1)

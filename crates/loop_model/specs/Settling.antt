@@ -8,12 +8,12 @@ use Rattle.link_trait.specs.Wires as wires
 use Rattle.link_trait.specs.Wires.{Writes, given_of}
 use Rattle.link_trait.specs.declared.wires.WriteAnswer.{WriteAnswer}
 use Rattle.link_trait.specs.declared.wires.WriteAnswer.TheVariants as write
-use Rattle.loop_model.specs.Journals.{lines_of}
+use Rattle.loop_model.specs.Journals.{trace_lines_of}
 use Rattle.loop_model.specs.Outs.{Out}
 use Rattle.loop_model.specs.Sessions.{Rules, Session}
 use Rattle.loop_model.specs.Visits.{is_due, Visit, Tick, Read, Write, Expire, Met, visited}
 use Rattle.loop_model.specs.Loops.{Plan, rules_of}
-use Rattle.loop_model.specs.Laws.{octets_of}
+use Rattle.loop_model.specs.Laws.{octets_of_entries}
 use Rattle.loop_model.specs.Faulted.{is_gone, has_failed}
 use Rattle.loop_model.specs.Writings.{AllTakeOne, last_answer, has_broken}
 
@@ -57,8 +57,8 @@ pub data WhyClosed (plan : Plan) (s : Session ModelEnd) (o : Out (List (Session 
   -- its line ended or failed, or it stalled, or a read or a write of it failed
   Broke : (has_broken o.entries || has_failed o.calls) ≡ true → WhyClosed plan s o
   -- its end is released, and all octets that waited and all that its events told were given
-  Drained : is_gone (end_behind plan.settings (key_at plan.keys) s.number (Some s.end) (lines_of o.entries)) ≡ true
-      → given_of s.number o.calls ≡ s.output ++ octets_of o.entries → WhyClosed plan s o
+  Drained : is_gone (end_behind plan.settings (key_at plan.keys) s.number (Some s.end) (trace_lines_of o.entries)) ≡ true
+      → given_of s.number o.calls ≡ s.output ++ octets_of_entries o.entries → WhyClosed plan s o
 
 -- a session that is ticked, read from or written to, and that didn't break off before, is closed for one of these reasons alone. (Closing
 -- moments close the others)

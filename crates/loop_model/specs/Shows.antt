@@ -5,7 +5,7 @@ use Rattle.hdlc_frames.specs.Deframing.{has_verdicts}
 use Rattle.hdlc_station_model.specs.Events.{news}
 use Rattle.er_end_model.specs.Layers as layers
 use Rattle.er_end_model.specs.Steps.{deadline}
-use Rattle.loop_model.specs.Cuts.{closes}
+use Rattle.loop_model.specs.Cuts.{closes_any_frame}
 
 -- whether one of the octets but the last closes a frame, behind all that came
 unfoldable pub closes_early : (came : List ℕ) → List ℕ → Bool
@@ -20,5 +20,5 @@ pub record EndsShow : Type 0 where
   pub waiting : (m : ModelEnd) → model_ends.waiting m ≡ layers.model.untaken m.core.upper
   pub all : (m : ModelEnd) (octets : List ℕ) → is_some m.core.released ≡ true → model_ends.used m octets ≡ length octets
   pub cut : (m : ModelEnd) (octets : List ℕ) → is_some m.core.released ≡ false → closes_early m.stream (take (model_ends.used m octets) octets) ≡ false
-  pub rest : (m : ModelEnd) (octets : List ℕ) → is_some m.core.released ≡ false → closes m.stream (take (model_ends.used m octets) octets) ≡ false
+  pub rest : (m : ModelEnd) (octets : List ℕ) → is_some m.core.released ≡ false → closes_any_frame m.stream (take (model_ends.used m octets) octets) ≡ false
       → model_ends.used m octets ≡ length octets

@@ -1,30 +1,30 @@
 -- Lemmas: deeds and what comes out of them, one part behind another; on the definitions of the loop, for the proofs of the crates above.
 use Rattle.std.proofs.Common.{◌≡◌, ℕ, List, [], ◌∷◌, ◌++◌, refl, sym, ◌∙◌, ap, ap₂, append_assoc}
 use Rattle.link_trait.specs.Wires.{Call}
-use Rattle.loop_model.specs.Journals.{Entry, entry_text, text}
-use Rattle.loop_model.specs.Deeds.{Deed, Printing, Calling, entries_in, calls_in, printings, Sign, Octet, OnWires, octet_signs, signs, text_of, calls_of}
+use Rattle.loop_model.specs.Journals.{JournalEntry, entry_text, text}
+use Rattle.loop_model.specs.Deeds.{LoopDeed, Printing, Calling, entries_in, calls_in, printings, Sign, Octet, OnWires, octet_signs, signs, text_of, calls_of}
 use Rattle.loop_model.specs.Outs.{Out, HasOrder, still, next, changed, prints, makes}
 
 -- ---- deeds
 
-pub entries_parts : (ds es : List Deed) → entries_in (ds ++ es) ≡ entries_in ds ++ entries_in es
+pub entries_parts : (ds es : List LoopDeed) → entries_in (ds ++ es) ≡ entries_in ds ++ entries_in es
 unfolding entries_in
 entries_parts [] es = refl
 entries_parts (Printing x ∷ ds) es = ap (λ z. x ∷ z) (entries_parts ds es)
 entries_parts (Calling call ∷ ds) es = entries_parts ds es
 
-pub calls_parts : (ds es : List Deed) → calls_in (ds ++ es) ≡ calls_in ds ++ calls_in es
+pub calls_parts : (ds es : List LoopDeed) → calls_in (ds ++ es) ≡ calls_in ds ++ calls_in es
 unfolding calls_in
 calls_parts [] es = refl
 calls_parts (Printing x ∷ ds) es = calls_parts ds es
 calls_parts (Calling call ∷ ds) es = ap (λ z. call ∷ z) (calls_parts ds es)
 
-pub printings_entries : (xs : List Entry) → entries_in (printings xs) ≡ xs
+pub printings_entries : (xs : List JournalEntry) → entries_in (printings xs) ≡ xs
 unfolding entries_in
 printings_entries [] = refl
 printings_entries (x ∷ xs) = ap (λ z. x ∷ z) (printings_entries xs)
 
-pub printings_calls : (xs : List Entry) → calls_in (printings xs) ≡ []
+pub printings_calls : (xs : List JournalEntry) → calls_in (printings xs) ≡ []
 unfolding calls_in
 printings_calls [] = refl
 printings_calls (x ∷ xs) = printings_calls xs
@@ -57,24 +57,24 @@ unfolding calls_of
 octets_calls [] = refl
 octets_calls (o ∷ os) = octets_calls os
 
-pub signs_parts : (ds es : List Deed) → signs (ds ++ es) ≡ signs ds ++ signs es
+pub signs_parts : (ds es : List LoopDeed) → signs (ds ++ es) ≡ signs ds ++ signs es
 unfolding signs
 signs_parts [] es = refl
 signs_parts (Printing x ∷ ds) es = ap (λ z. octet_signs (entry_text x) ++ z) (signs_parts ds es) ∙ sym (append_assoc (octet_signs (entry_text x)) (signs ds) (signs es))
 signs_parts (Calling call ∷ ds) es = ap (λ z. OnWires call ∷ z) (signs_parts ds es)
 
-pub printings_signs : (xs : List Entry) → signs (printings xs) ≡ octet_signs (text xs)
+pub printings_signs : (xs : List JournalEntry) → signs (printings xs) ≡ octet_signs (text xs)
 unfolding signs
 printings_signs [] = refl
 printings_signs (x ∷ xs) = ap (λ z. octet_signs (entry_text x) ++ z) (printings_signs xs) ∙ sym (octets_parts (entry_text x) (text xs))
 
-pub signs_text : (ds : List Deed) → text_of (signs ds) ≡ text (entries_in ds)
+pub signs_text : (ds : List LoopDeed) → text_of (signs ds) ≡ text (entries_in ds)
 unfolding signs text_of entries_in
 signs_text [] = refl
 signs_text (Printing x ∷ ds) = text_parts (octet_signs (entry_text x)) (signs ds) ∙ ap₂ (λ (y z : List ℕ). y ++ z) (octets_text (entry_text x)) (signs_text ds)
 signs_text (Calling call ∷ ds) = signs_text ds
 
-pub signs_calls : (ds : List Deed) → calls_of (signs ds) ≡ calls_in ds
+pub signs_calls : (ds : List LoopDeed) → calls_of (signs ds) ≡ calls_in ds
 unfolding signs calls_of calls_in
 signs_calls [] = refl
 signs_calls (Printing x ∷ ds) = calls_of_parts (octet_signs (entry_text x)) (signs ds) ∙ ap₂ (λ (y z : List Call). y ++ z) (octets_calls (entry_text x)) (signs_calls ds)
@@ -88,14 +88,14 @@ order_still s = record { entries = refl; calls = refl }
 
 pub order_next : {S T : Type 0} (a : Out S) (f : S → Out T) → HasOrder a → HasOrder (f a.state) → HasOrder (next a f)
 order_next a f p q = record {
-  entries = entries_parts a.order (f a.state).order ∙ ap₂ (λ (y z : List Entry). y ++ z) p.entries q.entries;
+  entries = entries_parts a.order (f a.state).order ∙ ap₂ (λ (y z : List JournalEntry). y ++ z) p.entries q.entries;
   calls = calls_parts a.order (f a.state).order ∙ ap₂ (λ (y z : List Call). y ++ z) p.calls q.calls;
 }
 
 pub order_changed : {S T : Type 0} (f : S → T) (a : Out S) → HasOrder a → HasOrder (changed f a)
 order_changed f a p = record { entries = p.entries; calls = p.calls }
 
-pub order_prints : {S : Type 0} (x : S × List Entry) → HasOrder (prints x)
+pub order_prints : {S : Type 0} (x : S × List JournalEntry) → HasOrder (prints x)
 order_prints x = record { entries = printings_entries x.1; calls = printings_calls x.1 }
 
 pub order_makes : {S : Type 0} (call : Call) (s : S) → HasOrder (makes call s)

@@ -7,38 +7,38 @@ use Rattle.er_end_model.specs.Ends.{End}
 use Rattle.er_trace.specs.declared.event.Event.{Event}
 use Rattle.er_trace.specs.declared.event.Event.TheVariants.{Call, Answer, Octets, Send, Take, Release, Tick, Ended, Fault, Stalled, Full, Unserved}
 use Rattle.trace_model.specs.Connections.{end_at}
-use Rattle.loop_model.specs.Journals.{lines_of}
+use Rattle.loop_model.specs.Journals.{trace_lines_of}
 use Rattle.loop_model.specs.Outs.{Out}
 use Rattle.loop_model.specs.Loops.{Plan, Course}
 use Rattle.loop_model.specs.Parts.{of}
-use Rattle.loop_model.specs.Laws.{Holds}
+use Rattle.loop_model.specs.Laws.{HoldsOfEachLoop}
 use Rattle.loop_model.specs.Walks.{EachAt}
 
 -- how many messages wait at an end, where there is one
-abbrev pub waiting_at : Option End → ℕ
-waiting_at None = 0
-waiting_at (Some m) = layers.model.untaken m.core.upper
+abbrev pub count_waiting_at_end : Option End → ℕ
+count_waiting_at_end None = 0
+count_waiting_at_end (Some m) = layers.model.untaken m.core.upper
 
 -- one at least waits before a take; none waits before what comes from the line, the clock or the loop. A send and a release are replies of
 -- the user, and a stall follows the event that gave too many octets: they come while messages wait or not
 abbrev pub IsTaken : Option End → Event → Type 0
-IsTaken m (Call engine rbc rb) = waiting_at m ≡ 0
-IsTaken m (Answer rbc ra) = waiting_at m ≡ 0
-IsTaken m (Octets octets) = waiting_at m ≡ 0
+IsTaken m (Call engine rbc rb) = count_waiting_at_end m ≡ 0
+IsTaken m (Answer rbc ra) = count_waiting_at_end m ≡ 0
+IsTaken m (Octets octets) = count_waiting_at_end m ≡ 0
 IsTaken m (Send text) = Unit {0}
-IsTaken m Take = 1 ≤ waiting_at m
+IsTaken m Take = 1 ≤ count_waiting_at_end m
 IsTaken m (Release sub) = Unit {0}
-IsTaken m Tick = waiting_at m ≡ 0
-IsTaken m Ended = waiting_at m ≡ 0
-IsTaken m Fault = waiting_at m ≡ 0
+IsTaken m Tick = count_waiting_at_end m ≡ 0
+IsTaken m Ended = count_waiting_at_end m ≡ 0
+IsTaken m Fault = count_waiting_at_end m ≡ 0
 IsTaken m Stalled = Unit {0}
-IsTaken m (Full count) = waiting_at m ≡ 0
-IsTaken m (Unserved count) = waiting_at m ≡ 0
+IsTaken m (Full count) = count_waiting_at_end m ≡ 0
+IsTaken m (Unserved count) = count_waiting_at_end m ≡ 0
 
 -- so before each event of each connection, and none waits behind the last
 pub record AllTaken (plan : Plan) (o : Out (Course ModelEnd)) : Type 0 where
   pub each : (conn : ℕ) → EachAt plan.settings (key_at plan.keys) IsTaken None (of conn o.entries)
-  pub none : (conn : ℕ) → waiting_at (end_at plan.settings (key_at plan.keys) conn (lines_of o.entries)) ≡ 0
+  pub none : (conn : ℕ) → count_waiting_at_end (end_at plan.settings (key_at plan.keys) conn (trace_lines_of o.entries)) ≡ 0
 
 abbrev pub AllAreTaken : Type 0
-AllAreTaken = Holds AllTaken
+AllAreTaken = HoldsOfEachLoop AllTaken

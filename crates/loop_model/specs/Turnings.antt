@@ -8,11 +8,11 @@ use Rattle.link_trait.specs.Wires as wires
 use Rattle.link_trait.specs.Wires.{Listens, Dials, Turns, Reads, Writes, Closes, Reading, Gave, NotNow, End, Failed}
 use Rattle.link_trait.specs.declared.wires.Conn.{Conn}
 use Rattle.link_trait.specs.declared.wires.Happening.TheVariants as happening
-use Rattle.loop_model.specs.Journals.{Entry}
+use Rattle.loop_model.specs.Journals.{JournalEntry}
 use Rattle.loop_model.specs.Sessions.{Session, is_released}
 use Rattle.loop_model.specs.Visits.{most_read, is_due}
 use Rattle.loop_model.specs.Loops.{Plan, numbers, Course, Caller, Turn, readied, went, run, Dialled, dials}
-use Rattle.loop_model.specs.Parts.{session_of, Rises}
+use Rattle.loop_model.specs.Parts.{session_of_connection, Rises}
 
 -- ---- ticks
 
@@ -31,7 +31,7 @@ is_tick (Full count) = false
 is_tick (Unserved count) = false
 
 -- the connections that were ticked, in order
-unfoldable pub ticked : List Entry → List ℕ
+unfoldable pub ticked : List JournalEntry → List ℕ
 ticked [] = []
 ticked (x ∷ xs) = if is_tick x.event then x.conn ∷ ticked xs else ticked xs
 
@@ -63,7 +63,7 @@ is_ended (Full count) = false
 is_ended (Unserved count) = false
 
 -- the connections with an event `ended`, in order
-unfoldable pub ended : List Entry → List ℕ
+unfoldable pub ended : List JournalEntry → List ℕ
 ended [] = []
 ended (x ∷ xs) = if is_ended x.event then x.conn ∷ ended xs else ended xs
 
@@ -106,9 +106,9 @@ word_of Stalled = []
 word_of (Full count) = []
 word_of (Unserved count) = []
 
-unfoldable pub words_of : List Entry → List ℕ
-words_of [] = []
-words_of (x ∷ xs) = word_of x.event ++ words_of xs
+unfoldable pub random_words_of_entries : List JournalEntry → List ℕ
+random_words_of_entries [] = []
+random_words_of_entries (x ∷ xs) = word_of x.event ++ random_words_of_entries xs
 
 -- words are the next of a stream, in order
 abbrev pub AreNext : List ℕ → Stream → Type 0
@@ -117,19 +117,19 @@ AreNext (word ∷ words) stream = (word ≡ (next_u64 stream).0) × AreNext word
 
 -- each end that is opened has the next random word
 pub record WordsAreNext : Type 0 where
-  pub serving : (plan : Plan) (c : Course ModelEnd) (turns : List Turn) → AreNext (words_of (run model_ends plan c turns).entries) c.loop.words
+  pub serving : (plan : Plan) (c : Course ModelEnd) (turns : List Turn) → AreNext (random_words_of_entries (run model_ends plan c turns).entries) c.loop.words
   pub dialling : (plan : Plan) (caller : Caller) (c : Course ModelEnd) (address : List ℕ) (a : Dialled)
-      → AreNext (words_of (dials model_ends plan caller c address a).entries) c.loop.words
+      → AreNext (random_words_of_entries (dials model_ends plan caller c address a).entries) c.loop.words
 
 -- ---- closing
 
 -- a session that neither broke off nor is released with nothing that waits to be written
-abbrev pub IsKept : Session ModelEnd → Type 0
-IsKept s = (s.broken || (is_released model_ends s && (length s.output == 0))) ≡ false
+abbrev pub IsKeptSession : Session ModelEnd → Type 0
+IsKeptSession s = (s.broken || (is_released model_ends s && (length s.output == 0))) ≡ false
 
 abbrev pub AreKept : List (Session ModelEnd) → Type 0
 AreKept [] = Unit {0}
-AreKept (s ∷ ss) = IsKept s × AreKept ss
+AreKept (s ∷ ss) = IsKeptSession s × AreKept ss
 
 -- one that broke off is closed at once, and a released one as soon as nothing waits: none such is left behind a turn
 abbrev pub OthersAreClosed : Type 0
@@ -164,7 +164,7 @@ HasTaken End = ⊥
 HasTaken Failed = Unit {0}
 
 -- among calls is a read of this connection, which takes an octet at least where one waits, or fails
-pub record IsProgress (conn : ℕ) (calls : List wires.Call) : Type 0 where
+pub record HasReadProgress (conn : ℕ) (calls : List wires.Call) : Type 0 where
   pub first : List wires.Call
   pub waits : ℕ
   pub reading : Reading
@@ -176,5 +176,5 @@ pub record IsProgress (conn : ℕ) (calls : List wires.Call) : Type 0 where
 abbrev pub ReadableProgress : Type 0
 ReadableProgress =
     (plan : Plan) (c : Course ModelEnd) (a : Turn) (conn : Conn) (s : Session ModelEnd) → c.halt ≡ None → (readied model_ends plan c a).state.halt ≡ None
-    → a.happening ≡ happening.Readable conn → session_of conn.0 (readied model_ends plan c a).state.loop.sessions ≡ Some s → is_released model_ends s ≡ false
-    → AreRead (went model_ends plan c a).calls → IsProgress conn.0 (went model_ends plan c a).calls
+    → a.happening ≡ happening.Readable conn → session_of_connection conn.0 (readied model_ends plan c a).state.loop.sessions ≡ Some s → is_released model_ends s ≡ false
+    → AreRead (went model_ends plan c a).calls → HasReadProgress conn.0 (went model_ends plan c a).calls

@@ -5,11 +5,11 @@ use Rattle.std.specs.Prelude.{ℕ, ◌≡◌, ◌==◌, max, if◌then◌else◌
 use Rattle.link_trait.specs.Wires.{Turns}
 use Rattle.link_trait.specs.declared.wires.Happening.{Happening}
 use Rattle.link_trait.specs.declared.wires.Happening.TheVariants.{Accepted, Readable, Writable, Quiet, Ended, Failed}
-use Rattle.loop_model.specs.Outs.{Out, still, first_of}
+use Rattle.loop_model.specs.Outs.{Out, still, first_answer_of}
 use Rattle.loop_model.specs.Sessions.{Rules, Session}
 use Rattle.loop_model.specs.Visits.{Met, nothing_met, Visit, Tick, Read, Write, visited}
 use Rattle.loop_model.specs.Loops.{Plan, rules_of, numbers, until, Course, Turn, readied, went}
-use Rattle.loop_model.specs.Parts.{session_of, Rises}
+use Rattle.loop_model.specs.Parts.{session_of_connection, Rises}
 use Rattle.loop_model.specs.Writings.{expired, unexpired}
 
 -- ---- before a turn
@@ -18,7 +18,7 @@ use Rattle.loop_model.specs.Writings.{expired, unexpired}
 unfoldable pub all_ticked : Rules → ℕ → List (Session ModelEnd) → List Met → Out (List (Session ModelEnd))
 all_ticked r m [] answers = still []
 all_ticked r m (s ∷ ss) answers =
-    let o = visited model_ends r m Tick s (first_of nothing_met answers) in
+    let o = visited model_ends r m Tick s (first_answer_of nothing_met answers) in
     let rest = all_ticked r m ss (drop 1 answers) in
     record { state = o.state ++ rest.state; entries = o.entries ++ rest.entries; calls = o.calls ++ rest.calls; order = o.order ++ rest.order }
 
@@ -40,15 +40,15 @@ replaced conn now [] = []
 replaced conn now (s ∷ ss) = if s.number == conn then now ++ ss else s ∷ replaced conn now ss
 
 -- the visit of a session behind the turn
-abbrev pub visit_of : Plan → Course ModelEnd → Turn → Visit → Session ModelEnd → Out (List (Session ModelEnd))
-visit_of plan c a visit s = visited model_ends (rules_of plan) (max (readied model_ends plan c a).state.loop.moment a.second) visit s a.met
+abbrev pub visit_behind_turn : Plan → Course ModelEnd → Turn → Visit → Session ModelEnd → Out (List (Session ModelEnd))
+visit_behind_turn plan c a visit s = visited model_ends (rules_of plan) (max (readied model_ends plan c a).state.loop.moment a.second) visit s a.met
 
 -- behind the turn comes this visit alone
 pub record IsVisited (plan : Plan) (c : Course ModelEnd) (a : Turn) (visit : Visit) (conn : ℕ) (s : Session ModelEnd) : Type 0 where
-  pub entries : (went model_ends plan c a).entries ≡ (readied model_ends plan c a).entries ++ (visit_of plan c a visit s).entries
+  pub entries : (went model_ends plan c a).entries ≡ (readied model_ends plan c a).entries ++ (visit_behind_turn plan c a visit s).entries
   pub calls : (went model_ends plan c a).calls
-      ≡ (readied model_ends plan c a).calls ++ Turns (until model_ends (readied model_ends plan c a).state.loop.sessions) a.happening ∷ (visit_of plan c a visit s).calls
-  pub sessions : (went model_ends plan c a).state.loop.sessions ≡ replaced conn (visit_of plan c a visit s).state (readied model_ends plan c a).state.loop.sessions
+      ≡ (readied model_ends plan c a).calls ++ Turns (until model_ends (readied model_ends plan c a).state.loop.sessions) a.happening ∷ (visit_behind_turn plan c a visit s).calls
+  pub sessions : (went model_ends plan c a).state.loop.sessions ≡ replaced conn (visit_behind_turn plan c a visit s).state (readied model_ends plan c a).state.loop.sessions
 
 -- behind the turn comes nothing
 pub record IsUnvisited (plan : Plan) (c : Course ModelEnd) (a : Turn) : Type 0 where
@@ -65,8 +65,8 @@ IsVisitedIf plan c a visit conn (Some s) = IsVisited plan c a visit conn s
 -- with the openings)
 abbrev pub FollowsSo : Plan → Course ModelEnd → Turn → Happening → Type 0
 FollowsSo plan c a (Accepted conn) = Unit {0}
-FollowsSo plan c a (Readable conn) = IsVisitedIf plan c a Read conn.0 (session_of conn.0 (readied model_ends plan c a).state.loop.sessions)
-FollowsSo plan c a (Writable conn) = IsVisitedIf plan c a Write conn.0 (session_of conn.0 (readied model_ends plan c a).state.loop.sessions)
+FollowsSo plan c a (Readable conn) = IsVisitedIf plan c a Read conn.0 (session_of_connection conn.0 (readied model_ends plan c a).state.loop.sessions)
+FollowsSo plan c a (Writable conn) = IsVisitedIf plan c a Write conn.0 (session_of_connection conn.0 (readied model_ends plan c a).state.loop.sessions)
 FollowsSo plan c a Quiet = IsUnvisited plan c a
 FollowsSo plan c a Ended = IsUnvisited plan c a
 FollowsSo plan c a Failed = IsUnvisited plan c a

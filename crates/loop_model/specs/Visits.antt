@@ -1,13 +1,13 @@
 -- What the loop does at one session (this profile): a tick, a read, a write, and what follows them, writing and closing.
 use Rattle.std.specs.Prelude.{ℕ, ◌==◌, nat_le, Bool, true, false, ◌&&◌, ◌||◌, if◌then◌else◌, List, [], ◌∷◌, length, drop, Option, Some, None}
-use Rattle.er_end_model.specs.Steps.{first_of as first_moment}
+use Rattle.er_end_model.specs.Steps.{earlier_of_moments as first_moment}
 use Rattle.link_trait.specs.Wires.{Reading, Gave, NotNow, End, Failed, Reads, Writes, Closes}
 use Rattle.link_trait.specs.declared.wires.WriteAnswer.{WriteAnswer}
 use Rattle.link_trait.specs.declared.wires.WriteAnswer.TheVariants as write
 use Rattle.loop_model.specs.Ends.{EndOps}
-use Rattle.loop_model.specs.Journals.{Entry}
-use Rattle.loop_model.specs.Outs.{Out, still, next, prints, makes, acts, exactly, first_of}
-use Rattle.loop_model.specs.Sessions.{Rules, Session, is_released, Given, Ticks, Ends, Faults, Says, nothing_said, handled, pours}
+use Rattle.loop_model.specs.Journals.{JournalEntry}
+use Rattle.loop_model.specs.Outs.{Out, still, next, prints, makes, acts, exactly, first_answer_of}
+use Rattle.loop_model.specs.Sessions.{Rules, Session, is_released, GivenToSession, Ticks, Ends, Faults, Says, nothing_said, handled, pours}
 
 -- the octets that one read asks for
 abbrev pub most_read : ℕ
@@ -16,29 +16,29 @@ most_read = 4096
 -- ---- writing
 
 -- a writing goes on, is put off since there is no room, or has failed
-pub data Flow : Type 0 where
-  Going : Flow
-  PutOff : Flow
-  Failing : Flow
+pub data WritingState : Type 0 where
+  Going : WritingState
+  PutOff : WritingState
+  Failing : WritingState
 
-abbrev pub after_write : {E : Type 0} → WriteAnswer → Session E → Session E × Flow
+abbrev pub after_write : {E : Type 0} → WriteAnswer → Session E → Session E × WritingState
 after_write (write.Some n) s = (record s { output = drop n s.output }, Going)
 after_write write.NotNow s = (s, PutOff)
 after_write write.Failed s = (s, Failing)
 
 -- one write of all that waits, where something does and none before was put off or failed
-abbrev pub writes_if : {E : Type 0} → Flow → Session E → WriteAnswer → Out (Session E × Flow)
+abbrev pub writes_if : {E : Type 0} → WritingState → Session E → WriteAnswer → Out (Session E × WritingState)
 writes_if Going s answer =
     if length s.output == 0 then still (s, Going)
     else makes (Writes s.number s.output answer) (after_write answer s)
 writes_if PutOff s answer = still (s, PutOff)
 writes_if Failing s answer = still (s, Failing)
 
-unfoldable pub writes_once : {E : Type 0} → Session E × Flow → WriteAnswer → Out (Session E × Flow)
+unfoldable pub writes_once : {E : Type 0} → Session E × WritingState → WriteAnswer → Out (Session E × WritingState)
 writes_once x answer = writes_if x.1 x.0 answer
 
 -- until nothing waits, or there is no room, or a write failed. A write takes an octet at least
-unfoldable pub writes : {E : Type 0} → Session E → List WriteAnswer → Out (Session E × Flow)
+unfoldable pub writes : {E : Type 0} → Session E → List WriteAnswer → Out (Session E × WritingState)
 writes s answers = acts writes_once (s, Going) (exactly (length s.output) write.NotNow answers)
 
 -- what came of writing: the answers of the writes, and what the user said to a fault
@@ -86,11 +86,11 @@ is_due m (Some at) = nat_le at m
 
 module _ {E : Type 0} (o : EndOps E) where
   -- a failed write: the event fault, but for a session that is released
-  abbrev pub fault_unless : Bool → Rules → ℕ → Session E → Says → Session E × List Entry
+  abbrev pub fault_unless : Bool → Rules → ℕ → Session E → Says → Session E × List JournalEntry
   fault_unless true r m s says = (record s { broken = true }, [])
   fault_unless false r m s says = handled o r m s Faults says
 
-  abbrev pub flowed : Rules → ℕ → Session E × Flow → Says → Out (Session E)
+  abbrev pub flowed : Rules → ℕ → Session E × WritingState → Says → Out (Session E)
   flowed r m (s, Going) says = still s
   flowed r m (s, PutOff) says = still s
   flowed r m (s, Failing) says = prints (fault_unless (is_released o s) r m s says)
@@ -100,23 +100,23 @@ module _ {E : Type 0} (o : EndOps E) where
   written_unless true r m s a = still s
   written_unless false r m s a = next (writes s a.answers) (λ x. flowed r m x a.says)
 
-  unfoldable pub written : Rules → ℕ → Session E → Wrote → Out (Session E)
-  written r m s a = written_unless s.broken r m s a
+  unfoldable pub session_behind_writing : Rules → ℕ → Session E → Wrote → Out (Session E)
+  session_behind_writing r m s a = written_unless s.broken r m s a
 
   -- as soon as it broke off, or once it is released and nothing waits
-  unfoldable pub settled : Session E → Out (List (Session E))
-  settled s = if s.broken || (is_released o s && (length s.output == 0)) then closed s else stays s
+  unfoldable pub session_kept_or_closed : Session E → Out (List (Session E))
+  session_kept_or_closed s = if s.broken || (is_released o s && (length s.output == 0)) then closed s else stays s
 
   -- what follows the events of a happening
   unfoldable pub rests : Rules → ℕ → Session E → Wrote → Out (List (Session E))
-  rests r m s a = next (written r m s a) settled
+  rests r m s a = next (session_behind_writing r m s a) session_kept_or_closed
 
   -- what comes of a read
-  abbrev pub came : Reading → Rules → ℕ → Session E → List Says → Session E × List Entry
+  abbrev pub came : Reading → Rules → ℕ → Session E → List Says → Session E × List JournalEntry
   came (Gave octets) r m s says = pours o r m s octets says
   came NotNow r m s says = (s, [])
-  came End r m s says = handled o r m s Ends (first_of nothing_said says)
-  came Failed r m s says = handled o r m s Faults (first_of nothing_said says)
+  came End r m s says = handled o r m s Ends (first_answer_of nothing_said says)
+  came Failed r m s says = handled o r m s Faults (first_answer_of nothing_said says)
 
   -- one read
   unfoldable pub read_once : Rules → ℕ → Session E → Met → Out (Session E)
@@ -131,8 +131,8 @@ module _ {E : Type 0} (o : EndOps E) where
   rests_behind Failed r m s a = rests r m s a
 
   -- an event, and what follows the events of a happening
-  unfoldable pub served : Rules → ℕ → Session E → Given → Met → Out (List (Session E))
-  served r m s g a = next (prints (handled o r m s g (first_of nothing_said a.says))) (λ t. rests r m t a.wrote)
+  unfoldable pub served : Rules → ℕ → Session E → GivenToSession → Met → Out (List (Session E))
+  served r m s g a = next (prints (handled o r m s g (first_answer_of nothing_said a.says))) (λ t. rests r m t a.wrote)
 
   -- a tick comes where the deadline of the end has come; a read comes where the session isn't released
   unfoldable pub visited : Rules → ℕ → Visit → Session E → Met → Out (List (Session E))

@@ -8,13 +8,13 @@ use Rattle.link_trait.specs.Wires as wires
 use Rattle.link_trait.specs.Wires.{Listens, Dials, Turns, Reads, Writes, Closes, given_of}
 use Rattle.link_trait.specs.declared.wires.WriteAnswer.{WriteAnswer}
 use Rattle.link_trait.specs.declared.wires.WriteAnswer.TheVariants as write
-use Rattle.loop_model.specs.Journals.{Entry}
+use Rattle.loop_model.specs.Journals.{JournalEntry}
 use Rattle.loop_model.specs.Outs.{Out}
 use Rattle.loop_model.specs.Sessions.{Rules, Session}
 use Rattle.loop_model.specs.Visits.{is_due, Visit, Tick as Ticks, Met, visited}
 use Rattle.loop_model.specs.Loops.{Plan, numbers, swept, Sweeps, before, Course, Turn, readied, went}
-use Rattle.loop_model.specs.Parts.{session_of, of, calls_at, Rises}
-use Rattle.loop_model.specs.Laws.{octets_of, is_failed, Holds}
+use Rattle.loop_model.specs.Parts.{session_of_connection, of, calls_at, Rises}
+use Rattle.loop_model.specs.Laws.{octets_of_entries, is_failed, HoldsOfEachLoop}
 use Rattle.loop_model.specs.Faulted.{has_failed}
 use Rattle.loop_model.specs.Points.{is_stalled}
 use Rattle.loop_model.specs.Turnings.{is_ended}
@@ -23,17 +23,17 @@ use Rattle.loop_model.specs.Stalls.{IsBounded}
 -- ---- what waits
 
 -- what a write leaves of its octets
-abbrev pub left_by : WriteAnswer → List ℕ → List ℕ
-left_by (write.Some n) piece = drop n piece
-left_by write.NotNow piece = piece
-left_by write.Failed piece = piece
+abbrev pub octets_left_by_write : WriteAnswer → List ℕ → List ℕ
+octets_left_by_write (write.Some n) piece = drop n piece
+octets_left_by_write write.NotNow piece = piece
+octets_left_by_write write.Failed piece = piece
 
 abbrev pub left_at : wires.Call → List ℕ → List ℕ
 left_at (Listens address listens) waits = waits
 left_at (Dials address conn) waits = waits
 left_at (Turns until happening) waits = waits
 left_at (Reads conn size octets reading) waits = waits
-left_at (Writes conn piece answer) waits = left_by answer piece
+left_at (Writes conn piece answer) waits = octets_left_by_write answer piece
 left_at (Closes conn) waits = waits
 
 -- what the last write left, where so much waited before the first
@@ -56,12 +56,12 @@ is_break Stalled = true
 is_break (Full count) = false
 is_break (Unserved count) = false
 
-unfoldable pub has_broken : List Entry → Bool
+unfoldable pub has_broken : List JournalEntry → Bool
 has_broken [] = false
 has_broken (x ∷ xs) = is_break x.event || has_broken xs
 
 -- a connection was closed in order: its line neither ended, failed nor stalled, no write failed, and the last one left nothing
-pub record IsInOrder (conn : ℕ) (xs : List Entry) (calls : List wires.Call) : Type 0 where
+pub record IsClosedInOrder (conn : ℕ) (xs : List JournalEntry) (calls : List wires.Call) : Type 0 where
   pub before : List wires.Call
   pub closed : calls ≡ before ++ Closes conn ∷ []
   pub whole : has_broken xs ≡ false
@@ -70,30 +70,30 @@ pub record IsInOrder (conn : ℕ) (xs : List Entry) (calls : List wires.Call) : 
 
 -- then the octets given to it are all the joined octets of its outcomes
 abbrev pub IsAllGiven : Plan → Out (Course ModelEnd) → Type 0
-IsAllGiven plan o = (conn : ℕ) → IsInOrder conn (of conn o.entries) (calls_at conn o.calls) → given_of conn o.calls ≡ octets_of (of conn o.entries)
+IsAllGiven plan o = (conn : ℕ) → IsClosedInOrder conn (of conn o.entries) (calls_at conn o.calls) → given_of conn o.calls ≡ octets_of_entries (of conn o.entries)
 
 abbrev pub AllAreGiven : Type 0
-AllAreGiven = Holds IsAllGiven
+AllAreGiven = HoldsOfEachLoop IsAllGiven
 
 -- and what waits at a live connection is the rest of them, which is what the last write left
-pub record Waits (conn : ℕ) (s : Session ModelEnd) (o : Out (Course ModelEnd)) : Type 0 where
-  pub rest : given_of conn o.calls ++ s.output ≡ octets_of (of conn o.entries)
+pub record KeepsUnwrittenSessionOctets (conn : ℕ) (s : Session ModelEnd) (o : Out (Course ModelEnd)) : Type 0 where
+  pub rest : given_of conn o.calls ++ s.output ≡ octets_of_entries (of conn o.entries)
   pub left : s.output ≡ left_after [] (calls_at conn o.calls)
 
 abbrev pub AllWait : Plan → Out (Course ModelEnd) → Type 0
-AllWait plan o = (conn : ℕ) (s : Session ModelEnd) → session_of conn o.state.loop.sessions ≡ Some s → Waits conn s o
+AllWait plan o = (conn : ℕ) (s : Session ModelEnd) → session_of_connection conn o.state.loop.sessions ≡ Some s → KeepsUnwrittenSessionOctets conn s o
 
 abbrev pub RestWaits : Type 0
-RestWaits = Holds AllWait
+RestWaits = HoldsOfEachLoop AllWait
 
 -- none such had an event behind which it is closed at once, or a read or a write that failed
-abbrev pub IsWhole : Plan → Out (Course ModelEnd) → Type 0
-IsWhole plan o =
-    (conn : ℕ) (s : Session ModelEnd) → session_of conn o.state.loop.sessions ≡ Some s
+abbrev pub HasWholeConnections : Plan → Out (Course ModelEnd) → Type 0
+HasWholeConnections plan o =
+    (conn : ℕ) (s : Session ModelEnd) → session_of_connection conn o.state.loop.sessions ≡ Some s
     → (has_broken (of conn o.entries) ≡ false) × (has_failed (calls_at conn o.calls) ≡ false)
 
 abbrev pub LiveAreWhole : Type 0
-LiveAreWhole = Holds IsWhole
+LiveAreWhole = HoldsOfEachLoop HasWholeConnections
 
 -- ---- writing
 
@@ -116,31 +116,31 @@ AllTakeOne [] = Unit {0}
 AllTakeOne (call ∷ calls) = TakesOneBy call × AllTakeOne calls
 
 -- the answer of the last write
-abbrev pub answered : wires.Call → Option WriteAnswer → Option WriteAnswer
-answered (Listens address listens) last = last
-answered (Dials address conn) last = last
-answered (Turns until happening) last = last
-answered (Reads conn size waits reading) last = last
-answered (Writes conn piece answer) last = Some answer
-answered (Closes conn) last = last
+abbrev pub write_answer_behind_call : wires.Call → Option WriteAnswer → Option WriteAnswer
+write_answer_behind_call (Listens address listens) last = last
+write_answer_behind_call (Dials address conn) last = last
+write_answer_behind_call (Turns until happening) last = last
+write_answer_behind_call (Reads conn size waits reading) last = last
+write_answer_behind_call (Writes conn piece answer) last = Some answer
+write_answer_behind_call (Closes conn) last = last
 
 unfoldable pub last_answer : Option WriteAnswer → List wires.Call → Option WriteAnswer
 last_answer last [] = last
-last_answer last (call ∷ calls) = last_answer (answered call last) calls
+last_answer last (call ∷ calls) = last_answer (write_answer_behind_call call last) calls
 
 -- octets wait at a live connection only where the last write found no room
-abbrev pub IsWritten : Plan → Out (Course ModelEnd) → Type 0
-IsWritten plan o =
-    (conn : ℕ) (s : Session ModelEnd) → session_of conn o.state.loop.sessions ≡ Some s → AllTakeOne (calls_at conn o.calls)
+abbrev pub IsOutputWritten : Plan → Out (Course ModelEnd) → Type 0
+IsOutputWritten plan o =
+    (conn : ℕ) (s : Session ModelEnd) → session_of_connection conn o.state.loop.sessions ≡ Some s → AllTakeOne (calls_at conn o.calls)
     → (s.output ≡ []) ⊎ (last_answer None (calls_at conn o.calls) ≡ Some write.NotNow)
 
 abbrev pub OutputIsWritten : Type 0
-OutputIsWritten = Holds IsWritten
+OutputIsWritten = HoldsOfEachLoop IsOutputWritten
 
 -- ---- what breaks off
 
 -- whether the line ended, or the session stalled
-unfoldable pub has_stopped : List Entry → Bool
+unfoldable pub has_stopped : List JournalEntry → Bool
 has_stopped [] = false
 has_stopped (x ∷ xs) = (is_ended x.event || is_stalled x.event) || has_stopped xs
 

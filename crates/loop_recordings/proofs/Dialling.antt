@@ -17,7 +17,7 @@ use Rattle.link_trait.specs.declared.wires.Happening.{Happening}
 use Rattle.link_trait.specs.declared.wires.Happening.TheVariants as happening
 use Rattle.rand_core.specs.Stream.{next_u64}
 use Rattle.trace_model.specs.Checks.{names, role_of}
-use Rattle.loop_model.specs.Journals.{Entry, lines_of}
+use Rattle.loop_model.specs.Journals.{JournalEntry, trace_lines_of}
 use Rattle.loop_model.specs.Outs.{acts, exactly}
 use Rattle.loop_model.specs.Sessions.{Begins, entry_of}
 use Rattle.loop_model.specs.Visits.{Met, served}
@@ -26,7 +26,7 @@ use Rattle.loop_model.specs.Parts.{opened_in}
 use Rattle.loop_model.specs.Parts as parts
 use Rattle.loop_model.specs.Laws.{ConnectionsAreIsolated}
 use Rattle.loop_model.specs.Recordings.{RecordingsReplay}
-use Rattle.loop_model.specs.Openings.{openings, closed_by, opening_of, openings_due, openings_unless, OpeningsAreTold}
+use Rattle.loop_model.specs.Openings.{openings, closed_by, event_of_accepted_connection, openings_due, openings_unless, OpeningsAreTold}
 use Rattle.loop_recordings.specs.Shorts.{OutcomesAreShort}
 use Rattle.loop_recordings.specs.Recordings.{FindsToo, DialsAreReplays, CallersKeySuffices}
 use Rattle.loop_recordings.proofs.Lookups.{IsFoundToo, AreFoundToo, found_alike, also_taken, same_printed}
@@ -52,7 +52,7 @@ opened-append : (xs ys : List wires.Call) → opened_in (xs ++ ys) ≡ opened_in
 unfolding opened_in
 opened-append [] ys = refl
 opened-append (x ∷ xs) ys =
-    ap (λ z. parts.opens x ++ z) (opened-append xs ys) ∙ sym (append_assoc (parts.opens x) (opened_in xs) (opened_in ys))
+    ap (λ z. parts.connections_opened_by_call x ++ z) (opened-append xs ys) ∙ sym (append_assoc (parts.connections_opened_by_call x) (opened_in xs) (opened_in ys))
 
 opened_first : (xs ys : List wires.Call) → opened_in (xs ++ ys) ≡ [] → opened_in xs ≡ []
 opened_first xs ys none = nil_first (opened_in xs) (opened_in ys) (sym (opened-append xs ys) ∙ none)
@@ -68,7 +68,7 @@ module _ (told : OpeningsAreTold) (plan : Plan) where
   unfolding opened_in
   accepts_none c a conn on ready accepted none =
       let d = readied model_ends plan c a in
-      let rest = closed_by (role_of (opening_of plan d.state.loop)) conn.0 in
+      let rest = closed_by (role_of (event_of_accepted_connection plan d.state.loop)) conn.0 in
       let calls = told.closed plan c a conn on ready accepted in
       let turns : opened_in (Turns (until model_ends d.state.loop.sessions) a.happening ∷ rest) ≡ [] =
       opened_rest d.calls (Turns (until model_ends d.state.loop.sessions) a.happening ∷ rest) (ap opened_in (sym calls) ∙ none) in
@@ -97,7 +97,7 @@ module _ (told : OpeningsAreTold) (plan : Plan) where
   went_none c a (Some halt) is none = halted_none c a halt is
   went_none c a None is none =
       let d = readied model_ends plan c a in
-      told.events plan c a is ∙ unless_none c a d.state.halt (opening_of plan d.state.loop) is refl none
+      told.events plan c a is ∙ unless_none c a d.state.halt (event_of_accepted_connection plan d.state.loop) is refl none
 
   turns_none : (c : Course ModelEnd) (turns : List Turn) → opened_in (acts (went model_ends plan) c turns).calls ≡ [] → openings (acts (went model_ends plan) c turns).entries ≡ []
   unfolding acts openings
@@ -129,7 +129,7 @@ module _ (f g : Finds) where
   found_unnamed now (event.Full count) is = tt
   found_unnamed now (event.Unserved count) is = tt
 
-  found_none : (xs : List Entry) → openings xs ≡ [] → AreFoundToo f g (lines_of xs)
+  found_none : (xs : List JournalEntry) → openings xs ≡ [] → AreFoundToo f g (trace_lines_of xs)
   unfolding openings
   found_none [] none = tt
   found_none (x ∷ xs) none =
@@ -138,12 +138,12 @@ module _ (f g : Finds) where
         | inr p ↦ (found_unnamed x.moment x.event p, found_none xs (rw p at none))
       ]
 
-  found_both : (xs ys : List Entry) → AreFoundToo f g (lines_of xs) → AreFoundToo f g (lines_of ys) → AreFoundToo f g (lines_of (xs ++ ys))
+  found_both : (xs ys : List JournalEntry) → AreFoundToo f g (trace_lines_of xs) → AreFoundToo f g (trace_lines_of ys) → AreFoundToo f g (trace_lines_of (xs ++ ys))
   found_both [] ys p q = q
   found_both (x ∷ xs) ys p q = (p.0, found_both xs ys p.1 q)
 
-  found_first : (x : Entry) (xs : List Entry) → IsFirst x xs → IsFoundToo f g x.moment x.event → AreFoundToo f g (lines_of xs)
-  found_first x xs h alike = subst (λ z. AreFoundToo f g (lines_of z)) (sym h.is) (alike, found_none h.rest h.none)
+  found_first : (x : JournalEntry) (xs : List JournalEntry) → IsFirst x xs → IsFoundToo f g x.moment x.event → AreFoundToo f g (trace_lines_of xs)
+  found_first x xs h alike = subst (λ z. AreFoundToo f g (trace_lines_of z)) (sym h.is) (alike, found_none h.rest h.none)
 
   -- whatever the numbers of the lines
   found_lines : (lines : List Event_line) → AreFoundToo f g (map (λ (e : Event_line). record e { line = 0 }) lines) → AreFoundToo f g lines
@@ -151,7 +151,7 @@ module _ (f g : Finds) where
   found_lines (e ∷ lines) p = (p.0, found_lines lines p.1)
 
   called_found : (user : Option Mind) (plan : Plan) (caller : Caller) (l : Loop ModelEnd) (conn : ℕ) (a : Met)
-      → FindsToo f g l.moment caller.engine plan.rbc → AreFoundToo f g (lines_of (called_by model_ends user plan caller l conn a).entries)
+      → FindsToo f g l.moment caller.engine plan.rbc → AreFoundToo f g (trace_lines_of (called_by model_ends user plan caller l conn a).entries)
   called_found None plan caller l conn a key = (tt, tt)
   called_found (Some mind) plan caller l conn a key =
       let s = begun conn (calling model_ends plan caller l) mind in
@@ -159,14 +159,14 @@ module _ (f g : Finds) where
       found_first (entry_of model_ends (rules_of plan) l.moment s given) (served model_ends (rules_of plan) l.moment s given a).entries (served_first (rules_of plan) l.moment s given a) key
 
   opens_found : (plan : Plan) (caller : Caller) (c : Course ModelEnd) (conn : ℕ) (a : Met)
-      → FindsToo f g c.loop.moment caller.engine plan.rbc → AreFoundToo f g (lines_of (opens model_ends plan caller c conn a).entries)
+      → FindsToo f g c.loop.moment caller.engine plan.rbc → AreFoundToo f g (trace_lines_of (opens model_ends plan caller c conn a).entries)
   unfolding called
   opens_found plan caller c conn a key = called_found (next_user c.loop.users) plan caller c.loop conn a key
 
   dial_found : (told : OpeningsAreTold) (to : Option ℕ) (plan : Plan) (caller : Caller) (c : Course ModelEnd) (address : List ℕ) (a : Dialled) (conn : ℕ)
       → opened_in (dials_to model_ends to plan caller c address a).calls ≡ conn ∷ []
       → FindsToo f g (max c.loop.moment a.first) caller.engine plan.rbc
-      → AreFoundToo f g (lines_of (dials_to model_ends to plan caller c address a).entries)
+      → AreFoundToo f g (trace_lines_of (dials_to model_ends to plan caller c address a).entries)
   unfolding opened_in
   dial_found told None plan caller c address a conn alone key = tt
   dial_found told (Some n) plan caller c address a conn alone key =
@@ -180,7 +180,7 @@ module _ (f g : Finds) where
   dials_found : OpeningsAreTold → (plan : Plan) (caller : Caller) (c : Course ModelEnd) (address : List ℕ) (a : Dialled) (conn : ℕ)
       → opened_in (dials model_ends plan caller c address a).calls ≡ conn ∷ []
       → FindsToo f g (max c.loop.moment a.first) caller.engine plan.rbc
-      → AreFoundToo f g (lines_of (dials model_ends plan caller c address a).entries)
+      → AreFoundToo f g (trace_lines_of (dials model_ends plan caller c address a).entries)
   unfolding dials
   dials_found told plan caller c address a conn alone key = dial_found told a.conn plan caller c address a conn alone key
 

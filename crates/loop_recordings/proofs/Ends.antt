@@ -7,20 +7,20 @@ use Rattle.er_base.specs.declared.cause.Cause.TheVariants.{LineEnded, LineFailed
 use Rattle.er_settings.specs.Values.{Settings}
 use Rattle.hdlc_frames.specs.Framing.{Verdict}
 use Rattle.t70_header.specs.Joining as joining
-use Rattle.x224_class2.specs.Transport.{Deed, Nothing, Called, Confirmed, Message, Disconnected}
+use Rattle.x224_class2.specs.Transport.{ReceptionDeed, Nothing, Called, Confirmed, Message, Disconnected}
 use Rattle.x224_class2.specs.Transport as transport
 use Rattle.safety_automaton.specs.Reports.{report_of}
-use Rattle.safety_automaton.specs.Safety.{Safety, Received, sent_by}
+use Rattle.safety_automaton.specs.Safety.{Safety, Received, octets_sent_in_outcome}
 use Rattle.er_end_model.specs.Outcomes.{SendRefusal}
 use Rattle.er_end_model.specs.Steps.{Finds, new_event_at, Carrier, InCr, InCc, InDt, on_safety_report, with_safety_step, on_text, on_transport_deed, on_tpdu, on_joined_block, on_block, on_link_told, conclude_event, on_frame, step_frame, refusal_of, step_send_unless, outcomes_of}
 use Rattle.er_end_model.specs.Layers.{Spoken, Core, model}
 use Rattle.er_end_model.specs.Ends as ends
 use Rattle.hdlc_station_model.specs.Events.{news}
 use Rattle.er_end_model.specs.Ends.{End, Opening, opened, hears_each, told_of_each}
-use Rattle.er_end_model.specs.Laws.{IsSane, IsStep, SpeaksOnce, EventsSpeakOnce}
+use Rattle.er_end_model.specs.Laws.{IsSane, ShowsSafetyStep, SpeaksOnce, EventsSpeakOnce}
 use Rattle.er_trace.specs.declared.event.Event.{Event}
 use Rattle.er_trace.specs.declared.event.Event.TheVariants as event
-use Rattle.trace_model.specs.Connections.{goes_on, called, happens}
+use Rattle.trace_model.specs.Connections.{goes_on, end_behind_call, happens}
 use Rattle.loop_recordings.proofs.Sides.{asks, same_step, quiet_step}
 
 -- an end that calls, at each event
@@ -28,7 +28,7 @@ pub record Calls (x : Core) : Type 0 where
   pub sane : IsSane x
   pub quiet : asks x.safe.safety.phase ≡ false
 
-quiet_behind : (key_of : ℕ → ℕ → Option TripleKey) (s : Safety) (spoke : Option Spoken) (y : Core) → asks s.phase ≡ false → IsStep key_of s spoke y
+quiet_behind : (key_of : ℕ → ℕ → Option TripleKey) (s : Safety) (spoke : Option Spoken) (y : Core) → asks s.phase ≡ false → ShowsSafetyStep key_of s spoke y
     → asks y.safe.safety.phase ≡ false
 quiet_behind key_of s None y quiet is = ap (λ z. asks z.safety.phase) is.0 ∙ quiet
 quiet_behind key_of s (Some t) y quiet is = ap (λ z. asks z.0.phase) (sym is.0) ∙ quiet_step key_of s t.event quiet
@@ -42,9 +42,9 @@ calls_behind key_of x y h once =
 module _ (f g : Finds) where
   same_text : (carrier : Carrier) (text : List ℕ) (x : Core) → asks x.safe.safety.phase ≡ false → on_text model f carrier text x ≡ on_text model g carrier text x
   same_text carrier text x quiet =
-      ap (λ a. on_safety_report model carrier (report_of a.1) (sent_by a.1) (with_safety_step model (Received text) a x)) (same_step (f x.moment) (g x.moment) x.safe.safety (Received text) quiet)
+      ap (λ a. on_safety_report model carrier (report_of a.1) (octets_sent_in_outcome a.1) (with_safety_step model (Received text) a x)) (same_step (f x.moment) (g x.moment) x.safe.safety (Received text) quiet)
 
-  same_deed : (deed : Deed) (x : Core) → asks x.safe.safety.phase ≡ false → on_transport_deed model f deed x ≡ on_transport_deed model g deed x
+  same_deed : (deed : ReceptionDeed) (x : Core) → asks x.safe.safety.phase ≡ false → on_transport_deed model f deed x ≡ on_transport_deed model g deed x
   same_deed Nothing x quiet = refl
   same_deed (Called user) x quiet = same_text InCr user x quiet
   same_deed (Confirmed user) x quiet = same_text InCc user x quiet
@@ -55,13 +55,13 @@ module _ (f g : Finds) where
   same_tpdu : (tpdu : List ℕ) (x : Core) → asks x.safe.safety.phase ≡ false → on_tpdu model f tpdu x ≡ on_tpdu model g tpdu x
   same_tpdu tpdu x quiet = same_deed (model.deed x.upper tpdu) (record x { upper = model.hears x.upper tpdu }) quiet
 
-  same_joined : (answer : joining.Answer) (x : Core) → asks x.safe.safety.phase ≡ false → on_joined_block model f answer x ≡ on_joined_block model g answer x
+  same_joined : (answer : joining.BlockJoiningResult) (x : Core) → asks x.safe.safety.phase ≡ false → on_joined_block model f answer x ≡ on_joined_block model g answer x
   same_joined (Ok None) x quiet = refl
   same_joined (Ok (Some tpdu)) x quiet = same_tpdu tpdu x quiet
   same_joined (Err fault) x quiet = refl
 
   same_block : (block : List ℕ) (x : Core) → asks x.safe.safety.phase ≡ false → on_block model f block x ≡ on_block model g block x
-  same_block block x quiet = same_joined (joining.step x.joined block).1 (record x { joined = (joining.step x.joined block).0 }) quiet
+  same_block block x quiet = same_joined (joining.block_step x.joined block).1 (record x { joined = (joining.block_step x.joined block).0 }) quiet
 
   same_link : (payload : Option (List ℕ)) (up : Bool) (released : Option Release) (x : Core) → asks x.safe.safety.phase ≡ false
       → on_link_told model f payload up released x ≡ on_link_told model g payload up released x
@@ -104,7 +104,7 @@ module _ (speak : EventsSpeakOnce) where
   begun_calls : (now : ℕ) (x : Core) → Calls x → Calls (new_event_at model now x)
   begun_calls now x h = record { sane = h.sane; quiet = h.quiet }
 
-  same_come : (f g : Finds) (now : ℕ) (octets : List ℕ) (m : End) → Calls m.core → ends.step now (ends.Come f octets) m ≡ ends.step now (ends.Come g octets) m
+  same_come : (f g : Finds) (now : ℕ) (octets : List ℕ) (m : End) → Calls m.core → ends.step_event now (ends.Come f octets) m ≡ ends.step_event now (ends.Come g octets) m
   same_come f g now octets m h =
       let x = new_event_at model now m.core in
       let verdicts = news m.stream octets in
@@ -116,7 +116,7 @@ module _ (speak : EventsSpeakOnce) where
   sends_calls (Some refusal) now user x h = h
   sends_calls None now user x h = calls_behind _ x _ h (speak.sends now user x h.sane)
 
-  step_calls : (now : ℕ) (e : ends.Event) (m : End) → Calls m.core → Calls (ends.step now e m).0.core
+  step_calls : (now : ℕ) (e : ends.Event) (m : End) → Calls m.core → Calls (ends.step_event now e m).0.core
   step_calls now ends.Start m h = calls_behind _ m.core _ h (speak.starts now m.core h.sane)
   step_calls now (ends.Come f octets) m h = each_calls f now (news m.stream octets) (new_event_at model now m.core) (begun_calls now m.core h)
   step_calls now (ends.Send user) m h = sends_calls (refusal_of model user m.core) now user m.core h
@@ -156,7 +156,7 @@ module _ (speak : EventsSpeakOnce) where
 
   pub same_happens : (settings : Settings) (f g : Finds) (now : ℕ) (e : Event) (m : Option End) → IsAlike f g now e → CallsIfAny m
       → happens settings f now e m ≡ happens settings g now e m
-  same_happens settings f g now (event.Call engine rbc rb) m alike h = ap (λ key. called settings now engine rbc rb key m) alike
+  same_happens settings f g now (event.Call engine rbc rb) m alike h = ap (λ key. end_behind_call settings now engine rbc rb key m) alike
   same_happens settings f g now (event.Answer rbc ra) m alike h = absurd alike
   same_happens settings f g now (event.Octets octets) m alike h = same_octets f g now octets m h
   same_happens settings f g now (event.Send text) m alike h = refl
@@ -173,7 +173,7 @@ module _ (speak : EventsSpeakOnce) where
   goes_on_calls now e None h = tt
   goes_on_calls now e (Some m) h = step_calls speak now e m h
 
-  called_calls : (settings : Settings) (now engine rbc rb : ℕ) (key : Option TripleKey) (m : Option End) → CallsIfAny m → CallsIfAny (called settings now engine rbc rb key m).0
+  called_calls : (settings : Settings) (now engine rbc rb : ℕ) (key : Option TripleKey) (m : Option End) → CallsIfAny m → CallsIfAny (end_behind_call settings now engine rbc rb key m).0
   called_calls settings now engine rbc rb None m h = h
   called_calls settings now engine rbc rb (Some kmac) m h =
       let opening = ends.Call settings engine rbc kmac rb now in

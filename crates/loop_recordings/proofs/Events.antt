@@ -12,14 +12,14 @@ use Rattle.er_trace.specs.declared.entry.Entry.{Entry}
 use Rattle.er_trace.specs.declared.event.Event.{Event as Trace_event}
 use Rattle.er_trace.specs.declared.event.Event.TheVariants as trace
 use Rattle.er_trace.specs.Ranges.{IsInRange}
-use Rattle.er_trace.specs.Texts.{AreReadable}
+use Rattle.er_trace.specs.Texts.{AreReadableEntries}
 use Rattle.hdlc_frames.specs.Framing.{Verdict}
 use Rattle.hdlc_station_model.specs.Stations.{settled}
 use Rattle.hdlc_station_model.specs.Calls as station
 use Rattle.hdlc_station_model.specs.Events.{news}
 use Rattle.sapdu.specs.Messages.{is_message}
 use Rattle.safety_automaton.specs.Keys.{no_keys}
-use Rattle.safety_automaton.specs.Safety.{Safety, SafetyEvent, DataRequest, DisconnectRequest, SafetyOutcome, sent_by, step as speaks}
+use Rattle.safety_automaton.specs.Safety.{Safety, SafetyEvent, DataRequest, DisconnectRequest, SafetyOutcome, octets_sent_in_outcome, step as speaks}
 use Rattle.safety_automaton.specs.Laws.{IsValid}
 use Rattle.er_end_model.specs.Outcomes.{SendRefusal, RefusedNotConnected, RefusedLength, RefusedFull, Outcome}
 use Rattle.er_end_model.specs.Steps.{Finds, new_event, new_event_at, send_dr, normal_disconnect, with_safety_step, hand_text, on_link_deed, conclude_event, step_start, step_frame, is_connected, refusal_at}
@@ -27,8 +27,8 @@ use Rattle.er_end_model.specs.Steps.{refusal_of, on_send, step_send_unless, step
 use Rattle.er_end_model.specs.Steps.{if_octets, outcomes_of, if_taken}
 use Rattle.er_end_model.specs.Layers.{Core, model, written_by}
 use Rattle.er_end_model.specs.Ends.{Call, Event, Start, Come, Send, Take, Leave, Tick, Ended, Fault, Stalled, End, core_made, opened, hears_each, told_of_each}
-use Rattle.er_end_model.specs.Ends.{with_core, if_refused, step}
-use Rattle.trace_model.specs.Connections.{goes_on, called, happens, happens_at, end_behind, end_at}
+use Rattle.er_end_model.specs.Ends.{with_core, refusal_or_outcomes, step_event}
+use Rattle.trace_model.specs.Connections.{goes_on, end_behind_call, happens, happens_at, end_behind, end_at}
 use Rattle.loop_recordings.specs.Shorts.{IsShortRefusal, AreShort, OutcomesAreShort}
 use Rattle.loop_recordings.proofs.Lists.{Each, IfSome, each_append, each_get}
 use Rattle.loop_recordings.proofs.Octets.{Octets, HasOctets, each_of, news_octets}
@@ -120,8 +120,8 @@ module _ (laws : Below) where
       let y : Core = with_safety_step model event a b in
       let z : Core = record y { upper = model.sends y.upper user } in
       let g : HoldsOf z 0 = spoken_holds laws event a b 0 (laws.stays no_keys b.safe.safety event h.valid octets) (begun_holds x h) in
-      fewer (conclude_event model (hand_text model (sent_by a.1) z)) 1 3 (omega arith)
-      (concludes_holds laws (hand_text model (sent_by a.1) z) 0 (says_holds laws (sent_by a.1) z 0 g))
+      fewer (conclude_event model (hand_text model (octets_sent_in_outcome a.1) z)) 1 3 (omega arith)
+      (concludes_holds laws (hand_text model (octets_sent_in_outcome a.1) z) 0 (says_holds laws (octets_sent_in_outcome a.1) z 0 g))
 
   sends_rests : (refusal : Option SendRefusal) (now : ℕ) (user : List ℕ) (x : Core) → AreOctets user → Rests x → Rests (step_send_unless model refusal now user x)
   sends_rests (Some refusal) now user x octets h = h
@@ -148,8 +148,8 @@ module _ (laws : Below) where
       let why : Release = release_of (User sub) in
       holds_if 3 (is_some x.released) _ _ (λ e. fewer b 0 3 (omega arith) g)
       (λ e.
-      fewer (send_dr model why normal_disconnect (sent_by a.1) y) 1 3 (omega arith)
-      (departs_holds laws why normal_disconnect (sent_by a.1) y 0 (omega (arith, laws.few no_keys b.safe.safety event)) k))
+      fewer (send_dr model why normal_disconnect (octets_sent_in_outcome a.1) y) 1 3 (omega arith)
+      (departs_holds laws why normal_disconnect (octets_sent_in_outcome a.1) y 0 (omega (arith, laws.few no_keys b.safe.safety event)) k))
 
   time_holds : (given_up : Option Release) (x : Core) → HoldsOf x 1 → HoldsOf (on_expiry model given_up x) 2
   time_holds (Some why) x h = one_more_holds x 1 h
@@ -217,7 +217,7 @@ module _ (laws : Below) where
           (first (not (is_message user)) (RefusedLength (length user)) _ (omega (arith, few))
           (first (nat_le 16 (model.waiting x.upper)) (RefusedFull (model.waiting x.upper)) None (omega (arith, h.gives.few)) tt))
 
-  refused_short : (refusal : Option SendRefusal) (told : List Outcome) → IfSome IsShortRefusal refusal → AreShort told → AreShort (if_refused refusal told)
+  refused_short : (refusal : Option SendRefusal) (told : List Outcome) → IfSome IsShortRefusal refusal → AreShort told → AreShort (refusal_or_outcomes refusal told)
   refused_short None told r h = h
   refused_short (Some refusal) told r h = (r, tt)
 
@@ -227,7 +227,7 @@ module _ (laws : Below) where
   leads : (m : End) (x : Core) → EndRests m → Rests x → Comes (with_core m x, outcomes_of model x)
   leads m x r h = ((r.0, h), told_short x h)
 
-  step_rests : (now : ℕ) (event : Event) (m : End) → Fits event → EndRests m → Comes (step now event m)
+  step_rests : (now : ℕ) (event : Event) (m : End) → Fits event → EndRests m → Comes (step_event now event m)
   step_rests now Start m fits r = leads m (step_start model now m.core) r (starts_rests now m.core r.1)
   step_rests now (Come finds octets) m fits r =
       let b : Core = new_event_at model now m.core in
@@ -272,7 +272,7 @@ module _ (laws : Below) where
   on_rests now event (Some m) fits h = step_rests now event m fits h
 
   called_rests : (now engine rbc rb : ℕ) (kmac : Option TripleKey) (m : Option End) → engine < 16777216 → rbc < 16777216 → rb < 2 ^ 64 → IfSome EndRests m
-      → Happens (called usual_settings now engine rbc rb kmac m)
+      → Happens (end_behind_call usual_settings now engine rbc rb kmac m)
   called_rests now engine rbc rb None m e r n h = (h, tt)
   called_rests now engine rbc rb (Some kmac) m e r n h =
       on_rests now Start (Some (opened (Call usual_settings engine rbc kmac rb now))) tt (tt, made_rests true _ now (laws.makes.initiators engine rbc rb kmac e r n))
@@ -291,7 +291,7 @@ module _ (laws : Below) where
   happens_rests finds now (trace.Full count) m fits h = (h, tt)
   happens_rests finds now (trace.Unserved count) m fits h = (h, tt)
 
-  behind_rests : (finds : Finds) (conn : ℕ) (m : Option End) (entries : List Entry) → AreReadable entries → IfSome EndRests m
+  behind_rests : (finds : Finds) (conn : ℕ) (m : Option End) (entries : List Entry) → AreReadableEntries entries → IfSome EndRests m
       → IfSome EndRests (end_behind usual_settings finds conn m entries)
   unfolding end_behind
   behind_rests finds conn m [] readable h = h

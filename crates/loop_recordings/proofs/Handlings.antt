@@ -6,14 +6,14 @@ use Rattle.std.proofs.lemmas.Bool.{cases_Bool}
 use Rattle.er_users.specs.Users.{Mind, Heard, Said, said}
 use Rattle.link_trait.specs.declared.wires.WriteAnswer.{WriteAnswer}
 use Rattle.trace_model.specs.Checks.{names, role_of}
-use Rattle.loop_model.specs.Journals.{Entry}
-use Rattle.loop_model.specs.Outs.{Out, runs, acts, exactly, first_of}
-use Rattle.loop_model.specs.Sessions.{Rules, Session, is_released, most_output, Given, Begins, Hears, Sends, Takes, Leaves, Ticks, Ends, Faults, Stalls, written, breaks, end_after, outcomes_of, entry_of, octets_in, joined, fed, replied, heard_in, leave_of, sends_of, hears, silence, dealt, waiting, takes_all, Says, nothing_said, handled}
-use Rattle.loop_model.specs.Visits.{Flow, Going, PutOff, Failing, writes_if, writes_once, writes, fault_unless, flowed, written_unless, Wrote, settled, rests, Met, served}
+use Rattle.loop_model.specs.Journals.{JournalEntry}
+use Rattle.loop_model.specs.Outs.{Out, part_for_each_answer, acts, exactly, first_answer_of}
+use Rattle.loop_model.specs.Sessions.{Rules, Session, is_released, most_output, GivenToSession, Begins, Hears, Sends, Takes, Leaves, Ticks, Ends, Faults, Stalls, journal_event_of_given, breaks, end_after, outcomes_of_given_event, entry_of, octets_in, joined, fed, replied, heard_by_user, leave_of, sends_of, user_after_hearing, silent_answer, dealt, count_waiting_in_session, takes_all, Says, nothing_said, handled}
+use Rattle.loop_model.specs.Visits.{WritingState, Going, PutOff, Failing, writes_if, writes_once, writes, fault_unless, flowed, written_unless, Wrote, session_kept_or_closed, rests, Met, served}
 use Rattle.loop_model.specs.Visits as visits
 use Rattle.loop_model.specs.Openings.{openings}
 
-openings-append : (xs ys : List Entry) → openings (xs ++ ys) ≡ openings xs ++ openings ys
+openings-append : (xs ys : List JournalEntry) → openings (xs ++ ys) ≡ openings xs ++ openings ys
 unfolding openings
 openings-append [] ys = refl
 openings-append (x ∷ xs) ys =
@@ -22,10 +22,10 @@ openings-append (x ∷ xs) ys =
       | inr p ↦ rw p (openings-append xs ys)
     ]
 
-pub none_two : (xs ys : List Entry) → openings xs ≡ [] → openings ys ≡ [] → openings (xs ++ ys) ≡ []
+pub none_two : (xs ys : List JournalEntry) → openings xs ≡ [] → openings ys ≡ [] → openings (xs ++ ys) ≡ []
 none_two xs ys p q = openings-append xs ys ∙ ap (λ z. z ++ openings ys) p ∙ q
 
-none_more : (x : Entry) (xs : List Entry) → names (role_of x.event) ≡ false → openings xs ≡ [] → openings (x ∷ xs) ≡ []
+none_more : (x : JournalEntry) (xs : List JournalEntry) → names (role_of x.event) ≡ false → openings xs ≡ [] → openings (x ∷ xs) ≡ []
 unfolding openings
 none_more x xs p q = rw p q
 
@@ -42,12 +42,12 @@ all_any : {A : Type 0} (answers : List A) → AllFit Any answers
 all_any [] = tt
 all_any (a ∷ answers) = (tt, all_any answers)
 
-runs_none : {S A : Type 0} (f : S → A → S × List Entry) (Fits : A → Type 0) → ((s : S) (a : A) → Fits a → openings (f s a).1 ≡ [])
-    → (s : S) (answers : List A) → AllFit Fits answers → openings (runs f s answers).1 ≡ []
-unfolding runs openings
+runs_none : {S A : Type 0} (f : S → A → S × List JournalEntry) (Fits : A → Type 0) → ((s : S) (a : A) → Fits a → openings (f s a).1 ≡ [])
+    → (s : S) (answers : List A) → AllFit Fits answers → openings (part_for_each_answer f s answers).1 ≡ []
+unfolding part_for_each_answer openings
 runs_none f Fits none s [] fit = refl
 runs_none f Fits none s (a ∷ answers) fit =
-    none_two (f s a).1 (runs f (f s a).0 answers).1 (none s a fit.0) (runs_none f Fits none (f s a).0 answers fit.1)
+    none_two (f s a).1 (part_for_each_answer f (f s a).0 answers).1 (none s a fit.0) (runs_none f Fits none (f s a).0 answers fit.1)
 
 acts_none : {S A : Type 0} (f : S → A → Out S) → ((s : S) (a : A) → openings (f s a).entries ≡ []) → (s : S) (answers : List A)
     → openings (acts f s answers).entries ≡ []
@@ -58,7 +58,7 @@ acts_none f none s (a ∷ answers) =
 
 -- ---- an event, and those that follow it
 
-abbrev IsOfEnd : Given → Type 0
+abbrev IsOfEnd : GivenToSession → Type 0
 IsOfEnd (Begins engine rbc rb) = ⊥
 IsOfEnd (Hears octets) = Unit {0}
 IsOfEnd (Sends text) = Unit {0}
@@ -69,7 +69,7 @@ IsOfEnd Ends = Unit {0}
 IsOfEnd Faults = Unit {0}
 IsOfEnd Stalls = Unit {0}
 
-unnamed : (k : ModelEnd) (g : Given) → IsOfEnd g → names (role_of (written model_ends k g)) ≡ false
+unnamed : (k : ModelEnd) (g : GivenToSession) → IsOfEnd g → names (role_of (journal_event_of_given model_ends k g)) ≡ false
 unnamed k (Begins engine rbc rb) fits = absurd fits
 unnamed k (Hears octets) fits = refl
 unnamed k (Sends text) fits = refl
@@ -81,18 +81,18 @@ unnamed k Faults fits = refl
 unnamed k Stalls fits = refl
 
 -- an event, and behind it none that opens a connection
-pub record IsFirst (x : Entry) (xs : List Entry) : Type 0 where
-  pub rest : List Entry
+pub record IsFirst (x : JournalEntry) (xs : List JournalEntry) : Type 0 where
+  pub rest : List JournalEntry
   pub is : xs ≡ x ∷ rest
   pub none : openings rest ≡ []
 
-first_more : (x : Entry) (xs ys : List Entry) → IsFirst x xs → openings ys ≡ [] → IsFirst x (xs ++ ys)
+first_more : (x : JournalEntry) (xs ys : List JournalEntry) → IsFirst x xs → openings ys ≡ [] → IsFirst x (xs ++ ys)
 first_more x xs ys h none = record { rest = h.rest ++ ys; is = ap (λ z. z ++ ys) h.is; none = none_two h.rest ys h.none none }
 
-first_none : (x : Entry) (xs : List Entry) → IsFirst x xs → names (role_of x.event) ≡ false → openings xs ≡ []
+first_none : (x : JournalEntry) (xs : List JournalEntry) → IsFirst x xs → names (role_of x.event) ≡ false → openings xs ≡ []
 first_none x xs h p = ap openings h.is ∙ none_more x h.rest p h.none
 
-fit_two : (gs hs : List Given) → AllFit IsOfEnd gs → AllFit IsOfEnd hs → AllFit IsOfEnd (gs ++ hs)
+fit_two : (gs hs : List GivenToSession) → AllFit IsOfEnd gs → AllFit IsOfEnd hs → AllFit IsOfEnd (gs ++ hs)
 fit_two [] hs p q = q
 fit_two (g ∷ gs) hs p q = (p.0, fit_two gs hs p.1 q)
 
@@ -104,7 +104,7 @@ leave_fits : (sub : Option ℕ) → AllFit IsOfEnd (leave_of sub)
 leave_fits None = tt
 leave_fits (Some sub) = (tt, tt)
 
-replies_fit : (mind : Option Mind) (heard : Option Heard) (free : Said) → AllFit IsOfEnd (hears mind heard free).1
+replies_fit : (mind : Option Mind) (heard : Option Heard) (free : Said) → AllFit IsOfEnd (user_after_hearing mind heard free).1
 replies_fit None heard free = tt
 replies_fit (Some mind) None free = tt
 replies_fit (Some mind) (Some heard) free =
@@ -116,14 +116,14 @@ module _ (r : Rules) (m : ℕ) where
   joined_none s octets =
       elim (cases_Bool (nat_lt most_output (length s.output + length octets))) [ inl p ↦ rw p refl | inr p ↦ rw p refl ]
 
-  fed_first : (s : Session ModelEnd) (g : Given) → IsFirst (entry_of model_ends r m s g) (fed model_ends r m s g).1
+  fed_first : (s : Session ModelEnd) (g : GivenToSession) → IsFirst (entry_of model_ends r m s g) (fed model_ends r m s g).1
   unfolding fed
   fed_first s g =
       let t : Session ModelEnd = record s { end = end_after model_ends r m s.end g; broken = s.broken || breaks g } in
-      let octets = octets_in (outcomes_of model_ends r m s.end g) in
+      let octets = octets_in (outcomes_of_given_event model_ends r m s.end g) in
       record { rest = (joined model_ends r m t octets).1; is = refl; none = joined_none t octets }
 
-  replied_first : (s : Session ModelEnd) (g : Given) → IsFirst (entry_of model_ends r m s g) (replied model_ends r m s g).1
+  replied_first : (s : Session ModelEnd) (g : GivenToSession) → IsFirst (entry_of model_ends r m s g) (replied model_ends r m s g).1
   replied_first s (Begins engine rbc rb) = fed_first s (Begins engine rbc rb)
   replied_first s (Hears octets) = fed_first s (Hears octets)
   replied_first s (Sends text) = fed_first s (Sends text)
@@ -134,13 +134,13 @@ module _ (r : Rules) (m : ℕ) where
   replied_first s Faults = fed_first s Faults
   replied_first s Stalls = fed_first s Stalls
 
-  dealt_first : (s : Session ModelEnd) (g : Given) (free : Said) → IsFirst (entry_of model_ends r m s g) (dealt model_ends r m s g free).1
+  dealt_first : (s : Session ModelEnd) (g : GivenToSession) (free : Said) → IsFirst (entry_of model_ends r m s g) (dealt model_ends r m s g free).1
   unfolding dealt
   dealt_first s g free =
       let a = fed model_ends r m s g in
-      let heard = heard_in (outcomes_of model_ends r m s.end g) in
-      let b = hears s.mind heard free in
-      first_more (entry_of model_ends r m s g) a.1 (runs (replied model_ends r m) (record a.0 { mind = b.0 }) b.1).1 (fed_first s g)
+      let heard = heard_by_user (outcomes_of_given_event model_ends r m s.end g) in
+      let b = user_after_hearing s.mind heard free in
+      first_more (entry_of model_ends r m s g) a.1 (part_for_each_answer (replied model_ends r m) (record a.0 { mind = b.0 }) b.1).1 (fed_first s g)
       (runs_none (replied model_ends r m) IsOfEnd (λ t h fits. first_none (entry_of model_ends r m t h) (replied model_ends r m t h).1 (replied_first t h) (unnamed t.end h fits)) (record a.0 { mind = b.0 }) b.1
       (replies_fit s.mind heard free))
 
@@ -148,9 +148,9 @@ module _ (r : Rules) (m : ℕ) where
   unfolding takes_all
   takes_none s frees =
       runs_none (λ t free. dealt model_ends r m t Takes free) Any (λ t free fits. first_none (entry_of model_ends r m t Takes) (dealt model_ends r m t Takes free).1 (dealt_first t Takes free) refl) s
-      (exactly (waiting model_ends s) silence frees) (all_any (exactly (waiting model_ends s) silence frees))
+      (exactly (count_waiting_in_session model_ends s) silent_answer frees) (all_any (exactly (count_waiting_in_session model_ends s) silent_answer frees))
 
-  handled_first : (s : Session ModelEnd) (g : Given) (says : Says) → IsFirst (entry_of model_ends r m s g) (handled model_ends r m s g says).1
+  handled_first : (s : Session ModelEnd) (g : GivenToSession) (says : Says) → IsFirst (entry_of model_ends r m s g) (handled model_ends r m s g says).1
   unfolding handled
   handled_first s g says =
       let a = dealt model_ends r m s g says.first in
@@ -158,13 +158,13 @@ module _ (r : Rules) (m : ℕ) where
 
   -- ---- writing and closing
 
-  write_none : (flow : Flow) (s : Session ModelEnd) (answer : WriteAnswer) → openings (writes_if flow s answer).entries ≡ []
+  write_none : (flow : WritingState) (s : Session ModelEnd) (answer : WriteAnswer) → openings (writes_if flow s answer).entries ≡ []
   unfolding openings
   write_none Going s answer = elim (cases_Bool (length s.output == 0)) [ inl p ↦ rw p refl | inr p ↦ rw p refl ]
   write_none PutOff s answer = refl
   write_none Failing s answer = refl
 
-  once_none : (x : Session ModelEnd × Flow) (answer : WriteAnswer) → openings (writes_once x answer).entries ≡ []
+  once_none : (x : Session ModelEnd × WritingState) (answer : WriteAnswer) → openings (writes_once x answer).entries ≡ []
   unfolding writes_once
   once_none x answer = write_none x.1 x.0 answer
 
@@ -177,7 +177,7 @@ module _ (r : Rules) (m : ℕ) where
   fault_none true s says = refl
   fault_none false s says = first_none (entry_of model_ends r m s Faults) (handled model_ends r m s Faults says).1 (handled_first s Faults says) refl
 
-  flowed_none : (s : Session ModelEnd) (flow : Flow) (says : Says) → openings (flowed model_ends r m (s, flow) says).entries ≡ []
+  flowed_none : (s : Session ModelEnd) (flow : WritingState) (says : Says) → openings (flowed model_ends r m (s, flow) says).entries ≡ []
   unfolding openings
   flowed_none s Going says = refl
   flowed_none s PutOff says = refl
@@ -190,18 +190,18 @@ module _ (r : Rules) (m : ℕ) where
       let x = (writes s a.answers).state in
       none_two (writes s a.answers).entries (flowed model_ends r m x a.says).entries (writes_none s a.answers) (flowed_none x.0 x.1 a.says)
 
-  settled_none : (s : Session ModelEnd) → openings (settled model_ends s).entries ≡ []
-  unfolding settled openings
+  settled_none : (s : Session ModelEnd) → openings (session_kept_or_closed model_ends s).entries ≡ []
+  unfolding session_kept_or_closed openings
   settled_none s = elim (cases_Bool (s.broken || (is_released model_ends s && (length s.output == 0)))) [ inl p ↦ rw p refl | inr p ↦ rw p refl ]
 
   rests_none : (s : Session ModelEnd) (a : Wrote) → openings (rests model_ends r m s a).entries ≡ []
-  unfolding rests visits.written
+  unfolding rests visits.session_behind_writing
   rests_none s a =
-      none_two (visits.written model_ends r m s a).entries (settled model_ends (visits.written model_ends r m s a).state).entries (written_none s.broken s a) (settled_none (visits.written model_ends r m s a).state)
+      none_two (visits.session_behind_writing model_ends r m s a).entries (session_kept_or_closed model_ends (visits.session_behind_writing model_ends r m s a).state).entries (written_none s.broken s a) (settled_none (visits.session_behind_writing model_ends r m s a).state)
 
-  pub served_first : (s : Session ModelEnd) (g : Given) (a : Met) → IsFirst (entry_of model_ends r m s g) (served model_ends r m s g a).entries
+  pub served_first : (s : Session ModelEnd) (g : GivenToSession) (a : Met) → IsFirst (entry_of model_ends r m s g) (served model_ends r m s g a).entries
   unfolding served
   served_first s g a =
-      let says = first_of nothing_said a.says in
+      let says = first_answer_of nothing_said a.says in
       let h = handled model_ends r m s g says in
       first_more (entry_of model_ends r m s g) h.1 (rests model_ends r m h.0 a.wrote).entries (handled_first s g says) (rests_none h.0 a.wrote)

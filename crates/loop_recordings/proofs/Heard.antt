@@ -15,10 +15,10 @@ use Rattle.hdlc_station_model.specs.declared.phase.Phase.{Phase}
 use Rattle.hdlc_station_model.specs.declared.phase.Phase.TheVariants.{Idle, Setting, Up, Down}
 use Rattle.hdlc_station_model.specs.Frames.{Rr, Rej, SetUp, Disc, Dm, Ua, modulo, sent_octets}
 use Rattle.hdlc_station_model.specs.Stations.{Station, Deed, is_down, sees}
-use Rattle.hdlc_station_model.specs.Sending.{releases, refuses_frame, sends_again, is_due, counts_expiry, expires_at, expires_if_due, can_send, sends_next, waiting}
+use Rattle.hdlc_station_model.specs.Sending.{station_down_for_cause, refuses_frame, sends_again, is_due, counts_expiry, expires_at, expires_if_due, can_send, sends_next, waiting}
 use Rattle.hdlc_station_model.specs.Sending.{sends_up_to, sends_waiting}
-use Rattle.hdlc_station_model.specs.Receiving.{is_known_address, is_addressed, is_error, errs, named, acknowledges, acknowledging, by_number, rejects, takes, marks_busy}
-use Rattle.hdlc_station_model.specs.Receiving.{repeats_rejected, comes_up, agrees, sets_up_again, row_idle, row_setting, row_up, row, hears_control, hears}
+use Rattle.hdlc_station_model.specs.Receiving.{is_known_address, is_addressed, is_error, errs, number_shown_as, acknowledges, acknowledging, by_number, rejects, takes, marks_busy}
+use Rattle.hdlc_station_model.specs.Receiving.{repeats_rejected, comes_up, agrees, sets_up_again, row_idle, row_setting, row_up, row_of_phase, hears_control, hears}
 use Rattle.hdlc_station_model.specs.Calls.{starts_at, starts, receives, hands, finishes, ticks, closes_at, closes}
 use Rattle.loop_recordings.proofs.Lists.{IfSome, each_push}
 use Rattle.loop_recordings.proofs.Octets.{Octets, HasOctets}
@@ -28,14 +28,14 @@ use Rattle.loop_recordings.proofs.Lines.{IsBlock, SendsOf, one_more, puts_other,
 -- ---- N(R)
 
 -- a number that is named lies in its range
-named_within : (extended : Bool) (a n r : ℕ) → IfSome (λ (m : ℕ). (a ≤ m) × (m ≤ a + n)) (named extended a n r)
+named_within : (extended : Bool) (a n r : ℕ) → IfSome (λ (m : ℕ). (a ≤ m) × (m ≤ a + n)) (number_shown_as extended a n r)
 named_within extended a zero r = elim (cases_Bool (a % modulo extended == r)) [
   | inl y ↦ rw y (omega arith, omega arith)
   | inr n ↦ rw n tt
 ]
 named_within extended a (suc n) r = elim (cases_Bool (a % modulo extended == r)) [
   | inl y ↦ rw y (omega arith, omega arith)
-  | inr m ↦ rw m (further (named extended (a + 1) n r) (named_within extended (a + 1) n r))
+  | inr m ↦ rw m (further (number_shown_as extended (a + 1) n r) (named_within extended (a + 1) n r))
 ]
   where
     further : (o : Option ℕ) → IfSome (λ (m : ℕ). (a + 1 ≤ m) × (m ≤ a + 1 + n)) o → IfSome (λ (m : ℕ). (a ≤ m) × (m ≤ a + suc n)) o
@@ -65,7 +65,7 @@ module _ (laws : Below) where
   refuses : (s : Station) → Fresh s → Heard (refuses_frame s)
   refuses s f = (puts_other laws Dm s 0 refl f.sends, tt)
 
-  released : (cause : Cause) (s : Station) → SendsOf s 1 → Heard (releases cause s)
+  released : (cause : Cause) (s : Station) → SendsOf s 1 → Heard (station_down_for_cause cause s)
   released cause s h = (h, tt)
 
   agreed : (poll : Bool) (s : Station) → SendsOf s 0 → IfSome Octets s.deed.payload → Heard (agrees poll s)
@@ -103,7 +103,7 @@ module _ (laws : Below) where
   numbered (Some n) rest s f h g = g (acknowledges n s) (acknowledged n s f h.0 (omega (arith, h.1, f.sends.order)))
 
   by_numbers : (nr : ℕ) (rest : Station → Station) (s : Station) → Fresh s → ((t : Station) → Fresh t → Heard (rest t)) → Heard (by_number nr rest s)
-  by_numbers nr rest s f g = numbered (named s.extended s.acked (s.sent - s.acked) nr) rest s f (named_within s.extended s.acked (s.sent - s.acked) nr) g
+  by_numbers nr rest s f g = numbered (number_shown_as s.extended s.acked (s.sent - s.acked) nr) rest s f (named_within s.extended s.acked (s.sent - s.acked) nr) g
 
   rejected : (s : Station) → Fresh s → Heard (rejects s)
   rejected s f =
@@ -161,7 +161,7 @@ module _ (laws : Below) where
   up s control.Dm information octets f = (one_more s 0 f.sends, tt)
   up s control.Frmr information octets f = (one_more s 0 f.sends, tt)
 
-  rows : (p : Phase) (s : Station) (c : Control) (information : List ℕ) → Octets information → Fresh s → Heard (row p s c information)
+  rows : (p : Phase) (s : Station) (c : Control) (information : List ℕ) → Octets information → Fresh s → Heard (row_of_phase p s c information)
   rows Idle s c information octets f = idle s c information f
   rows Setting s c information octets f = setting s c information f
   rows Up s c information octets f = up s c information octets f

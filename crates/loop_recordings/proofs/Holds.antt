@@ -1,6 +1,7 @@
 -- What holds of an end behind each of its doings: what it says, hands down, took and accepted is short.
 use Rattle.std.proofs.Common.{◌≡◌, ◌<◌, ◌≤◌, ℕ, zero, suc, Bool, true, false, List, [], length, Option, Some, None, Ok, Err, refl, subst, arith}
 use Rattle.std.proofs.Common.{ltb-true}
+use Rattle.hdlc_station_model.specs.Receiving.{is_some_octets}
 use Rattle.std.specs.Prelude.{◌&&◌, is_some, if◌then◌else◌}
 use Rattle.er_base.specs.declared.release.Release.{Release}
 use Rattle.er_base.specs.declared.cause.Cause.TheVariants.{BlockRefused}
@@ -11,17 +12,17 @@ use Rattle.hdlc_station_model.specs.Calls as station
 use Rattle.t70_header.specs.Blocks.{last_block}
 use Rattle.t70_header.specs.Joining as joining
 use Rattle.x224_class2.specs.Refusals.{protocol_error}
-use Rattle.x224_class2.specs.Tpdus.{Given, Dr, Dc, octets_given}
-use Rattle.x224_class2.specs.Transport.{Transport, Deed, Nothing, Called, Confirmed, Message, Disconnected, is_open, waiting_count, reception, after_hand}
+use Rattle.x224_class2.specs.Tpdus.{GivenTpdu, Dr, Dc, octets_given}
+use Rattle.x224_class2.specs.Transport.{Transport, ReceptionDeed, Nothing, Called, Confirmed, Message, Disconnected, is_open, waiting_count, reception, after_hand}
 use Rattle.x224_class2.specs.Transport as transport
 use Rattle.sapdu.specs.Spelling.{di_in}
 use Rattle.safety_automaton.specs.Keys.{no_keys}
 use Rattle.safety_automaton.specs.Reports.{Report, ToldAnswered, ToldConnected, ToldAccepted, ToldReleased, ToldIgnored, report_of}
 use Rattle.safety_automaton.specs.Safety.{Safety, SafetyEvent, ConnectRequest, Received, SafetyOutcome, SentAu1, SentAu2, SentAu3, SentAr, ReceivedAr, AcceptedDt}
-use Rattle.safety_automaton.specs.Safety.{SentDt, Refused, ReleasedLocally, ReleasedByPeer, NothingDone, peer_flag, sent_by, step}
+use Rattle.safety_automaton.specs.Safety.{SentDt, Refused, ReleasedLocally, ReleasedByPeer, NothingDone, peer_flag, octets_sent_in_outcome, step}
 use Rattle.safety_automaton.specs.Rules.{IsStep}
-use Rattle.safety_automaton.specs.Laws.{IsValid, HasLength}
-use Rattle.er_end_model.specs.Steps.{Finds, hand_tpdu_if_may, close_link, send_owed_answer, send_dr, answer_dr, on_safety_release, why_of, normal_disconnect, with_safety_step, is_some_octets, hand_text, accept_text}
+use Rattle.safety_automaton.specs.Laws.{IsValid, HasOutcomeLength}
+use Rattle.er_end_model.specs.Steps.{Finds, hand_tpdu_if_may, close_link, send_owed_answer, send_dr, answer_dr, on_safety_release, why_of, normal_disconnect, with_safety_step, hand_text, accept_text}
 use Rattle.er_end_model.specs.Steps.{skip_message, Carrier, InCr, InCc, InDt, hand_answer, keep_message, on_safety_report, on_text, on_transport_deed, on_tpdu, on_joined_block, on_block, is_ready, connect_with_text}
 use Rattle.er_end_model.specs.Steps.{on_link_up, on_link_told, hand_next_tpdu, has_next_tpdu, hand_waiting_tpdus, most_offers, conclude_event}
 use Rattle.er_end_model.specs.Layers.{Core, model}
@@ -72,7 +73,7 @@ one_more_holds x others h = with_line x x.line others (suc others) h (one_more x
 module _ (laws : Below) where
   -- ---- what goes down
 
-  gives_holds : (tpdu : Given) (x : Core) (others : ℕ) → IsBlock (last_block (octets_given tpdu)) → HoldsOf x others → HoldsOf (hand_tpdu_if_may model tpdu x) others
+  gives_holds : (tpdu : GivenTpdu) (x : Core) (others : ℕ) → IsBlock (last_block (octets_given tpdu)) → HoldsOf x others → HoldsOf (hand_tpdu_if_may model tpdu x) others
   gives_holds tpdu x others short h =
       holds_if others (model.may_send x.line) _ _
       (λ e.
@@ -172,7 +173,7 @@ module _ (laws : Below) where
       record { sends = h.sends; begun = h.begun; gives = h.gives; messages = h.messages; newest = h.newest; valid = valid; peer = h.peer }
 
   reported : (key_of : ℕ → ℕ → Option TripleKey) (s next : Safety) (event : SafetyEvent) (outcome : SafetyOutcome) → IsValid next → IsStep key_of s event next outcome
-      → HasLength outcome → IsReported (report_of outcome)
+      → HasOutcomeLength outcome → IsReported (report_of outcome)
   reported key_of s next event (SentAu1 octets) valid only long = tt
   reported key_of s next event (SentAu2 session sealed octets) valid only long = tt
   reported key_of s next event (SentAu3 session verified sealed octets) valid only long = tt
@@ -191,14 +192,14 @@ module _ (laws : Below) where
       let a : Safety × SafetyOutcome = step (finds x.moment) x.safe.safety event in
       let valid = laws.stays (finds x.moment) x.safe.safety event h.valid (all_of text octets) in
       let few = laws.few (finds x.moment) x.safe.safety event in
-      acts_holds by (report_of a.1) (sent_by a.1) (with_safety_step model event a x) others (omega (arith, few))
+      acts_holds by (report_of a.1) (octets_sent_in_outcome a.1) (with_safety_step model event a x) others (omega (arith, few))
       (reported (finds x.moment) x.safe.safety a.0 event a.1 valid (laws.only (finds x.moment) x.safe.safety event)
       (laws.lengths (finds x.moment) x.safe.safety event (all_of text octets)))
       (spoken_holds event a x others valid h)
 
   -- ---- the way up
 
-  does_holds : (finds : Finds) (d : Deed) (x : Core) (others : ℕ) → IfUp d → HoldsOf x others → HoldsOf (on_transport_deed model finds d x) (suc others)
+  does_holds : (finds : Finds) (d : ReceptionDeed) (x : Core) (others : ℕ) → IfUp d → HoldsOf x others → HoldsOf (on_transport_deed model finds d x) (suc others)
   does_holds finds Nothing x others up h = one_more_holds x others h
   does_holds finds (Called user) x others up h = text_holds finds InCr user x others up h
   does_holds finds (Confirmed user) x others up h = text_holds finds InCc user x others up h
@@ -209,10 +210,10 @@ module _ (laws : Below) where
   tpdu_holds : (finds : Finds) (tpdu : List ℕ) (x : Core) (others : ℕ) → Octets tpdu → HoldsOf x others → HoldsOf (on_tpdu model finds tpdu x) (suc others)
   tpdu_holds finds tpdu x others octets h =
       let a = reception_keeps laws x.upper.transport tpdu h.gives octets in
-      let r : Transport × Deed = reception x.upper.transport tpdu in
+      let r : Transport × ReceptionDeed = reception x.upper.transport tpdu in
       does_holds finds r.1 (record x { upper = record (x.upper) { transport = r.0 } }) others a.1 (with_transport x r.0 others h a.0)
 
-  block_at_holds : (finds : Finds) (answer : joining.Answer) (x : Core) (others : ℕ) → IfWhole answer → HoldsOf x others → HoldsOf (on_joined_block model finds answer x) (suc others)
+  block_at_holds : (finds : Finds) (answer : joining.BlockJoiningResult) (x : Core) (others : ℕ) → IfWhole answer → HoldsOf x others → HoldsOf (on_joined_block model finds answer x) (suc others)
   block_at_holds finds (Ok None) x others whole h = one_more_holds x others h
   block_at_holds finds (Ok (Some tpdu)) x others whole h = tpdu_holds finds tpdu x others whole h
   block_at_holds finds (Err fault) x others whole h = departs_holds (release_of BlockRefused) protocol_error [] x others (omega arith) h
@@ -220,7 +221,7 @@ module _ (laws : Below) where
   block_holds : (finds : Finds) (block : List ℕ) (x : Core) (others : ℕ) → Octets block → HoldsOf x others → HoldsOf (on_block model finds block x) (suc others)
   block_holds finds block x others octets h =
       let a = block_joined x.joined block h.begun octets in
-      let joined : List ℕ × joining.Answer = joining.step x.joined block in
+      let joined : List ℕ × joining.BlockJoiningResult = joining.block_step x.joined block in
       block_at_holds finds joined.1 (record x { joined = joined.0 }) others a.1
       (record { sends = h.sends; begun = a.0; gives = h.gives; messages = h.messages; newest = h.newest; valid = h.valid; peer = h.peer })
 
@@ -230,7 +231,7 @@ module _ (laws : Below) where
       let few = laws.few no_keys x.safe.safety ConnectRequest in
       holds_if others (model.may_connect x.upper && is_ready x.safe.safety.phase) _ _
       (λ e.
-      connects_holds (sent_by a.1) (with_safety_step model ConnectRequest a x) others (omega (arith, few))
+      connects_holds (octets_sent_in_outcome a.1) (with_safety_step model ConnectRequest a x) others (omega (arith, few))
       (spoken_holds ConnectRequest a x others (laws.stays no_keys x.safe.safety ConnectRequest h.valid tt) h))
       (λ e. h)
 

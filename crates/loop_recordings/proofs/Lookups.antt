@@ -13,8 +13,8 @@ use Rattle.er_end_model.specs.Laws.{EventsSpeakOnce}
 use Rattle.trace_model.specs.declared.replay_fault.ReplayFault.{ReplayFault}
 use Rattle.trace_model.specs.declared.replay_fault.ReplayFault.TheVariants.{MomentBack, ConnTwice}
 use Rattle.trace_model.specs.Connections.{happens, happens_at, end_behind, end_at}
-use Rattle.trace_model.specs.Checks.{Role, Opens, Declines, Belongs, role_of, last_moment, is_named, is_live, opened_in, live_count, no_key, key_check, many_check, role_check, fault_of}
-use Rattle.trace_model.specs.Printed.{outcomes_text, outcomes_at, entry_text, entries_text, printed}
+use Rattle.trace_model.specs.Checks.{Role, Opens, Declines, Belongs, role_of, last_moment, is_named, is_live, connections_opened_in_trace, live_count, no_key, key_check, many_check, role_check, fault_of_trace_event}
+use Rattle.trace_model.specs.Printed.{outcomes_text, outcomes_at, entry_text, entries_text, text_of_trace}
 use Rattle.trace_model.specs.Replays.{AreTaken}
 use Rattle.des_block.specs.declared.triple_key.TripleKey.{TripleKey}
 use Rattle.loop_recordings.specs.Recordings.{FindsToo}
@@ -82,7 +82,7 @@ module _ (speak : EventsSpeakOnce) (settings : Settings) (f g : Finds) where
       ∙ ap (λ z. entry_text settings g before e ++ z)
       (same_entries (before ++ e ∷ []) es (alike_two f g before (e ∷ []) alike (rest.0, tt)) rest.1)
 
-  pub same_printed : (es : List Entry) → AreAlike f g es → printed settings f es ≡ printed settings g es
+  pub same_printed : (es : List Entry) → AreAlike f g es → text_of_trace settings f es ≡ text_of_trace settings g es
   same_printed es alike = ap (λ z. line_text (header_words settings) ++ z) (same_entries [] es tt alike)
 
   -- ---- what is refused
@@ -97,7 +97,7 @@ module _ (speak : EventsSpeakOnce) (settings : Settings) (f g : Finds) where
 
   same_count : (before : List Entry) → AreAlike f g before → live_count settings f before ≡ live_count settings g before
   unfolding live_count
-  same_count before alike = ap length (live_among (opened_in before) before alike)
+  same_count before alike = ap length (live_among (connections_opened_in_trace before) before alike)
 
   same_key : (e : Entry) (what : Event) (further : Option ReplayFault) → IsAlike f g e.moment what → key_check f e what further ≡ key_check g e what further
   same_key e (event.Call engine rbc rb) further alike = ap (λ key. no_key e.line engine rbc key further) alike
@@ -122,8 +122,8 @@ module _ (speak : EventsSpeakOnce) (settings : Settings) (f g : Finds) where
   same_role Declines before e alike one = refl
   same_role Belongs before e alike one = refl
 
-  same_fault : (before : List Entry) (e : Entry) → AreAlike f g before → IsAlike f g e.moment e.event → fault_of settings f before e ≡ fault_of settings g before e
-  unfolding fault_of
+  same_fault : (before : List Entry) (e : Entry) → AreAlike f g before → IsAlike f g e.moment e.event → fault_of_trace_event settings f before e ≡ fault_of_trace_event settings g before e
+  unfolding fault_of_trace_event
   same_fault before e alike one =
       ap (λ z. if nat_lt e.moment (last_moment before) then Some (MomentBack e.line (last_moment before) e.moment) else z) (same_role (role_of e.event) before e alike one)
 
@@ -180,9 +180,9 @@ module _ (settings : Settings) (f g : Finds) where
   event_alike e (event.Full count) further taken too = tt
   event_alike e (event.Unserved count) further taken too = tt
 
-  opens_taken : (before : List Entry) (e : Entry) → fault_of settings f before e ≡ None → role_of e.event ≡ Opens
+  opens_taken : (before : List Entry) (e : Entry) → fault_of_trace_event settings f before e ≡ None → role_of e.event ≡ Opens
       → key_check f e e.event (many_check e.line (live_count settings f before)) ≡ None
-  unfolding fault_of
+  unfolding fault_of_trace_event
   opens_taken before e taken is =
       let checked = else_none (nat_lt e.moment (last_moment before)) (MomentBack e.line (last_moment before) e.moment) (role_check settings f before e (role_of e.event)) taken in
       let opened = subst (λ role. role_check settings f before e role ≡ None) is checked in

@@ -3,12 +3,12 @@ use Rattle.std.proofs.Common.{◌≡◌, ◌+◌, ◌-◌, ◌≤◌, ℕ, Bool,
 use Rattle.std.proofs.Common.{subst, arith, leb-true}
 use Rattle.std.specs.Prelude.{◌==◌, nat_lt, nat_le, not, ◌&&◌, if◌then◌else◌}
 use Rattle.x224_tpdu.specs.declared.fault.TpFault.{TpFault}
-use Rattle.x224_tpdu.specs.Spelling.{Pdu, connection_request, connection_confirm, disconnect_request, disconnect_confirm, data_tpdu, acknowledgement, tpdu_error}
-use Rattle.x224_tpdu.specs.Spelling.{user_in, header}
+use Rattle.x224_tpdu.specs.Spelling.{TransportPdu, connection_request, connection_confirm, disconnect_request, disconnect_confirm, data_tpdu, acknowledgement, tpdu_error}
+use Rattle.x224_tpdu.specs.Spelling.{user_in, header_without_length_indicator}
 use Rattle.x224_tpdu.specs.Writing.{IsSize}
 use Rattle.x224_tpdu.specs.Function.{reading}
 use Rattle.x224_class2.specs.Segments.{text_so_far}
-use Rattle.x224_class2.specs.Transport.{Transport, Deed, Nothing, Called, Confirmed, Message, Disconnected, Refused, is_new, is_calling, is_open, is_over}
+use Rattle.x224_class2.specs.Transport.{Transport, ReceptionDeed, Nothing, Called, Confirmed, Message, Disconnected, Refused, is_new, is_calling, is_open, is_over}
 use Rattle.x224_class2.specs.Transport.{is_expected, number_named, on_named, on_reading, reception}
 use Rattle.loop_recordings.proofs.Lists.{each_append, each_push, each_behind}
 use Rattle.loop_recordings.proofs.Octets.{Octets, all_of}
@@ -17,7 +17,7 @@ use Rattle.loop_recordings.proofs.Lines.{right_part}
 use Rattle.loop_recordings.proofs.Transports.{OfOctets, text_octets, GivesOf}
 
 -- what goes up is made of octets
-abbrev pub IfUp : Deed → Type 0
+abbrev pub IfUp : ReceptionDeed → Type 0
 IfUp Nothing = Unit {0}
 IfUp (Called user) = Octets user
 IfUp (Confirmed user) = Octets user
@@ -25,17 +25,17 @@ IfUp (Message octets) = Octets octets
 IfUp (Disconnected user) = Unit {0}
 IfUp (Refused sub reason) = Unit {0}
 
-abbrev pub Received : Transport × Deed → Type 0
+abbrev pub Received : Transport × ReceptionDeed → Type 0
 Received a = GivesOf a.0 × IfUp a.1
 
-received_if : (b : Bool) (x y : Transport × Deed) → (b ≡ true → Received x) → (b ≡ false → Received y) → Received (if b then x else y)
+received_if : (b : Bool) (x y : Transport × ReceptionDeed) → (b ≡ true → Received x) → (b ≡ false → Received y) → Received (if b then x else y)
 received_if true x y h g = h refl
 received_if false x y h g = g refl
 
 -- ---- what is read
 
 -- a size is one that C0 can name
-abbrev HasSize : Pdu → Type 0
+abbrev HasSize : TransportPdu → Type 0
 HasSize (connection_request credit dst src size user) = 128 ≤ size
 HasSize (connection_confirm credit dst src size user) = 128 ≤ size
 HasSize (disconnect_request dst src reason user) = Unit {0}
@@ -44,14 +44,14 @@ HasSize (data_tpdu dst last number user) = Unit {0}
 HasSize (acknowledgement credit dst number) = Unit {0}
 HasSize (tpdu_error dst cause) = Unit {0}
 
-abbrev IfRead : Result Pdu TpFault → Type 0
+abbrev IfRead : Result TransportPdu TpFault → Type 0
 IfRead (Ok p) = Octets (user_in p) × HasSize p
 IfRead (Err fault) = Unit {0}
 
 size_least : (n : ℕ) → IsSize n → 128 ≤ n
 size_least n h = omega (arith, h)
 
-sizes : Below → (octets : List ℕ) (p : Pdu) → reading octets ≡ Ok p → HasSize p
+sizes : Below → (octets : List ℕ) (p : TransportPdu) → reading octets ≡ Ok p → HasSize p
 sizes laws octets (connection_request credit dst src size user) e = size_least size (laws.in_range octets (connection_request credit dst src size user) e).0.1
 sizes laws octets (connection_confirm credit dst src size user) e = size_least size (laws.in_range octets (connection_confirm credit dst src size user) e).0.1
 sizes laws octets (disconnect_request dst src reason user) e = tt
@@ -60,13 +60,13 @@ sizes laws octets (data_tpdu dst last number user) e = tt
 sizes laws octets (acknowledgement credit dst number) e = tt
 sizes laws octets (tpdu_error dst cause) e = tt
 
-user_octets : Below → (octets : List ℕ) (p : Pdu) → Octets octets → reading octets ≡ Ok p → Octets (user_in p)
+user_octets : Below → (octets : List ℕ) (p : TransportPdu) → Octets octets → reading octets ≡ Ok p → Octets (user_in p)
 user_octets laws octets p each e =
     let spelled = laws.spells octets p (all_of octets each) e in
     let whole = subst Octets spelled.spelled_so each in
-    each_behind _ (header p spelled.parameters) (user_in p) whole.1
+    each_behind _ (header_without_length_indicator p spelled.parameters) (user_in p) whole.1
 
-read : Below → (octets : List ℕ) (answer : Result Pdu TpFault) → Octets octets → reading octets ≡ answer → IfRead answer
+read : Below → (octets : List ℕ) (answer : Result TransportPdu TpFault) → Octets octets → reading octets ≡ answer → IfRead answer
 read laws octets (Ok p) each e = (user_octets laws octets p each e, sizes laws octets p e)
 read laws octets (Err fault) each e = tt
 
@@ -80,7 +80,7 @@ ends : (last : Bool) (text : List ℕ) → Octets text → IfUp (if last then Me
 ends true text h = h
 ends false text h = tt
 
-on_reading_keeps : (t : Transport) (answer : Result Pdu TpFault) → GivesOf t → IfRead answer → Received (on_reading t answer)
+on_reading_keeps : (t : Transport) (answer : Result TransportPdu TpFault) → GivesOf t → IfRead answer → Received (on_reading t answer)
 on_reading_keeps t (Ok (connection_request credit dst src size user)) h r =
     received_if (not t.is_caller && is_new t.stage && (dst == 0) && (src == 1)) _ _
     (λ e. (record { least = omega (arith, r.1, h.least); most = omega (arith, h.most); user = h.user; cut = h.cut; few = h.few; octets = h.octets }, r.0))

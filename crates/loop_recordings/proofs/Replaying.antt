@@ -2,14 +2,14 @@
 use Rattle.loop_model.specs.Ends.{ModelEnd}
 use Rattle.std.proofs.Common.{◌≡◌, ◌∙◌, refl, ◌++◌}
 use Rattle.er_trace.specs.Laws.{PrintedIsRead}
-use Rattle.loop_model.specs.Journals.{text, header}
+use Rattle.loop_model.specs.Journals.{text, trace_header}
 use Rattle.loop_model.specs.Outs.{Out}
 use Rattle.loop_model.specs.Loops.{Plan, Course, printed}
 use Rattle.loop_recordings.specs.Shorts.{OutcomesAreShort}
 use Rattle.loop_recordings.specs.Recordings.{recording_of, RecordingsAreReplays}
 use Rattle.loop_recordings.proofs.Readings.{recording_read}
 
-pub header_and_text : (plan : Plan) (o : Out (Course ModelEnd)) → header plan.settings ++ text o.entries ≡ recording_of plan o
+pub header_and_text : (plan : Plan) (o : Out (Course ModelEnd)) → trace_header plan.settings ++ text o.entries ≡ recording_of plan o
 unfolding printed
 header_and_text plan o = refl
 

@@ -6,9 +6,9 @@ use Rattle.cbc_mac.specs.Mac.{mac_of}
 use Rattle.session_keys.specs.Session.{session_of}
 use Rattle.sapdu.specs.declared.fault.SaFault.{SaFault}
 use Rattle.sapdu.specs.Messages.{is_message}
-use Rattle.sapdu.specs.Spelling.{Pdu, Au2, Au3, Ar, Dt, Di, read_of}
+use Rattle.sapdu.specs.Spelling.{SafetyPdu, Au2, Au3, Ar, Dt, Di, read_of}
 use Rattle.er_base.specs.declared.cause.Cause.TheVariants as cause
-use Rattle.safety_automaton.specs.Safety.{Safety, Phase, Ready, WaitAu1, WaitAu2, WaitAu3, WaitAr, Connected, Released, SafetyEvent, ConnectRequest, Received, DataRequest, DisconnectRequest, SafetyOutcome, same_flag, peer_flag, au2_text, au3_text, ar_text, message_text, releases, row, checked, receives, sends, connects, disconnects, step}
+use Rattle.safety_automaton.specs.Safety.{Safety, Phase, Ready, WaitAu1, WaitAu2, WaitAu3, WaitAr, Connected, Released, SafetyEvent, ConnectRequest, Received, DataRequest, DisconnectRequest, SafetyOutcome, same_flag, peer_flag, au2_text, au3_text, ar_text, message_text, releases, row, checked, step_received_octets, sends, connects, disconnects, step}
 use Rattle.std.specs.Prelude.{List}
 
 -- a responder before an AU1 looks up the key of its pair
@@ -22,7 +22,7 @@ asks (Connected peer session) = false
 asks (Released release session) = false
 
 module _ (f g : ℕ → ℕ → Option TripleKey) (s : Safety) where
-  same_row : (phase : Phase) (pdu : Pdu) → asks phase ≡ false → row f s phase pdu ≡ row g s phase pdu
+  same_row : (phase : Phase) (pdu : SafetyPdu) → asks phase ≡ false → row f s phase pdu ≡ row g s phase pdu
   same_row phase (Di reason sub) quiet = refl
   same_row (WaitAu1 ra) pdu quiet = absurd (true≢false quiet)
   same_row (WaitAu2 peer kmac rb) (Au2 id feature ra mac) quiet = refl
@@ -31,12 +31,12 @@ module _ (f g : ℕ → ℕ → Option TripleKey) (s : Safety) where
   same_row (Connected peer session) (Dt user mac) quiet = refl
   same_row phase pdu quiet = refl
 
-  same_checked : (read : Result (Pdu × Bool) SaFault) → asks s.phase ≡ false → checked f s read ≡ checked g s read
+  same_checked : (read : Result (SafetyPdu × Bool) SaFault) → asks s.phase ≡ false → checked f s read ≡ checked g s read
   same_checked (Err fault) quiet = refl
   same_checked (Ok read) quiet =
       ap (λ z. if not (same_flag read.1 (peer_flag s)) then releases s cause.WrongDirection else z) (same_row s.phase read.0 quiet)
 
-  same_receives : (phase : Phase) (octets : List ℕ) → asks s.phase ≡ false → receives f s phase octets ≡ receives g s phase octets
+  same_receives : (phase : Phase) (octets : List ℕ) → asks s.phase ≡ false → step_received_octets f s phase octets ≡ step_received_octets g s phase octets
   same_receives (Released release session) octets quiet = refl
   same_receives phase octets quiet = same_checked (read_of octets) quiet
 
@@ -54,7 +54,7 @@ quiet_if true x y p q = p
 quiet_if false x y p q = q
 
 module _ (f : ℕ → ℕ → Option TripleKey) (s : Safety) where
-  quiet_row : (phase : Phase) (pdu : Pdu) → asks phase ≡ false → asks s.phase ≡ false → asks (row f s phase pdu).0.phase ≡ false
+  quiet_row : (phase : Phase) (pdu : SafetyPdu) → asks phase ≡ false → asks s.phase ≡ false → asks (row f s phase pdu).0.phase ≡ false
   quiet_row phase (Di reason sub) quiet is = refl
   quiet_row (WaitAu1 ra) pdu quiet is = absurd (true≢false quiet)
   quiet_row (WaitAu2 peer kmac rb) (Au2 id feature ra mac) quiet is =
@@ -66,11 +66,11 @@ module _ (f : ℕ → ℕ → Option TripleKey) (s : Safety) where
   quiet_row (Connected peer session) (Dt user mac) quiet is = quiet_if (not (mac == mac_of session (message_text (peer_flag s) s.me user))) _ _ refl is
   quiet_row phase pdu quiet is = refl
 
-  quiet_checked : (read : Result (Pdu × Bool) SaFault) → asks s.phase ≡ false → asks (checked f s read).0.phase ≡ false
+  quiet_checked : (read : Result (SafetyPdu × Bool) SaFault) → asks s.phase ≡ false → asks (checked f s read).0.phase ≡ false
   quiet_checked (Err fault) is = refl
   quiet_checked (Ok read) is = quiet_if (not (same_flag read.1 (peer_flag s))) _ _ refl (quiet_row s.phase read.0 is is)
 
-  quiet_receives : (phase : Phase) (octets : List ℕ) → asks s.phase ≡ false → asks (receives f s phase octets).0.phase ≡ false
+  quiet_receives : (phase : Phase) (octets : List ℕ) → asks s.phase ≡ false → asks (step_received_octets f s phase octets).0.phase ≡ false
   quiet_receives (Released release session) octets is = is
   quiet_receives phase octets is = quiet_checked (read_of octets) is
 

@@ -3,11 +3,11 @@ use Rattle.std.proofs.Common.{◌≡◌, inl, inr, ◌+◌, ◌-◌, ◌<◌, �
 use Rattle.std.proofs.Common.{length, drop, Option, Some, None, Ok, Err, refl, sym, ap, subst, arith}
 use Rattle.std.specs.Prelude.{nat_lt, if◌then◌else◌}
 use Rattle.std.proofs.lemmas.Bool.{cases_Bool}
-use Rattle.t70_header.specs.Blocks.{last_block, more_of, content_of}
+use Rattle.t70_header.specs.Blocks.{last_block, more_of, content_of_block}
 use Rattle.t70_header.specs.Joining as joining
 use Rattle.x224_class2.specs.Segments.{Segment, segments_of, messages_behind, messages_in, text_behind, AllCarried}
-use Rattle.x224_class2.specs.Tpdus.{Given, Cr, Cc, Dr, Dc, octets_given}
-use Rattle.x224_class2.specs.Transport.{Transport, Turn, Rest, Opening, Acknowledgement, Data, is_over, after_hand, waiting_count, turn_among, turn_of, tpdu_at}
+use Rattle.x224_class2.specs.Tpdus.{GivenTpdu, Cr, Cc, Dr, Dc, octets_given}
+use Rattle.x224_class2.specs.Transport.{Transport, TpduTurn, Rest, Opening, Acknowledgement, Data, is_over, after_hand, waiting_count, turn_among, turn_of, tpdu_at}
 use Rattle.x224_class2.specs.Transport.{state_behind, with_given, next_tpdu, after_next}
 use Rattle.er_end_model.specs.Layers.{octets_due}
 use Rattle.loop_recordings.proofs.Lists.{Each, IfSome, each_append, each_drop, each_at}
@@ -18,23 +18,23 @@ use Rattle.loop_recordings.proofs.Lines.{IsBlock}
 -- ---- blocks
 
 -- the TPDU that blocks came to, if they did
-abbrev pub IfWhole : joining.Answer → Type 0
+abbrev pub IfWhole : joining.BlockJoiningResult → Type 0
 IfWhole (Ok None) = Unit {0}
 IfWhole (Ok (Some tpdu)) = Octets tpdu
 IfWhole (Err fault) = Unit {0}
 
-abbrev pub Joined : List ℕ × joining.Answer → Type 0
+abbrev pub Joined : List ℕ × joining.BlockJoiningResult → Type 0
 Joined a = Octets a.0 × IfWhole a.1
 
-pub block_joined : (held block : List ℕ) → Octets held → Octets block → Joined (joining.step held block)
+pub block_joined : (held block : List ℕ) → Octets held → Octets block → Joined (joining.block_step held block)
 block_joined held block h b = by_more (more_of block) refl
   where
-    all : Octets (held ++ content_of block)
-    all = each_append _ held (content_of block) h (each_drop _ 2 block b)
+    all : Octets (held ++ content_of_block block)
+    all = each_append _ held (content_of_block block) h (each_drop _ 2 block b)
 
-    by_more : (more : Option Bool) → more_of block ≡ more → Joined (joining.step held block)
+    by_more : (more : Option Bool) → more_of block ≡ more → Joined (joining.block_step held block)
     by_more None e = rw e (tt, tt)
-    by_more (Some more) e = rw e (elim (cases_Bool (nat_lt 1024 (length (held ++ content_of block)))) [
+    by_more (Some more) e = rw e (elim (cases_Bool (nat_lt 1024 (length (held ++ content_of_block block)))) [
       | inl y ↦ rw y (tt, tt)
       | inr n ↦ rw n (elim (cases_Bool more) [
         | inl y ↦ rw y (all, tt)
@@ -131,7 +131,7 @@ opening_short : (calls : Bool) (credit size : ℕ) (user : List ℕ) → length 
 opening_short true credit size user short = omega arith
 opening_short false credit size user short = omega arith
 
-turn_short : (t : Transport) (turn : Turn) → GivesOf t → ((user : List ℕ) → turn ≡ Opening user → length user ≤ 32) → length (octets_due (tpdu_at t turn)) ≤ 128
+turn_short : (t : Transport) (turn : TpduTurn) → GivesOf t → ((user : List ℕ) → turn ≡ Opening user → length user ≤ 32) → length (octets_due (tpdu_at t turn)) ≤ 128
 turn_short t Rest h due = omega arith
 turn_short t (Opening user) h due = opening_short t.is_caller t.credit t.size user (due user refl)
 turn_short t Acknowledgement h due = omega arith
@@ -164,7 +164,7 @@ fewer t h =
     let same : t.given + 1 ≡ suc t.given = omega arith in
     rw same (omega (arith, h.few, lasts_next t.given t.segments, count_messages [] (drop (suc t.given) t.segments), count_messages [] (drop t.given t.segments)))
 
-turn_gives : (t : Transport) (turn : Turn) (tpdu : Option Given) → GivesOf t → GivesOf (with_given (state_behind t turn) tpdu)
+turn_gives : (t : Transport) (turn : TpduTurn) (tpdu : Option GivenTpdu) → GivesOf t → GivesOf (with_given (state_behind t turn) tpdu)
 turn_gives t Rest None h = h
 turn_gives t Rest (Some tpdu) h = h
 turn_gives t (Opening user) None h = record { least = h.least; most = h.most; user = tt; cut = h.cut; few = h.few; octets = h.octets }

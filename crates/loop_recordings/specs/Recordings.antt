@@ -21,7 +21,7 @@ pub record IsItsOwnReplay (finds : Finds) (recording : List ℕ) : Type 0 where
   pub trace : Trace
   pub read : trace_of recording ≡ Ok trace
   pub taken : AreTaken trace.settings finds trace.entries
-  pub printed : replay.printed trace.settings finds trace.entries ≡ recording
+  pub printed : replay.text_of_trace trace.settings finds trace.entries ≡ recording
 
 -- what a loop printed: the header and its journal
 abbrev pub recording_of : Plan → Out (Course ModelEnd) → List ℕ

@@ -2,7 +2,7 @@
 use Rattle.std.specs.Prelude.{◌<◌, ◌≤◌, ◌^◌, List, [], ◌∷◌, length}
 use Rattle.er_settings.specs.Ranges.{usual_settings}
 use Rattle.er_trace.specs.declared.entry.Entry.{Entry}
-use Rattle.er_trace.specs.Texts.{IsReadable, AreReadable}
+use Rattle.er_trace.specs.Texts.{IsReadableEntry, AreReadableEntries}
 use Rattle.er_end_model.specs.Outcomes.{SendRefusal, RefusedReleased, RefusedNotConnected, RefusedLength, RefusedFull}
 use Rattle.er_end_model.specs.Outcomes.{Outcome, ConnectedTo, Accepted, Taken, NothingToTake, Refused, WasReleased, Octets}
 use Rattle.er_end_model.specs.Steps.{Finds}
@@ -33,5 +33,5 @@ AreShort (outcome ∷ outcomes) = IsShort outcome × AreShort outcomes
 -- the outcomes of each event of a trace are short, whatever the events before it, and however KMACs are looked up
 abbrev pub OutcomesAreShort : Type 0
 OutcomesAreShort =
-    (finds : Finds) (before : List Entry) (entry : Entry) → AreReadable before → IsReadable entry
+    (finds : Finds) (before : List Entry) (entry : Entry) → AreReadableEntries before → IsReadableEntry entry
     → AreShort (outcomes_at usual_settings finds before entry)

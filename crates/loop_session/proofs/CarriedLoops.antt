@@ -1,18 +1,19 @@
 -- What a loop does with its sessions, carried to ends of another kind.
 use Rattle.std.proofs.Common.{◌≡◌, ◌∙◌, ℕ, suc, ◌+◌, Bool, true, false, if◌then◌else◌, List, [], ◌∷◌, ◌++◌, length, drop, Option, Some, None, refl, ap, ap₂}
+use Rattle.trace_model.specs.Checks.{most_live}
 use Rattle.std.specs.Prelude.{◌==◌, ◌&&◌, nat_lt}
 use Rattle.rand_core.specs.Stream.{next_u64}
 use Rattle.er_trace.specs.declared.event.Event.TheVariants as event
 use Rattle.er_users.specs.Users.{Mind}
-use Rattle.er_end_model.specs.Steps.{first_of as first_moment}
+use Rattle.er_end_model.specs.Steps.{earlier_of_moments as first_moment}
 use Rattle.link_trait.specs.Wires.{Listens, Dials, Turns}
 use Rattle.link_trait.specs.declared.wires.Happening.{Happening}
 use Rattle.link_trait.specs.declared.wires.Happening.TheVariants as happening
 use Rattle.loop_model.specs.Ends.{EndOps}
-use Rattle.loop_model.specs.Outs.{Out, next, changed, prints, makes, exactly, first_of}
+use Rattle.loop_model.specs.Outs.{Out, next, changed, prints, makes, exactly, first_answer_of}
 use Rattle.loop_model.specs.Sessions.{Rules, Session, Begins}
 use Rattle.loop_model.specs.Visits.{Met, nothing_met, Visit, Tick, Read, Write, Expire, visited, served}
-use Rattle.loop_model.specs.Loops.{Plan, rules_of, Loop, most_live, with_sessions, visit_at, numbers, swept, Sweeps, plain_event, turned_away, next_user, begun, one_less, Caller, Halt, OnClosed, Course, asks, halt_by, halt_behind, Turn, nothing_comes, Dialled, before, until, answering, answered_by, accepted, calling, called_by, called, visited_at, happened, readied, turn, follows, turned_unless, went_unless, went, run, serves, opens, dials_to, dials}
+use Rattle.loop_model.specs.Loops.{Plan, rules_of, Loop, with_sessions, visit_at, numbers, swept, Sweeps, plain_event, turned_away, next_user, begun, one_less, Caller, Halt, OnClosed, Course, asks, halt_by, halt_behind, Turn, nothing_comes, Dialled, before, until, answering, answered_by, accepted, calling, called_by, called, visited_at, happened, readied, turn, follows, turned_unless, went_unless, went, run, serves, opens, dials_to, dials}
 use Rattle.loop_session.proofs.Carrying.{Carries, carried, all_carried, loop_carried, course_carried, if_carried, next_carried, changed_carried, acts_carried}
 use Rattle.loop_session.proofs.CarriedVisits.{served_same, visited_same, wakes_same}
 
@@ -51,7 +52,7 @@ swept_same : {E F : Type 0} (h : E → F) (f : Session E → Met → Out (List (
 unfolding swept
 swept_same h f g same [] ss answers = refl
 swept_same h f g same (n ∷ ns) ss answers =
-    let a = first_of nothing_met answers in
+    let a = first_answer_of nothing_met answers in
     next_carried (all_carried h) (all_carried h) (visit_at f n ss a) (visit_at g n (all_carried h ss) a)
     (λ now. swept f ns now (drop 1 answers)) (λ now. swept g ns now (drop 1 answers))
     (visit_at_same h f g same n ss a) (λ now. swept_same h f g same ns now (drop 1 answers))

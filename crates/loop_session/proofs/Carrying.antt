@@ -5,11 +5,11 @@ use Rattle.er_settings.specs.Values.{Settings}
 use Rattle.er_end_model.specs.Ends.{Call as CallsWith, Answer as AnswersWith, Event}
 use Rattle.link_trait.specs.Wires.{Call}
 use Rattle.loop_model.specs.Ends.{EndOps}
-use Rattle.loop_model.specs.Journals.{Entry}
-use Rattle.loop_model.specs.Deeds.{Deed}
-use Rattle.loop_model.specs.Outs.{Out, next, changed, runs, acts}
+use Rattle.loop_model.specs.Journals.{JournalEntry}
+use Rattle.loop_model.specs.Deeds.{LoopDeed}
+use Rattle.loop_model.specs.Outs.{Out, next, changed, part_for_each_answer, acts}
 use Rattle.loop_model.specs.Sessions.{Session}
-use Rattle.loop_model.specs.Visits.{Flow}
+use Rattle.loop_model.specs.Visits.{WritingState}
 use Rattle.loop_model.specs.Loops.{Loop, Course}
 
 -- what ends of one kind do and show is, carried by `h`, what ends of the other do and show
@@ -32,7 +32,7 @@ abbrev pub all_carried : {E F : Type 0} → (E → F) → List (Session E) → L
 all_carried h [] = []
 all_carried h (s ∷ ss) = carried h s ∷ all_carried h ss
 
-abbrev pub flow_carried : {E F : Type 0} → (E → F) → Session E × Flow → Session F × Flow
+abbrev pub flow_carried : {E F : Type 0} → (E → F) → Session E × WritingState → Session F × WritingState
 flow_carried h x = (carried h x.0, x.1)
 
 abbrev pub read_carried : {E F : Type 0} → (E → F) → Session E × List ℕ → Session F × List ℕ
@@ -45,10 +45,10 @@ abbrev pub course_carried : {E F : Type 0} → (E → F) → Course E → Course
 course_carried h c = record { loop = loop_carried h c.loop; turns = c.turns; halt = c.halt; asked = c.asked }
 
 -- of what a part without calls gives, the state
-abbrev pub first_carried : {S T : Type 0} → (S → T) → S × List Entry → T × List Entry
+abbrev pub first_carried : {S T : Type 0} → (S → T) → S × List JournalEntry → T × List JournalEntry
 first_carried j x = (j x.0, x.1)
 
-abbrev pub out_of : {S : Type 0} → S → List Entry → List Call → List Deed → Out S
+abbrev pub out_of : {S : Type 0} → S → List JournalEntry → List Call → List LoopDeed → Out S
 out_of s entries calls order = record { state = s; entries = entries; calls = calls; order = order }
 
 -- ---- parts
@@ -57,13 +57,13 @@ pub if_carried : {X Y : Type 0} (j : X → Y) (b c : Bool) (x y : X) (z w : Y) �
 if_carried j true c x y z w e p q = rw e p
 if_carried j false c x y z w e p q = rw e q
 
-pub runs_carried : {S T A : Type 0} (j : S → T) (f : S → A → S × List Entry) (g : T → A → T × List Entry)
-    → ((s : S) (a : A) → g (j s) a ≡ first_carried j (f s a)) → (s : S) (answers : List A) → runs g (j s) answers ≡ first_carried j (runs f s answers)
-unfolding runs
+pub runs_carried : {S T A : Type 0} (j : S → T) (f : S → A → S × List JournalEntry) (g : T → A → T × List JournalEntry)
+    → ((s : S) (a : A) → g (j s) a ≡ first_carried j (f s a)) → (s : S) (answers : List A) → part_for_each_answer g (j s) answers ≡ first_carried j (part_for_each_answer f s answers)
+unfolding part_for_each_answer
 runs_carried j f g same s [] = refl
 runs_carried j f g same s (a ∷ answers) =
     let b = f s a in
-    ap (λ z. let d = runs g z.0 answers in (d.0, z.1 ++ d.1)) (same s a)
+    ap (λ z. let d = part_for_each_answer g z.0 answers in (d.0, z.1 ++ d.1)) (same s a)
     ∙ ap (λ z. (z.0, b.1 ++ z.1)) (runs_carried j f g same b.0 answers)
 
 pub next_carried : {S T S' T' : Type 0} (i : S → T) (j : S' → T') (a : Out S) (b : Out T) (f : S → Out S') (g : T → Out T')

@@ -13,7 +13,7 @@ use Rattle.er_end.specs.KeptLayers.{KCore, kept}
 use Rattle.er_end.specs.Shown.{Shows}
 use Rattle.er_trace.specs.declared.event.Event.{Event}
 use Rattle.loop_model.specs.Grammar.{HaveOctets, IsInGrammar}
-use Rattle.loop_session.specs.Giving.{happened}
+use Rattle.loop_session.specs.Giving.{journal_entry_of_event}
 use Rattle.loop_session.proofs.Takings.{told_so}
 
 -- octets for the line
@@ -49,7 +49,7 @@ deeds_have deeds x shows p q o =
 
 -- an event in its ranges, with outcomes in octets
 pub happens_so : (moment conn : ℕ) (event : Event) (outcomes : List Outcome) → moment ≤ 1000000000000000 → conn < 2 ^ 64 → IsInRange event → HaveOctets outcomes
-    → IsInGrammar (happened moment conn event outcomes)
+    → IsInGrammar (journal_entry_of_event moment conn event outcomes)
 happens_so moment conn event outcomes m c e o = record { event = record { moment = m; conn = c; event = e }; outcomes = o }
 
 -- a message that was taken, and what came of that

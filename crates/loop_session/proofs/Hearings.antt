@@ -3,24 +3,24 @@ use Rattle.std.proofs.Common.{◌≡◌, ◌∙◌, ℕ, List, [], ◌∷◌, �
 use Rattle.er_base.specs.declared.release.Release.{Release}
 use Rattle.er_end_model.specs.Outcomes.{SendRefusal}
 use Rattle.er_end_model.specs.Ends as end
-use Rattle.er_end_model.specs.Ends.{if_refused}
+use Rattle.er_end_model.specs.Ends.{refusal_or_outcomes}
 use Rattle.er_end_model.specs.Steps.{if_connected, if_accepted, if_released, if_octets}
 use Rattle.loop_session.specs.Keeping.{kept_ends}
 use Rattle.er_end.specs.KeptLayers.{kept}
-use Rattle.er_end.specs.KeptEnds.{KEnd, refusal, after_send, told_by, tells}
-use Rattle.er_users.specs.Saying.{Spoken, nothing}
-use Rattle.er_users.specs.Users.{Kind, Echo, Tally, Lister, Silent, Callers, Mind, Heard, Refused, Said, said, Hears, Released, noting, tells_more}
-use Rattle.loop_model.specs.Sessions.{Rules, Session, silence, replies, refused_in, refusal_heard, notes, parts, parted}
-use Rattle.loop_session.specs.Giving.{HeardSo, events_of}
+use Rattle.er_end.specs.KeptEnds.{KEnd, refusal_of_send, after_send, told_by, tells}
+use Rattle.er_users.specs.Saying.{SpokenByUser, nothing}
+use Rattle.er_users.specs.Users.{UserKind, Echo, Tally, Lister, Silent, Callers, Mind, Heard, Refused, Said, said, Hears, Released, noting, tells_more}
+use Rattle.loop_model.specs.Sessions.{Rules, Session, silent_answer, replies, refused_in, refusal_heard, notes, parts, parted}
+use Rattle.loop_session.specs.Giving.{HeardSo, events_said_by_user}
 
-pub heard_nothing : (mind : Option Mind) (spoken : Spoken) → spoken ≡ nothing → HeardSo mind None mind spoken
-heard_nothing None spoken p = record { free = silence; is = ap (λ z. (None, events_of z)) (sym p) }
-heard_nothing (Some mind) spoken p = record { free = silence; is = ap (λ z. (Some mind, events_of z)) (sym p) }
+pub heard_nothing : (mind : Option Mind) (spoken : SpokenByUser) → spoken ≡ nothing → HeardSo mind None mind spoken
+heard_nothing None spoken p = record { free = silent_answer; is = ap (λ z. (None, events_said_by_user z)) (sym p) }
+heard_nothing (Some mind) spoken p = record { free = silent_answer; is = ap (λ z. (Some mind, events_said_by_user z)) (sym p) }
 
-pub heard_by_none : (heard : Option Heard) (spoken : Spoken) → spoken ≡ nothing → HeardSo None heard None spoken
-heard_by_none heard spoken p = record { free = silence; is = ap (λ z. (None, events_of z)) (sym p) }
+pub heard_by_none : (heard : Option Heard) (spoken : SpokenByUser) → spoken ≡ nothing → HeardSo None heard None spoken
+heard_by_none heard spoken p = record { free = silent_answer; is = ap (λ z. (None, events_said_by_user z)) (sym p) }
 
-pub heard_by_one : (mind now : Mind) (heard : Heard) (spoken : Spoken) → Hears mind heard now spoken → HeardSo (Some mind) (Some heard) (Some now) spoken
+pub heard_by_one : (mind now : Mind) (heard : Heard) (spoken : SpokenByUser) → Hears mind heard now spoken → HeardSo (Some mind) (Some heard) (Some now) spoken
 heard_by_one mind now heard spoken p = record {
   free = record { mind = now; texts = spoken.texts; leave = spoken.leave };
   is = ap (λ (a : Said). (Some a.mind, replies a)) p;
@@ -29,7 +29,7 @@ heard_by_one mind now heard spoken p = record {
 -- ---- a text that was refused
 
 -- to a refusal no kind says anything, and no mind changes
-refused_by : (kind : Kind) (mind : Mind) (text : List ℕ) (why : SendRefusal) (free : Said) → (said kind mind (Refused text why) free).mind ≡ noting (Refused text why) mind
+refused_by : (kind : UserKind) (mind : Mind) (text : List ℕ) (why : SendRefusal) (free : Said) → (said kind mind (Refused text why) free).mind ≡ noting (Refused text why) mind
 unfolding said
 refused_by Echo mind text why free = refl
 refused_by Tally mind text why free = refl
@@ -61,22 +61,22 @@ notes_nothing : (mind : Option Mind) → notes None mind ≡ mind
 notes_nothing None = refl
 notes_nothing (Some mind) = refl
 
-pub refused_so : (now : ℕ) (text : List ℕ) (k : KEnd) (why : SendRefusal) (before behind : Option Mind) → refusal text k ≡ Some why
+pub refused_so : (now : ℕ) (text : List ℕ) (k : KEnd) (why : SendRefusal) (before behind : Option Mind) → refusal_of_send text k ≡ Some why
     → behind ≡ notes (Some (Refused text why)) before → behind ≡ notes (refusal_heard text (refused_in (tells now (end.Send text) k))) before
 refused_so now text k why before behind e p =
-    p ∙ ap (λ (z : Option SendRefusal). notes (refusal_heard text (refused_in (if_refused z (told_by (after_send now text k))))) before) (sym e)
+    p ∙ ap (λ (z : Option SendRefusal). notes (refusal_heard text (refused_in (refusal_or_outcomes z (told_by (after_send now text k))))) before) (sym e)
 
-pub sent_so : (now : ℕ) (text : List ℕ) (k : KEnd) (mind : Option Mind) → refusal text k ≡ None
+pub sent_so : (now : ℕ) (text : List ℕ) (k : KEnd) (mind : Option Mind) → refusal_of_send text k ≡ None
     → mind ≡ notes (refusal_heard text (refused_in (tells now (end.Send text) k))) mind
 sent_so now text k mind e =
     let x = (after_send now text k).core in
-    sym (ap (λ (z : Option SendRefusal). notes (refusal_heard text (refused_in (if_refused z (told_by (after_send now text k))))) mind) e
+    sym (ap (λ (z : Option SendRefusal). notes (refusal_heard text (refused_in (refusal_or_outcomes z (told_by (after_send now text k))))) mind) e
     ∙ ap (λ (z : Option SendRefusal). notes (refusal_heard text z) mind) (refused_behind x.connected (kept.news x.upper) x.leaves x.line.out)
     ∙ notes_nothing mind)
 
 -- ---- a release
 
-told_by_kind : (kind : Kind) (mind : Mind) (heard : Heard) (free : Said) → (said kind mind heard free).mind.told ≡ tells_more mind.told heard
+told_by_kind : (kind : UserKind) (mind : Mind) (heard : Heard) (free : Said) → (said kind mind heard free).mind.told ≡ tells_more mind.told heard
 unfolding said
 told_by_kind Echo mind heard free = refl
 told_by_kind Tally mind heard free = refl
@@ -84,7 +84,7 @@ told_by_kind Lister mind heard free = refl
 told_by_kind Silent mind heard free = refl
 told_by_kind Callers mind heard free = refl
 
-pub told_released : (mind now : Mind) (heard : Heard) (spoken : Spoken) → Hears mind heard now spoken → now.told ≡ tells_more mind.told heard
+pub told_released : (mind now : Mind) (heard : Heard) (spoken : SpokenByUser) → Hears mind heard now spoken → now.told ≡ tells_more mind.told heard
 told_released mind now heard spoken p =
     ap (λ (a : Said). a.mind.told) (sym p) ∙ told_by_kind mind.kind mind heard (record { mind = now; texts = spoken.texts; leave = spoken.leave })
 

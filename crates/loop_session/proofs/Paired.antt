@@ -10,11 +10,11 @@ use Rattle.hdlc_frames.specs.Deframing as deframing
 use Rattle.hdlc_frames.specs.Deframing.{has_verdicts}
 use Rattle.hdlc_frames.specs.Laws.{KeptStandsForStream}
 use Rattle.hdlc_station_model.specs.Events.{news}
-use Rattle.er_end_model.specs.Ends.{Opening, Call, Answer, Event, Start, Come, Send, Take, Leave, Tick, Ended, Fault, Stalled, End, opened, step}
+use Rattle.er_end_model.specs.Ends.{Opening, Call, Answer, Event, Start, Come, Send, Take, Leave, Tick, Ended, Fault, Stalled, End, opened, step_event}
 use Rattle.er_end.specs.KeptEnds as kept
-use Rattle.er_end.specs.KeptEnds.{KEnd, kept_opened, happens, tells}
+use Rattle.er_end.specs.KeptEnds.{KEnd, kept_opened, kept_end_behind_event, tells}
 use Rattle.er_end.specs.Standing.{EndStands, MadeStands, event_of, StepsAlike, ShowsAlike}
-use Rattle.loop_model.specs.Ends.{EndOps, ModelEnd, model_ends, used_behind, used_of, used_part}
+use Rattle.loop_model.specs.Ends.{EndOps, ModelEnd, model_ends, used_behind, octet_count_used_by_end, used_part}
 use Rattle.loop_model.specs.Outs.{Out, changed}
 use Rattle.loop_model.specs.Sessions.{Session}
 use Rattle.loop_model.specs.Loops.{Course, beginning, run, serves, dials}
@@ -82,16 +82,16 @@ used_at (Some why) q all m n e f = rw e refl
 
 module _ (w : Lower) where
   -- what is kept of a stream stands for it
-  reads_kept : (stream : List ℕ) → ReadsOn stream (deframing.stream_of (deframing.kept_of stream))
+  reads_kept : (stream : List ℕ) → ReadsOn stream (deframing.stream_behind_kept (deframing.kept_of stream))
   reads_kept stream = λ octets. (w.stands stream octets).1.0
 
-  used_same : (k : KEnd) (m : End) → EndStands k m → (octets : List ℕ) → kept.used_of k octets ≡ used_of m octets
+  used_same : (k : KEnd) (m : End) → EndStands k m → (octets : List ℕ) → kept.used_of k octets ≡ octet_count_used_by_end m octets
   unfolding kept.used_of deframing.feeding_of
   used_same k m s octets =
-      used_at k.core.released m.core.released (length octets) (deframing.used_behind (deframing.stream_of k.deframer) octets) (used_behind m.stream octets)
+      used_at k.core.released m.core.released (length octets) (deframing.used_behind (deframing.stream_behind_kept k.deframer) octets) (used_behind m.stream octets)
       (sym (w.shows k m s).1)
-      (λ none. ap (λ (d : deframing.Kept). deframing.used_behind (deframing.stream_of d) octets) (s.fed none)
-      ∙ behind_same m.stream (deframing.stream_of (deframing.kept_of m.stream)) octets (reads_kept m.stream))
+      (λ none. ap (λ (d : deframing.KeptDeframer). deframing.used_behind (deframing.stream_behind_kept d) octets) (s.fed none)
+      ∙ behind_same m.stream (deframing.stream_behind_kept (deframing.kept_of m.stream)) octets (reads_kept m.stream))
 
   event_same : (k : KEnd) (m : End) → EndStands k m → (event : Event) → event_of k event ≡ used_part m event
   event_same k m s Start = refl
@@ -120,10 +120,10 @@ module _ (w : Lower) where
 
   abbrev both_happen : ℕ → Event → Both → Both
   both_happen now event b = record {
-    kept = happens now event b.kept;
-    model = (step now (used_part b.model event) b.model).0;
+    kept = kept_end_behind_event now event b.kept;
+    model = (step_event now (used_part b.model event) b.model).0;
     stands =
-        subst (λ (e : Event). EndStands (happens now event b.kept) (step now e b.model).0) (event_same b.kept b.model b.stands event)
+        subst (λ (e : Event). EndStands (kept_end_behind_event now event b.kept) (step_event now e b.model).0) (event_same b.kept b.model b.stands event)
         (w.steps now event b.kept b.model b.stands).0;
   }
 
@@ -157,7 +157,7 @@ module _ (w : Lower) where
     answers = λ me ra now. refl;
     happens = λ m event k. refl;
     tells = λ m event k.
-        ap (λ (e : Event). (step m e k.model).1) (sym (event_same k.kept k.model k.stands event)) ∙ sym (w.steps m event k.kept k.model k.stands).1;
+        ap (λ (e : Event). (step_event m e k.model).1) (sym (event_same k.kept k.model k.stands event)) ∙ sym (w.steps m event k.kept k.model k.stands).1;
     used = λ k octets. sym (used_same k.kept k.model k.stands octets);
     waiting = λ k. sym (w.shows k.kept k.model k.stands).2;
     deadline = λ k. sym (w.shows k.kept k.model k.stands).0;

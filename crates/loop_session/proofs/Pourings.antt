@@ -8,7 +8,7 @@ use Rattle.hdlc_frames.specs.Deframing.{used_behind}
 use Rattle.er_end.specs.KeptEnds.{KEnd, used_of}
 use Rattle.link_trait.specs.States.{SinkState}
 use Rattle.loop_model.specs.Journals.{text}
-use Rattle.loop_model.specs.Outs.{runs, exactly}
+use Rattle.loop_model.specs.Outs.{part_for_each_answer, exactly}
 use Rattle.loop_model.specs.Sessions.{Rules, Session, Hears, Says, nothing_said, handled, poured, pours}
 use Rattle.loop_session.specs.declared.loop_fault.LoopFault.{LoopFault}
 use Rattle.loop_session.specs.Parts.{Breaks, Printed, Chose, BrokeOff, Pouring}
@@ -37,14 +37,14 @@ pub used_within : (k : KEnd) (piece : List ℕ) → used_of k piece ≤ length p
 unfolding used_of deframing.feeding_of
 used_within k piece = elim (cases_Bool (is_some k.core.released)) [
   | inl p ↦ rw p (let z : length piece ≤ length piece = omega arith in z)
-  | inr p ↦ rw p (behind_within (deframing.stream_of k.deframer) piece)
+  | inr p ↦ rw p (behind_within (deframing.stream_behind_kept k.deframer) piece)
 ]
 
 pub used_moves : (k : KEnd) (piece : List ℕ) → 0 < length piece → 0 < used_of k piece
 unfolding used_of deframing.feeding_of
 used_moves k piece some = elim (cases_Bool (is_some k.core.released)) [
   | inl p ↦ rw p some
-  | inr p ↦ rw p (behind_moves (deframing.stream_of k.deframer) piece some)
+  | inr p ↦ rw p (behind_moves (deframing.stream_behind_kept k.deframer) piece some)
 ]
 
 drop_more : (n k : ℕ) (xs : List ℕ) → drop k (drop n xs) ≡ drop (n + k) xs
@@ -77,11 +77,11 @@ idle_is : (r : Rules) (m : ℕ) (x : Session KEnd × List ℕ) (says : Says) →
 unfolding poured
 idle_is r m x says p = rw p refl
 
-idle_all : (r : Rules) (m : ℕ) (x : Session KEnd × List ℕ) (says : List Says) → ((length x.1 == 0) || x.0.broken) ≡ true → runs (poured kept_ends r m) x says ≡ (x, [])
+idle_all : (r : Rules) (m : ℕ) (x : Session KEnd × List ℕ) (says : List Says) → ((length x.1 == 0) || x.0.broken) ≡ true → part_for_each_answer (poured kept_ends r m) x says ≡ (x, [])
 idle_all r m x [] p = runs_none (poured kept_ends r m) x
 idle_all r m x (s ∷ says) p =
     runs_on (poured kept_ends r m) x s says
-    ∙ ap (λ z. let b = runs (poured kept_ends r m) z.0 says in (b.0, z.1 ++ b.1)) (idle_is r m x s p)
+    ∙ ap (λ z. let b = part_for_each_answer (poured kept_ends r m) z.0 says in (b.0, z.1 ++ b.1)) (idle_is r m x s p)
     ∙ idle_all r m x says p
 
 -- ---- part by part
@@ -140,7 +140,7 @@ pouring_broke r m octets at a b c s t fault p less whole q =
     record {
       answers = p.answers ++ q.answers ∷ [];
       breaks =
-          subst (λ z. Breaks a c (text (runs (poured kept_ends r m) (s, octets) z).1) fault) (sym (exactly_next (length octets) nothing_said p.answers q.answers few))
+          subst (λ z. Breaks a c (text (part_for_each_answer (poured kept_ends r m) (s, octets) z).1) fault) (sym (exactly_next (length octets) nothing_said p.answers q.answers few))
           (breaks_more_of a b c (poured kept_ends r m) (s, octets) (t, rest) p.answers (exactly (length octets - (length p.answers + 1)) nothing_said []) q.answers fault p.is breaks);
     }
 
@@ -148,15 +148,15 @@ pub pouring_done : (r : Rules) (m : ℕ) (octets : List ℕ) (at : ℕ) (a b : S
     → Pouring r m octets at a b s t → ((length (drop at octets) == 0) || t.broken) ≡ true → Chose a b t (pours kept_ends r m s octets)
 unfolding pours
 pouring_done r m octets at a b s t p idle =
-    let o = runs (poured kept_ends r m) (s, octets) p.answers in
+    let o = part_for_each_answer (poured kept_ends r m) (s, octets) p.answers in
     let rest = exactly (length octets - length p.answers) nothing_said [] in
     let all : exactly (length octets) nothing_said p.answers ≡ p.answers ++ rest =
     ap (λ z. exactly (length octets) nothing_said z) (sym (append-nil p.answers))
     ∙ exactly_more (length octets) (length octets - length p.answers) nothing_said p.answers []
     (let w = p.few in let x = p.most in let z : length octets ≡ length p.answers + (length octets - length p.answers) = omega (arith, w, x) in z) in
-    let still : runs (poured kept_ends r m) o.0 rest ≡ (o.0, []) = idle_all r m o.0 rest (subst (λ z. ((length z.1 == 0) || z.0.broken) ≡ true) p.is.state idle) in
-    let is : runs (poured kept_ends r m) (s, octets) (exactly (length octets) nothing_said p.answers) ≡ o =
-    ap (λ z. runs (poured kept_ends r m) (s, octets) z) all ∙ runs_then (poured kept_ends r m) (s, octets) p.answers rest
+    let still : part_for_each_answer (poured kept_ends r m) o.0 rest ≡ (o.0, []) = idle_all r m o.0 rest (subst (λ z. ((length z.1 == 0) || z.0.broken) ≡ true) p.is.state idle) in
+    let is : part_for_each_answer (poured kept_ends r m) (s, octets) (exactly (length octets) nothing_said p.answers) ≡ o =
+    ap (λ z. part_for_each_answer (poured kept_ends r m) (s, octets) z) all ∙ runs_then (poured kept_ends r m) (s, octets) p.answers rest
     ∙ ap (λ z. (z.0, o.1 ++ z.1)) still ∙ ap (λ z. (o.0, z)) (append-nil o.1) in
     record {
       answers = p.answers;

@@ -11,8 +11,8 @@ use Rattle.er_end.specs.KeptLayers.{KCore, kept}
 use Rattle.er_end.specs.KeptEnds.{KEnd, after_take, waiting_in, told_by, tells}
 use Rattle.er_users.specs.Saying.{is_text}
 use Rattle.er_users.specs.Users.{Message}
-use Rattle.trace_model.specs.Printed.{told, outcomes_text}
-use Rattle.loop_model.specs.Sessions.{octets_in, heard_in}
+use Rattle.trace_model.specs.Printed.{trace_outcome_of, outcomes_text}
+use Rattle.loop_model.specs.Sessions.{octets_in, heard_by_user}
 use Rattle.loop_session.proofs.Givings.{octets_if}
 
 -- nothing is told but octets for the line
@@ -75,7 +75,7 @@ taken_text : (conn : ℕ) (message out : List ℕ) (line : List ℕ)
 unfolding outcomes_text
 taken_text conn message out line =
     append_assoc line (outcomes_text conn (Taken message ∷ [])) (outcomes_text conn (if_octets out))
-    ∙ ap (λ z. line ++ (z ++ outcomes_text conn (if_octets out))) (append-nil (line_text (outcome_words conn (told (Taken message)))))
+    ∙ ap (λ z. line ++ (z ++ outcomes_text conn (if_octets out))) (append-nil (line_text (outcome_words conn (trace_outcome_of (Taken message)))))
 
 pub told_so : (now : ℕ) (k : KEnd) (message out : List ℕ) → message ≡ first_in (waiting_in k) → 0 < length (waiting_in k) → out ≡ (after_take now k).core.line.out
     → Taken message ∷ if_octets out ≡ tells now end.Take k
@@ -95,8 +95,8 @@ pub some_octets : (now : ℕ) (k : KEnd) (message out : List ℕ) → message �
 some_octets now k message out is some o = sym (octets_if out) ∙ ap octets_in (told_so now k message out is some o)
 
 pub some_heard : (now : ℕ) (k : KEnd) (message out : List ℕ) → message ≡ first_in (waiting_in k) → 0 < length (waiting_in k)
-    → out ≡ (after_take now k).core.line.out → (if is_text message then Some (Message message) else None) ≡ heard_in (tells now end.Take k)
-some_heard now k message out is some o = ap heard_in (told_so now k message out is some o)
+    → out ≡ (after_take now k).core.line.out → (if is_text message then Some (Message message) else None) ≡ heard_by_user (tells now end.Take k)
+some_heard now k message out is some o = ap heard_by_user (told_so now k message out is some o)
 
 pub on_ok : {T E P : Type 0} (r : Result T E) → P → OnOk r P
 on_ok (Ok done) p = p

@@ -9,18 +9,18 @@ use Rattle.er_trace.specs.declared.event.Event.{Event}
 use Rattle.er_trace.specs.Texts.{entry_words}
 use Rattle.trace_model.specs.Printed.{outcomes_text}
 use Rattle.er_end_model.specs.Ends.{Send}
-use Rattle.er_end.specs.KeptEnds.{KEnd, happens, tells}
-use Rattle.er_users.specs.Saying.{Spoken}
+use Rattle.er_end.specs.KeptEnds.{KEnd, kept_end_behind_event, tells}
+use Rattle.er_users.specs.Saying.{SpokenByUser}
 use Rattle.er_users.specs.Users.{Mind, Heard}
 use Rattle.link_trait.specs.States.{SinkState}
 use Rattle.link_trait.specs.Outside.{Grew, GrewPart, Rose}
 use Rattle.link_trait.specs.Growth.{grew_nothing, grew_then, part_nothing, part_then, part_more}
 use Rattle.loop_model.specs.Grammar.{IsInGrammar, AreInGrammar}
-use Rattle.loop_model.specs.Journals.{Entry, entry_text, text}
-use Rattle.loop_model.specs.Sessions.{Rules, Session, Given, Sends, Stalls, event_of, written, breaks, end_after, outcomes_of, octets_in, heard_in, refused_in, refusal_heard, notes, entry_of, stalled, joined, fed, replied}
+use Rattle.loop_model.specs.Journals.{JournalEntry, entry_text, text}
+use Rattle.loop_model.specs.Sessions.{Rules, Session, GivenToSession, Sends, Stalls, event_of, journal_event_of_given, breaks, end_after, outcomes_of_given_event, octets_in, heard_by_user, refused_in, refusal_heard, notes, entry_of, stalled, joined, fed, replied}
 use Rattle.loop_session.specs.declared.loop_fault.LoopFault.{LoopFault}
 use Rattle.loop_session.specs.declared.loop_fault.LoopFault.TheVariants.{Wires, Sink, NoMemory}
-use Rattle.loop_session.specs.Giving.{happened, too_many, joined_to, octets_of, Gave, HeardSo, peer_heard}
+use Rattle.loop_session.specs.Giving.{journal_entry_of_event, too_many, joined_to, octets_of_given_event, Gave, HeardSo, peer_heard}
 use Rattle.loop_session.specs.Parts.{FailedFor, Breaks, Puts, Printed, Prints, Chooses, with_mind}
 
 pub nothing_put : (a : Option (List ℕ)) (f : ℕ) (line : List ℕ) → (length line == 0) ≡ true → Grew a a line × (f ≤ f)
@@ -45,34 +45,34 @@ pub puts_wanted : {T : Type 0} (a : SinkState) (line : List ℕ) (res : Result T
 puts_wanted a line (Ok done) fault want p q = absurd cc
 puts_wanted a line (Err other) fault want p q = wanted_as a line other want cc
 
-pub prints_wanted : {T S : Type 0} (a : SinkState) (new : S) (o : S × List Entry) (res : Result T LoopFault) (fault : LoopFault) (want : Want)
+pub prints_wanted : {T S : Type 0} (a : SinkState) (new : S) (o : S × List JournalEntry) (res : Result T LoopFault) (fault : LoopFault) (want : Want)
     → res ≡ Err fault → fault ≡ NoMemory want → Prints a a new o res
 prints_wanted a new o (Ok done) fault want p q = absurd cc
 prints_wanted a new o (Err other) fault want p q = wanted_as a (text o.1) other want cc
 
-pub wanted : {T S A : Type 0} (a : SinkState) (new : S) (plain : A) (model : A → S × List Entry) (res : Result T LoopFault) (fault : LoopFault) (want : Want)
+pub wanted : {T S A : Type 0} (a : SinkState) (new : S) (plain : A) (model : A → S × List JournalEntry) (res : Result T LoopFault) (fault : LoopFault) (want : Want)
     → res ≡ Err fault → fault ≡ NoMemory want → Chooses a a new model res
 wanted a new plain model (Ok done) fault want p q = absurd cc
 wanted a new plain model (Err other) fault want p q = record { answers = plain; breaks = wanted_as a (text (model plain).1) other want cc }
 
 -- ---- texts
 
-pub text_parts : (xs ys : List Entry) → text (xs ++ ys) ≡ text xs ++ text ys
+pub text_parts : (xs ys : List JournalEntry) → text (xs ++ ys) ≡ text xs ++ text ys
 text_parts [] ys = refl
 text_parts (x ∷ xs) ys = ap (λ z. entry_text x ++ z) (text_parts xs ys) ∙ sym (append_assoc (entry_text x) (text xs) (text ys))
 
-pub grammar_parts : (xs ys : List Entry) → AreInGrammar xs → AreInGrammar ys → AreInGrammar (xs ++ ys)
+pub grammar_parts : (xs ys : List JournalEntry) → AreInGrammar xs → AreInGrammar ys → AreInGrammar (xs ++ ys)
 grammar_parts [] ys p q = q
 grammar_parts (x ∷ xs) ys p q = (p.0, grammar_parts xs ys p.1 q)
 
 -- one event
-lines_are : (x : Entry) (line before : List ℕ) → before ≡ []
+lines_are : (x : JournalEntry) (line before : List ℕ) → before ≡ []
     → line ≡ (before ++ line_text (entry_words x.moment x.conn x.event)) ++ outcomes_text x.conn x.outcomes → line ≡ entry_text x
 unfolding entry_text
 lines_are x line before p q =
     q ∙ ap (λ z. (z ++ line_text (entry_words x.moment x.conn x.event)) ++ outcomes_text x.conn x.outcomes) p
 
-one_text : (x : Entry) → entry_text x ≡ text (x ∷ [])
+one_text : (x : JournalEntry) → entry_text x ≡ text (x ∷ [])
 one_text x = sym (append-nil (entry_text x))
 
 -- ---- one part behind another
@@ -93,15 +93,15 @@ failed_behind f g h (NoMemory want) p q = (let r : g ≤ h = q in omega (arith, 
 pub breaks_behind : (a b c : SinkState) (xs ys : List ℕ) (fault : LoopFault) → Grew a.held b.held xs → a.faults ≤ b.faults → Breaks b c ys fault → Breaks a c (xs ++ ys) fault
 breaks_behind a b c xs ys fault p q r = record { begun = part_then a.held b.held c.held xs ys p r.begun; failed = failed_behind a.faults b.faults c.faults fault q r.failed }
 
-pub breaks_first : (a b : SinkState) (xs ys : List Entry) (fault : LoopFault) → Breaks a b (text xs) fault → Breaks a b (text (xs ++ ys)) fault
+pub breaks_first : (a b : SinkState) (xs ys : List JournalEntry) (fault : LoopFault) → Breaks a b (text xs) fault → Breaks a b (text (xs ++ ys)) fault
 breaks_first a b xs ys fault p = breaks_as a b (text xs ++ text ys) (text (xs ++ ys)) fault (sym (text_parts xs ys)) (breaks_more a b (text xs) (text ys) fault p)
 
-pub breaks_then : {S : Type 0} (a b c : SinkState) (mid : S) (x : S × List Entry) (ys : List Entry) (fault : LoopFault)
+pub breaks_then : {S : Type 0} (a b c : SinkState) (mid : S) (x : S × List JournalEntry) (ys : List JournalEntry) (fault : LoopFault)
     → Printed a b mid x → Breaks b c (text ys) fault → Breaks a c (text (x.1 ++ ys)) fault
 breaks_then a b c mid x ys fault p q =
     breaks_as a c (text x.1 ++ text ys) (text (x.1 ++ ys)) fault (sym (text_parts x.1 ys)) (breaks_behind a b c (text x.1) (text ys) fault p.printed p.later q)
 
-pub printed_then : {S T : Type 0} (a b c : SinkState) (mid : S) (new : T) (x : S × List Entry) (y : T × List Entry)
+pub printed_then : {S T : Type 0} (a b c : SinkState) (mid : S) (new : T) (x : S × List JournalEntry) (y : T × List JournalEntry)
     → Printed a b mid x → Printed b c new y → Printed a c new (y.0, x.1 ++ y.1)
 printed_then a b c mid new x y p q = record {
   state = q.state;
@@ -121,17 +121,17 @@ if_is_or true false = refl
 if_is_or false true = refl
 if_is_or false false = refl
 
-pub gave_of : (r : Rules) (m : ℕ) (s s0 : Session KEnd) (g : Given) (now : Session KEnd) (line before : List ℕ) (fits : Bool)
+pub gave_of : (r : Rules) (m : ℕ) (s s0 : Session KEnd) (g : GivenToSession) (now : Session KEnd) (line before : List ℕ) (fits : Bool)
     → s ≡ s0
     → now ≡ record s0 { end = now.end; mind = now.mind; output = now.output; broken = now.broken }
     → now.broken ≡ (if breaks g then true else s0.broken)
-    → now.end ≡ happens m (event_of r g) s0.end
+    → now.end ≡ kept_end_behind_event m (event_of r g) s0.end
     → before ≡ []
-    → line ≡ (before ++ line_text (entry_words m s0.number (written kept_ends s0.end g))) ++ outcomes_text s0.number (tells m (event_of r g) s0.end)
+    → line ≡ (before ++ line_text (entry_words m s0.number (journal_event_of_given kept_ends s0.end g))) ++ outcomes_text s0.number (tells m (event_of r g) s0.end)
     → (fits ≡ not (too_many s0.output (octets_in (tells m (event_of r g) s0.end)))) × (now.output ≡ joined_to s0.output (octets_in (tells m (event_of r g) s0.end)))
-    → IsInGrammar (happened m s0.number (written kept_ends s0.end g) (tells m (event_of r g) s0.end))
+    → IsInGrammar (journal_entry_of_event m s0.number (journal_event_of_given kept_ends s0.end g) (tells m (event_of r g) s0.end))
     → Gave r m s g now line fits
-unfolding end_after outcomes_of
+unfolding end_after outcomes_of_given_event
 gave_of r m s s0 g now line before fits same is broken e p q joins grammar =
     subst (λ (z : Session KEnd). Gave r m z g now line fits) (sym same)
     (record {
@@ -139,30 +139,30 @@ gave_of r m s s0 g now line before fits same is broken e p q joins grammar =
       state =
           is
           ∙ ap (λ (z : KEnd). let t : Session KEnd = record s0 { end = z; mind = now.mind; output = now.output; broken = now.broken } in t) e
-          ∙ ap (λ (z : List ℕ). let t : Session KEnd = record s0 { end = happens m (event_of r g) s0.end; mind = now.mind; output = z; broken = now.broken } in t) joins.1
-          ∙ ap (λ (z : Bool). let t : Session KEnd = record s0 { end = happens m (event_of r g) s0.end; mind = now.mind; output = joined_to s0.output (octets_in (tells m (event_of r g) s0.end)); broken = z } in t)
+          ∙ ap (λ (z : List ℕ). let t : Session KEnd = record s0 { end = kept_end_behind_event m (event_of r g) s0.end; mind = now.mind; output = z; broken = now.broken } in t) joins.1
+          ∙ ap (λ (z : Bool). let t : Session KEnd = record s0 { end = kept_end_behind_event m (event_of r g) s0.end; mind = now.mind; output = joined_to s0.output (octets_in (tells m (event_of r g) s0.end)); broken = z } in t)
           (broken ∙ if_is_or s0.broken (breaks g));
       fits = joins.0;
       in_grammar = grammar;
     })
 
 -- an event whose octets fit
-fits_is : (r : Rules) (m : ℕ) (s : Session KEnd) (g : Given) → too_many s.output (octets_of r m s g) ≡ false
-    → fed kept_ends r m s g ≡ (record s { end = end_after kept_ends r m s.end g; output = s.output ++ octets_of r m s g; broken = s.broken || breaks g }, entry_of kept_ends r m s g ∷ [])
+fits_is : (r : Rules) (m : ℕ) (s : Session KEnd) (g : GivenToSession) → too_many s.output (octets_of_given_event r m s g) ≡ false
+    → fed kept_ends r m s g ≡ (record s { end = end_after kept_ends r m s.end g; output = s.output ++ octets_of_given_event r m s g; broken = s.broken || breaks g }, entry_of kept_ends r m s g ∷ [])
 unfolding fed joined
 fits_is r m s g p = rw p refl
 
 -- an event whose octets are too many
-stalls_is : (r : Rules) (m : ℕ) (s : Session KEnd) (g : Given) → too_many s.output (octets_of r m s g) ≡ true
+stalls_is : (r : Rules) (m : ℕ) (s : Session KEnd) (g : GivenToSession) → too_many s.output (octets_of_given_event r m s g) ≡ true
     → fed kept_ends r m s g
     ≡ (let b = stalled kept_ends r m (record s { end = end_after kept_ends r m s.end g; broken = s.broken || breaks g }) in (b.0, entry_of kept_ends r m s g ∷ b.1))
 unfolding fed joined
 stalls_is r m s g p = rw p refl
 
 -- its user isn't touched
-pub same_mind : (r : Rules) (m : ℕ) (s : Session KEnd) (g : Given) → with_mind s.mind (fed kept_ends r m s g) ≡ fed kept_ends r m s g
+pub same_mind : (r : Rules) (m : ℕ) (s : Session KEnd) (g : GivenToSession) → with_mind s.mind (fed kept_ends r m s g) ≡ fed kept_ends r m s g
 unfolding fed joined
-same_mind r m s g = elim (cases_Bool (too_many s.output (octets_of r m s g))) [ inl p ↦ rw p refl | inr p ↦ rw p refl ]
+same_mind r m s g = elim (cases_Bool (too_many s.output (octets_of_given_event r m s g))) [ inl p ↦ rw p refl | inr p ↦ rw p refl ]
 
 not_true : (b : Bool) → true ≡ not b → b ≡ false
 not_true true p = p
@@ -172,29 +172,29 @@ not_false : (b : Bool) → false ≡ not b → b ≡ true
 not_false true p = refl
 not_false false p = p
 
-pub tell_breaks : (a b : SinkState) (r : Rules) (m : ℕ) (s now : Session KEnd) (e : Given) (line : List ℕ) (fits : Bool) (fault : LoopFault)
+pub tell_breaks : (a b : SinkState) (r : Rules) (m : ℕ) (s now : Session KEnd) (e : GivenToSession) (line : List ℕ) (fits : Bool) (fault : LoopFault)
     → Gave r m s e now line fits → Breaks a b line fault → Breaks a b (text (with_mind now.mind (fed kept_ends r m s e)).1) fault
 unfolding fed
 tell_breaks a b r m s now e line fits fault gave broke =
-    let o = joined kept_ends r m (record s { end = end_after kept_ends r m s.end e; broken = s.broken || breaks e }) (octets_in (outcomes_of kept_ends r m s.end e)) in
+    let o = joined kept_ends r m (record s { end = end_after kept_ends r m s.end e; broken = s.broken || breaks e }) (octets_in (outcomes_of_given_event kept_ends r m s.end e)) in
     breaks_more a b (entry_text (entry_of kept_ends r m s e)) (text o.1) fault
     (breaks_as a b line (entry_text (entry_of kept_ends r m s e)) fault gave.text broke)
 
-pub tell_fits : (a b : SinkState) (r : Rules) (m : ℕ) (s now : Session KEnd) (e : Given) (line : List ℕ) (fits : Bool)
+pub tell_fits : (a b : SinkState) (r : Rules) (m : ℕ) (s now : Session KEnd) (e : GivenToSession) (line : List ℕ) (fits : Bool)
     → Gave r m s e now line fits → fits ≡ true → Grew a.held b.held line × (a.faults ≤ b.faults) → Printed a b now (with_mind now.mind (fed kept_ends r m s e))
 tell_fits a b r m s now e line fits gave all grew =
-    let few : too_many s.output (octets_of r m s e) ≡ false = not_true (too_many s.output (octets_of r m s e)) (sym all ∙ gave.fits) in
-    subst (λ (z : Session KEnd × List Entry). Printed a b now (with_mind now.mind z)) (sym (fits_is r m s e few))
+    let few : too_many s.output (octets_of_given_event r m s e) ≡ false = not_true (too_many s.output (octets_of_given_event r m s e)) (sym all ∙ gave.fits) in
+    subst (λ (z : Session KEnd × List JournalEntry). Printed a b now (with_mind now.mind z)) (sym (fits_is r m s e few))
     (record {
       state =
           gave.state
-          ∙ ap (λ (z : Bool). let t : Session KEnd = record s { end = end_after kept_ends r m s.end e; mind = now.mind; output = (if z then s.output else s.output ++ octets_of r m s e); broken = s.broken || breaks e } in t) few;
+          ∙ ap (λ (z : Bool). let t : Session KEnd = record s { end = end_after kept_ends r m s.end e; mind = now.mind; output = (if z then s.output else s.output ++ octets_of_given_event r m s e); broken = s.broken || breaks e } in t) few;
       printed = subst (λ z. Grew a.held b.held z) (gave.text ∙ one_text (entry_of kept_ends r m s e)) grew.0;
       later = grew.1;
       in_grammar = (gave.in_grammar, tt);
     })
 
-prints_behind : (a b c : SinkState) (x : Entry) (new : Session KEnd) (o : Session KEnd × List Entry) (res : Result (Unit {0}) LoopFault)
+prints_behind : (a b c : SinkState) (x : JournalEntry) (new : Session KEnd) (o : Session KEnd × List JournalEntry) (res : Result (Unit {0}) LoopFault)
     → Grew a.held b.held (entry_text x) → a.faults ≤ b.faults → IsInGrammar x → Prints b c new o res → Prints a c new (o.0, x ∷ o.1) res
 prints_behind a b c x new o (Ok done) p q i r = record {
   state = r.state;
@@ -204,26 +204,26 @@ prints_behind a b c x new o (Ok done) p q i r = record {
 }
 prints_behind a b c x new o (Err fault) p q i r = breaks_behind a b c (entry_text x) (text o.1) fault p q r
 
-pub tell_stalls : (a b c : SinkState) (r : Rules) (m : ℕ) (s now new : Session KEnd) (e : Given) (line : List ℕ) (fits : Bool) (res : Result (Unit {0}) LoopFault)
+pub tell_stalls : (a b c : SinkState) (r : Rules) (m : ℕ) (s now new : Session KEnd) (e : GivenToSession) (line : List ℕ) (fits : Bool) (res : Result (Unit {0}) LoopFault)
     → Gave r m s e now line fits → fits ≡ false → Grew a.held b.held line × (a.faults ≤ b.faults) → Prints b c new (stalled kept_ends r m now) res
     → Prints a c new (with_mind now.mind (fed kept_ends r m s e)) res
 tell_stalls a b c r m s now new e line fits res gave not_all grew rest =
-    let many : too_many s.output (octets_of r m s e) ≡ true = not_false (too_many s.output (octets_of r m s e)) (sym not_all ∙ gave.fits) in
+    let many : too_many s.output (octets_of_given_event r m s e) ≡ true = not_false (too_many s.output (octets_of_given_event r m s e)) (sym not_all ∙ gave.fits) in
     let s2 : Session KEnd = record s { end = end_after kept_ends r m s.end e; mind = now.mind; broken = s.broken || breaks e } in
     let there : now ≡ s2 =
     gave.state
-    ∙ ap (λ (z : Bool). let t : Session KEnd = record s { end = end_after kept_ends r m s.end e; mind = now.mind; output = (if z then s.output else s.output ++ octets_of r m s e); broken = s.broken || breaks e } in t) many in
-    subst (λ (z : Session KEnd × List Entry). Prints a c new (with_mind now.mind z) res) (sym (stalls_is r m s e many))
+    ∙ ap (λ (z : Bool). let t : Session KEnd = record s { end = end_after kept_ends r m s.end e; mind = now.mind; output = (if z then s.output else s.output ++ octets_of_given_event r m s e); broken = s.broken || breaks e } in t) many in
+    subst (λ (z : Session KEnd × List JournalEntry). Prints a c new (with_mind now.mind z) res) (sym (stalls_is r m s e many))
     (prints_behind a b c (entry_of kept_ends r m s e) new (stalled kept_ends r m s2) res
     (subst (λ z. Grew a.held b.held z) gave.text grew.0) grew.1 gave.in_grammar
     (subst (λ (z : Session KEnd). Prints b c new (stalled kept_ends r m z) res) there rest))
 
 pub stall_prints : (a b : SinkState) (r : Rules) (m : ℕ) (s s0 : Session KEnd) (end' : KEnd) (line before : List ℕ) (res : Result (Unit {0}) LoopFault)
-    → s ≡ s0 → end' ≡ happens m (event_of r Stalls) s0.end → before ≡ []
-    → line ≡ (before ++ line_text (entry_words m s0.number (written kept_ends s0.end Stalls))) ++ outcomes_text s0.number (tells m (event_of r Stalls) s0.end)
-    → IsInGrammar (happened m s0.number (written kept_ends s0.end Stalls) (tells m (event_of r Stalls) s0.end))
+    → s ≡ s0 → end' ≡ kept_end_behind_event m (event_of r Stalls) s0.end → before ≡ []
+    → line ≡ (before ++ line_text (entry_words m s0.number (journal_event_of_given kept_ends s0.end Stalls))) ++ outcomes_text s0.number (tells m (event_of r Stalls) s0.end)
+    → IsInGrammar (journal_entry_of_event m s0.number (journal_event_of_given kept_ends s0.end Stalls) (tells m (event_of r Stalls) s0.end))
     → Puts a b line res → Prints a b (record s0 { end = end'; broken = true }) (stalled kept_ends r m s) res
-unfolding end_after outcomes_of
+unfolding end_after outcomes_of_given_event
 stall_prints a b r m s s0 end' line before res same e p q grammar puts =
     subst (λ (z : Session KEnd). Prints a b (record s0 { end = end'; broken = true }) (stalled kept_ends r m z) res) (sym same)
     (puts_prints res (lines_are (entry_of kept_ends r m s0 Stalls) line before p q ∙ one_text (entry_of kept_ends r m s0 Stalls)) puts)
@@ -239,37 +239,37 @@ stall_prints a b r m s s0 end' line before res same e p q grammar puts =
     puts_prints (Err fault) is p = breaks_as a b line (text (entry_of kept_ends r m s0 Stalls ∷ [])) fault is p
 
 -- an event of which no user hears
-pub given_prints : (a b : SinkState) (r : Rules) (m : ℕ) (s : Session KEnd) (mind : Option Mind) (new : Session KEnd) (e : Given) (res : Result (Unit {0}) LoopFault)
+pub given_prints : (a b : SinkState) (r : Rules) (m : ℕ) (s : Session KEnd) (mind : Option Mind) (new : Session KEnd) (e : GivenToSession) (res : Result (Unit {0}) LoopFault)
     → mind ≡ s.mind → Prints a b new (with_mind mind (fed kept_ends r m s e)) res → Prints a b new (fed kept_ends r m s e) res
 given_prints a b r m s mind new e res same p =
-    subst (λ (z : Session KEnd × List Entry). Prints a b new z res) (ap (λ (z : Option Mind). with_mind z (fed kept_ends r m s e)) same ∙ same_mind r m s e) p
+    subst (λ (z : Session KEnd × List JournalEntry). Prints a b new z res) (ap (λ (z : Option Mind). with_mind z (fed kept_ends r m s e)) same ∙ same_mind r m s e) p
 
 -- a text that the user sends, who hears where it is refused
 pub sent_prints : (a b : SinkState) (r : Rules) (m : ℕ) (s s0 : Session KEnd) (mind : Option Mind) (new : Session KEnd) (said : List ℕ) (res : Result (Unit {0}) LoopFault)
     → s ≡ s0 → mind ≡ notes (refusal_heard said (refused_in (tells m (Send said) s0.end))) s0.mind
     → Prints a b new (with_mind mind (fed kept_ends r m s (Sends said))) res → Prints a b new (replied kept_ends r m s (Sends said)) res
-unfolding outcomes_of
+unfolding outcomes_of_given_event
 sent_prints a b r m s s0 mind new said res same heard p =
     let is : mind ≡ notes (refusal_heard said (refused_in (tells m (Send said) s.end))) s.mind =
     subst (λ (z : Session KEnd). mind ≡ notes (refusal_heard said (refused_in (tells m (Send said) z.end))) z.mind) (sym same) heard in
     subst (λ (z : Option Mind). Prints a b new (with_mind z (fed kept_ends r m s (Sends said))) res) is p
 
-pub heard_as : (r : Rules) (m : ℕ) (s s0 : Session KEnd) (g : Given) (mind : Option Mind) (spoken : Spoken) → s ≡ s0
-    → HeardSo s0.mind (heard_in (tells m (event_of r g) s0.end)) mind spoken → HeardSo s.mind (heard_in (outcomes_of kept_ends r m s.end g)) mind spoken
-unfolding outcomes_of
-heard_as r m s s0 g mind spoken same heard = subst (λ (z : Session KEnd). HeardSo z.mind (heard_in (outcomes_of kept_ends r m z.end g)) mind spoken) (sym same) heard
+pub heard_as : (r : Rules) (m : ℕ) (s s0 : Session KEnd) (g : GivenToSession) (mind : Option Mind) (spoken : SpokenByUser) → s ≡ s0
+    → HeardSo s0.mind (heard_by_user (tells m (event_of r g) s0.end)) mind spoken → HeardSo s.mind (heard_by_user (outcomes_of_given_event kept_ends r m s.end g)) mind spoken
+unfolding outcomes_of_given_event
+heard_as r m s s0 g mind spoken same heard = subst (λ (z : Session KEnd). HeardSo z.mind (heard_by_user (outcomes_of_given_event kept_ends r m z.end g)) mind spoken) (sym same) heard
 
-pub told_as : (r : Rules) (m : ℕ) (s s0 : Session KEnd) (g : Given) (peer : Option ℕ) → s ≡ s0
-    → heard_in (tells m (event_of r g) s0.end) ≡ peer_heard peer → heard_in (outcomes_of kept_ends r m s.end g) ≡ peer_heard peer
-unfolding outcomes_of
-told_as r m s s0 g peer same told = subst (λ (z : Session KEnd). heard_in (outcomes_of kept_ends r m z.end g) ≡ peer_heard peer) (sym same) told
+pub told_as : (r : Rules) (m : ℕ) (s s0 : Session KEnd) (g : GivenToSession) (peer : Option ℕ) → s ≡ s0
+    → heard_by_user (tells m (event_of r g) s0.end) ≡ peer_heard peer → heard_by_user (outcomes_of_given_event kept_ends r m s.end g) ≡ peer_heard peer
+unfolding outcomes_of_given_event
+told_as r m s s0 g peer same told = subst (λ (z : Session KEnd). heard_by_user (outcomes_of_given_event kept_ends r m z.end g) ≡ peer_heard peer) (sym same) told
 
 -- the same lines, by another name
-pub gave_by : (r : Rules) (m : ℕ) (s : Session KEnd) (g : Given) (now : Session KEnd) (xs ys : List ℕ) (fits : Bool) → ys ≡ xs → Gave r m s g now xs fits → Gave r m s g now ys fits
+pub gave_by : (r : Rules) (m : ℕ) (s : Session KEnd) (g : GivenToSession) (now : Session KEnd) (xs ys : List ℕ) (fits : Bool) → ys ≡ xs → Gave r m s g now xs fits → Gave r m s g now ys fits
 gave_by r m s g now xs ys fits p gave = subst (λ z. Gave r m s g now z fits) (sym p) gave
 
 -- the same, though the user has heard of it
-pub gave_mind : (r : Rules) (m : ℕ) (s now now0 : Session KEnd) (g : Given) (mind : Option Mind) (lines : List ℕ) (fits : Bool) → now ≡ now0
+pub gave_mind : (r : Rules) (m : ℕ) (s now now0 : Session KEnd) (g : GivenToSession) (mind : Option Mind) (lines : List ℕ) (fits : Bool) → now ≡ now0
     → Gave r m s g now lines fits → Gave r m s g (record now0 { mind = mind }) lines fits
 gave_mind r m s now now0 g mind lines fits same gave = record {
   text = gave.text;
@@ -278,7 +278,7 @@ gave_mind r m s now now0 g mind lines fits same gave = record {
   in_grammar = gave.in_grammar;
 }
 
-pub heard_so : (mind0 mind1 : Option Mind) (h0 h : Option Heard) (now : Option Mind) (spoken : Spoken) → mind0 ≡ mind1 → h ≡ h0
+pub heard_so : (mind0 mind1 : Option Mind) (h0 h : Option Heard) (now : Option Mind) (spoken : SpokenByUser) → mind0 ≡ mind1 → h ≡ h0
     → HeardSo mind0 h0 now spoken → HeardSo mind1 h now spoken
 heard_so mind0 mind1 h0 h now spoken p q heard = subst (λ z. HeardSo mind1 z now spoken) (sym q) (subst (λ z. HeardSo z h0 now spoken) p heard)
 

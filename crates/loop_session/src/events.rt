@@ -3,9 +3,9 @@
 ghost use Rattle.std.specs.Prelude.{◌≡◌, ◌≤◌, ◌<◌, ◌^◌, ◌-◌, List, length, drop, IfOk};
 ghost use Rattle.safety_automaton.specs.Keys as keys;
 ghost use Rattle.er_end.specs.KeptEnds.{KEnd, used_of};
-ghost use Rattle.loop_model.specs.Sessions.{Session as LoopSession, Given, Begins, Hears, Ticks, Ends, Faults, heard_in, outcomes_of, handled, pours};
+ghost use Rattle.loop_model.specs.Sessions.{Session as LoopSession, GivenToSession, Begins, Hears, Ticks, Ends, Faults, heard_by_user, outcomes_of_given_event, handled, pours};
 ghost use Rattle.loop_session.specs.Giving.{Gave, peer_heard};
-ghost use Rattle.loop_session.specs.Parts.{rules, Chooses};
+ghost use Rattle.loop_session.specs.Parts.{rules_of_session, Chooses};
 ghost use Rattle.loop_session.specs.Keeping.{kept_ends};
 
 use crate::gives::{Called, Came, give_ended, give_fault, give_octets, give_start, give_tick};
@@ -37,10 +37,10 @@ impl<U: SafeUser> Session<U> {
         scratch: &mut Scratch,
         sink: &mut S,
     ) -> Result<(), LoopFault>
-        ensures chooses { (entries : List keys.Entry) (s : LoopSession KEnd) (g : Given)
-            → Gave (rules entries when.now.setup) when.now.moment s g self.old scratch.old.line.items came.fits
-            → self.old.mind ≡ s.mind → heard_in (outcomes_of kept_ends (rules entries when.now.setup) when.now.moment s.end g) ≡ peer_heard came.connected
-            → Chooses (S.state sink.old) (S.state sink.new) self.new (handled kept_ends (rules entries when.now.setup) when.now.moment s g) result }
+        ensures chooses { (entries : List keys.KmacEntry) (s : LoopSession KEnd) (g : GivenToSession)
+            → Gave (rules_of_session entries when.now.setup) when.now.moment s g self.old scratch.old.line.items came.fits
+            → self.old.mind ≡ s.mind → heard_by_user (outcomes_of_given_event kept_ends (rules_of_session entries when.now.setup) when.now.moment s.end g) ≡ peer_heard came.connected
+            → Chooses (S.state sink.old) (S.state sink.new) self.new (handled kept_ends (rules_of_session entries when.now.setup) when.now.moment s g) result }
         ensures number { self.new.number ≡ self.old.number }
         ensures later { (S.state sink.old).faults ≤ (S.state sink.new).faults }
     {
@@ -58,8 +58,8 @@ impl<U: SafeUser> Session<U> {
         scratch: &mut Scratch,
         sink: &mut S,
     ) -> Result<(), LoopFault>
-        ensures chooses { (entries : List keys.Entry) → Chooses (S.state sink.old) (S.state sink.new) self.new
-            (handled kept_ends (rules entries when.now.setup) when.now.moment self.old Ticks) result }
+        ensures chooses { (entries : List keys.KmacEntry) → Chooses (S.state sink.old) (S.state sink.new) self.new
+            (handled kept_ends (rules_of_session entries when.now.setup) when.now.moment self.old Ticks) result }
         ensures number { self.new.number ≡ self.old.number }
         ensures later { (S.state sink.old).faults ≤ (S.state sink.new).faults }
     {
@@ -82,8 +82,8 @@ impl<U: SafeUser> Session<U> {
         scratch: &mut Scratch,
         sink: &mut S,
     ) -> Result<(), LoopFault>
-        ensures chooses { (entries : List keys.Entry) → Chooses (S.state sink.old) (S.state sink.new) self.new
-            (handled kept_ends (rules entries when.now.setup) when.now.moment self.old (Begins call.now.engine call.now.rbc call.now.rb)) result }
+        ensures chooses { (entries : List keys.KmacEntry) → Chooses (S.state sink.old) (S.state sink.new) self.new
+            (handled kept_ends (rules_of_session entries when.now.setup) when.now.moment self.old (Begins call.now.engine call.now.rbc call.now.rb)) result }
         ensures number { self.new.number ≡ self.old.number }
         ensures later { (S.state sink.old).faults ≤ (S.state sink.new).faults }
     {
@@ -106,8 +106,8 @@ impl<U: SafeUser> Session<U> {
         scratch: &mut Scratch,
         sink: &mut S,
     ) -> Result<(), LoopFault>
-        ensures chooses { (entries : List keys.Entry) → Chooses (S.state sink.old) (S.state sink.new) self.new
-            (handled kept_ends (rules entries when.now.setup) when.now.moment self.old Ends) result }
+        ensures chooses { (entries : List keys.KmacEntry) → Chooses (S.state sink.old) (S.state sink.new) self.new
+            (handled kept_ends (rules_of_session entries when.now.setup) when.now.moment self.old Ends) result }
         ensures number { self.new.number ≡ self.old.number }
         ensures later { (S.state sink.old).faults ≤ (S.state sink.new).faults }
     {
@@ -130,8 +130,8 @@ impl<U: SafeUser> Session<U> {
         scratch: &mut Scratch,
         sink: &mut S,
     ) -> Result<(), LoopFault>
-        ensures chooses { (entries : List keys.Entry) → Chooses (S.state sink.old) (S.state sink.new) self.new
-            (handled kept_ends (rules entries when.now.setup) when.now.moment self.old Faults) result }
+        ensures chooses { (entries : List keys.KmacEntry) → Chooses (S.state sink.old) (S.state sink.new) self.new
+            (handled kept_ends (rules_of_session entries when.now.setup) when.now.moment self.old Faults) result }
         ensures number { self.new.number ≡ self.old.number }
         ensures later { (S.state sink.old).faults ≤ (S.state sink.new).faults }
     {
@@ -158,7 +158,7 @@ impl<U: SafeUser> Session<U> {
     ) -> Result<usize, LoopFault>
         requires { length octets.now ≤ 4096 }
         ensures chooses { Chooses (S.state sink.old) (S.state sink.new) self.new
-            (handled kept_ends (rules (K.entries keys.now) when.now.setup) when.now.moment self.old (Hears octets.now)) result }
+            (handled kept_ends (rules_of_session (K.entries keys.now) when.now.setup) when.now.moment self.old (Hears octets.now)) result }
         ensures used { IfOk result (λ used. used ≡ used_of self.old.end octets.now) }
         ensures within { IfOk result (λ used. used ≤ length octets.now) }
         ensures moves { IfOk result (λ used. 0 < length octets.now → 0 < used) }
@@ -190,7 +190,7 @@ impl<U: SafeUser> Session<U> {
     ) -> Result<(), LoopFault>
         requires { length octets.now ≤ 4096 }
         ensures chooses { Chooses (S.state sink.old) (S.state sink.new) self.new
-            (pours kept_ends (rules (K.entries keys.now) when.now.setup) when.now.moment self.old octets.now) result }
+            (pours kept_ends (rules_of_session (K.entries keys.now) when.now.setup) when.now.moment self.old octets.now) result }
         ensures number { self.new.number ≡ self.old.number }
         ensures later { (S.state sink.old).faults ≤ (S.state sink.new).faults }
     {

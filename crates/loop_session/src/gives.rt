@@ -7,13 +7,13 @@ ghost use Rattle.er_trace.specs.Texts.{entry_words};
 ghost use Rattle.er_trace.specs.declared.event.Event.TheVariants as event;
 ghost use Rattle.er_end_model.specs.Ends.{Start, Come, Send, Take, Leave, Tick, Ended, Fault, Stalled};
 ghost use Rattle.er_end_model.specs.Steps.{outcomes_of};
-ghost use Rattle.er_end.specs.KeptEnds.{happens, tells, used_of};
+ghost use Rattle.er_end.specs.KeptEnds.{kept_end_behind_event, tells, used_of};
 ghost use Rattle.er_end.specs.KeptLayers.{KCore, kept};
 ghost use Rattle.er_end.specs.Shown.{Shows};
 ghost use Rattle.trace_model.specs.Printed.{outcomes_text};
-ghost use Rattle.loop_model.specs.Sessions.{octets_in, heard_in, refused_in, refusal_heard, notes};
+ghost use Rattle.loop_model.specs.Sessions.{octets_in, heard_by_user, refused_in, refusal_heard, notes};
 ghost use Rattle.loop_model.specs.Grammar.{IsInGrammar, HaveOctets};
-ghost use Rattle.loop_session.specs.Giving.{happened, Joins, JoinsCame, too_many, joined_to, peer_heard, HeardSo};
+ghost use Rattle.loop_session.specs.Giving.{journal_entry_of_event, Joins, JoinsCame, too_many, joined_to, peer_heard, HeardSo};
 
 use crate::hearing::{hear_message, hear_refused};
 use crate::join::join_waiting;
@@ -70,7 +70,7 @@ fn conclude(
     ensures octets { (x : KCore) → Shows deeds.now x → HaveOctets (outcomes_of kept x) }
     ensures text { (x : KCore) → Shows deeds.now x → OnOk result (line.new.items ≡ line.old.items ++ outcomes_text conn (outcomes_of kept x)) }
     ensures joins { (x : KCore) → Shows deeds.now x → JoinsCame result output.old.items output.new.items (octets_in (outcomes_of kept x)) }
-    ensures heard { (x : KCore) → Shows deeds.now x → IfOk result (λ came. heard_in (outcomes_of kept x) ≡ peer_heard came.connected) }
+    ensures heard { (x : KCore) → Shows deeds.now x → IfOk result (λ came. heard_by_user (outcomes_of kept x) ≡ peer_heard came.connected) }
 {
     see_deeds(deeds);
     tell(conn, deeds, line)?;
@@ -90,12 +90,12 @@ pub fn give_tick(
     line: &mut Vec<u8>,
     output: &mut BytesMut,
 ) -> Result<Came, NoMemory>
-    ensures end { OnOk result (end.new ≡ happens moment Tick end.old) }
-    ensures grammar { OnOk result (IsInGrammar (happened moment conn event.Tick (tells moment Tick end.old))) }
+    ensures end { OnOk result (end.new ≡ kept_end_behind_event moment Tick end.old) }
+    ensures grammar { OnOk result (IsInGrammar (journal_entry_of_event moment conn event.Tick (tells moment Tick end.old))) }
     ensures text { OnOk result (line.new.items
         ≡ (line.old.items ++ line_text (entry_words moment conn event.Tick)) ++ outcomes_text conn (tells moment Tick end.old)) }
     ensures joins { JoinsCame result output.old.items output.new.items (octets_in (tells moment Tick end.old)) }
-    ensures heard { IfOk result (λ came. heard_in (tells moment Tick end.old) ≡ peer_heard came.connected) }
+    ensures heard { IfOk result (λ came. heard_by_user (tells moment Tick end.old) ≡ peer_heard came.connected) }
 {
     put(moment, conn, Event::Tick, line)?;
     let deeds = end.tick(moment.get());
@@ -112,8 +112,8 @@ pub fn give_release(
     line: &mut Vec<u8>,
     output: &mut BytesMut,
 ) -> Result<bool, NoMemory>
-    ensures end { OnOk result (end.new ≡ happens moment (Leave sub) end.old) }
-    ensures grammar { OnOk result (IsInGrammar (happened moment conn (event.Release sub) (tells moment (Leave sub) end.old))) }
+    ensures end { OnOk result (end.new ≡ kept_end_behind_event moment (Leave sub) end.old) }
+    ensures grammar { OnOk result (IsInGrammar (journal_entry_of_event moment conn (event.Release sub) (tells moment (Leave sub) end.old))) }
     ensures text { OnOk result (line.new.items
         ≡ (line.old.items ++ line_text (entry_words moment conn (event.Release sub))) ++ outcomes_text conn (tells moment (Leave sub) end.old)) }
     ensures joins { Joins result output.old.items output.new.items (octets_in (tells moment (Leave sub) end.old)) }
@@ -138,8 +138,8 @@ pub fn give_send<U: SafeUser>(
     output: &mut BytesMut,
 ) -> Result<bool, NoMemory>
     requires { length text.now ≤ 4096 }
-    ensures end { OnOk result (end.new ≡ happens moment (Send text.now) end.old) }
-    ensures grammar { OnOk result (IsInGrammar (happened moment conn (event.Send text.now) (tells moment (Send text.now) end.old))) }
+    ensures end { OnOk result (end.new ≡ kept_end_behind_event moment (Send text.now) end.old) }
+    ensures grammar { OnOk result (IsInGrammar (journal_entry_of_event moment conn (event.Send text.now) (tells moment (Send text.now) end.old))) }
     ensures text { OnOk result (line.new.items
         ≡ (line.old.items ++ line_text (entry_words moment conn (event.Send text.now))) ++ outcomes_text conn (tells moment (Send text.now) end.old)) }
     ensures joins { Joins result output.old.items output.new.items (octets_in (tells moment (Send text.now) end.old)) }
@@ -172,12 +172,12 @@ pub fn give_take<U: SafeUser>(
     line: &mut Vec<u8>,
     output: &mut BytesMut,
 ) -> Result<bool, NoMemory>
-    ensures end { OnOk result (end.new ≡ happens moment Take end.old) }
-    ensures grammar { OnOk result (IsInGrammar (happened moment conn event.Take (tells moment Take end.old))) }
+    ensures end { OnOk result (end.new ≡ kept_end_behind_event moment Take end.old) }
+    ensures grammar { OnOk result (IsInGrammar (journal_entry_of_event moment conn event.Take (tells moment Take end.old))) }
     ensures text { OnOk result (line.new.items
         ≡ (line.old.items ++ line_text (entry_words moment conn event.Take)) ++ outcomes_text conn (tells moment Take end.old)) }
     ensures joins { Joins result output.old.items output.new.items (octets_in (tells moment Take end.old)) }
-    ensures heard { OnOk result (HeardSo (option_map U.mind user.old) (heard_in (tells moment Take end.old)) (option_map U.mind user.new) replies.new) }
+    ensures heard { OnOk result (HeardSo (option_map U.mind user.old) (heard_by_user (tells moment Take end.old)) (option_map U.mind user.new) replies.new) }
 {
     put(moment, conn, Event::Take, line)?;
     match end.take(moment.get()) {
@@ -205,8 +205,8 @@ pub fn give_stalled(
     moment: Moment,
     line: &mut Vec<u8>,
 ) -> Result<(), NoMemory>
-    ensures end { OnOk result (end.new ≡ happens moment Stalled end.old) }
-    ensures grammar { OnOk result (IsInGrammar (happened moment conn event.Stalled (tells moment Stalled end.old))) }
+    ensures end { OnOk result (end.new ≡ kept_end_behind_event moment Stalled end.old) }
+    ensures grammar { OnOk result (IsInGrammar (journal_entry_of_event moment conn event.Stalled (tells moment Stalled end.old))) }
     ensures text { OnOk result (line.new.items
         ≡ (line.old.items ++ line_text (entry_words moment conn event.Stalled)) ++ outcomes_text conn (tells moment Stalled end.old)) }
 {
@@ -225,12 +225,12 @@ pub fn give_ended(
     line: &mut Vec<u8>,
     output: &mut BytesMut,
 ) -> Result<Came, NoMemory>
-    ensures end { OnOk result (end.new ≡ happens moment Ended end.old) }
-    ensures grammar { OnOk result (IsInGrammar (happened moment conn event.Ended (tells moment Ended end.old))) }
+    ensures end { OnOk result (end.new ≡ kept_end_behind_event moment Ended end.old) }
+    ensures grammar { OnOk result (IsInGrammar (journal_entry_of_event moment conn event.Ended (tells moment Ended end.old))) }
     ensures text { OnOk result (line.new.items
         ≡ (line.old.items ++ line_text (entry_words moment conn event.Ended)) ++ outcomes_text conn (tells moment Ended end.old)) }
     ensures joins { JoinsCame result output.old.items output.new.items (octets_in (tells moment Ended end.old)) }
-    ensures heard { IfOk result (λ came. heard_in (tells moment Ended end.old) ≡ peer_heard came.connected) }
+    ensures heard { IfOk result (λ came. heard_by_user (tells moment Ended end.old) ≡ peer_heard came.connected) }
 {
     put(moment, conn, Event::Ended, line)?;
     let deeds = end.ended();
@@ -246,12 +246,12 @@ pub fn give_fault(
     line: &mut Vec<u8>,
     output: &mut BytesMut,
 ) -> Result<Came, NoMemory>
-    ensures end { OnOk result (end.new ≡ happens moment Fault end.old) }
-    ensures grammar { OnOk result (IsInGrammar (happened moment conn event.Fault (tells moment Fault end.old))) }
+    ensures end { OnOk result (end.new ≡ kept_end_behind_event moment Fault end.old) }
+    ensures grammar { OnOk result (IsInGrammar (journal_entry_of_event moment conn event.Fault (tells moment Fault end.old))) }
     ensures text { OnOk result (line.new.items
         ≡ (line.old.items ++ line_text (entry_words moment conn event.Fault)) ++ outcomes_text conn (tells moment Fault end.old)) }
     ensures joins { JoinsCame result output.old.items output.new.items (octets_in (tells moment Fault end.old)) }
-    ensures heard { IfOk result (λ came. heard_in (tells moment Fault end.old) ≡ peer_heard came.connected) }
+    ensures heard { IfOk result (λ came. heard_by_user (tells moment Fault end.old) ≡ peer_heard came.connected) }
 {
     put(moment, conn, Event::Fault, line)?;
     let deeds = end.fault();
@@ -268,12 +268,12 @@ pub fn give_start(
     line: &mut Vec<u8>,
     output: &mut BytesMut,
 ) -> Result<Came, NoMemory>
-    ensures end { OnOk result (end.new ≡ happens moment Start end.old) }
-    ensures grammar { OnOk result (IsInGrammar (happened moment conn (event.Call call.now.engine call.now.rbc call.now.rb) (tells moment Start end.old))) }
+    ensures end { OnOk result (end.new ≡ kept_end_behind_event moment Start end.old) }
+    ensures grammar { OnOk result (IsInGrammar (journal_entry_of_event moment conn (event.Call call.now.engine call.now.rbc call.now.rb) (tells moment Start end.old))) }
     ensures text { OnOk result (line.new.items
         ≡ (line.old.items ++ line_text (entry_words moment conn (event.Call call.now.engine call.now.rbc call.now.rb))) ++ outcomes_text conn (tells moment Start end.old)) }
     ensures joins { JoinsCame result output.old.items output.new.items (octets_in (tells moment Start end.old)) }
-    ensures heard { IfOk result (λ came. heard_in (tells moment Start end.old) ≡ peer_heard came.connected) }
+    ensures heard { IfOk result (λ came. heard_by_user (tells moment Start end.old) ≡ peer_heard came.connected) }
 {
     see_word(call.rb);
     let event = Event::Call {
@@ -309,8 +309,8 @@ pub fn give_octets<K: KeyFinder>(
     output: &mut BytesMut,
 ) -> Result<(usize, Came), NoMemory>
     requires { length piece.now ≤ 4096 }
-    ensures end { OnOk result (end.new ≡ happens moment (Come (key_at (K.entries keys.now)) piece.now) end.old) }
-    ensures grammar { OnOk result (IsInGrammar (happened moment conn (event.Octets (take (used_of end.old piece.now) piece.now))
+    ensures end { OnOk result (end.new ≡ kept_end_behind_event moment (Come (key_at (K.entries keys.now)) piece.now) end.old) }
+    ensures grammar { OnOk result (IsInGrammar (journal_entry_of_event moment conn (event.Octets (take (used_of end.old piece.now) piece.now))
         (tells moment (Come (key_at (K.entries keys.now)) piece.now) end.old))) }
     ensures text { OnOk result (line.new.items
         ≡ (line.old.items ++ line_text (entry_words moment conn (event.Octets (take (used_of end.old piece.now) piece.now))))
@@ -318,7 +318,7 @@ pub fn give_octets<K: KeyFinder>(
     ensures joins { IfOk result (λ came. (came.1.fits ≡ not (too_many output.old.items (octets_in (tells moment (Come (key_at (K.entries keys.now)) piece.now) end.old))))
         × (output.new.items ≡ joined_to output.old.items (octets_in (tells moment (Come (key_at (K.entries keys.now)) piece.now) end.old)))) }
     ensures used { IfOk result (λ came. came.0 ≡ used_of end.old piece.now) }
-    ensures heard { IfOk result (λ came. heard_in (tells moment (Come (key_at (K.entries keys.now)) piece.now) end.old) ≡ peer_heard came.1.connected) }
+    ensures heard { IfOk result (λ came. heard_by_user (tells moment (Come (key_at (K.entries keys.now)) piece.now) end.old) ≡ peer_heard came.1.connected) }
 {
     let (used, deeds) = end.octets(keys, moment.get(), piece);
     print_octets(moment.get(), conn, front(piece, used), line)?;

@@ -1,9 +1,9 @@
 //! What follows an event that was given to the end of a session: its lines are written, and what the user said follows as events.
 
 ghost use Rattle.std.specs.Prelude.{◌≡◌, ◌≤◌, length};
-ghost use Rattle.loop_model.specs.Outs.{runs};
-ghost use Rattle.loop_model.specs.Sessions.{Rules, Session as LoopSession, Given, Sends, Leaves, Takes, heard_in, outcomes_of, stalled, fed, replied, dealt, takes_all};
-ghost use Rattle.loop_session.specs.Giving.{Gave, HeardSo, events_of};
+ghost use Rattle.loop_model.specs.Outs.{part_for_each_answer};
+ghost use Rattle.loop_model.specs.Sessions.{Rules, Session as LoopSession, GivenToSession, Sends, Leaves, Takes, heard_by_user, outcomes_of_given_event, stalled, fed, replied, dealt, takes_all};
+ghost use Rattle.loop_session.specs.Giving.{Gave, HeardSo, events_said_by_user};
 ghost use Rattle.loop_session.specs.Parts.{Prints, Chooses, with_mind};
 ghost use Rattle.er_end.specs.KeptEnds.{KEnd};
 ghost use Rattle.loop_session.specs.Keeping.{kept_ends};
@@ -43,7 +43,7 @@ impl<U: SafeUser> Session<U> {
         line: &mut Vec<u8>,
         sink: &mut S,
     ) -> Result<(), LoopFault>
-        ensures prints { (r : Rules) (s : LoopSession KEnd) (g : Given) → Gave r moment s g self.old line.old.items fits
+        ensures prints { (r : Rules) (s : LoopSession KEnd) (g : GivenToSession) → Gave r moment s g self.old line.old.items fits
             → Prints (S.state sink.old) (S.state sink.new) self.new (with_mind self.old.mind (fed kept_ends r moment s g)) result }
         ensures number { self.new.number ≡ self.old.number }
         ensures later { (S.state sink.old).faults ≤ (S.state sink.new).faults }
@@ -113,7 +113,7 @@ impl<U: SafeUser> Session<U> {
         sink: &mut S,
     ) -> Result<(), LoopFault>
         ensures prints { (r : Rules) → Prints (S.state sink.old) (S.state sink.new) self.new
-            (runs (replied kept_ends r moment) self.old (events_of scratch.old.replies)) result }
+            (part_for_each_answer (replied kept_ends r moment) self.old (events_said_by_user scratch.old.replies)) result }
         ensures number { self.new.number ≡ self.old.number }
         ensures later { (S.state sink.old).faults ≤ (S.state sink.new).faults }
     {
@@ -134,8 +134,8 @@ impl<U: SafeUser> Session<U> {
         scratch: &mut Scratch,
         sink: &mut S,
     ) -> Result<(), LoopFault>
-        ensures chooses { (r : Rules) (s : LoopSession KEnd) (g : Given) → Gave r moment s g self.old scratch.old.line.items fits
-            → HeardSo s.mind (heard_in (outcomes_of kept_ends r moment s.end g)) self.old.mind scratch.old.replies
+        ensures chooses { (r : Rules) (s : LoopSession KEnd) (g : GivenToSession) → Gave r moment s g self.old scratch.old.line.items fits
+            → HeardSo s.mind (heard_by_user (outcomes_of_given_event kept_ends r moment s.end g)) self.old.mind scratch.old.replies
             → Chooses (S.state sink.old) (S.state sink.new) self.new (dealt kept_ends r moment s g) result }
         ensures number { self.new.number ≡ self.old.number }
         ensures later { (S.state sink.old).faults ≤ (S.state sink.new).faults }

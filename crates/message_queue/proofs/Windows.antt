@@ -3,9 +3,9 @@ use Rattle.std.proofs.Common.{◌≡◌, ◌≢◌, ℕ, ◌+◌, ◌-◌, ◌<�
 use Rattle.std.proofs.lemmas.List.{same_lists, get_or_append_left, get_or-append_right, get_or-set_other}
 use Rattle.std.proofs.lemmas.Bool.{cases_lt}
 use Rattle.std.proofs.lemmas.Grind.{get_or-set_at}
-use Rattle.message_queue.specs.Kept.{place, window, IsReached}
+use Rattle.message_queue.specs.Kept.{slot_behind_head, window, IsReached}
 
-pub place_is : (n k i : ℕ) → ((i < n - k) × (place n k i ≡ k + i)) ⊎ ((n - k ≤ i) × (place n k i ≡ i - (n - k)))
+pub place_is : (n k i : ℕ) → ((i < n - k) × (slot_behind_head n k i ≡ k + i)) ⊎ ((n - k ≤ i) × (slot_behind_head n k i ≡ i - (n - k)))
 place_is n k i = elim (cases_lt i (n - k)) [
   | inl low ↦ inl (low, rw (lt-ltb i (n - k) low) refl)
   | inr high ↦ inr (high, rw (le-ltb i (n - k) high) refl)
@@ -26,7 +26,7 @@ module _ (n k c : ℕ) (xs : List (List ℕ)) (head : k ≤ n) (count : c ≤ n)
   ]
 
   -- message i is in the slot at its place, before the end of the ring or past it
-  pub get_or-window : (i : ℕ) (d : List ℕ) → i < c → get_or (window k c xs) i d ≡ get_or xs (place n k i) d
+  pub get_or-window : (i : ℕ) (d : List ℕ) → i < c → get_or (window k c xs) i d ≡ get_or xs (slot_behind_head n k i) d
   get_or-window i d within =
       let length_tail = length-drop k xs in
       get_or-take c _ i d within ∙ elim (place_is n k i) [
@@ -41,7 +41,7 @@ module _ (n k c : ℕ) (xs : List (List ℕ)) (head : k ≤ n) (count : c ≤ n)
       ]
 
   -- the slot of a message was made
-  pub place_within : (i : ℕ) → i < c → place n k i < length xs
+  pub place_within : (i : ℕ) → i < c → slot_behind_head n k i < length xs
   place_within i within = elim (place_is n k i) [
     | inl before ↦ elim all_or_ahead [
       | inl all ↦ omega arith
@@ -58,7 +58,7 @@ module _ (n k c : ℕ) (xs : List (List ℕ)) (head : k ≤ n) (count : c < n) (
   count_fits = omega (arith, count)
 
   -- the slot of the next message was made, or is the next one to make
-  pub next_within : place n k c ≤ length xs
+  pub next_within : slot_behind_head n k c ≤ length xs
   next_within = elim (place_is n k c) [
     | inl before ↦ elim (all_or_ahead n k c xs head count_fits made reached) [
       | inl all ↦ omega arith
@@ -71,7 +71,7 @@ module _ (n k c : ℕ) (xs : List (List ℕ)) (head : k ≤ n) (count : c < n) (
   ]
 
   -- where it is the next one to make, no message is before the head
-  pub next_ahead : place n k c ≡ length xs → k + c ≡ length xs
+  pub next_ahead : slot_behind_head n k c ≡ length xs → k + c ≡ length xs
   next_ahead made_next = elim (place_is n k c) [
     | inl before ↦ omega arith
     | inr past ↦ elim (all_or_ahead n k c xs head count_fits made reached) [
@@ -80,13 +80,13 @@ module _ (n k c : ℕ) (xs : List (List ℕ)) (head : k ≤ n) (count : c < n) (
     ]
   ]
 
-  pub place_below : place n k c < n
+  pub place_below : slot_behind_head n k c < n
   place_below = elim (place_is n k c) [
     | inl before ↦ omega arith
     | inr past ↦ omega arith
   ]
 
-  pub places_differ : (i : ℕ) → i < c → place n k i ≢ place n k c
+  pub places_differ : (i : ℕ) → i < c → slot_behind_head n k i ≢ slot_behind_head n k c
   places_differ i low same = elim (place_is n k i) [
     | inl before ↦ elim (place_is n k c) [
       | inl next_before ↦ omega (arith, before, next_before, same, low)
@@ -99,10 +99,10 @@ module _ (n k c : ℕ) (xs : List (List ℕ)) (head : k ≤ n) (count : c < n) (
   ]
 
   -- a message that is kept in its slot stands at the end
-  pub window_pushed : (x : List ℕ) → place n k c < length xs → window k (c + 1) (set xs (place n k c) x) ≡ window k c xs ++ x ∷ []
+  pub window_pushed : (x : List ℕ) → slot_behind_head n k c < length xs → window k (c + 1) (set xs (slot_behind_head n k c) x) ≡ window k c xs ++ x ∷ []
   window_pushed x within =
-      let ys = set xs (place n k c) x in
-      let length_ys = length-set xs (place n k c) x in
+      let ys = set xs (slot_behind_head n k c) x in
+      let length_ys = length-set xs (slot_behind_head n k c) x in
       let next : IsReached k (c + 1) (length ys) n = λ fewer. elim (place_is n k c) [
         | inl before ↦ rw length_ys (omega (arith, before, within))
         | inr past ↦ absurd (omega (arith, reached (omega (arith, length_ys, fewer)), past, within))
@@ -114,18 +114,18 @@ module _ (n k c : ℕ) (xs : List (List ℕ)) (head : k ≤ n) (count : c < n) (
       same_lists _ _ length_both (λ i d in_range.
       get_or-window n k (c + 1) ys head (omega arith) made_ys next i d (omega (arith, length_new, in_range))
       ∙ elim (cases_lt i c) [
-        | inl low ↦ get_or-set_other xs (place n k c) (place n k i) x d (places_differ i low)
+        | inl low ↦ get_or-set_other xs (slot_behind_head n k c) (slot_behind_head n k i) x d (places_differ i low)
             ∙ sym (get_or-window n k c xs head count_fits made reached i d low)
             ∙ sym (get_or_append_left (window k c xs) (x ∷ []) d i (omega (arith, length_old, low)))
         | inr high ↦
             let last : i ≡ c = omega (arith, high, length_new, in_range) in
             let first : i - c ≡ 0 = omega (arith, last) in
-            get_or-set_at xs (place n k c) (place n k i) x d (ap (λ j. place n k j) last) within
+            get_or-set_at xs (slot_behind_head n k c) (slot_behind_head n k i) x d (ap (λ j. slot_behind_head n k j) last) within
             ∙ sym (get_or-append_right (window k c xs) (x ∷ []) c i d length_old high ∙ ap (λ j. get_or (x ∷ []) j d) first)
       ])
 
   -- a slot that is made changes no message
-  pub window_grow : (x : List ℕ) → place n k c ≡ length xs → window k c (xs ++ x ∷ []) ≡ window k c xs
+  pub window_grow : (x : List ℕ) → slot_behind_head n k c ≡ length xs → window k c (xs ++ x ∷ []) ≡ window k c xs
   window_grow x made_next =
       let ys = xs ++ x ∷ [] in
       let length_ys = length-append xs (x ∷ []) in
@@ -136,12 +136,12 @@ module _ (n k c : ℕ) (xs : List (List ℕ)) (head : k ≤ n) (count : c < n) (
       let length_new = length-window n k c ys head count_fits made_ys next in
       same_lists _ _ (length_new ∙ sym length_old) (λ i d in_range.
       get_or-window n k c ys head count_fits made_ys next i d (omega (arith, length_new, in_range))
-      ∙ get_or_append_left xs (x ∷ []) d (place n k i) (place_within n k c xs head count_fits made reached i (omega (arith, length_new, in_range)))
+      ∙ get_or_append_left xs (x ∷ []) d (slot_behind_head n k i) (place_within n k c xs head count_fits made reached i (omega (arith, length_new, in_range)))
       ∙ sym (get_or-window n k c xs head count_fits made reached i d (omega (arith, length_new, in_range))))
 
 module _ (n k c : ℕ) (xs : List (List ℕ)) (head : k ≤ n) (count : c < n) (made : length xs ≤ n) (reached : IsReached k c (length xs) n) where
   -- the same, where its slot is made for it
-  pub window_grown : (x : List ℕ) → place n k c ≡ length xs → window k (c + 1) (set (xs ++ [] ∷ []) (place n k c) x) ≡ window k c xs ++ x ∷ []
+  pub window_grown : (x : List ℕ) → slot_behind_head n k c ≡ length xs → window k (c + 1) (set (xs ++ [] ∷ []) (slot_behind_head n k c) x) ≡ window k c xs ++ x ∷ []
   window_grown x made_next =
       let ys = xs ++ [] ∷ [] in
       let length_ys = length-append xs ([] ∷ []) in
@@ -153,30 +153,30 @@ module _ (n k c : ℕ) (xs : List (List ℕ)) (head : k ≤ n) (count : c < n) (
 
 module _ (n k c : ℕ) (xs : List (List ℕ)) (head : k ≤ n) (count : c ≤ n) (made : length xs ≤ n) (reached : IsReached k c (length xs) n) where
   -- the m oldest messages leave, and another waits
-  pub reached_next : (m : ℕ) → m < c → IsReached (place n k m) (c - m) (length xs) n
+  pub reached_next : (m : ℕ) → m < c → IsReached (slot_behind_head n k m) (c - m) (length xs) n
   reached_next m more fewer = elim (place_is n k m) [
     | inl before ↦ omega (arith, before, reached fewer, more)
     | inr past ↦ omega (arith, past, reached fewer, more)
   ]
 
-  pub head_next : (m : ℕ) → m < c → place n k m ≤ n
+  pub head_next : (m : ℕ) → m < c → slot_behind_head n k m ≤ n
   head_next m more = elim (place_is n k m) [
     | inl before ↦ omega (arith, before)
     | inr past ↦ omega (arith, past, more, count)
   ]
 
-  pub window_next : (m : ℕ) → m < c → window (place n k m) (c - m) xs ≡ drop m (window k c xs)
+  pub window_next : (m : ℕ) → m < c → window (slot_behind_head n k m) (c - m) xs ≡ drop m (window k c xs)
   window_next m more =
-      let in_range : place n k m ≤ n = head_next m more in
+      let in_range : slot_behind_head n k m ≤ n = head_next m more in
       let next = reached_next m more in
       let length_old = length-window n k c xs head count made reached in
-      let length_new = length-window n (place n k m) (c - m) xs in_range (omega arith) made next in
+      let length_new = length-window n (slot_behind_head n k m) (c - m) xs in_range (omega arith) made next in
       same_lists _ _ (simp length-drop (omega arith)) (λ i d below. grind (
         arith,
         get_or-drop m (window k c xs) i d,
         place_is n k m,
         place_is n k (m + i),
-        place_is n (place n k m) i,
+        place_is n (slot_behind_head n k m) i,
         get_or-window n k c xs head count made reached (m + i) d,
-        get_or-window n (place n k m) (c - m) xs in_range (omega arith) made next i d,
+        get_or-window n (slot_behind_head n k m) (c - m) xs in_range (omega arith) made next i d,
       ))

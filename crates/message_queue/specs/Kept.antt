@@ -2,8 +2,8 @@
 use Rattle.std.specs.Prelude.{ℕ, ◌+◌, ◌-◌, ◌≤◌, ◌<◌, nat_lt, Bool, true, false, if◌then◌else◌, List, ◌∷◌, ◌++◌, take, drop}
 
 -- the slot in a ring of n that lies i slots behind the head
-abbrev pub place : (n head i : ℕ) → ℕ
-place n head i = if nat_lt i (n - head) then head + i else i - (n - head)
+abbrev pub slot_behind_head : (n head i : ℕ) → ℕ
+slot_behind_head n head i = if nat_lt i (n - head) then head + i else i - (n - head)
 
 -- what `count` slots hold from the head on
 abbrev pub window : (head count : ℕ) → List (List ℕ) → List (List ℕ)

@@ -2,7 +2,7 @@
 
 ghost use Rattle.std.specs.Prelude.{◌≡◌, ◌+◌, ◌≤◌, ◌<◌, ◌-◌, ◌∷◌, ◌++◌, [], length, drop, option_map, slice_get, slice_index_or, IfOk};
 ghost use Rattle.message_queue.specs.Queues.{empty};
-ghost use Rattle.message_queue.specs.Kept.{place};
+ghost use Rattle.message_queue.specs.Kept.{slot_behind_head};
 
 use crate::slot::Slot;
 use er_base::NoMemory;
@@ -111,7 +111,7 @@ impl Ring {
 fn place(most: usize, head: usize, i: usize) -> usize
     requires head { head ≤ most }
     requires within { i ≤ most }
-    ensures { result ≡ place most head i }
+    ensures { result ≡ slot_behind_head most head i }
 {
     let behind = most - head;
     if i < behind { head + i } else { i - behind }

@@ -16,12 +16,12 @@ abbrev pub StandsIn : Queue → Seen → Type 0
 StandsIn queue what = Contains queue.seen.items what
 
 -- one more happening has its place
-abbrev pub HasRoom : Queue → Type 0
-HasRoom queue = deque_len queue.seen < deque_capacity queue.seen
+abbrev pub HasRoomForHappening : Queue → Type 0
+HasRoomForHappening queue = deque_len queue.seen < deque_capacity queue.seen
 
 -- the connection of this number is open
-abbrev pub IsOpen : List Place → ℕ → Type 0
-IsOpen places number = (place : Place) × Contains places place × (place.number ≡ number)
+abbrev pub IsConnectionOpen : List Place → ℕ → Type 0
+IsConnectionOpen places number = (place : Place) × Contains places place × (place.number ≡ number)
 
 -- the connection of this number is open, and has this slot
 abbrev pub HasSlot : List Place → ℕ → ℕ → Type 0
@@ -34,5 +34,5 @@ IsClosed places number = All (λ place. place.number ≢ number) places
 -- a happening is the listener's, or of a connection that is open
 abbrev pub IsOfOpen : List Place → Seen → Type 0
 IsOfOpen places seen.Listener = Unit {0}
-IsOfOpen places (seen.Readable number) = IsOpen places number
-IsOfOpen places (seen.Writable number) = IsOpen places number
+IsOfOpen places (seen.Readable number) = IsConnectionOpen places number
+IsOfOpen places (seen.Writable number) = IsConnectionOpen places number

@@ -3,7 +3,7 @@
 ghost use Rattle.std.specs.Prelude.{◌≡◌, ◌==◌, ◌⊎◌, true, length, Ok, IfSome};
 ghost use Rattle.std.specs.IoError.{error_kind};
 ghost use Rattle.std.specs.Io.{ReadsAtMost, WritesAtMost};
-ghost use Rattle.mio_wires.specs.Standing.{HasRoom, StandsIn, IsOpen, HasSlot, IsOfOpen, IsClosed, count};
+ghost use Rattle.mio_wires.specs.Standing.{HasRoomForHappening, StandsIn, IsConnectionOpen, HasSlot, IsOfOpen, IsClosed, count};
 ghost use Rattle.mio_wires.specs.Awaiting.{LeavesNothing, AwaitsRoom};
 
 use crate::queue::{Queue, Seen};
@@ -152,7 +152,7 @@ impl Lines {
 
     // Whether one more happening has its place in the queue.
     pub fn has_room(&self) -> bool
-        ensures { result ≡ true → HasRoom self.now.queue }
+        ensures { result ≡ true → HasRoomForHappening self.now.queue }
     {
         self.queue.has_room()
     }
@@ -186,7 +186,7 @@ impl Lines {
 
     // The listener is to be tried.
     pub fn try_listener(&mut self)
-        ensures stands { HasRoom self.old.queue → StandsIn self.new.queue Seen.Listener }
+        ensures stands { HasRoomForHappening self.old.queue → StandsIn self.new.queue Seen.Listener }
         ensures places { self.new.places ≡ self.old.places }
     {
         self.queue.add_listener();
@@ -270,7 +270,7 @@ impl Lines {
 
     // Octets may wait at the connection of this number.
     pub fn tell_readable(&mut self, number: u64)
-        ensures { HasRoom self.old.queue → StandsIn self.new.queue (Seen.Readable number) }
+        ensures { HasRoomForHappening self.old.queue → StandsIn self.new.queue (Seen.Readable number) }
     {
         let may_stand = self.mark_readable(number);
         self.queue.add(Seen::Readable(number), may_stand);
@@ -278,7 +278,7 @@ impl Lines {
 
     // There may be room for writing to the connection of this number.
     pub fn tell_writable(&mut self, number: u64)
-        ensures { HasRoom self.old.queue → StandsIn self.new.queue (Seen.Writable number) }
+        ensures { HasRoomForHappening self.old.queue → StandsIn self.new.queue (Seen.Writable number) }
     {
         let may_stand = self.mark_writable(number);
         self.queue.add(Seen::Writable(number), may_stand);
@@ -317,7 +317,7 @@ impl Lines {
     // The connection of this number isn't open any more: it leaves.
     pub fn close(&mut self, number: u64, now: u64)
         ensures closed { IsClosed self.new.places.items number }
-        ensures room { HasRoom self.old.queue → HasRoom self.new.queue }
+        ensures room { HasRoomForHappening self.old.queue → HasRoomForHappening self.new.queue }
     {
         self.queue.forget(number);
         let slot = self.slot_of(number);
@@ -402,7 +402,7 @@ impl Lines {
 
     // The slot of the connection of this number.
     fn slot_of(&self, number: u64) -> Option<usize>
-        ensures open { IfSome result (λ _. IsOpen self.now.places.items number) }
+        ensures open { IfSome result (λ _. IsConnectionOpen self.now.places.items number) }
         ensures place { IfSome result (HasSlot self.now.places.items number) }
     {
         let at = self

@@ -1,7 +1,7 @@
 //! What happened, in the order in which it is answered.
 
 ghost use Rattle.std.specs.Prelude.{◌≡◌, ◌==◌, true};
-ghost use Rattle.mio_wires.specs.Standing.{HasRoom, StandsIn, count};
+ghost use Rattle.mio_wires.specs.Standing.{HasRoomForHappening, StandsIn, count};
 
 use er_base::NoMemory;
 use std::alloc::Global;
@@ -50,14 +50,14 @@ impl Queue {
 
     // Whether one more happening has its place. The memory for each happening once was reserved, so it always has.
     pub fn has_room(&self) -> bool
-        ensures { result ≡ true → HasRoom self.now }
+        ensures { result ≡ true → HasRoomForHappening self.now }
     {
         self.seen.len() < self.seen.capacity()
     }
 
     // Adds the listener at the end, where it doesn't stand here already.
     pub fn add_listener(&mut self)
-        ensures { HasRoom self.old → StandsIn self.new Seen.Listener }
+        ensures { HasRoomForHappening self.old → StandsIn self.new Seen.Listener }
     {
         let may_stand = self.is_heard;
         self.is_heard = true;
@@ -66,7 +66,7 @@ impl Queue {
 
     // Adds a happening at the end, where it doesn't stand here already: it is looked for only where it may.
     pub fn add(&mut self, seen: Seen, may_stand: bool)
-        ensures { HasRoom self.old → StandsIn self.new seen }
+        ensures { HasRoomForHappening self.old → StandsIn self.new seen }
     {
         if may_stand && self.stands(seen) {
             return;
@@ -91,7 +91,7 @@ impl Queue {
 
     // Takes out the happenings of the connection of this number.
     pub fn forget(&mut self, number: u64)
-        ensures { HasRoom self.old → HasRoom self.new }
+        ensures { HasRoomForHappening self.old → HasRoomForHappening self.new }
     {
         self.seen.retain(|seen| !seen.is_at(number));
     }

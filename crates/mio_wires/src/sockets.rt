@@ -3,7 +3,7 @@
 ghost use Rattle.std.specs.Prelude.{◌≡◌, ◌<◌, ◌≤◌, ◌+◌, ◌⊎◌, ℕ, length, IfOk, IfSome, IsSome, true, false};
 ghost use Rattle.std.specs.Duration.{as_nanos};
 ghost use Rattle.std.specs.IoError.{error_kind};
-ghost use Rattle.mio_wires.specs.Standing.{HasRoom, StandsIn, IsClosed, count};
+ghost use Rattle.mio_wires.specs.Standing.{HasRoomForHappening, StandsIn, IsClosed, count};
 ghost use Rattle.mio_wires.specs.Awaiting.{AwaitsRoom};
 
 use crate::accepting::accept;
@@ -194,7 +194,7 @@ impl<R: Net + Clock + Drop> Sockets<R> {
     // Sees to it that an accept that failed is tried again: at once where the fault was the connection's, or where a
     // connection that leaves gives its place; else by time.
     fn put_off(&mut self, error: &io::Error)
-        ensures { HasRoom self.old.lines.queue → (error_kind error.now ≡ ErrorKind.WouldBlock) ⊎ (StandsIn self.new.lines.queue Seen.Listener ⊎ IsSome self.new.again_at) }
+        ensures { HasRoomForHappening self.old.lines.queue → (error_kind error.now ≡ ErrorKind.WouldBlock) ⊎ (StandsIn self.new.lines.queue Seen.Listener ⊎ IsSome self.new.again_at) }
     {
         if error.kind() == ErrorKind::WouldBlock {
             // Nobody waits: the next who comes is reported.
@@ -301,7 +301,7 @@ impl<R: Net + Clock + Drop> Sockets<R> {
     // Writes to the connection of this number. One that isn't made yet has no room. That there is room is told then.
     pub fn write(&mut self, number: u64, piece: &[u8]) -> WriteAnswer
         ensures fits { (n : ℕ) → result ≡ WriteAnswer.Some n → (1 ≤ n) × (n ≤ length piece.now) }
-        ensures told { result ≡ WriteAnswer.NotNow → 0 < length piece.now → HasRoom self.old.lines.queue → AwaitsRoom self.new.lines number ⊎ StandsIn self.new.lines.queue (Seen.Writable number) }
+        ensures told { result ≡ WriteAnswer.NotNow → 0 < length piece.now → HasRoomForHappening self.old.lines.queue → AwaitsRoom self.new.lines number ⊎ StandsIn self.new.lines.queue (Seen.Writable number) }
     {
         match self.lines.write(number, piece) {
             Ok(0) => WriteAnswer::NotNow,
@@ -318,7 +318,7 @@ impl<R: Net + Clock + Drop> Sockets<R> {
     // Closes the connection of this number, and takes its happenings out of the queue. Nobody is held back then.
     pub fn close(&mut self, number: u64)
         ensures closed { IsClosed self.new.lines.places.items number }
-        ensures held_back { self.old.is_held_back ≡ true → HasRoom self.old.lines.queue → StandsIn self.new.lines.queue Seen.Listener }
+        ensures held_back { self.old.is_held_back ≡ true → HasRoomForHappening self.old.lines.queue → StandsIn self.new.lines.queue Seen.Listener }
     {
         let now = self.now();
         self.lines.close(number, now);

@@ -15,8 +15,8 @@ use Rattle.link_trait.specs.Outside.{Grew}
 use Rattle.link_trait.specs.Growth.{grew_nothing, part_nothing, part_whole}
 use Rattle.link_trait.specs.Wires.{Closes}
 use Rattle.loop_model.specs.Grammar.{IsInGrammar}
-use Rattle.loop_model.specs.Journals.{Entry, text}
-use Rattle.loop_model.specs.Deeds.{Deed, Printing, Calling}
+use Rattle.loop_model.specs.Journals.{JournalEntry, text}
+use Rattle.loop_model.specs.Deeds.{LoopDeed, Printing, Calling}
 use Rattle.loop_model.specs.Outs.{Out}
 use Rattle.loop_model.specs.Signs.{order_prints}
 use Rattle.loop_model.specs.Orderly.{order_away}
@@ -31,7 +31,7 @@ use Rattle.loop_io.specs.Seeing.{Seen, seen}
 use Rattle.loop_io.specs.Sequels.{breaks_lines}
 use Rattle.readiness_loop.specs.Books.{seat, seats, sessions, sessions_at, IsSeat, AreSeated}
 use Rattle.std.specs.BTreeMap.{BTreeMap}
-use Rattle.readiness_loop.specs.Courses.{Acts, answer_event, answered, loop_of}
+use Rattle.readiness_loop.specs.Courses.{Acts, answer_event, answering_session, loop_of}
 use Rattle.readiness_loop.proofs.Sequences.{failures-none}
 
 failures-close : (conn : ℕ) → failures (Closes conn ∷ []) ≡ 0
@@ -39,12 +39,12 @@ unfolding failures
 failures-close conn = refl
 
 -- a line that wasn't written whole, before what follows it
-pub line_breaks : {S : Type 0} (h i : SinkState) (calls : WiresState) (o : Out S) (x : Entry) (more : List Deed) (fault : LoopFault)
+pub line_breaks : {S : Type 0} (h i : SinkState) (calls : WiresState) (o : Out S) (x : JournalEntry) (more : List LoopDeed) (fault : LoopFault)
     → o.order ≡ Printing x ∷ more → Breaks h i (text (x ∷ [])) fault → BreaksAt (seen h calls) (seen i calls) o fault
 line_breaks h i calls o x more fault is p = breaks_lines h i calls o (x ∷ []) more fault is p
 
 -- the event that opens a session that answers, with this random word
-abbrev pub answer_line : (rbc moment conn ra : ℕ) → Entry
+abbrev pub answer_line : (rbc moment conn ra : ℕ) → JournalEntry
 answer_line rbc moment conn ra = record { moment = moment; conn = conn; event = event.Answer rbc ra; outcomes = [] }
 
 -- memory ran out before a line was written, and behind it
@@ -71,7 +71,7 @@ pub opens_so : (m conn : ℕ) (event : Event) → m ≤ 1000000000000000 → con
 opens_so m conn event p q r = record { event = record { moment = p; conn = q; event = r }; outcomes = tt }
 
 -- the event of a connection that is turned away
-abbrev away_event : ℕ → ℕ → Event → Entry
+abbrev away_event : ℕ → ℕ → Event → JournalEntry
 away_event m conn why = record { moment = m; conn = conn; event = why; outcomes = [] }
 
 pub away_breaks : (h i : SinkState) (calls : WiresState) (l : Loop KEnd) (m conn : ℕ) (why : Event) (fault : LoopFault)
@@ -150,7 +150,7 @@ accept_unserved a b plan l new conn r few none same p =
 -- the loop behind it
 abbrev pub answered_loop : Plan → Loop KEnd → List Mind → Mind → ℕ → Loop KEnd
 answered_loop plan l users mind conn = record {
-  sessions = l.sessions ++ answered l.words plan.settings plan.rbc l.moment conn mind ∷ [];
+  sessions = l.sessions ++ answering_session l.words plan.settings plan.rbc l.moment conn mind ∷ [];
   users = users;
   moment = l.moment;
   words = (next_u64 l.words).1;
@@ -209,7 +209,7 @@ away_seated conn slots slots' places places' (Ok done) p q s =
 away_seated conn slots slots' places places' (Err fault) p q s = tt
 
 pub answered_state : {T : Type 0} (plan : Plan) (l : Loop KEnd) (slots : Slab (Session KEnd)) (places : BTreeMap ℕ ℕ) (users users' : List Mind) (m : ℕ) (words : Stream) (mind : Mind) (conn : ℕ) (r : Result T LoopFault)
-    → OnOk r (sessions slots places ≡ l.sessions ++ answered l.words plan.settings plan.rbc l.moment conn mind ∷ []) → OnOk r (words ≡ (next_u64 l.words).1)
+    → OnOk r (sessions slots places ≡ l.sessions ++ answering_session l.words plan.settings plan.rbc l.moment conn mind ∷ []) → OnOk r (words ≡ (next_u64 l.words).1)
     → users' ≡ users → m ≡ l.moment → OnOk r (loop_of slots places users' m words ≡ answered_loop plan l users mind conn)
 answered_state plan l slots places users users' m words mind conn (Ok done) p q r s = rw (p, q, r, s) refl
 answered_state plan l slots places users users' m words mind conn (Err fault) p q r s = tt

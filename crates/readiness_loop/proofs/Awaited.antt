@@ -13,7 +13,7 @@ use Rattle.slab.specs.Slab.{Slab, get, with_value, Updates}
 use Rattle.slab.proofs.SlabLemmas.{Updates-with_value}
 use Rattle.loop_model.specs.Sessions.{Session}
 use Rattle.loop_model.specs.Visits.{wakes}
-use Rattle.readiness_loop.specs.WakeTimes.{has, is_moment}
+use Rattle.readiness_loop.specs.WakeTimes.{has_wake_time, is_moment}
 use Rattle.readiness_loop.specs.Books.{IsSeat, AreSeated, wake_of, wake_in, wake_at, AreAwaited}
 use Rattle.readiness_loop.proofs.Risings.{found_is, found_other}
 use Rattle.readiness_loop.proofs.Seats.{OthersStay, place_of}
@@ -28,7 +28,7 @@ awaited_none slots places pairs p q = record { rise = rw p tt; kept = λ m n. rw
 -- its moment is another, the others have theirs
 awaited_moves : (slots now : Slab (Session KEnd)) (places more : BTreeMap ℕ ℕ) (pairs new : BTreeSet (ℕ × ℕ)) (n : ℕ) (after : Option ℕ)
     → AreAwaited slots places pairs → IsOrdered nat_cmp more
-    → ((m j : ℕ) → has new m j ≡ (if j == n then is_moment m after else has pairs m j))
+    → ((m j : ℕ) → has_wake_time new m j ≡ (if j == n then is_moment m after else has_wake_time pairs m j))
     → wake_at now more n ≡ after → ((j : ℕ) → j ≢ n → wake_at now more j ≡ wake_at slots places j)
     → AreAwaited now more new
 awaited_moves slots now places more pairs new n after p rise h own others = record {
@@ -83,14 +83,14 @@ seats_apart newest n k slots es s p q r j i away at same =
 
 -- the moment of a session of a place is kept
 pub wake_known : (n k : ℕ) (slots : Slab (Session KEnd)) (places : BTreeMap ℕ ℕ) (pairs : BTreeSet (ℕ × ℕ)) (s : Session KEnd) (before : Option ℕ) → AreAwaited slots places pairs
-    → place_of n places.entries ≡ Some k → get slots k ≡ Some s → before ≡ wakes kept_ends s → (m : ℕ) → has pairs m n ≡ is_moment m before
+    → place_of n places.entries ≡ Some k → get slots k ≡ Some s → before ≡ wakes kept_ends s → (m : ℕ) → has_wake_time pairs m n ≡ is_moment m before
 unfolding wake_at
 wake_known n k slots places pairs s before p q r b m = p.kept m n ∙ ap (λ z. is_moment m (wake_in slots z)) q ∙ ap (λ z. is_moment m (wake_of z)) r ∙ ap (is_moment m) (sym b)
 
 -- a session stays
 pub awaited_stays : (newest n k : ℕ) (slots : Slab (Session KEnd)) (places : BTreeMap ℕ ℕ) (pairs new : BTreeSet (ℕ × ℕ)) (s t : Session KEnd) (after : Option ℕ)
     → AreSeated newest slots places.entries → AreAwaited slots places pairs → place_of n places.entries ≡ Some k → get slots k ≡ Some s → after ≡ wakes kept_ends t
-    → ((m j : ℕ) → has new m j ≡ (if j == n then is_moment m after else has pairs m j))
+    → ((m j : ℕ) → has_wake_time new m j ≡ (if j == n then is_moment m after else has_wake_time pairs m j))
     → AreAwaited (with_value slots k t) places new
 unfolding wake_at
 awaited_stays newest n k slots places pairs new s t after seated p q r is h =
@@ -106,7 +106,7 @@ away_test n j away = found_other n j (λ same. away (sym same))
 pub awaited_closes : (newest n k : ℕ) (slots now : Slab (Session KEnd)) (places fewer : BTreeMap ℕ ℕ) (pairs new : BTreeSet (ℕ × ℕ)) (s t : Session KEnd)
     → AreSeated newest slots places.entries → AreAwaited slots places pairs → place_of n places.entries ≡ Some k → get slots k ≡ Some s
     → Updates (with_value slots k t) now k None → UpdatesBy nat_cmp (nat_cmp n) places fewer None → IsOrdered nat_cmp fewer
-    → ((m j : ℕ) → has new m j ≡ (if j == n then is_moment m None else has pairs m j))
+    → ((m j : ℕ) → has_wake_time new m j ≡ (if j == n then is_moment m None else has_wake_time pairs m j))
     → AreAwaited now fewer new
 unfolding wake_at
 awaited_closes newest n k slots now places fewer pairs new s t seated p q r u removed rise h =
@@ -127,7 +127,7 @@ unplaced newest n slots (e ∷ es) p q =
     rw other (unplaced newest n slots es p.3 q)
 
 pub none_known : (n : ℕ) (slots : Slab (Session KEnd)) (places : BTreeMap ℕ ℕ) (pairs : BTreeSet (ℕ × ℕ)) → AreSeated (n - 1) slots places.entries → 0 < n → AreAwaited slots places pairs
-    → (m : ℕ) → has pairs m n ≡ is_moment m None
+    → (m : ℕ) → has_wake_time pairs m n ≡ is_moment m None
 unfolding wake_at
 none_known n slots places pairs seated q p m =
     p.kept m n ∙ ap (λ z. is_moment m (wake_in slots z)) (unplaced (n - 1) n slots places.entries seated (omega (arith, q)))
@@ -144,7 +144,7 @@ taken_slot newest n k slots (e ∷ es) p q r =
 pub awaited_joins : (n k room : ℕ) (slots mid now : Slab (Session KEnd)) (places more : BTreeMap ℕ ℕ) (pairs new : BTreeSet (ℕ × ℕ)) (s : Session KEnd) (wake : Option ℕ)
     → AreSeated (s.number - 1) slots places.entries → AreAwaited slots places pairs → mid ≡ record slots { capacity = room } → get mid k ≡ None → Updates mid now k (Some s)
     → UpdatesBy nat_cmp (nat_cmp n) places more (Some k) → IsOrdered nat_cmp more → wake ≡ wakes kept_ends s
-    → ((m j : ℕ) → has new m j ≡ (if j == n then is_moment m wake else has pairs m j))
+    → ((m j : ℕ) → has_wake_time new m j ≡ (if j == n then is_moment m wake else has_wake_time pairs m j))
     → AreAwaited now more new
 unfolding wake_at
 awaited_joins n k room slots mid now places more pairs new s wake seated p mid_is free u joined rise is h =

@@ -18,17 +18,17 @@ use Rattle.loop_model.specs.Loops.{Plan, Loop, rules_of, Course, asks, halt_by, 
 use Rattle.loop_model.specs.Parts.{opened_in, Rises, newest}
 use Rattle.loop_model.specs.Laws.{turns_of}
 use Rattle.safety_automaton.specs.Keys as keys
-use Rattle.loop_session.specs.Parts.{rules}
+use Rattle.loop_session.specs.Parts.{rules_of_session}
 use Rattle.loop_session.specs.declared.loop_fault.LoopFault.{LoopFault}
 use Rattle.loop_session.specs.declared.loop_fault.LoopFault.TheVariants.{Wires, Sink, NoMemory}
-use Rattle.loop_io.specs.Acting.{Acted, BreaksAt, Did, Stopped, Does}
+use Rattle.loop_io.specs.Acting.{Acted, BreaksAt, Did, Stopped, DoesLoopPart}
 use Rattle.loop_io.specs.Seeing.{Seen}
 use Rattle.loop_io.specs.Sequels.{breaks_wanted, breaks_behind}
 use Rattle.loop_io.specs.Visiting.{left, Visits}
 use Rattle.readiness_loop.specs.Books.{sessions, AreSeated}
 use Rattle.readiness_loop.specs.Cuts.{LiesIn}
 use Rattle.readiness_loop.proofs.Cutting.{cut_of, cut_lies, cut_broke, lies_as}
-use Rattle.readiness_loop.specs.Courses.{Around, WentOff, loop_of, course_of, opening, Opens, halt_if}
+use Rattle.readiness_loop.specs.Courses.{Around, WentOff, loop_of, course_of, opening_over_kept_ends, Opens, halt_if}
 use Rattle.readiness_loop.proofs.Sequences.{acted_as, breaks_as}
 use Rattle.readiness_loop.proofs.Acceptings.{last_user, other_ones, no_sessions, length_sessions}
 use Rattle.readiness_loop.proofs.Openings.{OpensNone, served_opens}
@@ -46,8 +46,8 @@ want_behind a b s stays model model' want same did =
     subst (λ z. Stopped a b z (NoMemory want)) same
     (record { answers = did.answers; breaks = breaks_behind a b (left stays s) (model did.answers) want did.is })
 
-pub call_model : (entries : List keys.Entry) (setup setup' m m' : ℕ) (s s' : Session KEnd) (engine rbc rb rb' : ℕ) → setup ≡ setup' → m ≡ m' → s ≡ s' → rb ≡ rb'
-    → served kept_ends (rules entries setup) m s (Begins engine rbc rb) ≡ served kept_ends (rules entries setup') m' s' (Begins engine rbc rb')
+pub call_model : (entries : List keys.KmacEntry) (setup setup' m m' : ℕ) (s s' : Session KEnd) (engine rbc rb rb' : ℕ) → setup ≡ setup' → m ≡ m' → s ≡ s' → rb ≡ rb'
+    → served kept_ends (rules_of_session entries setup) m s (Begins engine rbc rb) ≡ served kept_ends (rules_of_session entries setup') m' s' (Begins engine rbc rb')
 call_model entries setup setup' m m' s s' engine rbc rb rb' p q r t = rw (p, q, r, t) refl
 
 pub call_stays : (a b : Seen) (slots now : Slab (Session KEnd)) (places then_ : BTreeMap ℕ ℕ) (s : Session KEnd) (stays : Bool) (model model' : Met → Out (List (Session KEnd)))
@@ -81,8 +81,8 @@ called_loop l ss users = record { sessions = ss; users = users; moment = l.momen
 
 pub open_called : (a b : Seen) (plan : Plan) (caller : Caller) (l new : Loop KEnd) (ss : List (Session KEnd)) (users : List Mind) (mind : Mind) (conn : ℕ) (r : Result Bool LoopFault)
     → l.users ≡ users ++ mind ∷ [] → OnOk r (new ≡ called_loop l ss users)
-    → Does a b ss (served kept_ends (rules_of plan) l.moment (begun conn (calling kept_ends plan caller l) mind) (Begins caller.engine plan.rbc (next_u64 l.words).0)) r
-    → Does a b new (called kept_ends plan caller l conn) r
+    → DoesLoopPart a b ss (served kept_ends (rules_of plan) l.moment (begun conn (calling kept_ends plan caller l) mind) (Begins caller.engine plan.rbc (next_u64 l.words).0)) r
+    → DoesLoopPart a b new (called kept_ends plan caller l conn) r
 unfolding called
 open_called a b plan caller l new ss users mind conn (Ok stays) has is did =
     let o = served kept_ends (rules_of plan) l.moment (begun conn (calling kept_ends plan caller l) mind) (Begins caller.engine plan.rbc (next_u64 l.words).0) did.answers in
@@ -134,12 +134,12 @@ called_moment o plan caller l conn a = called_by_moment o (next_user l.users) pl
 pub opens_opens : {E : Type 0} (o : EndOps E) (plan : Plan) (caller : Caller) (c : Course E) (conn : ℕ) (a : Met) → OpensNone (opens o plan caller c conn a)
 opens_opens o plan caller c conn a = called_opens o plan caller c.loop conn a
 
-opening_opens : (plan : Plan) (caller : Caller) (c : Course KEnd) (conn : ℕ) (x : ℕ × Met) → OpensNone (opening plan caller c conn x)
+opening_opens : (plan : Plan) (caller : Caller) (c : Course KEnd) (conn : ℕ) (x : ℕ × Met) → OpensNone (opening_over_kept_ends plan caller c conn x)
 opening_opens plan caller c conn x = opens_opens kept_ends plan caller (asks x.0 c) conn x.1
 
 opened_off : (plan : Plan) (caller : Caller) (a b : Around) (l : Loop KEnd) (n m first conn : ℕ) (asked : List ℕ) (fault : LoopFault)
     → m ≡ max l.moment first → Stopped a.seen b.seen (called kept_ends plan caller (record l { moment = m }) conn) fault
-    → WentOff (λ x cut. LiesIn (opening plan caller (course_of l n asked) conn x) cut) a b fault
+    → WentOff (λ x cut. LiesIn (opening_over_kept_ends plan caller (course_of l n asked) conn x) cut) a b fault
 opened_off plan caller a b l n m first conn asked fault moment did =
     let o = called kept_ends plan caller (record l { moment = max l.moment first }) conn did.answers in
     let c = course_of l n asked in
@@ -147,13 +147,13 @@ opened_off plan caller a b l n m first conn asked fault moment did =
     record {
       answers = (first, did.answers);
       cut = cut_of a.seen b.seen o fault breaks;
-      lies = lies_as o (opening plan caller c conn (first, did.answers)) (cut_of a.seen b.seen o fault breaks) refl (cut_lies a.seen b.seen o fault breaks);
+      lies = lies_as o (opening_over_kept_ends plan caller c conn (first, did.answers)) (cut_of a.seen b.seen o fault breaks) refl (cut_lies a.seen b.seen o fault breaks);
       broke = cut_broke a.seen b.seen o fault breaks;
     }
 
 pub opened_so : (plan : Plan) (caller : Caller) (a b : Around) (l new : Loop KEnd) (n m first conn : ℕ) (asked : List ℕ) (r : Result Bool LoopFault)
     → m ≡ max l.moment first → first ≤ 1000000000000000 → Grew a.asked b.asked (first ∷ [])
-    → Does a.seen b.seen new (called kept_ends plan caller (record l { moment = m }) conn) r
+    → DoesLoopPart a.seen b.seen new (called kept_ends plan caller (record l { moment = m }) conn) r
     → b.newest ≡ a.newest → b.turns_failed ≡ a.turns_failed → b.listening ≡ a.listening → IfOk r (λ stays. halt_if stays ≡ halt_by plan new.sessions)
     → Opens plan caller a b (course_of l n asked) conn new n r
 opened_so plan caller a b l new n m first conn asked (Ok stays) moment early clock did top fails hears halts =
@@ -170,7 +170,7 @@ opened_so plan caller a b l new n m first conn asked (Ok stays) moment early clo
           loop = is.state;
           turns = refl;
           halt = halts ∙ ap (λ (z : Loop KEnd). halt_by plan z.sessions) is.state;
-          acted = acted_as a.seen b.seen new (opening plan caller c conn x).state o (opening plan caller c conn x) (record { entries = refl; calls = refl; order = refl }) refl is;
+          acted = acted_as a.seen b.seen new (opening_over_kept_ends plan caller c conn x).state o (opening_over_kept_ends plan caller c conn x) (record { entries = refl; calls = refl; order = refl }) refl is;
           more = first ∷ [];
           asked = refl;
           answered = clock;
@@ -213,7 +213,7 @@ halts_away plan slots places dials none = halt_stays plan (sessions slots places
 
 pub opened_from : (plan : Plan) (caller : Caller) (a b : Around) (l new : Loop KEnd) (n count m first conn : ℕ) (asked : List ℕ) (r : Result Bool LoopFault)
     → count ≡ n → m ≡ max l.moment first → first ≤ 1000000000000000 → Grew a.asked b.asked (first ∷ [])
-    → Does a.seen b.seen new (called kept_ends plan caller (record l { moment = m }) conn) r
+    → DoesLoopPart a.seen b.seen new (called kept_ends plan caller (record l { moment = m }) conn) r
     → b.newest ≡ a.newest → b.turns_failed ≡ a.turns_failed → b.listening ≡ a.listening → IfOk r (λ stays. halt_if stays ≡ halt_by plan new.sessions)
     → Opens plan caller a b (course_of l n asked) conn new count r
 opened_from plan caller a b l new n count m first conn asked r same moment early clock did top fails hears halts =

@@ -8,8 +8,8 @@ use Rattle.loop_model.specs.Outs.{Out, next}
 use Rattle.loop_session.specs.declared.loop_fault.LoopFault.{LoopFault}
 use Rattle.loop_io.specs.Acting.{Acted, BreaksAt}
 use Rattle.loop_io.specs.Seeing.{Seen, AreAnsweredSo, Counts}
-use Rattle.loop_io.specs.Sequels.{text_behind, calls_are, answered_parts, counts_then, failed_behind}
-use Rattle.readiness_loop.specs.Cuts.{Cut, LiesIn, behind}
+use Rattle.loop_io.specs.Sequels.{text_grows_behind_part, calls_are, answered_parts, counts_then, failed_behind}
+use Rattle.readiness_loop.specs.Cuts.{Cut, LiesIn, cut_behind_part}
 use Rattle.readiness_loop.specs.Courses.{Broke}
 
 -- what was done of the part
@@ -25,9 +25,9 @@ unfolding cut_of
 cut_broke a b o fault p = record { text = p.printed; calls = p.told; answered = p.answered; counted = p.counted; failed = p.failed }
 
 -- behind a part that was done
-pub broke_behind : {S : Type 0} (a b c : Seen) (s : S) (o : Out S) (cut : Cut) (fault : LoopFault) → Acted a b s o → Broke b c cut fault → Broke a c (behind o cut) fault
+pub broke_behind : {S : Type 0} (a b c : Seen) (s : S) (o : Out S) (cut : Cut) (fault : LoopFault) → Acted a b s o → Broke b c cut fault → Broke a c (cut_behind_part o cut) fault
 broke_behind a b c s o cut fault p q = record {
-  text = text_behind a b c s o cut p q.text;
+  text = text_grows_behind_part a b c s o cut p q.text;
   calls = subst (λ z. Grew a.calls c.calls z) (calls_are o cut p.has_order) (grew_then a.calls b.calls c.calls o.calls (calls_of cut) p.told q.calls);
   answered = subst AreAnsweredSo (calls_are o cut p.has_order) (answered_parts o.calls (calls_of cut) p.answered q.answered);
   counted = subst (λ z. Counts a.failed c.failed z) (calls_are o cut p.has_order) (counts_then a.failed b.failed c.failed o.calls (calls_of cut) p.counted q.counted);
@@ -45,7 +45,7 @@ lies_first o f cut l = record {
   is = sym (append_assoc cut l.rest (signs (f o.state).order)) ∙ ap (λ z. z ++ signs (f o.state).order) l.is ∙ sym (signs_parts o.order (f o.state).order);
 }
 
-pub lies_then : {S T : Type 0} (o : Out S) (f : S → Out T) (cut : Cut) → LiesIn (f o.state) cut → LiesIn (next o f) (behind o cut)
+pub lies_then : {S T : Type 0} (o : Out S) (f : S → Out T) (cut : Cut) → LiesIn (f o.state) cut → LiesIn (next o f) (cut_behind_part o cut)
 lies_then o f cut l = record {
   rest = l.rest;
   is = append_assoc (signs o.order) cut l.rest ∙ ap (λ z. signs o.order ++ z) l.is ∙ sym (signs_parts o.order (f o.state).order);

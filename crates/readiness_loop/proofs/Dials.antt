@@ -16,7 +16,7 @@ use Rattle.link_trait.specs.Growth.{grew_nothing, grew_then}
 use Rattle.link_trait.specs.Wires as wires
 use Rattle.link_trait.specs.Wires.{Call, given_of, taken_of}
 use Rattle.loop_model.specs.Ends.{EndOps, ModelEnd, model_ends}
-use Rattle.loop_model.specs.Journals.{header, text}
+use Rattle.loop_model.specs.Journals.{trace_header, text}
 use Rattle.loop_model.specs.Deeds.{Calling, text_of, calls_of}
 use Rattle.loop_model.specs.Outs.{Out, still, next, makes, acts, exactly}
 use Rattle.loop_model.specs.Visits.{Met}
@@ -33,9 +33,9 @@ use Rattle.loop_session.specs.declared.loop_fault.LoopFault.{LoopFault}
 use Rattle.loop_session.specs.declared.loop_fault.LoopFault.TheVariants.{Wires, Sink, NoMemory}
 use Rattle.loop_io.specs.Seeing.{Counts}
 use Rattle.readiness_loop.specs.declared.line_plan.Served.{Served}
-use Rattle.readiness_loop.specs.Cuts.{Cut, LiesIn, behind, IsToldFirst, first_turns}
-use Rattle.readiness_loop.specs.Claims.{pair_of, IsDone, IsCutAt, IsLawful, HasTurns, HasDialled, NotDialling, LineFailed, FailsToDial, opening as model_opening, BeforeDialling, InDiallingHeader, InOpening, InDialling, BreaksOffDialling, halt_for, caller_of, DialsOn}
-use Rattle.readiness_loop.specs.Courses.{Around, Came, Went, Broke, WentOff, RanOff, Runs, Dials, outside_of, course_of, opening, Opened, Opens, halt_if}
+use Rattle.readiness_loop.specs.Cuts.{Cut, LiesIn, cut_behind_part, IsToldFirst, first_turns}
+use Rattle.readiness_loop.specs.Claims.{pair_of, IsPrintedAndCalled, IsCutAt, IsLawfulLoop, HasTurns, HasDialled, NotDialling, LineFailed, FailsToDial, opening as model_opening, BeforeDialling, InDiallingHeader, InOpening, InDialling, BreaksOffDialling, halt_for, caller_of, DialsOn}
+use Rattle.readiness_loop.specs.Courses.{Around, HasComeFromCourse, Went, Broke, WentOff, RanOff, Runs, Dials, loop_outside_of, course_of, opening_over_kept_ends, Opened, Opens, halt_if}
 use Rattle.readiness_loop.specs.Lives.{around_at}
 use Rattle.loop_io.specs.Sequels.{counts_then, failed_behind}
 use Rattle.readiness_loop.proofs.Cutting.{broke_behind, lies_as, lies_then}
@@ -51,7 +51,7 @@ use Rattle.readiness_loop.proofs.Listening.{Laws, HasBegun, nothing_done, rose_p
 
 -- the opening, and the run behind it
 abbrev whole : Plan → Caller → Course KEnd → ℕ → Dialled → Out (Course KEnd)
-whole plan caller c conn x = next (opening plan caller c conn (x.first, x.met)) (λ e. run kept_ends plan e x.turns)
+whole plan caller c conn x = next (opening_over_kept_ends plan caller c conn (x.first, x.met)) (λ e. run kept_ends plan e x.turns)
 
 abbrev model_whole : Plan → Caller → Course ModelEnd → ℕ → Dialled → Out (Course ModelEnd)
 model_whole plan caller c conn x = next (opens model_ends plan caller (asks x.first c) conn x.met) (λ e. run model_ends plan e x.turns)
@@ -61,7 +61,7 @@ record WentOn (plan : Plan) (caller : Caller) (m b : Around) (c : Course KEnd) (
   answers : Dialled
   is_conn : answers.conn ≡ Some conn
   early : answers.first ≤ 1000000000000000
-  is : Came m b c new count why (whole plan caller c conn answers)
+  is : HasComeFromCourse m b c new count why (whole plan caller c conn answers)
 
 met_so : ℕ → ℕ × Met → List Turn → Dialled
 met_so conn x turns = record { conn = Some conn; first = x.0; met = x.1; turns = turns }
@@ -75,7 +75,7 @@ unfolding met_so
 ran_on plan caller m k b minds words conn l new count why p q =
     let c = beginning minds words in
     let x = p.went.answers in
-    let o = opening plan caller c conn x in
+    let o = opening_over_kept_ends plan caller c conn x in
     let e = o.state in
     let is : course_of l 0 e.asked ≡ e = course_is m k c l 0 o p.went.is in
     let w : Went (run kept_ends plan e) k b e new count why = subst (λ (z : Course KEnd). Went (run kept_ends plan z) k b z new count why) is (q e.asked) in
@@ -94,7 +94,7 @@ unfolding met_so run
 closed_on plan caller m b minds words conn l p =
     let c = beginning minds words in
     let x = p.went.answers in
-    let o = opening plan caller c conn x in
+    let o = opening_over_kept_ends plan caller c conn x in
     let halted : acts (went kept_ends plan) o.state (exactly plan.turns nothing_comes []) ≡ still o.state =
     halted_acts kept_ends plan o.state OnClosed (exactly plan.turns nothing_comes []) (sym p.went.is.halt) in
     let is : next o (λ e. acts (went kept_ends plan) e (exactly plan.turns nothing_comes [])) ≡ o = ap (after o) halted ∙ after_still o in
@@ -102,7 +102,7 @@ closed_on plan caller m b minds words conn l p =
       answers = met_so conn x [];
       is_conn = refl;
       early = p.early;
-      is = subst (λ z. Came m b c l 0 (Some OnClosed) z) (sym is) p.went.is;
+      is = subst (λ z. HasComeFromCourse m b c l 0 (Some OnClosed) z) (sym is) p.went.is;
     }
 
 -- ---- the same of the model
@@ -230,7 +230,7 @@ few_failures address conn o p = omega (arith, p)
 
 dials_done : (laws : Laws) (plan : Plan) (caller : Caller) (a m b : Around) (minds : List Mind) (words : Stream) (address : List ℕ) (conn : ℕ) (x : Dialled) (count : ℕ) (why : Option Halt)
     → x.conn ≡ Some conn → HasBegun plan (wires.Dials address (Some conn)) a m → Shown m b (model_whole plan caller (beginning minds words) conn x) count why
-    → IsDone (outside_of a) (outside_of b) true plan (dials model_ends plan caller (beginning minds words) address x)
+    → IsPrintedAndCalled (loop_outside_of a) (loop_outside_of b) true plan (dials model_ends plan caller (beginning minds words) address x)
 unfolding printed
 dials_done laws plan caller a m b minds words address conn x count why is_conn begun s =
     let c = beginning minds words in
@@ -239,9 +239,9 @@ dials_done laws plan caller a m b minds words address conn x count why is_conn b
     let failed : HasFailed (next (makes (wires.Dials address (Some conn)) (asks x.first c)) (λ d. next (opens model_ends plan caller d conn x.met) (λ e. run model_ends plan e x.turns))) =
     subst HasFailed is (laws.faults.dialling plan caller c address x) in
     let fewer : faults o.entries ≤ failures o.calls = few_failures address conn o failed in
-    subst (λ z. IsDone (outside_of a) (outside_of b) true plan z) (sym is)
+    subst (λ z. IsPrintedAndCalled (loop_outside_of a) (loop_outside_of b) true plan z) (sym is)
     (record {
-      text = grew_then a.seen.held m.seen.held b.seen.held (header plan.settings) (text o.entries) begun.text s.printed;
+      text = grew_then a.seen.held m.seen.held b.seen.held (trace_header plan.settings) (text o.entries) begun.text s.printed;
       calls = grew_then a.seen.calls m.seen.calls b.seen.calls (wires.Dials address (Some conn) ∷ []) o.calls begun.calls s.told;
       clock = subst (λ z. Grew z b.asked o.state.asked) begun.asked s.asked;
       answered = (tt, s.answered);
@@ -252,7 +252,7 @@ dials_done laws plan caller a m b minds words address conn x count why is_conn b
     })
 
 dials_lawful : (laws : Laws) (plan : Plan) (caller : Caller) (minds : List Mind) (words : Stream) (address : List ℕ) (x : Dialled)
-    → IsDialling plan caller (beginning minds words) address x → IsLawful plan (dials model_ends plan caller (beginning minds words) address x)
+    → IsDialling plan caller (beginning minds words) address x → IsLawfulLoop plan (dials model_ends plan caller (beginning minds words) address x)
 dials_lawful laws plan caller minds words address x dialling = record {
   isolated = laws.isolated.dialling plan caller (beginning minds words) address x dialling;
   printed = laws.printed.dialling plan caller (beginning minds words) address x dialling;
@@ -290,7 +290,7 @@ dials_alone plan caller c address conn x is none =
 dial_done : (laws : Laws) (engine rbc : ℕ) (kmac : TripleKey) (plan : Plan) (a m b : Around) (minds : List Mind) (words : Stream) (address : List ℕ) (conn : ℕ) (new : Loop KEnd) (count : ℕ) (why : Option Halt)
     → AllAllowed plan.settings → plan.keys ≡ pair_of engine rbc kmac ∷ [] → plan.rbc ≡ rbc → m.newest ≡ conn → 0 < conn → m.listening ≡ a.listening
     → HasBegun plan (wires.Dials address (Some conn)) a m → WentOn plan (caller_of engine kmac) m b (beginning minds words) conn new count why
-    → HasDialled (outside_of a) (outside_of b) plan (caller_of engine kmac) address minds words count why
+    → HasDialled (loop_outside_of a) (loop_outside_of b) plan (caller_of engine kmac) address minds words count why
 dial_done laws engine rbc kmac plan a m b minds words address conn new count why allowed keys number top above hears begun w =
     let caller = caller_of engine kmac in
     let x = w.answers in
@@ -322,11 +322,11 @@ opened_as {E} o plan caller c conn a turns =
 
 -- over ends as they are kept the opening and the turns behind it are the same
 both_same : (laws : Laws) (plan : Plan) (caller : Caller) (minds : List Mind) (words : Stream) (address : List ℕ) (conn : ℕ) (x : ℕ × Met) → AllAllowed plan.settings → (turns : List Turn)
-    → let k = opening plan caller (beginning minds words) conn x in let m = model_opening plan caller minds words conn x.0 x.1 in
+    → let k = opening_over_kept_ends plan caller (beginning minds words) conn x in let m = model_opening plan caller minds words conn x.0 x.1 in
     Same (after k (acts (went kept_ends plan) k.state turns)) (after m (acts (went model_ends plan) m.state turns))
 unfolding met_so
 both_same laws plan caller minds words address conn x allowed turns =
-    let k = opening plan caller (beginning minds words) conn x in
+    let k = opening_over_kept_ends plan caller (beginning minds words) conn x in
     let m = model_opening plan caller minds words conn x.0 x.1 in
     let a = whole_alike laws (many plan (length turns)) caller minds words address conn (met_so conn x turns) allowed refl in
     same_as _ (after k (acts (went kept_ends plan) k.state turns)) _ (after m (acts (went model_ends plan) m.state turns))
@@ -334,10 +334,10 @@ both_same laws plan caller minds words address conn x allowed turns =
     (record { entries = a.entries; calls = a.calls; order = a.order; halt = a.halt })
 
 opening_same : (laws : Laws) (plan : Plan) (caller : Caller) (minds : List Mind) (words : Stream) (address : List ℕ) (conn : ℕ) (x : ℕ × Met) → AllAllowed plan.settings
-    → Same (opening plan caller (beginning minds words) conn x) (model_opening plan caller minds words conn x.0 x.1)
+    → Same (opening_over_kept_ends plan caller (beginning minds words) conn x) (model_opening plan caller minds words conn x.0 x.1)
 unfolding acts
 opening_same laws plan caller minds words address conn x allowed =
-    let k = opening plan caller (beginning minds words) conn x in
+    let k = opening_over_kept_ends plan caller (beginning minds words) conn x in
     let m = model_opening plan caller minds words conn x.0 x.1 in
     let a = both_same laws plan caller minds words address conn x allowed [] in
     record {
@@ -348,9 +348,9 @@ opening_same laws plan caller minds words address conn x allowed =
     }
 
 turns_same : (laws : Laws) (plan : Plan) (caller : Caller) (minds : List Mind) (words : Stream) (address : List ℕ) (conn : ℕ) (x : ℕ × Met) → AllAllowed plan.settings
-    → AlwaysSame plan (opening plan caller (beginning minds words) conn x).state (model_opening plan caller minds words conn x.0 x.1).state
+    → AlwaysSame plan (opening_over_kept_ends plan caller (beginning minds words) conn x).state (model_opening plan caller minds words conn x.0 x.1).state
 turns_same laws plan caller minds words address conn x allowed turns =
-    let k = opening plan caller (beginning minds words) conn x in
+    let k = opening_over_kept_ends plan caller (beginning minds words) conn x in
     let m = model_opening plan caller minds words conn x.0 x.1 in
     let a = both_same laws plan caller minds words address conn x allowed turns in
     let o = opening_same laws plan caller minds words address conn x allowed in
@@ -365,9 +365,9 @@ turns_same laws plan caller minds words address conn x allowed turns =
 
 -- with the dial and the header before the cut
 cut_at : (plan : Plan) (a m b : Around) (address : List ℕ) (conn : ℕ) (cut : Cut) (fault : LoopFault) → HasBegun plan (wires.Dials address (Some conn)) a m → Broke m.seen b.seen cut fault
-    → IsCutAt (outside_of a) (outside_of b) (header plan.settings ++ text_of cut) (wires.Dials address (Some conn) ∷ calls_of cut)
+    → IsCutAt (loop_outside_of a) (loop_outside_of b) (trace_header plan.settings ++ text_of cut) (wires.Dials address (Some conn) ∷ calls_of cut)
 cut_at plan a m b address conn cut fault begun broke = record {
-  text = grew_then a.seen.held m.seen.held b.seen.held (header plan.settings) (text_of cut) begun.text broke.text;
+  text = grew_then a.seen.held m.seen.held b.seen.held (trace_header plan.settings) (text_of cut) begun.text broke.text;
   calls = grew_then a.seen.calls m.seen.calls b.seen.calls (wires.Dials address (Some conn) ∷ []) (calls_of cut) begun.calls broke.calls;
   answered = (tt, broke.answered);
   counted = counts_then a.seen.failed m.seen.failed b.seen.failed (wires.Dials address (Some conn) ∷ []) (calls_of cut) (first_counts a.seen.failed m.seen.failed address conn begun.failed) broke.counted;
@@ -376,13 +376,13 @@ cut_at plan a m b address conn cut fault begun broke = record {
 -- the numbers of the connections that were opened in the whole turns rise
 rises_whole : (laws : Laws) (plan : Plan) (caller : Caller) (m k : Around) (minds : List Mind) (words : Stream) (address : List ℕ) (conn : ℕ) (l : Loop KEnd) (turns : List Turn) → AllAllowed plan.settings
     → (p : Opened plan caller m k (beginning minds words) conn l 0 None)
-    → Rises k.newest (opened_in (first_turns kept_ends plan (opening plan caller (beginning minds words) conn p.went.answers).state turns).calls)
+    → Rises k.newest (opened_in (first_turns kept_ends plan (opening_over_kept_ends plan caller (beginning minds words) conn p.went.answers).state turns).calls)
     → Rises m.newest (opened_in (model_whole (many plan (length turns)) caller (beginning minds words) conn (met_so conn p.went.answers turns)).calls)
 unfolding met_so
 rises_whole laws plan caller m k minds words address conn l turns allowed p rising =
     let x = p.went.answers in
     let few = many plan (length turns) in
-    let o = opening plan caller (beginning minds words) conn x in
+    let o = opening_over_kept_ends plan caller (beginning minds words) conn x in
     let r = first_turns kept_ends plan o.state turns in
     let none : opened_in o.calls ≡ [] = (opens_opens kept_ends plan caller (asks x.0 (beginning minds words)) conn x.1).0 in
     let is : whole few caller (beginning minds words) conn (met_so conn x turns) ≡ after o r =
@@ -397,7 +397,7 @@ rises_whole laws plan caller m k minds words address conn l turns allowed p risi
 dial_told : (laws : Laws) (plan : Plan) (caller : Caller) (minds : List Mind) (words : Stream) (address : List ℕ) (conn : ℕ) (x : ℕ × Met) (turns : List Turn) (cut : Cut)
     → IsDialling (many plan (length turns)) caller (beginning minds words) address (met_so conn x turns)
     → LiesIn (first_turns model_ends plan (model_opening plan caller minds words conn x.0 x.1).state turns) cut
-    → IsToldFirst (behind (model_opening plan caller minds words conn x.0 x.1) cut)
+    → IsToldFirst (cut_behind_part (model_opening plan caller minds words conn x.0 x.1) cut)
 unfolding met_so
 dial_told laws plan caller minds words address conn x turns cut dialling l =
     let more = many plan (length turns) in
@@ -408,19 +408,19 @@ dial_told laws plan caller minds words address conn x turns cut dialling l =
     ap (λ (z : Out (Course ModelEnd)). z.order) (dials_is model_ends more caller (beginning minds words) address conn (met_so conn x turns) refl)
     ∙ ap (λ (z : Out (Course ModelEnd)). Calling (wires.Dials address (Some conn)) ∷ (next z (λ e. run model_ends more e turns)).order) (opens_many model_ends plan (length turns) caller (asks x.0 (beginning minds words)) conn x.1) in
     let within = lies_then mine (λ e. run model_ends more e turns) cut l in
-    told_dialled more d address conn all.order (behind mine cut) within.rest (laws.in_order.dialling more caller (beginning minds words) address (met_so conn x turns) dialling) is within.is
+    told_dialled more d address conn all.order (cut_behind_part mine cut) within.rest (laws.in_order.dialling more caller (beginning minds words) address (met_so conn x turns) dialling) is within.is
 
 -- the run behind the opening broke off
 dial_off : (laws : Laws) (engine rbc : ℕ) (kmac : TripleKey) (plan : Plan) (a m k b : Around) (minds : List Mind) (words : Stream) (address : List ℕ) (conn : ℕ) (l : Loop KEnd) (fault : LoopFault)
     → AllAllowed plan.settings → plan.keys ≡ pair_of engine rbc kmac ∷ [] → plan.rbc ≡ rbc → m.newest ≡ conn → 0 < conn
     → HasBegun plan (wires.Dials address (Some conn)) a m → (p : Opened plan (caller_of engine kmac) m k (beginning minds words) conn l 0 None)
     → ((asked : List ℕ) → RanOff plan k b (course_of l 0 asked) fault)
-    → BreaksOffDialling (outside_of a) (outside_of b) plan (caller_of engine kmac) address minds words × FailedFor fault a.seen.sunk b.seen.sunk
+    → BreaksOffDialling (loop_outside_of a) (loop_outside_of b) plan (caller_of engine kmac) address minds words × FailedFor fault a.seen.sunk b.seen.sunk
 unfolding met_so lies_in_run lies_acts
 dial_off laws engine rbc kmac plan a m k b minds words address conn l fault allowed keys number top above begun p q =
     let caller = caller_of engine kmac in
     let x = p.went.answers in
-    let o = opening plan caller (beginning minds words) conn x in
+    let o = opening_over_kept_ends plan caller (beginning minds words) conn x in
     let w : RanOff plan k b o.state fault = subst (λ (z : Course KEnd). RanOff plan k b z fault) (course_is m k (beginning minds words) l 0 o p.went.is) (q o.state.asked) in
     let same = opening_same laws plan caller minds words address conn x allowed in
     let mine = model_opening plan caller minds words conn x.0 x.1 in
@@ -433,10 +433,10 @@ dial_off laws engine rbc kmac plan a m k b minds words address conn l fault allo
     (rises_whole laws plan caller m k minds words address conn l next_too allowed p (rises_with plan k b o.state fault w)) in
     let lies = lies_in_run plan o.state mine.state (turns_same laws plan caller minds words address conn x allowed) w.cut w.lies in
     let broke = broke_behind m.seen k.seen b.seen o.state o w.cut fault p.went.is.acted w.broke in (
-      InDialling conn x.0 x.1 w.cut (behind mine w.cut) lies
+      InDialling conn x.0 x.1 w.cut (cut_behind_part mine w.cut) lies
           (dials_lawful laws few caller minds words address (met_so conn x w.lies.turns) dialling) refl
           (dial_told laws plan caller minds words address conn x next_too w.cut dialling_too (lies_with model_ends plan mine.state w.cut lies))
-          (cut_at plan a m b address conn (behind mine w.cut) fault begun
+          (cut_at plan a m b address conn (cut_behind_part mine w.cut) fault begun
           (subst (λ z. Broke m.seen b.seen z fault) (behind_as o mine w.cut same.order) broke)),
       failed_behind a.seen.sunk m.seen.sunk b.seen.sunk fault begun.sunk broke.failed,
     )
@@ -467,7 +467,7 @@ dial_ran laws engine rbc kmac plan a m k b minds words left address conn l new c
 pub dial_closed : (laws : Laws) (engine rbc : ℕ) (kmac : TripleKey) (plan : Plan) (a m b : Around) (minds : List Mind) (words : Stream) (address : List ℕ) (conn : ℕ) (l : Loop KEnd) (stays : Bool)
     → AllAllowed plan.settings → plan.keys ≡ pair_of engine rbc kmac ∷ [] → plan.rbc ≡ rbc → m.newest ≡ conn → 0 < conn → m.listening ≡ a.listening
     → HasBegun plan (wires.Dials address (Some conn)) a m → stays ≡ false → Opened plan (caller_of engine kmac) m b (beginning minds words) conn l 0 (halt_if stays)
-    → HasDialled (outside_of a) (outside_of b) plan (caller_of engine kmac) address minds words 0 (Some OnClosed)
+    → HasDialled (loop_outside_of a) (loop_outside_of b) plan (caller_of engine kmac) address minds words 0 (Some OnClosed)
 dial_closed laws engine rbc kmac plan a m b minds words address conn l stays allowed keys number top above hears begun closed p =
     dial_done laws engine rbc kmac plan a m b minds words address conn l 0 (Some OnClosed) allowed keys number top above hears begun
     (closed_on plan (caller_of engine kmac) m b minds words conn l
@@ -475,15 +475,15 @@ dial_closed laws engine rbc kmac plan a m b minds words address conn l stays all
 
 -- the opening broke off
 opening_off : (laws : Laws) (plan : Plan) (caller : Caller) (a m b : Around) (minds : List Mind) (words : Stream) (address : List ℕ) (conn : ℕ) (fault : LoopFault)
-    → AllAllowed plan.settings → HasBegun plan (wires.Dials address (Some conn)) a m → WentOff (λ x cut. LiesIn (opening plan caller (beginning minds words) conn x) cut) m b fault
-    → BreaksOffDialling (outside_of a) (outside_of b) plan caller address minds words × FailedFor fault a.seen.sunk b.seen.sunk
+    → AllAllowed plan.settings → HasBegun plan (wires.Dials address (Some conn)) a m → WentOff (λ x cut. LiesIn (opening_over_kept_ends plan caller (beginning minds words) conn x) cut) m b fault
+    → BreaksOffDialling (loop_outside_of a) (loop_outside_of b) plan caller address minds words × FailedFor fault a.seen.sunk b.seen.sunk
 opening_off laws plan caller a m b minds words address conn fault allowed begun p =
     let x = p.answers in
     let same = opening_same laws plan caller minds words address conn x allowed in (
       InOpening conn x.0 x.1 p.cut
-          (lies_as (opening plan caller (beginning minds words) conn x) (model_opening plan caller minds words conn x.0 x.1) p.cut same.order p.lies)
+          (lies_as (opening_over_kept_ends plan caller (beginning minds words) conn x) (model_opening plan caller minds words conn x.0 x.1) p.cut same.order p.lies)
           (told_first plan (model_opening plan caller minds words conn x.0 x.1) p.cut (laws.opening plan caller (asks x.0 (beginning minds words)) conn x.1)
-          (lies_as (opening plan caller (beginning minds words) conn x) (model_opening plan caller minds words conn x.0 x.1) p.cut same.order p.lies))
+          (lies_as (opening_over_kept_ends plan caller (beginning minds words) conn x) (model_opening plan caller minds words conn x.0 x.1) p.cut same.order p.lies))
           (cut_at plan a m b address conn p.cut fault begun p.broke),
       failed_behind a.seen.sunk m.seen.sunk b.seen.sunk fault begun.sunk p.broke.failed,
     )
@@ -497,14 +497,14 @@ dial_stops laws plan caller a m b minds words left address conn new n (NoMemory 
 
 -- the header broke off
 dial_header_off : (plan : Plan) (caller : Caller) (a b : Around) (minds : List Mind) (words : Stream) (address : List ℕ) (conn : ℕ)
-    → Grew a.seen.calls b.seen.calls (wires.Dials address (Some conn) ∷ []) → a.seen.failed ≤ b.seen.failed → GrewPart a.seen.held b.seen.held (header plan.settings)
-    → BreaksOffDialling (outside_of a) (outside_of b) plan caller address minds words
+    → Grew a.seen.calls b.seen.calls (wires.Dials address (Some conn) ∷ []) → a.seen.failed ≤ b.seen.failed → GrewPart a.seen.held b.seen.held (trace_header plan.settings)
+    → BreaksOffDialling (loop_outside_of a) (loop_outside_of b) plan caller address minds words
 dial_header_off plan caller a b minds words address conn told less p =
     InDiallingHeader conn p.part p.rest p.is (record { text = p.grew; calls = told; answered = (tt, tt); counted = first_counts a.seen.failed b.seen.failed address conn less })
 
 pub dial_header_stops : (plan : Plan) (caller : Caller) (a b : Around) (minds : List Mind) (words left : Stream) (address : List ℕ) (conn : ℕ) (fault : LoopFault)
     → Grew a.seen.calls b.seen.calls (wires.Dials address (Some conn) ∷ []) → a.seen.failed ≤ b.seen.failed
-    → GrewPart a.seen.held b.seen.held (header plan.settings) → FailedFor fault a.seen.sunk b.seen.sunk → Dials plan caller a b minds words left address (Err fault)
+    → GrewPart a.seen.held b.seen.held (trace_header plan.settings) → FailedFor fault a.seen.sunk b.seen.sunk → Dials plan caller a b minds words left address (Err fault)
 dial_header_stops plan caller a b minds words left address conn Wires told less p q = absurd q
 dial_header_stops plan caller a b minds words left address conn Sink told less p q = (dial_header_off plan caller a b minds words address conn told less p, q)
 dial_header_stops plan caller a b minds words left address conn (NoMemory want) told less p q = (dial_header_off plan caller a b minds words address conn told less p, q)
@@ -542,7 +542,7 @@ pub dial_closed_from : (laws : Laws) (engine rbc : ℕ) (kmac : TripleKey) (plan
     → AllAllowed plan.settings → plan.keys ≡ pair_of engine rbc kmac ∷ [] → plan.rbc ≡ rbc → m.newest ≡ conn → 0 < conn → m.listening ≡ a.listening
     → HasBegun plan (wires.Dials address (Some conn)) a m → stays ≡ false → l0 ≡ (beginning minds words).loop → n0 ≡ 0 → n ≡ n0
     → Opens plan (caller_of engine kmac) m b (course_of l0 n0 []) conn l n (Ok stays)
-    → HasDialled (outside_of a) (outside_of b) plan (caller_of engine kmac) address minds words 0 (Some OnClosed)
+    → HasDialled (loop_outside_of a) (loop_outside_of b) plan (caller_of engine kmac) address minds words 0 (Some OnClosed)
 dial_closed_from laws engine rbc kmac plan a m b minds words address conn l0 l n0 n stays allowed keys number top above hears begun closed is zero same p =
     dial_closed laws engine rbc kmac plan a m b minds words address conn l stays allowed keys number top above hears begun closed
     (from_start (λ c z. Opened plan (caller_of engine kmac) m b c conn l z (halt_if stays)) minds words l0 n0 n is zero same p)
@@ -569,12 +569,12 @@ dial_ran_from laws engine rbc kmac plan a m k b minds words left address conn l0
 -- ---- the public clauses
 
 pub dialled_of : (plan : Plan) (caller : Caller) (a b : Around) (minds : List Mind) (words left : Stream) (address : List ℕ) (r : Result Served LoopFault) → Dials plan caller a b minds words left address r
-    → IfOk r (λ served. HasDialled (outside_of a) (outside_of b) plan caller address minds words served.turns (halt_for served.why))
+    → IfOk r (λ served. HasDialled (loop_outside_of a) (loop_outside_of b) plan caller address minds words served.turns (halt_for served.why))
 dialled_of plan caller a b minds words left address (Ok served) p = p
 dialled_of plan caller a b minds words left address (Err fault) p = tt
 
 pub dial_failed_of : (plan : Plan) (caller : Caller) (a b : Around) (minds : List Mind) (words left : Stream) (address : List ℕ) (r : Result Served LoopFault) → Dials plan caller a b minds words left address r
-    → r ≡ Err Wires → FailsToDial (outside_of a) (outside_of b) plan caller address minds words left
+    → r ≡ Err Wires → FailsToDial (loop_outside_of a) (loop_outside_of b) plan caller address minds words left
 dial_failed_of plan caller a b minds words left address r p is = (subst (λ z. Dials plan caller a b minds words left address z) is p).0
 
 pub dial_rose_of : (plan : Plan) (caller : Caller) (a b : Around) (minds : List Mind) (words left : Stream) (address : List ℕ) (r : Result Served LoopFault) → Dials plan caller a b minds words left address r
@@ -582,7 +582,7 @@ pub dial_rose_of : (plan : Plan) (caller : Caller) (a b : Around) (minds : List 
 dial_rose_of plan caller a b minds words left address r p is = (subst (λ z. Dials plan caller a b minds words left address z) is p).1
 
 pub dial_off_of : (plan : Plan) (caller : Caller) (a b : Around) (minds : List Mind) (words left : Stream) (address : List ℕ) (r : Result Served LoopFault) → Dials plan caller a b minds words left address r
-    → r ≡ Err Sink → BreaksOffDialling (outside_of a) (outside_of b) plan caller address minds words
+    → r ≡ Err Sink → BreaksOffDialling (loop_outside_of a) (loop_outside_of b) plan caller address minds words
 dial_off_of plan caller a b minds words left address r p is = (subst (λ z. Dials plan caller a b minds words left address z) is p).0
 
 pub dial_sunk_of : (plan : Plan) (caller : Caller) (a b : Around) (minds : List Mind) (words left : Stream) (address : List ℕ) (r : Result Served LoopFault) → Dials plan caller a b minds words left address r
@@ -590,7 +590,7 @@ pub dial_sunk_of : (plan : Plan) (caller : Caller) (a b : Around) (minds : List 
 dial_sunk_of plan caller a b minds words left address r p is = (subst (λ z. Dials plan caller a b minds words left address z) is p).1
 
 pub dial_memory_of : (plan : Plan) (caller : Caller) (a b : Around) (minds : List Mind) (words left : Stream) (address : List ℕ) (r : Result Served LoopFault) → Dials plan caller a b minds words left address r
-    → (want : Want) → r ≡ Err (NoMemory want) → BreaksOffDialling (outside_of a) (outside_of b) plan caller address minds words
+    → (want : Want) → r ≡ Err (NoMemory want) → BreaksOffDialling (loop_outside_of a) (loop_outside_of b) plan caller address minds words
 dial_memory_of plan caller a b minds words left address r p want is = (subst (λ z. Dials plan caller a b minds words left address z) is p).0
 
 -- all of them, of the plan that the caller has

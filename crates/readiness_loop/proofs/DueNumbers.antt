@@ -13,11 +13,11 @@ use Rattle.std.proofs.lemmas.Bool.{cases_Bool}
 use Rattle.std.proofs.lemmas.Bool.Decides.{nat_tests}
 use Rattle.std.proofs.lemmas.List.Elements.{All-contains, All-from_recursion}
 use Rattle.slab.specs.Slab.{Slab, get}
-use Rattle.er_end_model.specs.Steps.{first_of as first_moment}
+use Rattle.er_end_model.specs.Steps.{earlier_of_moments as first_moment}
 use Rattle.loop_model.specs.Sessions.{Session}
 use Rattle.loop_model.specs.Visits.{is_due, wakes}
 use Rattle.loop_model.specs.Loops.{numbers, until}
-use Rattle.readiness_loop.specs.WakeTimes.{pair_cmp, has, is_moment, numbers_until, IsFirst}
+use Rattle.readiness_loop.specs.WakeTimes.{pair_cmp, has_wake_time, is_moment, numbers_until, IsFirstWakeTime}
 use Rattle.readiness_loop.specs.Books.{seat, seats, sessions, sessions_at, IsSeat, AreSeated, wake_of, wake_in, wake_at, AreAwaited, due_numbers}
 use Rattle.readiness_loop.proofs.Risings.{AllEntries, all_found, same_rising, found_is, in_first, in_rest}
 use Rattle.readiness_loop.proofs.DuePairs.{all_pairs, due_rises, due_has, due_only}
@@ -42,13 +42,13 @@ wake_there : (slots : Slab (Session KEnd)) (places : BTreeMap ℕ ℕ) (n k : �
 unfolding wake_at
 wake_there slots places n k p = ap (wake_in slots) p
 
-pair_wakes : (slots : Slab (Session KEnd)) (places : BTreeMap ℕ ℕ) (pairs : BTreeSet (ℕ × ℕ)) (m n : ℕ) → AreAwaited slots places pairs → has pairs m n ≡ true
+pair_wakes : (slots : Slab (Session KEnd)) (places : BTreeMap ℕ ℕ) (pairs : BTreeSet (ℕ × ℕ)) (m n : ℕ) → AreAwaited slots places pairs → has_wake_time pairs m n ≡ true
     → (k : ℕ) × (place_of n places.entries ≡ Some k) × (wake_of (get slots k) ≡ Some m)
 unfolding wake_at
 pair_wakes slots places pairs m n p q = wake_found m slots (place_of n places.entries) (moment_is m (wake_at slots places n) (sym (p.kept m n) ∙ q))
 
 wakes_pair : (slots : Slab (Session KEnd)) (places : BTreeMap ℕ ℕ) (pairs : BTreeSet (ℕ × ℕ)) (m n k : ℕ) → AreAwaited slots places pairs → place_of n places.entries ≡ Some k
-    → wake_of (get slots k) ≡ Some m → has pairs m n ≡ true
+    → wake_of (get slots k) ≡ Some m → has_wake_time pairs m n ≡ true
 wakes_pair slots places pairs m n k p q r = p.kept m n ∙ ap (is_moment m) (wake_there slots places n k q ∙ r) ∙ self_moment m
 
 -- ---- the first moment
@@ -120,7 +120,7 @@ between : (m : ℕ) (o : Option ℕ) → IsFrom m o → IsUpTo m o → Some m �
 between m None p q = absurd q
 between m (Some at) p q = ap Some (let a : m ≤ at = p in let b : at ≤ m = q in omega (arith, a, b))
 
-pub until_first : (slots : Slab (Session KEnd)) (places : BTreeMap ℕ ℕ) (pairs : BTreeSet (ℕ × ℕ)) (first : Option ℕ) → AreAwaited slots places pairs → IsFirst pairs first
+pub until_first : (slots : Slab (Session KEnd)) (places : BTreeMap ℕ ℕ) (pairs : BTreeSet (ℕ × ℕ)) (first : Option ℕ) → AreAwaited slots places pairs → IsFirstWakeTime pairs first
     → first ≡ until kept_ends (sessions slots places)
 until_first slots places pairs None p h =
     sym (until_none slots places.entries (all_found (λ n k. wake_of (get slots k) ≡ None) places.entries p.rise
@@ -223,7 +223,7 @@ due_is newest m slots places pairs sorted seated p ordered moved in_order =
     (due_at_rises m slots places.entries p.rise) are_due all_due
     ∙ sym (due_seats newest m slots places.entries seated)
   where
-    is_there : (at n : ℕ) → has pairs at n ≡ true → at ≤ m → Contains (due_at m slots places.entries) n
+    is_there : (at n : ℕ) → has_wake_time pairs at n ≡ true → at ≤ m → Contains (due_at m slots places.entries) n
     is_there at n q low =
         let there = pair_wakes slots places pairs at n p q in
         due_at_has m n there.0 slots places.entries there.1 (come m at (wake_of (get slots there.0)) there.2 low)

@@ -13,7 +13,7 @@ use Rattle.std.proofs.lemmas.List.Elements.{All-contains, All-from_recursion}
 use Rattle.std.proofs.lemmas.List.Sorted.{All-permutation, Contains-permutation, IsNonDecreasingBy-from_sort}
 use Rattle.std.proofs.lemmas.Map.Keys.{IsDistinct-IsPermutation, IsStrictlyIncreasing-from_distinct, sorted_from_strictly_increasing}
 use Rattle.std.proofs.Math.Dec.{eqb}
-use Rattle.readiness_loop.specs.WakeTimes.{pair_cmp, has, numbers_until}
+use Rattle.readiness_loop.specs.WakeTimes.{pair_cmp, has_wake_time, numbers_until}
 use Rattle.readiness_loop.proofs.WakePairs.{same_pair}
 use Rattle.readiness_loop.proofs.Risings.{in_first, in_rest}
 
@@ -126,7 +126,7 @@ due_rises moment w ps sorted p all moved in_order =
     (IsDistinct-IsPermutation eqb flips (numbers_until moment ps) sorted moved (distinct_until moment w ps p all)))
 
 pub due_has : (moment at n : ℕ) (pairs : BTreeSet (ℕ × ℕ)) (sorted : List ℕ) → IsPermutation (numbers_until moment pairs.keys) sorted
-    → has pairs at n ≡ true → at ≤ moment → Contains sorted n
+    → has_wake_time pairs at n ≡ true → at ≤ moment → Contains sorted n
 due_has moment at n pairs sorted moved p q = Contains-permutation (numbers_until moment pairs.keys) sorted n moved (until_has moment at n pairs.keys p q)
 
 pub due_only : (moment : ℕ) (Q : ℕ → Type 0) (ps : List (ℕ × ℕ)) (sorted : List ℕ) → IsPermutation (numbers_until moment ps) sorted

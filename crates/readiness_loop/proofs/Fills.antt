@@ -9,14 +9,14 @@ use Rattle.std.specs.Ordering.{nat_cmp}
 use Rattle.std.specs.declared.cmp.Ordering.TheVariants.{Less}
 use Rattle.std.proofs.lemmas.Bool.{cases_Bool}
 use Rattle.std.proofs.lemmas.Bool.Decides.{nat_tests}
-use Rattle.loop_model.specs.Outs.{Out, still, changed, first_of}
+use Rattle.loop_model.specs.Outs.{Out, still, changed, first_answer_of}
 use Rattle.loop_model.specs.Sessions.{Rules, Session}
 use Rattle.loop_model.specs.Visits.{Met, nothing_met, Visit, visited, is_due, wakes}
 use Rattle.loop_model.specs.Loops.{visit_at, swept, numbers}
 use Rattle.loop_session.specs.declared.loop_fault.LoopFault.{LoopFault}
-use Rattle.loop_io.specs.Acting.{Acted, BreaksAt, Does}
+use Rattle.loop_io.specs.Acting.{Acted, BreaksAt, DoesLoopPart}
 use Rattle.loop_io.specs.Seeing.{Seen}
-use Rattle.readiness_loop.specs.Books.{due_numbers, IsTimed}
+use Rattle.readiness_loop.specs.Books.{due_numbers, IsTimedVisit}
 use Rattle.readiness_loop.proofs.Numbers.{Leaves, visited_leaves, visited_idle}
 use Rattle.readiness_loop.proofs.Sweeps.{after}
 
@@ -31,7 +31,7 @@ skipped : (f : Session KEnd → Met → Out (List (Session KEnd))) (s : Session 
 unfolding swept visit_at
 skipped f s [] ss answers p = refl
 skipped f s (n ∷ ns) ss answers p =
-    let x = visit_at f n ss (first_of nothing_met answers) in
+    let x = visit_at f n ss (first_answer_of nothing_met answers) in
     rw p.0 (ap (after x) (skipped f s ns x.state (drop 1 answers) p.1))
 
 same_out : {S : Type 0} (o : Out S) → o ≡ record { state = o.state; entries = o.entries; calls = o.calls; order = o.order }
@@ -79,7 +79,7 @@ due_filled : (m : ℕ) (f : Session KEnd → Met → Out (List (Session KEnd))) 
     → AreOthers s.number (numbers ss) → is_due m (wakes kept_ends s) ≡ true → Filled m f ss (drop 1 answers) → Filled m f (s ∷ ss) answers
 unfolding swept visit_at due_numbers
 due_filled m f s ss answers h p t rest =
-    let a = first_of nothing_met answers in
+    let a = first_answer_of nothing_met answers in
     let x = changed (λ now. now ++ ss) (f s a) in
     let same : swept f (numbers ss) ((f s a).state ++ ss) rest.0 ≡ swept f (due_numbers m ss) ((f s a).state ++ ss) (drop 1 answers) =
     left_skipped f s.number (f s a).state (numbers ss) ss rest.0 (h.leaves s a) p
@@ -106,12 +106,12 @@ filled m f (s ∷ ss) answers h p =
       | inr t ↦ idle_filled m f s ss answers h apart t (filled m f ss answers h p.1)
     ]
 
-pub by_moments : (r : Rules) (m : ℕ) (v : Visit) → IsTimed v → IsByMoments m (visited kept_ends r m v)
+pub by_moments : (r : Rules) (m : ℕ) (v : Visit) → IsTimedVisit v → IsByMoments m (visited kept_ends r m v)
 by_moments r m v timed = record { leaves = visited_leaves r m v timed; idle = visited_idle r m v timed }
 
 pub due_does : {T : Type 0} (a b : Seen) (m : ℕ) (f : Session KEnd → Met → Out (List (Session KEnd))) (ns : List ℕ) (ss now : List (Session KEnd)) (r : Result T LoopFault)
     → IsByMoments m f → IsStrictlySortedBy nat_cmp (numbers ss) → ns ≡ due_numbers m ss
-    → Does a b now (swept f ns ss) r → Does a b now (swept f (numbers ss) ss) r
+    → DoesLoopPart a b now (swept f ns ss) r → DoesLoopPart a b now (swept f (numbers ss) ss) r
 due_does a b m f ns ss now (Ok done) h p is did =
     let all = filled m f ss did.answers h p in
     record { answers = all.0; is = subst (λ z. Acted a b now z) (ap (λ z. swept f z ss did.answers) is ∙ sym all.1) did.is }

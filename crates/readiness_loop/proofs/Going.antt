@@ -14,8 +14,8 @@ use Rattle.loop_session.specs.declared.loop_fault.LoopFault.TheVariants.{Wires, 
 use Rattle.loop_io.specs.Acting.{Acted, BreaksAt, Did, Stopped}
 use Rattle.loop_io.specs.Seeing.{Seen}
 use Rattle.readiness_loop.specs.declared.live_loop.Next.{Next}
-use Rattle.readiness_loop.specs.Cuts.{behind, LiesIn}
-use Rattle.readiness_loop.specs.Courses.{Around, Came, Went, WentOff, LiesBehind, LiesInTurn, Turned, Turns, halt_of, course_of}
+use Rattle.readiness_loop.specs.Cuts.{cut_behind_part, LiesIn}
+use Rattle.readiness_loop.specs.Courses.{Around, HasComeFromCourse, Went, WentOff, LiesBehind, LiesInTurn, Turned, Turns, halt_of, course_of}
 use Rattle.readiness_loop.proofs.Cutting.{cut_of, cut_lies, cut_broke, broke_behind, lies_as, lies_first, lies_then}
 use Rattle.readiness_loop.proofs.Sequences.{acted_as, acted_still, acted_then}
 use Rattle.readiness_loop.proofs.Openings.{opened_in-append, before_opens}
@@ -62,8 +62,8 @@ go_came plan a m b l new ss n count first at asked h moment clock did top fails 
     ap (λ (z : ℕ). course_of (record l { sessions = ss; moment = z }) n (asked ++ first ∷ [])) moment
     ∙ ap (λ (z : Option Halt). let d : Course KEnd = record { loop = record l { sessions = ss; moment = max l.moment first }; turns = n; halt = z; asked = asked ++ first ∷ [] } in d) none
     ∙ acted.state in
-    let is : Came m b c1 new count h (turned_unless kept_ends r.state.halt plan r.state x) =
-    subst (λ (z : Course KEnd). Came m b c1 new count h (turned_unless kept_ends z.halt plan z x)) there q.is in
+    let is : HasComeFromCourse m b c1 new count h (turned_unless kept_ends r.state.halt plan r.state x) =
+    subst (λ (z : Course KEnd). HasComeFromCourse m b c1 new count h (turned_unless kept_ends z.halt plan z x)) there q.is in
     let o = turned_unless kept_ends r.state.halt plan r.state x in
     let calls_are : opened_in (r.calls ++ o.calls) ≡ opened_in o.calls = opened_in-append r.calls o.calls ∙ ap (λ z. z ++ opened_in o.calls) (readied_opens plan c x) in
     record {
@@ -105,7 +105,7 @@ go_off plan a m b l ss n first at asked fault moment did top none q =
     subst (λ z. LiesIn (turned_unless kept_ends None plan r.state x) z) (sym q'.is) (lies_then (turn kept_ends r.state x) (λ z. follows kept_ends plan z x) q'.rest q'.lies) in
     record {
       answers = x;
-      cut = behind r q.cut;
+      cut = cut_behind_part r q.cut;
       lies = record {
         lies = lies_then r (λ z. turned_unless kept_ends z.halt plan z x) q.cut (subst (λ (z : Option Halt). LiesIn (turned_unless kept_ends z plan r.state x) q.cut) on behind_turn);
         rises = subst (λ z. Rises z (opened_by x.happening)) top q'.rises;
@@ -175,7 +175,7 @@ go_closed plan a b l ss n first at asked moment clock did top fails hears halts 
     let calls_are : opened_in (r.calls ++ []) ≡ [] = ap opened_in (append-nil r.calls) ∙ readied_opens plan c x in
     record {
       answers = x;
-      is = subst (λ z. Came a b c (record l { sessions = ss; moment = at }) n (Some OnClosed) z) whole
+      is = subst (λ z. HasComeFromCourse a b c (record l { sessions = ss; moment = at }) n (Some OnClosed) z) whole
           (record {
             loop = ap (λ (z : ℕ). let k : Loop KEnd = record l { sessions = ss; moment = z } in k) moment ∙ ap (λ (z : Course KEnd). z.loop) acted.state;
             turns = ap (λ (z : Course KEnd). z.turns) acted.state;

@@ -10,7 +10,7 @@ use Rattle.loop_model.specs.Outs.{Out, acts}
 use Rattle.loop_model.specs.Loops.{Plan, Course, Turn, beginning, went}
 use Rattle.loop_session.specs.Keeping.{kept_ends}
 use Rattle.loop_session.specs.Standing.{RunsAlike}
-use Rattle.readiness_loop.specs.Cuts.{Cut, LiesIn, behind, LiesInRun}
+use Rattle.readiness_loop.specs.Cuts.{Cut, LiesIn, cut_behind_part, LiesInRun}
 use Rattle.readiness_loop.proofs.Sweeps.{after}
 use Rattle.readiness_loop.proofs.Cutting.{lies_as}
 use Rattle.readiness_loop.proofs.Planned.{many, run_many, lies_acts}
@@ -73,7 +73,7 @@ step_same plan c d same turns x =
       halt = both.halt;
     }
 
-pub behind_as : {S T : Type 0} (a : Out S) (b : Out T) (cut : Cut) → a.order ≡ b.order → behind a cut ≡ behind b cut
+pub behind_as : {S T : Type 0} (a : Out S) (b : Out T) (cut : Cut) → a.order ≡ b.order → cut_behind_part a cut ≡ cut_behind_part b cut
 behind_as a b cut p = ap (λ z. signs z ++ cut) p
 
 -- a cut of the one is a cut of the other
@@ -87,7 +87,7 @@ lies_in_run plan c d same cut l =
     lies_acts model_ends plan d cut l.turns l.fewer on l.last l.rest
     (lies_as (went kept_ends plan a.state l.last) (went model_ends plan b.state l.last) l.rest (step_same plan c d same l.turns l.last).order
     (subst (λ (z : Out (Course KEnd)). LiesIn (went kept_ends plan z.state l.last) l.rest) first l.lies))
-    (subst (λ (z : Out (Course KEnd)). cut ≡ behind z l.rest) first l.is ∙ behind_as a b l.rest (same l.turns).order)
+    (subst (λ (z : Out (Course KEnd)). cut ≡ cut_behind_part z l.rest) first l.is ∙ behind_as a b l.rest (same l.turns).order)
 
 -- a loop that begins
 pub begin_same : RunsAlike → (plan : Plan) (minds : List Mind) (words : Stream) → AllAllowed plan.settings → AlwaysSame plan (beginning minds words) (beginning minds words)

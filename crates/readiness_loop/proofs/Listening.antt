@@ -21,14 +21,14 @@ use Rattle.link_trait.specs.Outside.{Grew, GrewPart, Rose}
 use Rattle.link_trait.specs.Growth.{grew_nothing, grew_then}
 use Rattle.link_trait.specs.Wires.{Call, Listens, Closes, given_of, taken_of}
 use Rattle.loop_model.specs.Ends.{ModelEnd, model_ends}
-use Rattle.loop_model.specs.Journals.{header, text}
-use Rattle.loop_model.specs.Deeds.{Deed, Calling, entries_in, calls_in, text_of, calls_of}
+use Rattle.loop_model.specs.Journals.{trace_header, text}
+use Rattle.loop_model.specs.Deeds.{LoopDeed, Calling, entries_in, calls_in, text_of, calls_of}
 use Rattle.loop_model.specs.Outs.{Out, next, makes}
 use Rattle.loop_model.specs.Signs.{order_next, order_makes}
-use Rattle.loop_model.specs.Orderings.{GivesTold, IsSilent, IsSequenced, OrderIsKept, OpeningIsKept}
+use Rattle.loop_model.specs.Orderings.{GivesTold, IsSilentOnConnection, IsSequenced, OrderIsKept, OpeningIsKept}
 use Rattle.loop_model.specs.Loops.{Plan, Loop, Halt, OnFailed, Course, Turn, run, beginning, serves, printed}
 use Rattle.loop_model.specs.Parts.{Rises, of, calls_at, opened_in}
-use Rattle.loop_model.specs.Laws.{ConnectionsAreIsolated, JournalIsPrinted, OctetsAreAccounted, CallsAreOnOpen, FaultsHaveFailed, TurnsAreCounted, IsServing, RunsSo, octets_of, faults, failures, turns_of, HaltsBy}
+use Rattle.loop_model.specs.Laws.{ConnectionsAreIsolated, JournalIsPrinted, OctetsAreAccounted, CallsAreOnOpen, FaultsHaveFailed, TurnsAreCounted, IsServing, RunsSo, octets_of_entries, faults, failures, turns_of, HaltsBy}
 use Rattle.loop_model.specs.Points.{OctetsAreHeard, UsersReply}
 use Rattle.loop_model.specs.Told.{UsersHear}
 use Rattle.loop_model.specs.Recordings.{RecordingsReplay}
@@ -38,8 +38,8 @@ use Rattle.loop_session.specs.declared.loop_fault.LoopFault.{LoopFault}
 use Rattle.loop_session.specs.declared.loop_fault.LoopFault.TheVariants.{Wires, Sink, NoMemory}
 use Rattle.loop_io.specs.Seeing.{Counts}
 use Rattle.readiness_loop.specs.declared.line_plan.Served.{Served}
-use Rattle.readiness_loop.specs.Claims.{IsDone, IsLawful, HasTurns, AreSpoken, UsersHeard, HasServed, NotListening, TurnFailed, FailsToServe, IsCutAt, BeforeListening, InServingHeader, InServing, BreaksOffServing, halt_for, ServesOn}
-use Rattle.readiness_loop.specs.Courses.{Around, Went, RanOff, Runs, Serves, outside_of, course_of, loop_of}
+use Rattle.readiness_loop.specs.Claims.{IsPrintedAndCalled, IsLawfulLoop, HasTurns, AreSpoken, UsersHeard, HasServed, NotListening, TurnFailed, FailsToServe, IsCutAt, BeforeListening, InServingHeader, InServing, BreaksOffServing, halt_for, ServesOn}
+use Rattle.readiness_loop.specs.Courses.{Around, Went, RanOff, Runs, Serves, loop_outside_of, course_of, loop_of}
 use Rattle.readiness_loop.specs.Lives.{around_at}
 use Rattle.loop_io.specs.Sequels.{counts_none, counts_then, failed_behind}
 use Rattle.readiness_loop.proofs.Acceptings.{no_sessions}
@@ -68,7 +68,7 @@ pub record Laws : Type 0 where
 
 -- a first call was made, and the header was printed
 pub record HasBegun (plan : Plan) (call : Call) (a m : Around) : Type 0 where
-  pub text : Grew a.seen.held m.seen.held (header plan.settings)
+  pub text : Grew a.seen.held m.seen.held (trace_header plan.settings)
   pub calls : Grew a.seen.calls m.seen.calls (call ∷ [])
   pub sunk : a.seen.sunk ≤ m.seen.sunk
   pub failed : a.seen.failed ≤ m.seen.failed
@@ -90,12 +90,12 @@ is_serving plan m b minds words turns count why allowed s = record {
 
 serves_done : (laws : Laws) (plan : Plan) (a m b : Around) (minds : List Mind) (words : Stream) (address : List ℕ) (turns : List Turn) (count : ℕ) (why : Option Halt)
     → HasBegun plan (Listens address true) a m → Shown m b (run model_ends plan (beginning minds words) turns) count why
-    → IsDone (outside_of a) (outside_of b) true plan (serves model_ends plan (beginning minds words) address true turns)
+    → IsPrintedAndCalled (loop_outside_of a) (loop_outside_of b) true plan (serves model_ends plan (beginning minds words) address true turns)
 unfolding serves printed
 serves_done laws plan a m b minds words address turns count why begun s =
     let o = run model_ends plan (beginning minds words) turns in
     record {
-      text = grew_then a.seen.held m.seen.held b.seen.held (header plan.settings) (text o.entries) begun.text s.printed;
+      text = grew_then a.seen.held m.seen.held b.seen.held (trace_header plan.settings) (text o.entries) begun.text s.printed;
       calls = grew_then a.seen.calls m.seen.calls b.seen.calls (Listens address true ∷ []) o.calls begun.calls s.told;
       clock = subst (λ z. Grew z b.asked o.state.asked) begun.asked s.asked;
       answered = (tt, s.answered);
@@ -108,25 +108,25 @@ serves_done laws plan a m b minds words address turns count why begun s =
 
 -- with the listen before it
 listened : (plan : Plan) (c : Course ModelEnd) (address : List ℕ) (o : Out (Course ModelEnd)) → IsSequenced plan o → IsSequenced plan (next (makes (Listens address true) c) (λ d. o))
-unfolding entries_in calls_in given_of octets_of of
+unfolding entries_in calls_in given_of octets_of_entries of
 listened plan c address o h = record {
   one = order_next (makes (Listens address true) c) (λ d. o) (order_makes (Listens address true) c) h.one;
   told = told;
   last = last;
 }
   where
-    told : (conn : ℕ) (done rest : List Deed) → done ++ rest ≡ Calling (Listens address true) ∷ o.order → GivesTold conn done
+    told : (conn : ℕ) (done rest : List LoopDeed) → done ++ rest ≡ Calling (Listens address true) ∷ o.order → GivesTold conn done
     told conn [] rest e = record { rest = []; is = refl }
     told conn (d ∷ done) rest e =
         let s = same_first d (Calling (Listens address true)) (done ++ rest) o.order e in
         subst (λ z. GivesTold conn (z ∷ done)) (sym s.0) (h.told conn done rest s.1)
 
-    last : (conn : ℕ) (done rest : List Deed) → done ++ Calling (Closes conn) ∷ rest ≡ Calling (Listens address true) ∷ o.order → IsSilent conn rest
+    last : (conn : ℕ) (done rest : List LoopDeed) → done ++ Calling (Closes conn) ∷ rest ≡ Calling (Listens address true) ∷ o.order → IsSilentOnConnection conn rest
     last conn [] rest e = absurd (let s : Calling (Closes conn) ≡ Calling (Listens address true) = (same_first (Calling (Closes conn)) (Calling (Listens address true)) rest o.order e).0 in cc s)
     last conn (d ∷ done) rest e = h.last conn done rest (same_first d (Calling (Listens address true)) (done ++ Calling (Closes conn) ∷ rest) o.order e).1
 
 serves_lawful : (laws : Laws) (plan : Plan) (minds : List Mind) (words : Stream) (address : List ℕ) (turns : List Turn)
-    → IsServing plan (beginning minds words) turns → IsLawful plan (serves model_ends plan (beginning minds words) address true turns)
+    → IsServing plan (beginning minds words) turns → IsLawfulLoop plan (serves model_ends plan (beginning minds words) address true turns)
 unfolding serves given_of taken_of calls_at
 serves_lawful laws plan minds words address turns serving = record {
   isolated = laws.isolated.serving plan (beginning minds words) turns serving;
@@ -175,7 +175,7 @@ serves_halted plan m b minds words address turns count why s = s.halt
 serve_done : (laws : Laws) (plan : Plan) (a m b : Around) (minds : List Mind) (words : Stream) (address : List ℕ) (new : Loop KEnd) (count : ℕ) (why : Option Halt)
     → AllAllowed plan.settings → HasBegun plan (Listens address true) a m
     → Went (run kept_ends plan (beginning minds words)) m b (beginning minds words) new count why
-    → HasServed (outside_of a) (outside_of b) plan address minds words count why
+    → HasServed (loop_outside_of a) (loop_outside_of b) plan address minds words count why
 serve_done laws plan a m b minds words address new count why allowed begun w =
     let s = shown m b (beginning minds words) new count why (run kept_ends plan (beginning minds words) w.answers) (run model_ends plan (beginning minds words) w.answers)
     refl w.is (laws.runs plan minds words w.answers allowed) in
@@ -192,7 +192,7 @@ serve_done laws plan a m b minds words address new count why allowed begun w =
     }
 
 -- nothing was printed and called
-pub nothing_done : (a : Around) → IsCutAt (outside_of a) (outside_of a) [] []
+pub nothing_done : (a : Around) → IsCutAt (loop_outside_of a) (loop_outside_of a) [] []
 nothing_done a = record {
   text = grew_nothing a.seen.held;
   calls = grew_nothing a.seen.calls;
@@ -209,7 +209,7 @@ first_counts x y address p = omega (arith, p)
 
 serve_off : (laws : Laws) (plan : Plan) (a m b : Around) (minds : List Mind) (words : Stream) (address : List ℕ) (fault : LoopFault) → AllAllowed plan.settings
     → HasBegun plan (Listens address true) a m → RanOff plan m b (beginning minds words) fault
-    → BreaksOffServing (outside_of a) (outside_of b) plan address minds words
+    → BreaksOffServing (loop_outside_of a) (loop_outside_of b) plan address minds words
 unfolding lies_in_run lies_acts
 serve_off laws plan a m b minds words address fault allowed begun w =
     let few = many plan (length w.lies.turns) in
@@ -230,7 +230,7 @@ serve_off laws plan a m b minds words address fault allowed begun w =
     (serves_lawful laws few minds words address w.lies.turns serving)
     (told_first more (run model_ends more (beginning minds words) next_too) w.cut (laws.in_order.serving more (beginning minds words) next_too serving_too) (lies_with model_ends plan (beginning minds words) w.cut lies))
     (record {
-      text = grew_then a.seen.held m.seen.held b.seen.held (header plan.settings) (text_of w.cut) begun.text w.broke.text;
+      text = grew_then a.seen.held m.seen.held b.seen.held (trace_header plan.settings) (text_of w.cut) begun.text w.broke.text;
       calls = grew_then a.seen.calls m.seen.calls b.seen.calls (Listens address true ∷ []) (calls_of w.cut) begun.calls w.broke.calls;
       answered = (tt, w.broke.answered);
       counted = counts_then a.seen.failed m.seen.failed b.seen.failed (Listens address true ∷ []) (calls_of w.cut) (first_counts a.seen.failed m.seen.failed address begun.failed) w.broke.counted;
@@ -252,14 +252,14 @@ serve_ran laws plan a m b minds words left address new count (Err (NoMemory want
 
 -- the header broke off
 header_off : (plan : Plan) (a b : Around) (minds : List Mind) (words : Stream) (address : List ℕ)
-    → Grew a.seen.calls b.seen.calls (Listens address true ∷ []) → a.seen.failed ≤ b.seen.failed → GrewPart a.seen.held b.seen.held (header plan.settings)
-    → BreaksOffServing (outside_of a) (outside_of b) plan address minds words
+    → Grew a.seen.calls b.seen.calls (Listens address true ∷ []) → a.seen.failed ≤ b.seen.failed → GrewPart a.seen.held b.seen.held (trace_header plan.settings)
+    → BreaksOffServing (loop_outside_of a) (loop_outside_of b) plan address minds words
 header_off plan a b minds words address told less p =
     InServingHeader p.part p.rest p.is (record { text = p.grew; calls = told; answered = (tt, tt); counted = first_counts a.seen.failed b.seen.failed address less })
 
 pub header_stops : (plan : Plan) (a b : Around) (minds : List Mind) (words left : Stream) (address : List ℕ) (fault : LoopFault)
     → Grew a.seen.calls b.seen.calls (Listens address true ∷ []) → a.seen.failed ≤ b.seen.failed
-    → GrewPart a.seen.held b.seen.held (header plan.settings) → FailedFor fault a.seen.sunk b.seen.sunk → Serves plan a b minds words left address (Err fault)
+    → GrewPart a.seen.held b.seen.held (trace_header plan.settings) → FailedFor fault a.seen.sunk b.seen.sunk → Serves plan a b minds words left address (Err fault)
 header_stops plan a b minds words left address Wires told less p q = absurd q
 header_stops plan a b minds words left address Sink told less p q = (header_off plan a b minds words address told less p, q)
 header_stops plan a b minds words left address (NoMemory want) told less p q = (header_off plan a b minds words address told less p, q)
@@ -287,8 +287,8 @@ never_listens plan a b minds words left address held told asked same rose = (
 -- ---- as a function has them
 
 pub header_put : {T : Type 0} (h i : SinkState) (settings : Settings) (before now line : List ℕ) (r : Result T LoopFault)
-    → before ≡ [] → now ≡ before ++ line_text (header_words settings) → line ≡ now → Puts h i line r → Puts h i (header settings) r
-unfolding header
+    → before ≡ [] → now ≡ before ++ line_text (header_words settings) → line ≡ now → Puts h i line r → Puts h i (trace_header settings) r
+unfolding trace_header
 header_put h i settings before now line r none more is p =
     subst (λ z. Puts h i z r) (is ∙ more ∙ ap (λ z. z ++ line_text (header_words settings)) none) p
 
@@ -305,12 +305,12 @@ serve_ran_from laws plan a m b minds words left address l new count r allowed be
 -- ---- the public clauses
 
 pub served_of : (plan : Plan) (a b : Around) (minds : List Mind) (words left : Stream) (address : List ℕ) (r : Result Served LoopFault) → Serves plan a b minds words left address r
-    → IfOk r (λ served. HasServed (outside_of a) (outside_of b) plan address minds words served.turns (halt_for served.why))
+    → IfOk r (λ served. HasServed (loop_outside_of a) (loop_outside_of b) plan address minds words served.turns (halt_for served.why))
 served_of plan a b minds words left address (Ok served) p = p
 served_of plan a b minds words left address (Err fault) p = tt
 
 pub failed_of : (plan : Plan) (a b : Around) (minds : List Mind) (words left : Stream) (address : List ℕ) (r : Result Served LoopFault) → Serves plan a b minds words left address r
-    → r ≡ Err Wires → FailsToServe (outside_of a) (outside_of b) plan address minds words left
+    → r ≡ Err Wires → FailsToServe (loop_outside_of a) (loop_outside_of b) plan address minds words left
 failed_of plan a b minds words left address r p is = (subst (λ z. Serves plan a b minds words left address z) is p).0
 
 pub rose_of : (plan : Plan) (a b : Around) (minds : List Mind) (words left : Stream) (address : List ℕ) (r : Result Served LoopFault) → Serves plan a b minds words left address r
@@ -318,7 +318,7 @@ pub rose_of : (plan : Plan) (a b : Around) (minds : List Mind) (words left : Str
 rose_of plan a b minds words left address r p is = (subst (λ z. Serves plan a b minds words left address z) is p).1
 
 pub off_of : (plan : Plan) (a b : Around) (minds : List Mind) (words left : Stream) (address : List ℕ) (r : Result Served LoopFault) → Serves plan a b minds words left address r
-    → r ≡ Err Sink → BreaksOffServing (outside_of a) (outside_of b) plan address minds words
+    → r ≡ Err Sink → BreaksOffServing (loop_outside_of a) (loop_outside_of b) plan address minds words
 off_of plan a b minds words left address r p is = (subst (λ z. Serves plan a b minds words left address z) is p).0
 
 pub sunk_of : (plan : Plan) (a b : Around) (minds : List Mind) (words left : Stream) (address : List ℕ) (r : Result Served LoopFault) → Serves plan a b minds words left address r
@@ -326,7 +326,7 @@ pub sunk_of : (plan : Plan) (a b : Around) (minds : List Mind) (words left : Str
 sunk_of plan a b minds words left address r p is = (subst (λ z. Serves plan a b minds words left address z) is p).1
 
 pub memory_of : (plan : Plan) (a b : Around) (minds : List Mind) (words left : Stream) (address : List ℕ) (r : Result Served LoopFault) → Serves plan a b minds words left address r
-    → (want : Want) → r ≡ Err (NoMemory want) → BreaksOffServing (outside_of a) (outside_of b) plan address minds words
+    → (want : Want) → r ≡ Err (NoMemory want) → BreaksOffServing (loop_outside_of a) (loop_outside_of b) plan address minds words
 memory_of plan a b minds words left address r p want is = (subst (λ z. Serves plan a b minds words left address z) is p).0
 
 -- all of them, of the plan that the caller has

@@ -1,5 +1,6 @@
 -- What a loop does is the same however many turns are planned, but for how many it does.
 use Rattle.std.proofs.Common.{◌≡◌, ℕ, zero, suc, ◌<◌, nat_lt, List, [], ◌∷◌, Option, Some, None, length, refl, sym, ◌∙◌, ap, subst, arith}
+use Rattle.trace_model.specs.Checks.{most_live}
 use Rattle.std.specs.Prelude.{if◌then◌else◌}
 use Rattle.er_trace.specs.declared.event.Event.TheVariants as event
 use Rattle.er_users.specs.Users.{Mind}
@@ -8,8 +9,8 @@ use Rattle.link_trait.specs.declared.wires.Happening.TheVariants as happening
 use Rattle.loop_model.specs.Ends.{EndOps}
 use Rattle.loop_model.specs.Outs.{Out, next, changed, acts, exactly}
 use Rattle.loop_model.specs.Visits.{Met}
-use Rattle.loop_model.specs.Loops.{Plan, Loop, Halt, Course, Turn, Caller, most_live, turned_away, next_user, halt_by, halt_behind, nothing_comes, answered_by, accepted, called_by, called, opens, happened, readied, turn, turned_unless, went_unless, went, run}
-use Rattle.readiness_loop.specs.Cuts.{Cut, LiesIn, behind, LiesInRun}
+use Rattle.loop_model.specs.Loops.{Plan, Loop, Halt, Course, Turn, Caller, turned_away, next_user, halt_by, halt_behind, nothing_comes, answered_by, accepted, called_by, called, opens, happened, readied, turn, turned_unless, went_unless, went, run}
+use Rattle.readiness_loop.specs.Cuts.{Cut, LiesIn, cut_behind_part, LiesInRun}
 use Rattle.readiness_loop.proofs.Sweeps.{after}
 
 pub exactly_all : (n : ℕ) (xs : List Turn) → length xs ≡ n → exactly n nothing_comes xs ≡ xs
@@ -76,7 +77,7 @@ module _ {E : Type 0} (o : EndOps E) where
       ap (λ (z : Out (Loop E)). changed (λ (l : Loop E). let d : Course E = record c { loop = l; halt = halt_by plan l.sessions } in d) z) (called_many (next_user c.loop.users) plan n caller c.loop conn a)
 
   unfoldable pub lies_acts : (plan : Plan) (c : Course E) (cut : Cut) (turns : List Turn) → length turns < plan.turns → (acts (went o plan) c turns).state.halt ≡ None → (last : Turn) (rest : Cut)
-      → LiesIn (went o plan (acts (went o plan) c turns).state last) rest → cut ≡ behind (acts (went o plan) c turns) rest → LiesInRun o plan c cut
+      → LiesIn (went o plan (acts (went o plan) c turns).state last) rest → cut ≡ cut_behind_part (acts (went o plan) c turns) rest → LiesInRun o plan c cut
   lies_acts plan c cut turns fewer goes last rest lies is = record {
     turns = turns;
     fewer = fewer;
@@ -84,5 +85,5 @@ module _ {E : Type 0} (o : EndOps E) where
     last = last;
     rest = rest;
     lies = subst (λ (z : Out (Course E)). LiesIn (went o plan z.state last) rest) (sym (run_many plan c turns)) lies;
-    is = subst (λ (z : Out (Course E)). cut ≡ behind z rest) (sym (run_many plan c turns)) is;
+    is = subst (λ (z : Out (Course E)). cut ≡ cut_behind_part z rest) (sym (run_many plan c turns)) is;
   }

@@ -11,8 +11,8 @@ use Rattle.loop_model.specs.Parts.{opened_in, opened_by, Rises, newest}
 use Rattle.loop_session.specs.declared.loop_fault.LoopFault.{LoopFault}
 use Rattle.loop_session.specs.declared.loop_fault.LoopFault.TheVariants.{Wires, Sink, NoMemory}
 use Rattle.readiness_loop.specs.declared.live_loop.Next.{Next}
-use Rattle.readiness_loop.specs.Cuts.{behind, LiesIn}
-use Rattle.readiness_loop.specs.Courses.{Around, Came, Went, WentOff, LiesInTurn, RanOff, Turns, Runs, course_of, halt_of}
+use Rattle.readiness_loop.specs.Cuts.{cut_behind_part, LiesIn}
+use Rattle.readiness_loop.specs.Courses.{Around, HasComeFromCourse, Went, WentOff, LiesInTurn, RanOff, Turns, Runs, course_of, halt_of}
 use Rattle.readiness_loop.proofs.Cutting.{broke_behind}
 use Rattle.readiness_loop.proofs.Planned.{exactly_all, run_many, lies_acts}
 use Rattle.readiness_loop.proofs.Sequences.{acted_still, acted_then}
@@ -23,7 +23,7 @@ use Rattle.readiness_loop.proofs.Sweeps.{after, after_after}
 pub record RanSome (plan : Plan) (a b : Around) (c : Course KEnd) (l : Loop KEnd) (n many : ℕ) : Type 0 where
   pub answers : List Turn
   pub count : length answers ≡ many
-  pub is : Came a b c l n None (acts (went kept_ends plan) c answers)
+  pub is : HasComeFromCourse a b c l n None (acts (went kept_ends plan) c answers)
 
 pub acts-append : {S A : Type 0} (f : S → A → Out S) (s : S) (xs ys : List A) → acts f s (xs ++ ys) ≡ next (acts f s xs) (λ t. acts f t ys)
 unfolding acts
@@ -79,7 +79,7 @@ ran_none plan a l n asked = record {
 }
 
 -- a course that goes on is one of its loop and its turns
-pub course_is : (a b : Around) (c : Course KEnd) (l : Loop KEnd) (n : ℕ) (o : Out (Course KEnd)) → Came a b c l n None o → course_of l n o.state.asked ≡ o.state
+pub course_is : (a b : Around) (c : Course KEnd) (l : Loop KEnd) (n : ℕ) (o : Out (Course KEnd)) → HasComeFromCourse a b c l n None o → course_of l n o.state.asked ≡ o.state
 course_is a b c l n o p =
     ap (λ (z : Loop KEnd). course_of z n o.state.asked) p.loop
     ∙ ap (λ (z : ℕ). course_of o.state.loop z o.state.asked) p.turns
@@ -98,7 +98,7 @@ after_still o = rw (append-nil o.entries, append-nil o.calls, append-nil o.order
 
 -- one part, and another behind it
 pub came_next : (a m b : Around) (c : Course KEnd) (o : Out (Course KEnd)) (f : Course KEnd → Out (Course KEnd)) (l new : Loop KEnd) (n count : ℕ) (h why : Option Halt)
-    → Came a m c l n h o → Came m b o.state new count why (f o.state) → Came a b c new count why (next o f)
+    → HasComeFromCourse a m c l n h o → HasComeFromCourse m b o.state new count why (f o.state) → HasComeFromCourse a b c new count why (next o f)
 came_next a m b c o f l new n count h why p q =
     let w = f o.state in
     let calls_are = opened_in-append o.calls w.calls in
@@ -119,17 +119,17 @@ came_next a m b c o f l new n count h why p q =
 
 -- one turn more
 came_more : (plan : Plan) (a m b : Around) (c : Course KEnd) (l new : Loop KEnd) (n count : ℕ) (h : Option Halt) (xs : List Turn) (x : Turn)
-    → Came a m c l n None (acts (went kept_ends plan) c xs)
-    → Came m b (course_of l n (acts (went kept_ends plan) c xs).state.asked) new count h (went kept_ends plan (course_of l n (acts (went kept_ends plan) c xs).state.asked) x)
-    → Came a b c new count h (acts (went kept_ends plan) c (xs ++ x ∷ []))
+    → HasComeFromCourse a m c l n None (acts (went kept_ends plan) c xs)
+    → HasComeFromCourse m b (course_of l n (acts (went kept_ends plan) c xs).state.asked) new count h (went kept_ends plan (course_of l n (acts (went kept_ends plan) c xs).state.asked) x)
+    → HasComeFromCourse a b c new count h (acts (went kept_ends plan) c (xs ++ x ∷ []))
 came_more plan a m b c l new n count h xs x p q =
     let o = acts (went kept_ends plan) c xs in
     let d = course_is a m c l n o p in
-    let q' : Came m b o.state new count h (went kept_ends plan o.state x) =
-    subst (λ (z : Course KEnd). Came m b z new count h (went kept_ends plan z x)) d q in
+    let q' : HasComeFromCourse m b o.state new count h (went kept_ends plan o.state x) =
+    subst (λ (z : Course KEnd). HasComeFromCourse m b z new count h (went kept_ends plan z x)) d q in
     let whole : acts (went kept_ends plan) c (xs ++ x ∷ []) ≡ next o (λ t. went kept_ends plan t x) =
     acts-append (went kept_ends plan) c xs (x ∷ []) ∙ ap (after o) (acts_one (went kept_ends plan) o.state x) in
-    subst (λ z. Came a b c new count h z) (sym whole) (came_next a m b c o (λ t. went kept_ends plan t x) l new n count None h p q')
+    subst (λ z. HasComeFromCourse a b c new count h z) (sym whole) (came_next a m b c o (λ t. went kept_ends plan t x) l new n count None h p q')
 
 pub ran_more : (plan : Plan) (a m b : Around) (c : Course KEnd) (l new : Loop KEnd) (n count many : ℕ)
     → RanSome plan a m c l n many
@@ -159,14 +159,14 @@ ran_halted plan a m b c l new n count many why p fits q =
     let done : acts (went kept_ends plan) o.state rest ≡ still o.state = halted_acts kept_ends plan o.state why rest (sym came.halt) in
     let whole : acts (went kept_ends plan) c (exactly plan.turns nothing_comes xs) ≡ o =
     ap (acts (went kept_ends plan) c) (exactly_more plan.turns xs few) ∙ acts-append (went kept_ends plan) c xs rest ∙ ap (after o) done ∙ after_still o in
-    record { answers = xs; is = subst (λ z. Came a b c new count (Some why) z) (sym whole) came }
+    record { answers = xs; is = subst (λ z. HasComeFromCourse a b c new count (Some why) z) (sym whole) came }
 
 pub ran_all : (plan : Plan) (a b : Around) (c : Course KEnd) (l : Loop KEnd) (n many : ℕ) → RanSome plan a b c l n many → many ≡ plan.turns
     → Went (run kept_ends plan c) a b c l n None
 unfolding run
 ran_all plan a b c l n many p is = record {
   answers = p.answers;
-  is = subst (λ z. Came a b c l n None (acts (went kept_ends plan) c z)) (sym (exactly_all plan.turns p.answers (p.count ∙ is))) p.is;
+  is = subst (λ z. HasComeFromCourse a b c l n None (acts (went kept_ends plan) c z)) (sym (exactly_all plan.turns p.answers (p.count ∙ is))) p.is;
 }
 
 pub ran_off : (plan : Plan) (a m b : Around) (c : Course KEnd) (l : Loop KEnd) (n many : ℕ) (fault : LoopFault)
@@ -178,8 +178,8 @@ ran_off plan a m b c l n many fault p fits q =
     let o = acts (went kept_ends plan) c p.answers in
     let t = q o.state.asked in
     record {
-      cut = behind o t.cut;
-      lies = lies_acts kept_ends plan c (behind o t.cut) p.answers (let h = p.count in omega (arith, h, fits)) (sym p.is.halt) t.answers t.cut
+      cut = cut_behind_part o t.cut;
+      lies = lies_acts kept_ends plan c (cut_behind_part o t.cut) p.answers (let h = p.count in omega (arith, h, fits)) (sym p.is.halt) t.answers t.cut
           (subst (λ (z : Course KEnd). LiesIn (went kept_ends plan z t.answers) t.cut) (course_is a m c l n o p.is) t.lies.lies) refl;
       rises = subst (λ (z : Out (Course KEnd)). Rises a.newest (opened_in z.calls ++ opened_by t.answers.happening)) (sym (run_many kept_ends plan c p.answers))
           (rises-append a.newest (opened_in o.calls) (opened_by t.answers.happening) p.is.rises (subst (λ z. Rises z (opened_by t.answers.happening)) p.is.opened t.lies.rises));

@@ -11,7 +11,7 @@ use Rattle.loop_model.specs.Laws.{failures}
 use Rattle.loop_session.specs.declared.loop_fault.LoopFault.{LoopFault}
 use Rattle.loop_io.specs.Acting.{Acted, BreaksAt}
 use Rattle.loop_io.specs.Seeing.{Seen, AreAnsweredSo, Counts}
-use Rattle.loop_io.specs.Sequels.{text_parts, answered_parts, grammar_parts, counts_then, breaks_next}
+use Rattle.loop_io.specs.Sequels.{entries_text_parts, answered_parts, grammar_parts, counts_then, breaks_next}
 
 pub failures-none : failures [] ≡ 0
 unfolding failures
@@ -70,7 +70,7 @@ acted_still a x y is = record {
 pub acted_then : {S T : Type 0} (a b c : Seen) (x : S) (y : T) (o : Out S) (f : S → Out T) → Acted a b x o → Acted b c y (f o.state) → Acted a c y (next o f)
 acted_then a b c x y o f p q = record {
   state = q.state;
-  printed = subst (λ z. Grew a.held c.held z) (sym (text_parts o.entries (f o.state).entries))
+  printed = subst (λ z. Grew a.held c.held z) (sym (entries_text_parts o.entries (f o.state).entries))
       (grew_then a.held b.held c.held (text o.entries) (text (f o.state).entries) p.printed q.printed);
   later = (let h : a.sunk ≤ b.sunk = p.later in let k : b.sunk ≤ c.sunk = q.later in omega arith);
   told = grew_then a.calls b.calls c.calls o.calls (f o.state).calls p.told q.told;

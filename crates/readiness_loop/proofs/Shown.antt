@@ -10,7 +10,7 @@ use Rattle.loop_model.specs.Loops.{Loop, Halt, Course}
 use Rattle.loop_model.specs.Parts.{opened_in, Rises}
 use Rattle.loop_session.specs.Standing.{AreAlike}
 use Rattle.loop_io.specs.Seeing.{AreAnsweredSo, Counts}
-use Rattle.readiness_loop.specs.Courses.{Around, Came}
+use Rattle.readiness_loop.specs.Courses.{Around, HasComeFromCourse}
 
 -- what a loop of the model printed and called, what its clock answered, and how it stopped
 pub record Shown (a b : Around) (o : Out (Course ModelEnd)) (count : ℕ) (why : Option Halt) : Type 0 where
@@ -26,7 +26,7 @@ pub record Shown (a b : Around) (o : Out (Course ModelEnd)) (count : ℕ) (why :
   pub alone : a.listening ≡ false → opened_in o.calls ≡ []
 
 pub shown : (a b : Around) (c : Course KEnd) (l : Loop KEnd) (n : ℕ) (h : Option Halt) (o : Out (Course KEnd)) (p : Out (Course ModelEnd))
-    → c.asked ≡ [] → Came a b c l n h o → AreAlike o p → Shown a b p n h
+    → c.asked ≡ [] → HasComeFromCourse a b c l n h o → AreAlike o p → Shown a b p n h
 shown a b c l n h o p none came same = record {
   turns = came.turns ∙ same.turns;
   halt = came.halt ∙ same.halt;

@@ -5,7 +5,7 @@ use Rattle.std.proofs.Common.{◌≡◌, ℕ, zero, suc, ◌+◌, ◌<◌, ◌�
 use Rattle.std.proofs.lemmas.List.{take-append-drop, length-take-le}
 use Rattle.std.proofs.lemmas.Option.{slice_get_within}
 use Rattle.slab.specs.Slab.{Slab, get}
-use Rattle.er_end_model.specs.Steps.{first_of as first_moment}
+use Rattle.er_end_model.specs.Steps.{earlier_of_moments as first_moment}
 use Rattle.loop_model.specs.Outs.{Out, next}
 use Rattle.loop_model.specs.Sessions.{Session}
 use Rattle.loop_model.specs.Visits.{Met, wakes}
@@ -13,7 +13,7 @@ use Rattle.loop_model.specs.Loops.{visit_at, swept, numbers, until}
 use Rattle.loop_session.specs.declared.loop_fault.LoopFault.{LoopFault}
 use Rattle.loop_session.specs.declared.loop_fault.LoopFault.TheVariants.{NoMemory}
 use Rattle.er_base.specs.declared.no_memory.NoMemory.{NoMemory as Want}
-use Rattle.loop_io.specs.Acting.{Acted, BreaksAt, Did, Stopped, Does}
+use Rattle.loop_io.specs.Acting.{Acted, BreaksAt, Did, Stopped, DoesLoopPart}
 use Rattle.loop_io.specs.Seeing.{Seen}
 use Rattle.readiness_loop.specs.Books.{seat, seats, sessions_at, IsSeat, AreSeated}
 use Rattle.loop_io.specs.Sequels.{breaks_first, breaks_wanted}
@@ -160,8 +160,8 @@ swept_next a b c f ns i n ss now then_ p at q =
     subst (λ z. SweptSome a c f ns z ss then_) one (swept_more a b c f ns i n ss now then_ p at q)
 
 pub swept_as : {T : Type 0} (a b : Seen) (f : Session KEnd → Met → Out (List (Session KEnd))) (ns ms : List ℕ) (ss now : List (Session KEnd)) (r : Result T LoopFault)
-    → ns ≡ ms → Does a b now (swept f ns ss) r → Does a b now (swept f ms ss) r
-swept_as a b f ns ms ss now r p q = subst (λ z. Does a b now (swept f z ss) r) p q
+    → ns ≡ ms → DoesLoopPart a b now (swept f ns ss) r → DoesLoopPart a b now (swept f ms ss) r
+swept_as a b f ns ms ss now r p q = subst (λ z. DoesLoopPart a b now (swept f z ss) r) p q
 
 pub until_step : (slots : Slab (Session KEnd)) (k : ℕ) (ks rest : List ℕ) (first then_ wake all : Option ℕ) (s : Session KEnd)
     → ks ≡ k ∷ rest → first_moment first (until kept_ends (seats slots ks)) ≡ all → Some s ≡ get slots k → wake ≡ wakes kept_ends s → then_ ≡ first_moment first wake

@@ -6,14 +6,14 @@ use Rattle.std.specs.Prelude.{◌==◌}
 use Rattle.std.proofs.lemmas.Bool.{cases_Bool}
 use Rattle.link_trait.specs.Wires.{Dials, Closes, given_of}
 use Rattle.loop_model.specs.Ends.{EndOps, ModelEnd}
-use Rattle.loop_model.specs.Journals.{Entry, entry_text, text}
-use Rattle.loop_model.specs.Deeds.{Deed, Printing, Calling, entries_in, calls_in, printings, Sign, Octet, OnWires, octet_signs, signs}
+use Rattle.loop_model.specs.Journals.{JournalEntry, entry_text, text}
+use Rattle.loop_model.specs.Deeds.{LoopDeed, Printing, Calling, entries_in, calls_in, printings, Sign, Octet, OnWires, octet_signs, signs}
 use Rattle.loop_model.specs.Outs.{Out, acts}
 use Rattle.loop_model.specs.Loops.{Plan, Halt, Course, Turn, readied, turn, follows, turned_unless, went_unless, went}
 use Rattle.loop_model.specs.Parts.{of, is_at, calls_at, opened_in, opened_by, Rises}
-use Rattle.loop_model.specs.Orderings.{IsSilent, IsSequenced}
+use Rattle.loop_model.specs.Orderings.{IsSilentOnConnection, IsSequenced}
 use Rattle.loop_session.specs.declared.loop_fault.LoopFault.{LoopFault}
-use Rattle.readiness_loop.specs.Cuts.{Cut, LiesIn, behind, IsToldFirst, first_turns, LiesInRun}
+use Rattle.readiness_loop.specs.Cuts.{Cut, LiesIn, cut_behind_part, IsToldFirst, first_turns, LiesInRun}
 use Rattle.readiness_loop.specs.Courses.{Around, RanOff}
 use Rattle.readiness_loop.proofs.Sweeps.{after}
 use Rattle.readiness_loop.proofs.Cutting.{lies_then}
@@ -50,21 +50,21 @@ octets_within (o ∷ os) (c ∷ cut) m p =
     let rest = octets_within os cut m s.1 in
     (o ∷ rest.0, rest.1, ap (λ k. k ∷ cut) s.0 ∙ ap (λ k. Octet o ∷ k) rest.2, ap (λ k. o ∷ k) rest.3)
 
-record Place (ds : List Deed) (cut : Cut) : Type 0 where
-  done : List Deed
-  under_way : List Entry
-  more : List Deed
+record Place (ds : List LoopDeed) (cut : Cut) : Type 0 where
+  done : List LoopDeed
+  under_way : List JournalEntry
+  more : List LoopDeed
   begun : List ℕ
   unbegun : List ℕ
   begins : begun ++ unbegun ≡ text under_way
   is : cut ≡ signs done ++ octet_signs begun
   all : done ++ (printings under_way ++ more) ≡ ds
 
-place_first : (ds : List Deed) → Place ds []
+place_first : (ds : List LoopDeed) → Place ds []
 unfolding signs
 place_first ds = record { done = []; under_way = []; more = ds; begun = []; unbegun = []; begins = refl; is = refl; all = refl }
 
-place : (ds : List Deed) (cut rest : List Sign) → cut ++ rest ≡ signs ds → Place ds cut
+place : (ds : List LoopDeed) (cut rest : List Sign) → cut ++ rest ≡ signs ds → Place ds cut
 unfolding signs
 place [] [] rest p = place_first []
 place [] (c ∷ cut) rest p = absurd (let q : c ∷ (cut ++ rest) ≡ [] = p in cc q)
@@ -101,7 +101,7 @@ place (Printing x ∷ ds) cut rest p = at (seam cut rest (octet_signs (entry_tex
           all = ap (λ k. Printing x ∷ k) f.all;
         }
 
-silent_front : (n : ℕ) (ds es : List Deed) → IsSilent n (ds ++ es) → IsSilent n ds
+silent_front : (n : ℕ) (ds es : List LoopDeed) → IsSilentOnConnection n (ds ++ es) → IsSilentOnConnection n ds
 unfolding of calls_at entries_in calls_in
 silent_front n [] es p = (refl, refl)
 silent_front n (Printing x ∷ ds) es p =
@@ -116,11 +116,11 @@ silent_front n (Calling call ∷ ds) es p =
     ]
 
 -- what follows a close, up to a beginning of lines
-silent_up_to : (n : ℕ) (before rest more all done : List Deed) (xs : List Entry) → ((far : List Deed) → before ++ Calling (Closes n) ∷ far ≡ all → IsSilent n far)
-    → before ++ Calling (Closes n) ∷ rest ≡ done → done ++ (printings xs ++ more) ≡ all → IsSilent n (rest ++ printings xs)
+silent_up_to : (n : ℕ) (before rest more all done : List LoopDeed) (xs : List JournalEntry) → ((far : List LoopDeed) → before ++ Calling (Closes n) ∷ far ≡ all → IsSilentOnConnection n far)
+    → before ++ Calling (Closes n) ∷ rest ≡ done → done ++ (printings xs ++ more) ≡ all → IsSilentOnConnection n (rest ++ printings xs)
 silent_up_to n before rest more all done xs h e is =
     silent_front n (rest ++ printings xs) more
-    (subst (λ z. IsSilent n z) (sym (append_assoc rest (printings xs) more))
+    (subst (λ z. IsSilentOnConnection n z) (sym (append_assoc rest (printings xs) more))
     (h (rest ++ (printings xs ++ more)) (sym (append_assoc before (Calling (Closes n) ∷ rest) (printings xs ++ more)) ∙ ap (λ z. z ++ (printings xs ++ more)) e ∙ is)))
 
 -- a cut in a loop that is in order
@@ -139,12 +139,12 @@ told_first plan o cut h l =
     }
 
 -- the same, without the dial that comes first
-pub told_dialled : (plan : Plan) (o : Out (Course ModelEnd)) (address : List ℕ) (conn : ℕ) (ds : List Deed) (cut rest : List Sign) → IsSequenced plan o
+pub told_dialled : (plan : Plan) (o : Out (Course ModelEnd)) (address : List ℕ) (conn : ℕ) (ds : List LoopDeed) (cut rest : List Sign) → IsSequenced plan o
     → o.order ≡ Calling (Dials address (Some conn)) ∷ ds → cut ++ rest ≡ signs ds → IsToldFirst cut
 unfolding given_of entries_in calls_in
 told_dialled plan o address conn ds cut rest h same p =
     let q = place ds cut rest p in
-    let d : Deed = Calling (Dials address (Some conn)) in
+    let d : LoopDeed = Calling (Dials address (Some conn)) in
     record {
       done = q.done;
       under_way = q.under_way;
@@ -169,7 +169,7 @@ lies_with {E} o plan c cut l =
     let first : first_turns o plan c l.turns ≡ a = run_many o plan c l.turns in
     let all : first_turns o plan c (l.turns ++ l.last ∷ []) ≡ after a (went o plan a.state l.last) = run_many o plan c (l.turns ++ l.last ∷ []) ∙ acts_last o plan c l.turns l.last in
     subst (λ (z : Out (Course E)). LiesIn z cut) (sym all)
-    (subst (λ z. LiesIn (after a (went o plan a.state l.last)) z) (sym (subst (λ (z : Out (Course E)). cut ≡ behind z l.rest) first l.is))
+    (subst (λ z. LiesIn (after a (went o plan a.state l.last)) z) (sym (subst (λ (z : Out (Course E)). cut ≡ cut_behind_part z l.rest) first l.is))
     (lies_then a (λ z. went o plan z l.last) l.rest (subst (λ (z : Out (Course E)). LiesIn (went o plan z.state l.last) l.rest) first l.lies)))
 
 -- a turn opens no connection but the one that it accepts

@@ -1,4 +1,5 @@
 -- A turn: what happens is handled whole, and why the loop halts behind it.
+use Rattle.trace_model.specs.Checks.{most_live}
 use Rattle.er_end.specs.KeptEnds.{KEnd}
 use Rattle.loop_session.specs.Keeping.{kept_ends}
 use Rattle.std.proofs.Common.{◌≡◌, ℕ, ◌+◌, ◌-◌, ◌≤◌, max, nat_lt, Bool, true, false, inl, inr, List, [], ◌∷◌, ◌++◌, Option, Some, None, Result, Ok, Err, length, refl, sym, ◌∙◌, ap, subst, arith, append-nil}
@@ -16,18 +17,18 @@ use Rattle.loop_model.specs.Outs.{changed, makes}
 use Rattle.loop_model.specs.Signs.{order_makes}
 use Rattle.loop_model.specs.Sessions.{Session}
 use Rattle.loop_model.specs.Visits.{Met, Visit, nothing_met, visited, Read, Write}
-use Rattle.loop_model.specs.Loops.{Plan, Loop, rules_of, with_sessions, visit_at, until, accepted, answered_by, next_user, most_live, happened, Halt, OnEnded, OnClosed, OnFailed, halt_by, halt_behind, Course, Turn, turn, follows, turned_unless}
+use Rattle.loop_model.specs.Loops.{Plan, Loop, rules_of, with_sessions, visit_at, until, accepted, answered_by, next_user, happened, Halt, OnEnded, OnClosed, OnFailed, halt_by, halt_behind, Course, Turn, turn, follows, turned_unless}
 use Rattle.loop_model.specs.Parts.{opened_in, opened_by, Rises, newest}
-use Rattle.loop_session.specs.Parts.{rules}
+use Rattle.loop_session.specs.Parts.{rules_of_session}
 use Rattle.loop_model.specs.Laws.{failures}
 use Rattle.er_users.specs.Users.{Mind}
 use Rattle.loop_session.specs.declared.loop_fault.LoopFault.{LoopFault}
 use Rattle.loop_session.specs.declared.loop_fault.LoopFault.TheVariants.{Wires, Sink, NoMemory}
-use Rattle.loop_io.specs.Acting.{Acted, Did, Stopped, Does}
+use Rattle.loop_io.specs.Acting.{Acted, Did, Stopped, DoesLoopPart}
 use Rattle.loop_io.specs.Seeing.{Seen, seen}
 use Rattle.readiness_loop.specs.declared.live_loop.Next.{Next}
 use Rattle.readiness_loop.specs.Books.{AreSeated}
-use Rattle.readiness_loop.specs.Cuts.{behind}
+use Rattle.readiness_loop.specs.Cuts.{cut_behind_part}
 use Rattle.readiness_loop.specs.Courses.{around, Went, WentOff, LiesBehind, Turned, halt_of, halt_after, HaltsSo, course_of, Acts, IsReadyFor}
 use Rattle.readiness_loop.proofs.Sequences.{acted_as, acted_still, acted_then, breaks_as}
 use Rattle.readiness_loop.proofs.Openings.{visit_opens}
@@ -36,14 +37,14 @@ use Rattle.readiness_loop.proofs.Cutting.{cut_of, cut_lies, cut_broke, broke_beh
 -- ---- what happened
 
 pub react_accept : {T : Type 0} (a b : Seen) (plan : Plan) (l new : Loop KEnd) (conn : Conn) (r : Result T LoopFault)
-    → Acts a b new (accepted kept_ends plan l conn.0) r → Does a b new (happened kept_ends plan l (happening.Accepted conn)) r
+    → Acts a b new (accepted kept_ends plan l conn.0) r → DoesLoopPart a b new (happened kept_ends plan l (happening.Accepted conn)) r
 unfolding happened
 react_accept a b plan l new conn (Ok done) p = record { answers = nothing_met; is = p }
 react_accept a b plan l new conn (Err fault) p = record { answers = nothing_met; breaks = p }
 
 pub react_read : {T : Type 0} (a b : Seen) (plan : Plan) (l new : Loop KEnd) (ss : List (Session KEnd)) (conn : Conn) (r : Result T LoopFault)
-    → new ≡ with_sessions l ss → Does a b ss (visit_at (visited kept_ends (rules_of plan) l.moment Read) conn.0 l.sessions) r
-    → Does a b new (happened kept_ends plan l (happening.Readable conn)) r
+    → new ≡ with_sessions l ss → DoesLoopPart a b ss (visit_at (visited kept_ends (rules_of plan) l.moment Read) conn.0 l.sessions) r
+    → DoesLoopPart a b new (happened kept_ends plan l (happening.Readable conn)) r
 unfolding happened
 react_read a b plan l new ss conn (Ok done) same p = record {
   answers = p.answers;
@@ -56,8 +57,8 @@ react_read a b plan l new ss conn (Err fault) same p = record {
 }
 
 pub react_write : {T : Type 0} (a b : Seen) (plan : Plan) (l new : Loop KEnd) (ss : List (Session KEnd)) (conn : Conn) (r : Result T LoopFault)
-    → new ≡ with_sessions l ss → Does a b ss (visit_at (visited kept_ends (rules_of plan) l.moment Write) conn.0 l.sessions) r
-    → Does a b new (happened kept_ends plan l (happening.Writable conn)) r
+    → new ≡ with_sessions l ss → DoesLoopPart a b ss (visit_at (visited kept_ends (rules_of plan) l.moment Write) conn.0 l.sessions) r
+    → DoesLoopPart a b new (happened kept_ends plan l (happening.Writable conn)) r
 unfolding happened
 react_write a b plan l new ss conn (Ok done) same p = record {
   answers = p.answers;
@@ -204,7 +205,7 @@ went_off plan h i calls mid now k j l n asked at what second fault due told less
     let rest = cut_of (seen h mid) (seen i now) (follows kept_ends plan d a) fault breaks in
     record {
       answers = a;
-      cut = behind (turn kept_ends c a) rest;
+      cut = cut_behind_part (turn kept_ends c a) rest;
       lies = record { rest = rest; lies = cut_lies (seen h mid) (seen i now) (follows kept_ends plan d a) fault breaks; is = refl; rises = (newest_by what calls.opened (opened_by_turn what calls.opened) refl number).1 };
       broke = broke_behind (seen h calls) (seen h mid) (seen i now) d (turn kept_ends c a) rest fault first
           (cut_broke (seen h mid) (seen i now) (follows kept_ends plan d a) fault breaks);
@@ -268,28 +269,28 @@ halts_as plan happening.Failed ss why r p q = q
 -- ---- the same, by the facts as a function has them
 
 pub accept_does : {T : Type 0} (a b : Seen) (plan : Plan) (l new : Loop KEnd) (what : Happening) (conn : Conn) (r : Result T LoopFault)
-    → what ≡ happening.Accepted conn → Acts a b new (accepted kept_ends plan l conn.0) r → Does a b new (happened kept_ends plan l what) r
-accept_does a b plan l new what conn r is p = subst (λ w. Does a b new (happened kept_ends plan l w) r) (sym is) (react_accept a b plan l new conn r p)
+    → what ≡ happening.Accepted conn → Acts a b new (accepted kept_ends plan l conn.0) r → DoesLoopPart a b new (happened kept_ends plan l what) r
+accept_does a b plan l new what conn r is p = subst (λ w. DoesLoopPart a b new (happened kept_ends plan l w) r) (sym is) (react_accept a b plan l new conn r p)
 
 -- a visit by the moment of a loop and the set-up time of its plan
 at_plan : {T : Type 0} (a b : Seen) (plan : Plan) (l : Loop KEnd) (ss : List (Session KEnd)) (v : Visit) (n : ℕ) (r : Result T LoopFault) (m setup : ℕ)
-    → m ≡ l.moment → setup ≡ plan.settings.setup → Does a b ss (visit_at (visited kept_ends (rules plan.keys setup) m v) n l.sessions) r
-    → Does a b ss (visit_at (visited kept_ends (rules_of plan) l.moment v) n l.sessions) r
+    → m ≡ l.moment → setup ≡ plan.settings.setup → DoesLoopPart a b ss (visit_at (visited kept_ends (rules_of_session plan.keys setup) m v) n l.sessions) r
+    → DoesLoopPart a b ss (visit_at (visited kept_ends (rules_of plan) l.moment v) n l.sessions) r
 at_plan a b plan l ss v n r m setup at till p =
-    subst (λ (z : ℕ). Does a b ss (visit_at (visited kept_ends (rules plan.keys z) l.moment v) n l.sessions) r) till
-    (subst (λ (z : ℕ). Does a b ss (visit_at (visited kept_ends (rules plan.keys setup) z v) n l.sessions) r) at p)
+    subst (λ (z : ℕ). DoesLoopPart a b ss (visit_at (visited kept_ends (rules_of_session plan.keys z) l.moment v) n l.sessions) r) till
+    (subst (λ (z : ℕ). DoesLoopPart a b ss (visit_at (visited kept_ends (rules_of_session plan.keys setup) z v) n l.sessions) r) at p)
 
 pub read_does : {T : Type 0} (a b : Seen) (plan : Plan) (l new : Loop KEnd) (ss : List (Session KEnd)) (what : Happening) (conn : Conn) (r : Result T LoopFault) (m setup : ℕ)
     → what ≡ happening.Readable conn → new ≡ with_sessions l ss → m ≡ l.moment → setup ≡ plan.settings.setup
-    → Does a b ss (visit_at (visited kept_ends (rules plan.keys setup) m Read) conn.0 l.sessions) r → Does a b new (happened kept_ends plan l what) r
+    → DoesLoopPart a b ss (visit_at (visited kept_ends (rules_of_session plan.keys setup) m Read) conn.0 l.sessions) r → DoesLoopPart a b new (happened kept_ends plan l what) r
 read_does a b plan l new ss what conn r m setup is same at till p =
-    subst (λ w. Does a b new (happened kept_ends plan l w) r) (sym is) (react_read a b plan l new ss conn r same (at_plan a b plan l ss Read conn.0 r m setup at till p))
+    subst (λ w. DoesLoopPart a b new (happened kept_ends plan l w) r) (sym is) (react_read a b plan l new ss conn r same (at_plan a b plan l ss Read conn.0 r m setup at till p))
 
 pub write_does : {T : Type 0} (a b : Seen) (plan : Plan) (l new : Loop KEnd) (ss : List (Session KEnd)) (what : Happening) (conn : Conn) (r : Result T LoopFault) (m setup : ℕ)
     → what ≡ happening.Writable conn → new ≡ with_sessions l ss → m ≡ l.moment → setup ≡ plan.settings.setup
-    → Does a b ss (visit_at (visited kept_ends (rules plan.keys setup) m Write) conn.0 l.sessions) r → Does a b new (happened kept_ends plan l what) r
+    → DoesLoopPart a b ss (visit_at (visited kept_ends (rules_of_session plan.keys setup) m Write) conn.0 l.sessions) r → DoesLoopPart a b new (happened kept_ends plan l what) r
 write_does a b plan l new ss what conn r m setup is same at till p =
-    subst (λ w. Does a b new (happened kept_ends plan l w) r) (sym is) (react_write a b plan l new ss conn r same (at_plan a b plan l ss Write conn.0 r m setup at till p))
+    subst (λ w. DoesLoopPart a b new (happened kept_ends plan l w) r) (sym is) (react_write a b plan l new ss conn r same (at_plan a b plan l ss Write conn.0 r m setup at till p))
 
 pub quiet_did : (a : Seen) (plan : Plan) (l : Loop KEnd) (what : Happening) → what ≡ happening.Quiet → Did a a l (happened kept_ends plan l what)
 quiet_did a plan l what is = subst (λ w. Did a a l (happened kept_ends plan l w)) (sym is) (react_quiet a plan l)

@@ -9,7 +9,7 @@ use Rattle.std.specs.BTreeMap.{is_at}
 use Rattle.std.specs.BTreeSet.{BTreeSet, contains, UpdatesBy, IsLowerBound}
 use Rattle.std.proofs.lemmas.Bool.{cases_Bool}
 use Rattle.std.proofs.lemmas.Bool.Decides.{nat_tests}
-use Rattle.readiness_loop.specs.WakeTimes.{pair_cmp, has, is_moment, IsFirst}
+use Rattle.readiness_loop.specs.WakeTimes.{pair_cmp, has_wake_time, is_moment, IsFirstWakeTime}
 
 -- ---- a pair comes or goes
 
@@ -25,13 +25,13 @@ pub same_pair : (at number m n : ℕ) → is_at (pair_cmp (at, number)) (m, n) �
 same_pair at number m n = then_equal (nat_cmp at m) (nat_cmp number n) ∙ ap (λ z. z && is_eq (nat_cmp number n)) (equal_test at m) ∙ ap (λ z. (m == at) && z) (equal_test number n)
 
 pub pair_changed : (old new : BTreeSet (ℕ × ℕ)) (moment : Option ℕ) (at number : ℕ) (stays : Bool) → moment ≡ Some at → UpdatesBy pair_cmp (pair_cmp (at, number)) old new stays
-    → (m n : ℕ) → has new m n ≡ (if is_moment m moment && (n == number) then stays else has old m n)
+    → (m n : ℕ) → has_wake_time new m n ≡ (if is_moment m moment && (n == number) then stays else has_wake_time old m n)
 pair_changed old new moment at number stays is u m n =
-    u.0 (m, n) ∙ ap (λ z. cond z stays (has old m n)) (same_pair at number m n ∙ ap (λ z. is_moment m z && (n == number)) (sym is))
+    u.0 (m, n) ∙ ap (λ z. cond z stays (has_wake_time old m n)) (same_pair at number m n ∙ ap (λ z. is_moment m z && (n == number)) (sym is))
 
 -- ---- the first of them
 
-pub first_pair : (pairs : BTreeSet (ℕ × ℕ)) (pair : ℕ × ℕ) → IsTrue (contains pair_cmp pairs pair) → IsLowerBound pair_cmp pairs pair → IsFirst pairs (Some pair.0)
+pub first_pair : (pairs : BTreeSet (ℕ × ℕ)) (pair : ℕ × ℕ) → IsTrue (contains pair_cmp pairs pair) → IsLowerBound pair_cmp pairs pair → IsFirstWakeTime pairs (Some pair.0)
 first_pair pairs pair p low = ((pair.1, p), λ m n q. least m n (low (m, n) q))
   where
     least : (m n : ℕ) → is_gt (pair_cmp pair (m, n)) ≡ false → pair.0 ≤ m

@@ -8,7 +8,7 @@ use Rattle.std.specs.BTreeSet.{BTreeSet}
 use Rattle.slab.specs.Slab.{Slab, get}
 use Rattle.loop_model.specs.Sessions.{Session}
 use Rattle.loop_model.specs.Visits.{Visit, Tick, Read, Write, Expire, is_due, wakes}
-use Rattle.readiness_loop.specs.WakeTimes.{has, is_moment}
+use Rattle.readiness_loop.specs.WakeTimes.{has_wake_time, is_moment}
 
 -- the session of a slot, where there is one, before others
 abbrev pub seat : Option (Session KEnd) → List (Session KEnd) → List (Session KEnd)
@@ -60,7 +60,7 @@ wake_at slots places n = wake_in slots (get_by (nat_cmp n) places)
 -- the moments that are kept are those of the sessions; and the numbers of the places rise
 pub record AreAwaited (slots : Slab (Session KEnd)) (places : BTreeMap ℕ ℕ) (pairs : BTreeSet (ℕ × ℕ)) : Type 0 where
   pub rise : IsOrdered nat_cmp places
-  pub kept : (m n : ℕ) → has pairs m n ≡ is_moment m (wake_at slots places n)
+  pub kept : (m n : ℕ) → has_wake_time pairs m n ≡ is_moment m (wake_at slots places n)
 
 -- the numbers of the sessions whose moment has come, in rising order
 unfoldable pub due_numbers : ℕ → List (Session KEnd) → List ℕ
@@ -68,8 +68,8 @@ due_numbers m [] = []
 due_numbers m (s ∷ ss) = if is_due m (wakes kept_ends s) then s.number ∷ due_numbers m ss else due_numbers m ss
 
 -- a visit that the clock brings: a tick, a closing
-abbrev pub IsTimed : Visit → Type 0
-IsTimed Tick = Unit {0}
-IsTimed Read = ⊥
-IsTimed Write = ⊥
-IsTimed Expire = Unit {0}
+abbrev pub IsTimedVisit : Visit → Type 0
+IsTimedVisit Tick = Unit {0}
+IsTimedVisit Read = ⊥
+IsTimedVisit Write = ⊥
+IsTimedVisit Expire = Unit {0}

@@ -14,21 +14,21 @@ use Rattle.link_trait.specs.declared.clock.Clock as clock
 use Rattle.link_trait.specs.Wires.{Call, Listens, Dials}
 use Rattle.loop_model.specs.Ends.{ModelEnd, model_ends}
 use Rattle.loop_model.specs.Grammar.{AreInGrammar}
-use Rattle.loop_model.specs.Journals.{header}
+use Rattle.loop_model.specs.Journals.{trace_header}
 use Rattle.loop_model.specs.Deeds.{text_of, calls_of}
 use Rattle.loop_model.specs.Outs.{Out}
 use Rattle.loop_model.specs.Visits.{Met}
 use Rattle.loop_model.specs.Loops.{Plan, Halt, OnEnded, OnClosed, OnFailed, Course, Turn, beginning, serves, Caller, Dialled, dials, asks, opens, printed}
 use Rattle.loop_model.specs.Laws.{IsServing, IsDialling, IsIsolated, IsPrinted, AreAccounted, AreOnOpen, faults, HaltsBy, turns_of, greatest}
-use Rattle.loop_model.specs.Parts.{session_of, of, opened_in}
+use Rattle.loop_model.specs.Parts.{session_of_connection, of, opened_in}
 use Rattle.loop_model.specs.Orderings.{IsSequenced}
 use Rattle.loop_model.specs.Points.{AreHeard, user_of, IsSpoken}
-use Rattle.loop_model.specs.Told.{IsHeard}
+use Rattle.loop_model.specs.Told.{HasUserHeard}
 use Rattle.loop_model.specs.Recordings.{IsReplayed}
 use Rattle.loop_session.specs.declared.loop_fault.LoopFault.{LoopFault}
 use Rattle.loop_session.specs.declared.loop_fault.LoopFault.TheVariants as fault
 use Rattle.loop_io.specs.Seeing.{Seen, seen, AreAnsweredSo, Counts}
-use Rattle.readiness_loop.specs.Cuts.{Cut, LiesIn, behind, IsToldFirst, with_turns, LiesInRun}
+use Rattle.readiness_loop.specs.Cuts.{Cut, LiesIn, cut_behind_part, IsToldFirst, with_turns, LiesInRun}
 use Rattle.readiness_loop.specs.declared.line_plan.LinePlan.{LinePlan}
 use Rattle.readiness_loop.specs.declared.line_plan.Served.{Served}
 use Rattle.readiness_loop.specs.declared.line_plan.Stop.{Stop}
@@ -37,12 +37,12 @@ use Rattle.readiness_loop.specs.declared.line_plan.Stop.TheVariants as stop
 -- ---- the two plans
 
 -- a loop that serves, with these keys, as this radio block centre, to so many users
-abbrev pub serving : List keys.Entry → LinePlan → ℕ → ℕ → Plan
+abbrev pub serving : List keys.KmacEntry → LinePlan → ℕ → ℕ → Plan
 serving entries plan rbc handed =
     record { settings = plan.settings; keys = entries; rbc = rbc; handed = handed; turns = plan.turns; dials = false }
 
 -- the keys of one pair, which hold at every moment
-abbrev pub pair_of : (engine rbc : ℕ) → TripleKey → keys.Entry
+abbrev pub pair_of : (engine rbc : ℕ) → TripleKey → keys.KmacEntry
 pair_of engine rbc kmac = record { engine = engine; rbc = rbc; kmac = kmac; first = 0; last = 2 ^ 64 - 1 }
 
 abbrev pub dialling : TripleKey → LinePlan → (engine rbc handed : ℕ) → Plan
@@ -57,13 +57,13 @@ caller_of engine kmac = record { engine = engine; kmac = kmac }
 
 -- the sink: what it holds, and how often it failed; the wires: the calls, how often they failed, and whether they listen; the clock: its
 -- answers
-pub record Outside : Type 0 where
+pub record LoopOutside : Type 0 where
   pub seen : Seen
   pub listening : Bool
   pub clock : Option (List ℕ)
 
 -- all that a loop prints and calls was printed and called: behind the header, where that was printed; and the clock was asked so
-pub record IsDone (before now : Outside) (began : Bool) (plan : Plan) (o : Out (Course ModelEnd)) : Type 0 where
+pub record IsPrintedAndCalled (before now : LoopOutside) (began : Bool) (plan : Plan) (o : Out (Course ModelEnd)) : Type 0 where
   pub text : Grew before.seen.held now.seen.held (printed began plan o.entries)
   pub calls : Grew before.seen.calls now.seen.calls o.calls
   pub clock : Grew before.clock now.clock o.state.asked
@@ -75,7 +75,7 @@ pub record IsDone (before now : Outside) (began : Bool) (plan : Plan) (o : Out (
   pub in_grammar : AreInGrammar o.entries
 
 -- it broke off: this was printed and called, and nothing else
-pub record IsCutAt (before now : Outside) (printed : List ℕ) (called : List Call) : Type 0 where
+pub record IsCutAt (before now : LoopOutside) (printed : List ℕ) (called : List Call) : Type 0 where
   pub text : Grew before.seen.held now.seen.held printed
   pub calls : Grew before.seen.calls now.seen.calls called
   pub answered : AreAnsweredSo called
@@ -84,7 +84,7 @@ pub record IsCutAt (before now : Outside) (printed : List ℕ) (called : List Ca
 
 -- ---- what holds of its journal and its calls
 
-pub record IsLawful (plan : Plan) (o : Out (Course ModelEnd)) : Type 0 where
+pub record IsLawfulLoop (plan : Plan) (o : Out (Course ModelEnd)) : Type 0 where
   -- the outcomes of each connection are those of its own events
   pub isolated : IsIsolated plan o
   -- the text is the printed text of the events
@@ -106,7 +106,7 @@ AreSpoken minds o = (conn : ℕ) → IsSpoken (user_of conn o.entries minds) (of
 
 -- a user of a live session that tells what it heard has told exactly what the events of its connection say
 abbrev pub UsersHeard : List Mind → Out (Course ModelEnd) → Type 0
-UsersHeard minds o = (conn : ℕ) → IsHeard (session_of conn o.state.loop.sessions) (user_of conn o.entries minds) (of conn o.entries)
+UsersHeard minds o = (conn : ℕ) → HasUserHeard (session_of_connection conn o.state.loop.sessions) (user_of conn o.entries minds) (of conn o.entries)
 
 -- its turns: none behind one that ended or failed, as many as it counts, and not more than planned; and its moment
 pub record HasTurns (plan : Plan) (o : Out (Course ModelEnd)) (count : ℕ) (why : Option Halt) : Type 0 where
@@ -124,54 +124,54 @@ halt_for stop.Closed = Some OnClosed
 
 -- ---- the answers
 
-abbrev pub outside : SinkState → WiresState → ClockState → Outside
+abbrev pub outside : SinkState → WiresState → ClockState → LoopOutside
 outside sink wires clock = record { seen = seen sink wires; listening = wires.listening; clock = clock.answers }
 
 -- a loop that serves, for some answers of the outside: what it printed and called, and how it stopped
-pub record HasServed (before now : Outside) (plan : Plan) (address : List ℕ) (minds : List Mind) (words : Stream) (count : ℕ) (why : Option Halt) : Type 0 where
+pub record HasServed (before now : LoopOutside) (plan : Plan) (address : List ℕ) (minds : List Mind) (words : Stream) (count : ℕ) (why : Option Halt) : Type 0 where
   pub answers : List Turn
   -- what the laws of the loop ask for: it begins with no session, the numbers of accepted connections rise, the settings are in their ranges
   pub is_serving : IsServing plan (beginning minds words) answers
-  pub done : IsDone before now true plan (serves model_ends plan (beginning minds words) address true answers)
-  pub lawful : IsLawful plan (serves model_ends plan (beginning minds words) address true answers)
+  pub done : IsPrintedAndCalled before now true plan (serves model_ends plan (beginning minds words) address true answers)
+  pub lawful : IsLawfulLoop plan (serves model_ends plan (beginning minds words) address true answers)
   pub replies : AreSpoken minds (serves model_ends plan (beginning minds words) address true answers)
   pub users : UsersHeard minds (serves model_ends plan (beginning minds words) address true answers)
   pub turns : HasTurns plan (serves model_ends plan (beginning minds words) address true answers) count why
   pub halted : why ≡ (serves model_ends plan (beginning minds words) address true answers).state.halt
 
 -- the wires never listened; nothing was printed, and the clock wasn't asked
-pub record NeverListened (before now : Outside) (address : List ℕ) : Type 0 where
+pub record NeverListened (before now : LoopOutside) (address : List ℕ) : Type 0 where
   pub text : Grew before.seen.held now.seen.held []
   pub calls : Grew before.seen.calls now.seen.calls (Listens address false ∷ [])
   pub clock : Grew before.clock now.clock []
 
 -- either that, and all random words are left; or a turn failed
-pub data FailsToServe (before now : Outside) (plan : Plan) (address : List ℕ) (minds : List Mind) (words left : Stream) : Type 0 where
+pub data FailsToServe (before now : LoopOutside) (plan : Plan) (address : List ℕ) (minds : List Mind) (words left : Stream) : Type 0 where
   NotListening : NeverListened before now address → left ≡ words → FailsToServe before now plan address minds words left
   TurnFailed : (count : ℕ) → HasServed before now plan address minds words count (Some OnFailed)
       → FailsToServe before now plan address minds words left
 
 -- a write of the sink failed or memory ran out: before the loop listened; while the header was printed; or in its turns, at one cut
-pub data BreaksOffServing (before now : Outside) (plan : Plan) (address : List ℕ) (minds : List Mind) (words : Stream) : Type 0 where
+pub data BreaksOffServing (before now : LoopOutside) (plan : Plan) (address : List ℕ) (minds : List Mind) (words : Stream) : Type 0 where
   BeforeListening : IsCutAt before now [] [] → BreaksOffServing before now plan address minds words
-  InServingHeader : (part rest : List ℕ) → part ++ rest ≡ header plan.settings → IsCutAt before now part (Listens address true ∷ [])
+  InServingHeader : (part rest : List ℕ) → part ++ rest ≡ trace_header plan.settings → IsCutAt before now part (Listens address true ∷ [])
       → BreaksOffServing before now plan address minds words
   -- the whole turns before the cut are lawful
   InServing : (cut : Cut) (lies : LiesInRun model_ends plan (beginning minds words) cut)
-      → IsLawful (with_turns plan (length lies.turns)) (serves model_ends (with_turns plan (length lies.turns)) (beginning minds words) address true lies.turns)
+      → IsLawfulLoop (with_turns plan (length lies.turns)) (serves model_ends (with_turns plan (length lies.turns)) (beginning minds words) address true lies.turns)
       → IsToldFirst cut
-      → IsCutAt before now (header plan.settings ++ text_of cut) (Listens address true ∷ calls_of cut)
+      → IsCutAt before now (trace_header plan.settings ++ text_of cut) (Listens address true ∷ calls_of cut)
       → BreaksOffServing before now plan address minds words
 
 -- the same of a loop that dials
-pub record HasDialled (before now : Outside) (plan : Plan) (caller : Caller) (address : List ℕ) (minds : List Mind) (words : Stream) (count : ℕ) (why : Option Halt) : Type 0 where
+pub record HasDialled (before now : LoopOutside) (plan : Plan) (caller : Caller) (address : List ℕ) (minds : List Mind) (words : Stream) (count : ℕ) (why : Option Halt) : Type 0 where
   pub answers : Dialled
   pub conn : ℕ
   pub opened : answers.conn ≡ Some conn
   -- what the laws of the loop ask for: besides, the pair's KMAC holds at the moment of the call
   pub is_dialling : IsDialling plan caller (beginning minds words) address answers
-  pub done : IsDone before now true plan (dials model_ends plan caller (beginning minds words) address answers)
-  pub lawful : IsLawful plan (dials model_ends plan caller (beginning minds words) address answers)
+  pub done : IsPrintedAndCalled before now true plan (dials model_ends plan caller (beginning minds words) address answers)
+  pub lawful : IsLawfulLoop plan (dials model_ends plan caller (beginning minds words) address answers)
   pub replies : AreSpoken minds (dials model_ends plan caller (beginning minds words) address answers)
   pub users : UsersHeard minds (dials model_ends plan caller (beginning minds words) address answers)
   pub turns : HasTurns plan (dials model_ends plan caller (beginning minds words) address answers) count why
@@ -179,12 +179,12 @@ pub record HasDialled (before now : Outside) (plan : Plan) (caller : Caller) (ad
   -- where the wires didn't listen before, no other connection was opened
   pub alone : before.listening ≡ false → opened_in (dials model_ends plan caller (beginning minds words) address answers).calls ≡ conn ∷ []
 
-pub record NeverDialled (before now : Outside) (address : List ℕ) : Type 0 where
+pub record NeverDialled (before now : LoopOutside) (address : List ℕ) : Type 0 where
   pub text : Grew before.seen.held now.seen.held []
   pub calls : Grew before.seen.calls now.seen.calls (Dials address None ∷ [])
   pub clock : Grew before.clock now.clock []
 
-pub data FailsToDial (before now : Outside) (plan : Plan) (caller : Caller) (address : List ℕ) (minds : List Mind) (words left : Stream) : Type 0 where
+pub data FailsToDial (before now : LoopOutside) (plan : Plan) (caller : Caller) (address : List ℕ) (minds : List Mind) (words left : Stream) : Type 0 where
   NotDialling : NeverDialled before now address → left ≡ words → FailsToDial before now plan caller address minds words left
   LineFailed : (count : ℕ) → HasDialled before now plan caller address minds words count (Some OnFailed)
       → FailsToDial before now plan caller address minds words left
@@ -194,28 +194,28 @@ abbrev pub opening : Plan → Caller → List Mind → Stream → (conn first : 
 opening plan caller minds words conn first met = opens model_ends plan caller (asks first (beginning minds words)) conn met
 
 -- what a dial meets that opens a connection
-abbrev pub dialled : (conn first : ℕ) → Met → List Turn → Dialled
-dialled conn first met turns = record { conn = Some conn; first = first; met = met; turns = turns }
+abbrev pub dial_with_connection : (conn first : ℕ) → Met → List Turn → Dialled
+dial_with_connection conn first met turns = record { conn = Some conn; first = first; met = met; turns = turns }
 
 -- the same, or in the opening
-pub data BreaksOffDialling (before now : Outside) (plan : Plan) (caller : Caller) (address : List ℕ) (minds : List Mind) (words : Stream) : Type 0 where
+pub data BreaksOffDialling (before now : LoopOutside) (plan : Plan) (caller : Caller) (address : List ℕ) (minds : List Mind) (words : Stream) : Type 0 where
   BeforeDialling : IsCutAt before now [] [] → BreaksOffDialling before now plan caller address minds words
-  InDiallingHeader : (conn : ℕ) (part rest : List ℕ) → part ++ rest ≡ header plan.settings → IsCutAt before now part (Dials address (Some conn) ∷ [])
+  InDiallingHeader : (conn : ℕ) (part rest : List ℕ) → part ++ rest ≡ trace_header plan.settings → IsCutAt before now part (Dials address (Some conn) ∷ [])
       → BreaksOffDialling before now plan caller address minds words
   InOpening : (conn first : ℕ) (met : Met) (cut : Cut) → LiesIn (opening plan caller minds words conn first met) cut
       → IsToldFirst cut
-      → IsCutAt before now (header plan.settings ++ text_of cut) (Dials address (Some conn) ∷ calls_of cut)
+      → IsCutAt before now (trace_header plan.settings ++ text_of cut) (Dials address (Some conn) ∷ calls_of cut)
       → BreaksOffDialling before now plan caller address minds words
   InDialling : (conn first : ℕ) (met : Met) (rest cut : Cut) (lies : LiesInRun model_ends plan (opening plan caller minds words conn first met).state rest)
-      → IsLawful (with_turns plan (length lies.turns)) (dials model_ends (with_turns plan (length lies.turns)) caller (beginning minds words) address (dialled conn first met lies.turns))
-      → cut ≡ behind (opening plan caller minds words conn first met) rest
+      → IsLawfulLoop (with_turns plan (length lies.turns)) (dials model_ends (with_turns plan (length lies.turns)) caller (beginning minds words) address (dial_with_connection conn first met lies.turns))
+      → cut ≡ cut_behind_part (opening plan caller minds words conn first met) rest
       → IsToldFirst cut
-      → IsCutAt before now (header plan.settings ++ text_of cut) (Dials address (Some conn) ∷ calls_of cut)
+      → IsCutAt before now (trace_header plan.settings ++ text_of cut) (Dials address (Some conn) ∷ calls_of cut)
       → BreaksOffDialling before now plan caller address minds words
 
 -- ---- the clauses of both calls, over a sink, wires and a clock
 
-abbrev pub outside_at : {K W C : Type 0} → sink.Ghosts K → wires.Ghosts W → clock.Ghosts C → K → W → C → Outside
+abbrev pub outside_at : {K W C : Type 0} → sink.Ghosts K → wires.Ghosts W → clock.Ghosts C → K → W → C → LoopOutside
 outside_at k w c held wired asked = outside (k.state held) (w.state wired) (c.state asked)
 
 -- how a call ends: with Ok it did so much; with an error it failed so, or broke off so, and the count of those faults rose

@@ -7,7 +7,7 @@ use Rattle.er_settings.specs.Values.{Settings}
 use Rattle.er_end_model.specs.Ends.{Answer as AnswersWith}
 use Rattle.er_end.specs.KeptEnds.{KEnd, kept_opened}
 use Rattle.er_trace.specs.declared.event.Event.TheVariants as event
-use Rattle.loop_model.specs.Journals.{Entry}
+use Rattle.loop_model.specs.Journals.{JournalEntry}
 use Rattle.slab.specs.Slab.{Slab}
 use Rattle.std.specs.BTreeMap.{BTreeMap}
 use Rattle.safety_automaton.specs.Keys as keys
@@ -32,12 +32,12 @@ use Rattle.readiness_loop.specs.declared.live_loop.Next.TheVariants as next
 use Rattle.link_trait.specs.declared.wires.Happening.{Happening}
 use Rattle.link_trait.specs.declared.wires.Happening.TheVariants as happening
 use Rattle.readiness_loop.specs.Books.{sessions, AreSeated}
-use Rattle.readiness_loop.specs.Cuts.{Cut, LiesIn, behind, first_turns, LiesInRun}
-use Rattle.readiness_loop.specs.Claims.{Outside, halt_for, HasServed, FailsToServe, BreaksOffServing, HasDialled, FailsToDial, BreaksOffDialling}
+use Rattle.readiness_loop.specs.Cuts.{Cut, LiesIn, cut_behind_part, first_turns, LiesInRun}
+use Rattle.readiness_loop.specs.Claims.{LoopOutside, halt_for, HasServed, FailsToServe, BreaksOffServing, HasDialled, FailsToDial, BreaksOffDialling}
 
 -- what the code goes by, as a plan
-abbrev pub plan_of : List keys.Entry → LoopPlan → Plan
-plan_of entries plan = record { settings = plan.settings; keys = entries; rbc = plan.rbc; handed = plan.handed; turns = plan.turns; dials = plan.dials }
+abbrev pub plan_of_loop : List keys.KmacEntry → LoopPlan → Plan
+plan_of_loop entries plan = record { settings = plan.settings; keys = entries; rbc = plan.rbc; handed = plan.handed; turns = plan.turns; dials = plan.dials }
 
 -- what the code has, as a loop
 abbrev pub loop_of : Slab (Session KEnd) → BTreeMap ℕ ℕ → List Mind → ℕ → Stream → Loop KEnd
@@ -62,7 +62,7 @@ around sink wires clock = record {
 }
 
 -- so far the loop came from a course on, and this is what was printed, called and asked on the way
-pub record Came (a b : Around) (c : Course KEnd) (l : Loop KEnd) (n : ℕ) (h : Option Halt) (o : Out (Course KEnd)) : Type 0 where
+pub record HasComeFromCourse (a b : Around) (c : Course KEnd) (l : Loop KEnd) (n : ℕ) (h : Option Halt) (o : Out (Course KEnd)) : Type 0 where
   pub loop : l ≡ o.state.loop
   pub turns : n ≡ o.state.turns
   pub halt : h ≡ o.state.halt
@@ -79,7 +79,7 @@ pub record Came (a b : Around) (c : Course KEnd) (l : Loop KEnd) (n : ℕ) (h : 
 -- there are answers for which the model of a part came so far
 pub record Went {A : Type 0} (model : A → Out (Course KEnd)) (a b : Around) (c : Course KEnd) (l : Loop KEnd) (n : ℕ) (h : Option Halt) : Type 0 where
   pub answers : A
-  pub is : Came a b c l n h (model answers)
+  pub is : HasComeFromCourse a b c l n h (model answers)
 
 -- it broke off, since the sink failed or memory ran out: up to a cut all came out
 pub record Broke (a b : Seen) (cut : Cut) (fault : LoopFault) : Type 0 where
@@ -100,7 +100,7 @@ pub record WentOff {A : Type 0} (Lies : A → Cut → Type 0) (a b : Around) (fa
 pub record LiesBehind (plan : Plan) (low : ℕ) (c : Course KEnd) (x : Turn) (cut : Cut) : Type 0 where
   pub rest : Cut
   pub lies : LiesIn (follows kept_ends plan (turn kept_ends c x).state x) rest
-  pub is : cut ≡ behind (turn kept_ends c x) rest
+  pub is : cut ≡ cut_behind_part (turn kept_ends c x) rest
   pub rises : Rises low (opened_by x.happening)
 
 -- it lies in a turn, with what comes before and behind it
@@ -150,11 +150,11 @@ abbrev pub course_of : Loop KEnd → ℕ → List ℕ → Course KEnd
 course_of l n asked = record { loop = l; turns = n; halt = None; asked = asked }
 
 -- the event that opens a session that answers, and that session
-abbrev pub answer_event : Stream → (rbc moment conn : ℕ) → Entry
+abbrev pub answer_event : Stream → (rbc moment conn : ℕ) → JournalEntry
 answer_event words rbc moment conn = record { moment = moment; conn = conn; event = event.Answer rbc (next_u64 words).0; outcomes = [] }
 
-abbrev pub answered : Stream → Settings → (rbc moment conn : ℕ) → Mind → Session KEnd
-answered words settings rbc moment conn mind = begun conn (kept_opened (AnswersWith settings rbc (next_u64 words).0 moment)) mind
+abbrev pub answering_session : Stream → Settings → (rbc moment conn : ℕ) → Mind → Session KEnd
+answering_session words settings rbc moment conn mind = begun conn (kept_opened (AnswersWith settings rbc (next_u64 words).0 moment)) mind
 
 -- why the loop halts behind a happening, where it halts for this reason else
 abbrev pub halt_after : Happening → Option Halt → Option Halt
@@ -188,19 +188,19 @@ IsReadyFor happening.Failed newest slots es = AreSeated newest slots es
 
 -- ---- the two calls
 
-abbrev pub outside_of : Around → Outside
-outside_of a = record { seen = a.seen; listening = a.listening; clock = a.asked }
+abbrev pub loop_outside_of : Around → LoopOutside
+loop_outside_of a = record { seen = a.seen; listening = a.listening; clock = a.asked }
 
 -- how a loop that serves ends
 abbrev pub Serves : Plan → Around → Around → List Mind → (words left : Stream) → List ℕ → Result Served LoopFault → Type 0
-Serves plan a b minds words left address (Ok served) = HasServed (outside_of a) (outside_of b) plan address minds words served.turns (halt_for served.why)
-Serves plan a b minds words left address (Err Wires) = FailsToServe (outside_of a) (outside_of b) plan address minds words left × Rose a.turns_failed b.turns_failed
-Serves plan a b minds words left address (Err Sink) = BreaksOffServing (outside_of a) (outside_of b) plan address minds words × Rose a.seen.sunk b.seen.sunk
-Serves plan a b minds words left address (Err (NoMemory want)) = BreaksOffServing (outside_of a) (outside_of b) plan address minds words × (a.seen.sunk ≤ b.seen.sunk)
+Serves plan a b minds words left address (Ok served) = HasServed (loop_outside_of a) (loop_outside_of b) plan address minds words served.turns (halt_for served.why)
+Serves plan a b minds words left address (Err Wires) = FailsToServe (loop_outside_of a) (loop_outside_of b) plan address minds words left × Rose a.turns_failed b.turns_failed
+Serves plan a b minds words left address (Err Sink) = BreaksOffServing (loop_outside_of a) (loop_outside_of b) plan address minds words × Rose a.seen.sunk b.seen.sunk
+Serves plan a b minds words left address (Err (NoMemory want)) = BreaksOffServing (loop_outside_of a) (loop_outside_of b) plan address minds words × (a.seen.sunk ≤ b.seen.sunk)
 
 -- the opening of a dial: the clock's answer before it, and what it meets
-abbrev pub opening : Plan → Caller → Course KEnd → ℕ → ℕ × Met → Out (Course KEnd)
-opening plan caller c conn x = opens kept_ends plan caller (asks x.0 c) conn x.1
+abbrev pub opening_over_kept_ends : Plan → Caller → Course KEnd → ℕ → ℕ × Met → Out (Course KEnd)
+opening_over_kept_ends plan caller c conn x = opens kept_ends plan caller (asks x.0 c) conn x.1
 
 abbrev pub halt_if : Bool → Option Halt
 halt_if true = None
@@ -208,22 +208,22 @@ halt_if false = Some OnClosed
 
 -- it was done, at a moment that clocks answer
 pub record Opened (plan : Plan) (caller : Caller) (a b : Around) (c : Course KEnd) (conn : ℕ) (l : Loop KEnd) (n : ℕ) (h : Option Halt) : Type 0 where
-  pub went : Went (opening plan caller c conn) a b c l n h
+  pub went : Went (opening_over_kept_ends plan caller c conn) a b c l n h
   pub early : went.answers.0 ≤ 1000000000000000
 
 abbrev pub Opens : Plan → Caller → Around → Around → Course KEnd → ℕ → Loop KEnd → ℕ → Result Bool LoopFault → Type 0
 Opens plan caller a b c conn l n (Ok stays) = Opened plan caller a b c conn l n (halt_if stays)
 Opens plan caller a b c conn l n (Err Wires) = ⊥
-Opens plan caller a b c conn l n (Err Sink) = WentOff (λ x cut. LiesIn (opening plan caller c conn x) cut) a b Sink
-Opens plan caller a b c conn l n (Err (NoMemory want)) = WentOff (λ x cut. LiesIn (opening plan caller c conn x) cut) a b (NoMemory want)
+Opens plan caller a b c conn l n (Err Sink) = WentOff (λ x cut. LiesIn (opening_over_kept_ends plan caller c conn x) cut) a b Sink
+Opens plan caller a b c conn l n (Err (NoMemory want)) = WentOff (λ x cut. LiesIn (opening_over_kept_ends plan caller c conn x) cut) a b (NoMemory want)
 
 -- how a loop that dials ends
 abbrev pub Dials : Plan → Caller → Around → Around → List Mind → (words left : Stream) → List ℕ → Result Served LoopFault → Type 0
 Dials plan caller a b minds words left address (Ok served) =
-    HasDialled (outside_of a) (outside_of b) plan caller address minds words served.turns (halt_for served.why)
+    HasDialled (loop_outside_of a) (loop_outside_of b) plan caller address minds words served.turns (halt_for served.why)
 Dials plan caller a b minds words left address (Err Wires) =
-    FailsToDial (outside_of a) (outside_of b) plan caller address minds words left × Rose a.turns_failed b.turns_failed
+    FailsToDial (loop_outside_of a) (loop_outside_of b) plan caller address minds words left × Rose a.turns_failed b.turns_failed
 Dials plan caller a b minds words left address (Err Sink) =
-    BreaksOffDialling (outside_of a) (outside_of b) plan caller address minds words × Rose a.seen.sunk b.seen.sunk
+    BreaksOffDialling (loop_outside_of a) (loop_outside_of b) plan caller address minds words × Rose a.seen.sunk b.seen.sunk
 Dials plan caller a b minds words left address (Err (NoMemory want)) =
-    BreaksOffDialling (outside_of a) (outside_of b) plan caller address minds words × (a.seen.sunk ≤ b.seen.sunk)
+    BreaksOffDialling (loop_outside_of a) (loop_outside_of b) plan caller address minds words × (a.seen.sunk ≤ b.seen.sunk)

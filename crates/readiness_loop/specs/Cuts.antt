@@ -3,11 +3,11 @@
 use Rattle.std.specs.Prelude.{◌≡◌, ℕ, ◌<◌, List, ◌∷◌, ◌++◌, length, None}
 use Rattle.link_trait.specs.Wires.{Closes}
 use Rattle.loop_model.specs.Ends.{EndOps}
-use Rattle.loop_model.specs.Journals.{Entry, text}
-use Rattle.loop_model.specs.Deeds.{Deed, Calling, printings, Sign, octet_signs, signs}
+use Rattle.loop_model.specs.Journals.{JournalEntry, text}
+use Rattle.loop_model.specs.Deeds.{LoopDeed, Calling, printings, Sign, octet_signs, signs}
 use Rattle.loop_model.specs.Outs.{Out}
 use Rattle.loop_model.specs.Loops.{Plan, Course, Turn, went, run}
-use Rattle.loop_model.specs.Orderings.{GivesTold, IsSilent}
+use Rattle.loop_model.specs.Orderings.{GivesTold, IsSilentOnConnection}
 
 -- what came out before a cut: octets of the text, and calls, in their order
 abbrev pub Cut : Type 0
@@ -19,14 +19,14 @@ pub record LiesIn {S : Type 0} (part : Out S) (cut : Cut) : Type 0 where
   pub is : cut ++ rest ≡ signs part.order
 
 -- a cut behind a part: all that comes out of the part stands before it
-abbrev pub behind : {S : Type 0} → Out S → Cut → Cut
-behind part cut = signs part.order ++ cut
+abbrev pub cut_behind_part : {S : Type 0} → Out S → Cut → Cut
+cut_behind_part part cut = signs part.order ++ cut
 
 -- what came out before a cut came in order
 pub record IsToldFirst (cut : Cut) : Type 0 where
   -- what was done whole; and the event of which a beginning of the lines was printed, where there is one
-  pub done : List Deed
-  pub under_way : List Entry
+  pub done : List LoopDeed
+  pub under_way : List JournalEntry
   pub begun : List ℕ
   pub unbegun : List ℕ
   pub begins : begun ++ unbegun ≡ text under_way
@@ -34,7 +34,7 @@ pub record IsToldFirst (cut : Cut) : Type 0 where
   -- what was given to each connection was told of it, in lines that stand there whole
   pub told : (conn : ℕ) → GivesTold conn done
   -- behind a close nothing comes of its connection
-  pub last : (conn : ℕ) (before rest : List Deed) → before ++ Calling (Closes conn) ∷ rest ≡ done → IsSilent conn (rest ++ printings under_way)
+  pub last : (conn : ℕ) (before rest : List LoopDeed) → before ++ Calling (Closes conn) ∷ rest ≡ done → IsSilentOnConnection conn (rest ++ printings under_way)
 
 -- the same plan, but for the number of turns
 abbrev pub with_turns : Plan → ℕ → Plan
@@ -54,4 +54,4 @@ module _ {E : Type 0} (o : EndOps E) where
     pub last : Turn
     pub rest : Cut
     pub lies : LiesIn (went o plan (first_turns plan c turns).state last) rest
-    pub is : cut ≡ behind (first_turns plan c turns) rest
+    pub is : cut ≡ cut_behind_part (first_turns plan c turns) rest

@@ -3,7 +3,7 @@
 use Rattle.std.specs.Prelude.{◌≡◌, ◌<◌, ℕ, Bool, List, [], map, Result}
 use Rattle.rand_core.specs.Stream.{Stream, next_u64}
 use Rattle.rand_core.specs.declared.Rng as rng
-use Rattle.safety_automaton.specs.Pairs.{Pair, pair_entries}
+use Rattle.safety_automaton.specs.Pairs.{PairWithKmac, pair_entries}
 use Rattle.er_end_model.specs.Ends.{Call as CallsWith}
 use Rattle.er_end.specs.KeptEnds.{KEnd, kept_opened}
 use Rattle.er_users.specs.Users.{Mind}
@@ -16,12 +16,12 @@ use Rattle.loop_model.specs.Sessions.{Session, Begins}
 use Rattle.loop_model.specs.Visits.{Met, served}
 use Rattle.loop_model.specs.Loops.{Loop, Plan, Course, Caller, begun}
 use Rattle.loop_session.specs.Keeping.{kept_ends}
-use Rattle.loop_session.specs.Parts.{rules}
+use Rattle.loop_session.specs.Parts.{rules_of_session}
 use Rattle.loop_session.specs.declared.loop_fault.LoopFault.{LoopFault}
 use Rattle.loop_io.specs.Seeing.{seen}
 use Rattle.readiness_loop.specs.Books.{AreSeated, AreAwaited, sessions}
 use Rattle.readiness_loop.specs.Claims.{caller_of}
-use Rattle.readiness_loop.specs.Courses.{Around, around, loop_of, course_of, plan_of, Acts, Turned, Turns, Runs, Opens}
+use Rattle.readiness_loop.specs.Courses.{Around, around, loop_of, course_of, plan_of_loop, Acts, Turned, Turns, Runs, Opens}
 use Rattle.readiness_loop.specs.declared.book.Book.{Book}
 use Rattle.readiness_loop.specs.declared.line_plan.Served.{Served}
 use Rattle.readiness_loop.specs.declared.live_loop.LiveLoop.{LiveLoop}
@@ -38,13 +38,13 @@ abbrev pub IsSeated : {U : Type 0} → ℕ → Book U → Type 0
 IsSeated newest book = AreSeated newest book.slots book.places.entries
 
 -- the moment at which each session is to be visited next is kept
-abbrev pub IsAwaited : {U : Type 0} → Book U → Type 0
-IsAwaited book = AreAwaited book.slots book.places book.wake_times.pairs
+abbrev pub HasAllWakeTimes : {U : Type 0} → Book U → Type 0
+HasAllWakeTimes book = AreAwaited book.slots book.places book.wake_times.pairs
 
 -- both
-pub record IsInOrder {U : Type 0} (newest : ℕ) (book : Book U) : Type 0 where
+pub record IsBookInOrder {U : Type 0} (newest : ℕ) (book : Book U) : Type 0 where
   pub seated : IsSeated newest book
-  pub awaited : IsAwaited book
+  pub awaited : HasAllWakeTimes book
 
 -- ---- a loop
 
@@ -64,13 +64,13 @@ abbrev pub ActsOn : {K W T S : Type 0} → sink.Ghosts K → wires.Ghosts W → 
 ActsOn k w held holds wired now new out result = Acts (seen (k.state held) (w.state wired)) (seen (k.state holds) (w.state now)) new out result
 
 -- a loop for a dial: it has no session yet, and the connection is the newest
-pub record IsFirst {U : Type 0} (opened conn : ℕ) (live : LiveLoop U) : Type 0 where
+pub record HasFirstConnection {U : Type 0} (opened conn : ℕ) (live : LiveLoop U) : Type 0 where
   pub empty : live.book.places.entries ≡ []
   pub number : 0 < conn
   pub newest : conn ≡ opened
 
 -- the moment and the count of turns stay
-pub record Rests {U : Type 0} (old new : LiveLoop U) : Type 0 where
+pub record KeepsLoopMomentAndTurns {U : Type 0} (old new : LiveLoop U) : Type 0 where
   pub moment : new.moment ≡ old.moment
   pub turns : new.turns ≡ old.turns
 
@@ -101,15 +101,15 @@ OpensOn u k w c r plan caller conn old new held holds wired now asked asks words
     (so_far : List ℕ) → Opens plan caller (around_at k w c held wired asked) (around_at k w c holds now asks) (course_at u r old words so_far) conn (loop_at u r new left) new.turns result
 
 -- its plan, by the pair, and its caller
-abbrev pub pair_plan : Pair → LoopPlan → Plan
-pair_plan pair plan = plan_of (pair_entries pair) plan
+abbrev pub pair_plan : PairWithKmac → LoopPlan → Plan
+pair_plan pair plan = plan_of_loop (pair_entries pair) plan
 
-abbrev pub pair_caller : Pair → Caller
+abbrev pub pair_caller : PairWithKmac → Caller
 pair_caller pair = caller_of pair.engine pair.kmac
 
 -- the call of its connection, with all that follows
-abbrev pub calling : Pair → LoopPlan → Stream → (moment conn : ℕ) → Mind → Met → Out (List (Session KEnd))
-calling pair plan words moment conn mind =
-    served kept_ends (rules (pair_entries pair) plan.settings.setup) moment
+abbrev pub dialled_call_outcome : PairWithKmac → LoopPlan → Stream → (moment conn : ℕ) → Mind → Met → Out (List (Session KEnd))
+dialled_call_outcome pair plan words moment conn mind =
+    served kept_ends (rules_of_session (pair_entries pair) plan.settings.setup) moment
     (begun conn (kept_opened (CallsWith plan.settings pair.engine plan.rbc pair.kmac (next_u64 words).0 moment)) mind)
     (Begins pair.engine plan.rbc (next_u64 words).0)

@@ -10,8 +10,8 @@ abbrev pub pair_cmp : ℕ × ℕ → ℕ × ℕ → Ordering
 pair_cmp x y = ordering_then (nat_cmp x.0 y.0) (nat_cmp x.1 y.1)
 
 -- whether the session of this number is to be visited at this moment
-abbrev pub has : BTreeSet (ℕ × ℕ) → ℕ → ℕ → Bool
-has pairs moment number = contains pair_cmp pairs (moment, number)
+abbrev pub has_wake_time : BTreeSet (ℕ × ℕ) → ℕ → ℕ → Bool
+has_wake_time pairs moment number = contains pair_cmp pairs (moment, number)
 
 -- whether it is this moment
 abbrev pub is_moment : ℕ → Option ℕ → Bool
@@ -23,6 +23,6 @@ abbrev pub numbers_until : ℕ → List (ℕ × ℕ) → List ℕ
 numbers_until moment pairs = map (λ p. p.1) (filter (λ p. nat_le p.0 moment) pairs)
 
 -- the first moment is none where no pair is there; it is that of a pair, and no pair's is before it
-abbrev pub IsFirst : BTreeSet (ℕ × ℕ) → Option ℕ → Type 0
-IsFirst pairs None = (moment number : ℕ) → has pairs moment number ≡ false
-IsFirst pairs (Some first) = ((number : ℕ) × (has pairs first number ≡ true)) × ((moment number : ℕ) → has pairs moment number ≡ true → first ≤ moment)
+abbrev pub IsFirstWakeTime : BTreeSet (ℕ × ℕ) → Option ℕ → Type 0
+IsFirstWakeTime pairs None = (moment number : ℕ) → has_wake_time pairs moment number ≡ false
+IsFirstWakeTime pairs (Some first) = ((number : ℕ) × (has_wake_time pairs first number ≡ true)) × ((moment number : ℕ) → has_wake_time pairs moment number ≡ true → first ≤ moment)

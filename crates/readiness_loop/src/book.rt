@@ -4,8 +4,8 @@ ghost use Rattle.std.specs.Prelude.{◌≡◌, ◌≤◌, ◌<◌, ◌+◌, ◌-
 ghost use Rattle.loop_model.specs.Loops.{visit_at, swept, numbers, until};
 ghost use Rattle.loop_session.specs.Keeping.{kept_ends};
 ghost use Rattle.loop_io.specs.Visiting.{visit_by, visit_of, DoesOn, Keep};
-ghost use Rattle.readiness_loop.specs.Books.{IsTimed};
-ghost use Rattle.readiness_loop.specs.Lives.{sessions_in, IsSeated, IsAwaited, IsInOrder};
+ghost use Rattle.readiness_loop.specs.Books.{IsTimedVisit};
+ghost use Rattle.readiness_loop.specs.Lives.{sessions_in, IsSeated, HasAllWakeTimes, IsBookInOrder};
 
 use crate::wake_times::WakeTimes;
 use er_base::NoMemory;
@@ -34,7 +34,7 @@ impl<U: SafeUser> Book<U> {
     // No session, with the room for as many as may be live.
     pub(crate) fn new(alloc: Global) -> Result<Book<U>, NoMemory>
         ensures empty { IfOk result (λ book. book.places.entries ≡ []) }
-        ensures awaited { IfOk result (λ book. IsAwaited book) }
+        ensures awaited { IfOk result (λ book. HasAllWakeTimes book) }
     {
         Ok(Book {
             slots: Slab::with_capacity(alloc, MOST_LIVE)?,
@@ -52,7 +52,7 @@ impl<U: SafeUser> Book<U> {
 
     // The first moment at which one of them is to be visited.
     pub(crate) fn until(&self) -> Option<u64>
-        requires awaited { IsAwaited self.now }
+        requires awaited { HasAllWakeTimes self.now }
         ensures { result ≡ until kept_ends (sessions_in self.now) }
     {
         self.wake_times.first()
@@ -60,11 +60,11 @@ impl<U: SafeUser> Book<U> {
 
     // A session joins the others; its number is above theirs.
     pub(crate) fn add(&mut self, session: Session<U>) -> Result<(), NoMemory>
-        requires order { IsInOrder (session.number - 1) self.old }
+        requires order { IsBookInOrder (session.number - 1) self.old }
         requires number { 0 < session.number }
         ensures sessions { OnOk result (sessions_in self.new ≡ sessions_in self.old ++ session ∷ []) }
         ensures seated { OnOk result (IsSeated session.number self.new) }
-        ensures awaited { OnOk result (IsAwaited self.new) }
+        ensures awaited { OnOk result (HasAllWakeTimes self.new) }
     {
         let number = session.number();
         let wake = session.wakes();
@@ -86,11 +86,11 @@ impl<U: SafeUser> Book<U> {
         wires: &mut W,
         sink: &mut S,
     ) -> Result<(), LoopFault>
-        requires { IsInOrder (W.state wires.old).opened self.old }
+        requires { IsBookInOrder (W.state wires.old).opened self.old }
         ensures does { DoesOn S.Sink W.Wires sink.old sink.new wires.old wires.new (sessions_in self.new)
             (visit_at (visit_by (K.entries keys.now) when.now reason) number (sessions_in self.old)) result }
         ensures seated { OnOk result (IsSeated (W.state wires.new).opened self.new) }
-        ensures awaited { OnOk result (IsAwaited self.new) }
+        ensures awaited { OnOk result (HasAllWakeTimes self.new) }
         ensures keep { Keep S.Sink W.Wires sink.old sink.new wires.old wires.new }
     {
         let Some(slot) = self.places.get(&number).copied() else {
@@ -128,12 +128,12 @@ impl<U: SafeUser> Book<U> {
         wires: &mut W,
         sink: &mut S,
     ) -> Result<(), LoopFault>
-        requires timed { IsTimed (visit_of reason) }
-        requires order { IsInOrder (W.state wires.old).opened self.old }
+        requires timed { IsTimedVisit (visit_of reason) }
+        requires order { IsBookInOrder (W.state wires.old).opened self.old }
         ensures does { DoesOn S.Sink W.Wires sink.old sink.new wires.old wires.new (sessions_in self.new)
             (swept (visit_by (K.entries keys.now) when.now reason) (numbers (sessions_in self.old)) (sessions_in self.old)) result }
         ensures seated { OnOk result (IsSeated (W.state wires.new).opened self.new) }
-        ensures awaited { OnOk result (IsAwaited self.new) }
+        ensures awaited { OnOk result (HasAllWakeTimes self.new) }
         ensures keep { Keep S.Sink W.Wires sink.old sink.new wires.old wires.new }
     {
         self.wake_times.due(when.moment, sequence)?;
@@ -159,11 +159,11 @@ impl<U: SafeUser> Book<U> {
         wires: &mut W,
         sink: &mut S,
     ) -> Result<(), LoopFault>
-        requires { IsInOrder (W.state wires.old).opened self.old }
+        requires { IsBookInOrder (W.state wires.old).opened self.old }
         ensures does { DoesOn S.Sink W.Wires sink.old sink.new wires.old wires.new (sessions_in self.new)
             (swept (visit_by (K.entries keys.now) when.now reason) sequence.now (sessions_in self.old)) result }
         ensures seated { OnOk result (IsSeated (W.state wires.new).opened self.new) }
-        ensures awaited { OnOk result (IsAwaited self.new) }
+        ensures awaited { OnOk result (HasAllWakeTimes self.new) }
         ensures keep { Keep S.Sink W.Wires sink.old sink.new wires.old wires.new }
     {
         for number in sequence {

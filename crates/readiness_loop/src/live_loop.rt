@@ -11,10 +11,10 @@ ghost use Rattle.loop_model.specs.Journals.{text};
 ghost use Rattle.loop_model.specs.Visits.{is_due};
 ghost use Rattle.loop_model.specs.Loops.{Loop, before, until, until as first, turned_away, accepted, happened, Halt, OnClosed};
 ghost use Rattle.loop_session.specs.Keeping.{kept_ends};
-ghost use Rattle.loop_session.specs.Parts.{rules, Puts};
+ghost use Rattle.loop_session.specs.Parts.{rules_of_session, Puts};
 ghost use Rattle.loop_io.specs.Visiting.{DoesOn, Keep};
-ghost use Rattle.readiness_loop.specs.Courses.{plan_of, answer_event, answered, IsReadyFor, halt_after, HaltsSo};
-ghost use Rattle.readiness_loop.specs.Lives.{sessions_in, IsSeated, IsAwaited, loop_at, ActsOn, IsInOrder, Rests, TurnedOn, TurnsOn, RunsOn};
+ghost use Rattle.readiness_loop.specs.Courses.{plan_of_loop, answer_event, answering_session, IsReadyFor, halt_after, HaltsSo};
+ghost use Rattle.readiness_loop.specs.Lives.{sessions_in, IsSeated, HasAllWakeTimes, loop_at, ActsOn, IsBookInOrder, KeepsLoopMomentAndTurns, TurnedOn, TurnsOn, RunsOn};
 
 use crate::book::{Book, MOST_LIVE};
 use crate::line_plan::{Served, Stop};
@@ -99,7 +99,7 @@ impl<U: SafeUser> LiveLoop<U> {
     // A loop with no session.
     pub(crate) fn new(alloc: Global, users: Vec<U>) -> Result<LiveLoop<U>, NoMemory>
         ensures empty { IfOk result (λ live. live.book.places.entries ≡ []) }
-        ensures awaited { IfOk result (λ live. IsAwaited live.book) }
+        ensures awaited { IfOk result (λ live. HasAllWakeTimes live.book) }
         ensures users { IfOk result (λ live. live.users ≡ users) }
         ensures moment { IfOk result (λ live. live.moment ≡ 0) }
         ensures turns { IfOk result (λ live. live.turns ≡ 0) }
@@ -124,14 +124,14 @@ impl<U: SafeUser> LiveLoop<U> {
         wires: &mut W,
         sink: &mut S,
     ) -> Result<Option<u64>, LoopFault>
-        requires { IsInOrder (W.state wires.old).opened self.old.book }
+        requires { IsBookInOrder (W.state wires.old).opened self.old.book }
         ensures does { DoesOn S.Sink W.Wires sink.old sink.new wires.old wires.new (sessions_in self.new.book)
-            (before kept_ends (rules (K.entries keys.now) plan.now.settings.setup) self.old.moment (sessions_in self.old.book)) result }
+            (before kept_ends (rules_of_session (K.entries keys.now) plan.now.settings.setup) self.old.moment (sessions_in self.old.book)) result }
         ensures until { IfOk result (λ first. first ≡ until kept_ends (sessions_in self.new.book)) }
         ensures seated { OnOk result (IsSeated (W.state wires.new).opened self.new.book) }
-        ensures awaited { OnOk result (IsAwaited self.new.book) }
+        ensures awaited { OnOk result (HasAllWakeTimes self.new.book) }
         ensures users { self.new.users ≡ self.old.users }
-        ensures rests { Rests self.old self.new }
+        ensures rests { KeepsLoopMomentAndTurns self.old self.new }
         ensures keep { Keep S.Sink W.Wires sink.old sink.new wires.old wires.new }
     {
         let first = self.book.until();
@@ -174,7 +174,7 @@ impl<U: SafeUser> LiveLoop<U> {
         ensures does { (l : Loop KEnd) → l.moment ≡ self.old.moment → ActsOn S.Sink W.Wires sink.old sink.new wires.old wires.new l (turned_away l conn.0 why) result }
         ensures book { self.new.book ≡ self.old.book }
         ensures users { self.new.users ≡ self.old.users }
-        ensures rests { Rests self.old self.new }
+        ensures rests { KeepsLoopMomentAndTurns self.old self.new }
         ensures keep { Keep S.Sink W.Wires sink.old sink.new wires.old wires.new }
     {
         write_event(self.moment, conn.0, why, &mut self.scratch, sink)?;
@@ -192,18 +192,18 @@ impl<U: SafeUser> LiveLoop<U> {
         randoms: &mut R,
         sink: &mut S,
     ) -> Result<(), LoopFault>
-        requires order { IsInOrder (conn.0 - 1) self.old.book }
+        requires order { IsBookInOrder (conn.0 - 1) self.old.book }
         requires number { 0 < conn.0 }
         ensures puts { Puts (S.state sink.old) (S.state sink.new)
             (text (answer_event (R.stream randoms.old) plan.now.rbc self.old.moment conn.0 ∷ [])) result }
         ensures grammar { OnOk result (IsInGrammar (answer_event (R.stream randoms.old) plan.now.rbc self.old.moment conn.0)) }
         ensures sessions { OnOk result (sessions_in self.new.book ≡ sessions_in self.old.book
-            ++ answered (R.stream randoms.old) plan.now.settings plan.now.rbc self.old.moment conn.0 (U.mind user) ∷ []) }
+            ++ answering_session (R.stream randoms.old) plan.now.settings plan.now.rbc self.old.moment conn.0 (U.mind user) ∷ []) }
         ensures seated { OnOk result (IsSeated conn.0 self.new.book) }
-        ensures awaited { OnOk result (IsAwaited self.new.book) }
+        ensures awaited { OnOk result (HasAllWakeTimes self.new.book) }
         ensures stream { OnOk result (R.stream randoms.new ≡ (next_u64 (R.stream randoms.old)).1) }
         ensures users { self.new.users ≡ self.old.users }
-        ensures rests { Rests self.old self.new }
+        ensures rests { KeepsLoopMomentAndTurns self.old self.new }
         ensures sunk { (S.state sink.old).faults ≤ (S.state sink.new).faults }
     {
         see_settings(&plan.settings);
@@ -228,13 +228,13 @@ impl<U: SafeUser> LiveLoop<U> {
         randoms: &mut R,
         sink: &mut S,
     ) -> Result<(), LoopFault>
-        requires order { IsInOrder (conn.0 - 1) self.old.book }
+        requires order { IsBookInOrder (conn.0 - 1) self.old.book }
         requires number { 0 < conn.0 }
-        ensures does { (entries : List keys.Entry) → ActsOn S.Sink W.Wires sink.old sink.new wires.old wires.new (loop_at U.SafeUser R.Rng self.new randoms.new)
-            (accepted kept_ends (plan_of entries plan.now) (loop_at U.SafeUser R.Rng self.old randoms.old) conn.0) result }
+        ensures does { (entries : List keys.KmacEntry) → ActsOn S.Sink W.Wires sink.old sink.new wires.old wires.new (loop_at U.SafeUser R.Rng self.new randoms.new)
+            (accepted kept_ends (plan_of_loop entries plan.now) (loop_at U.SafeUser R.Rng self.old randoms.old) conn.0) result }
         ensures seated { OnOk result (IsSeated conn.0 self.new.book) }
-        ensures awaited { OnOk result (IsAwaited self.new.book) }
-        ensures rests { Rests self.old self.new }
+        ensures awaited { OnOk result (HasAllWakeTimes self.new.book) }
+        ensures rests { KeepsLoopMomentAndTurns self.old self.new }
         ensures keep { Keep S.Sink W.Wires sink.old sink.new wires.old wires.new }
     {
         if self.book.len() >= MOST_LIVE {
@@ -261,13 +261,13 @@ impl<U: SafeUser> LiveLoop<U> {
         randoms: &mut R,
         sink: &mut S,
     ) -> Result<(), LoopFault>
-        requires awaited { IsAwaited self.old.book }
+        requires awaited { HasAllWakeTimes self.old.book }
         requires ready { IsReadyFor happening (W.state wires.old).opened self.old.book.slots self.old.book.places.entries }
         ensures does { DoesOn S.Sink W.Wires sink.old sink.new wires.old wires.new (loop_at U.SafeUser R.Rng self.new randoms.new)
-            (happened kept_ends (plan_of (K.entries keys.now) plan.now) (loop_at U.SafeUser R.Rng self.old randoms.old) happening) result }
+            (happened kept_ends (plan_of_loop (K.entries keys.now) plan.now) (loop_at U.SafeUser R.Rng self.old randoms.old) happening) result }
         ensures seated { OnOk result (IsSeated (W.state wires.new).opened self.new.book) }
-        ensures awaited { OnOk result (IsAwaited self.new.book) }
-        ensures rests { Rests self.old self.new }
+        ensures awaited { OnOk result (HasAllWakeTimes self.new.book) }
+        ensures rests { KeepsLoopMomentAndTurns self.old self.new }
         ensures keep { Keep S.Sink W.Wires sink.old sink.new wires.old wires.new }
     {
         let when = When::of(self.moment, &plan.settings);
@@ -322,12 +322,12 @@ impl<U: SafeUser> LiveLoop<U> {
         randoms: &mut R,
         sink: &mut S,
     ) -> Result<Next, LoopFault>
-        requires order { IsInOrder (W.state wires.old).opened self.old.book }
+        requires order { IsBookInOrder (W.state wires.old).opened self.old.book }
         requires turns { self.old.turns < 2 ^ 64 - 1 }
         requires until { until ≡ first kept_ends (sessions_in self.old.book) }
-        ensures does { TurnedOn U.SafeUser S.Sink W.Wires C.Clock R.Rng (plan_of (K.entries keys.now) plan.now) self.old self.new
+        ensures does { TurnedOn U.SafeUser S.Sink W.Wires C.Clock R.Rng (plan_of_loop (K.entries keys.now) plan.now) self.old self.new
             sink.old sink.new wires.old wires.new clock.old clock.new randoms.old randoms.new result }
-        ensures order { OnOk result (IsInOrder (W.state wires.new).opened self.new.book) }
+        ensures order { OnOk result (IsBookInOrder (W.state wires.new).opened self.new.book) }
         ensures turns { self.new.turns ≤ self.old.turns + 1 }
         ensures sunk { (S.state sink.old).faults ≤ (S.state sink.new).faults }
     {
@@ -349,11 +349,11 @@ impl<U: SafeUser> LiveLoop<U> {
         randoms: &mut R,
         sink: &mut S,
     ) -> Result<Next, LoopFault>
-        requires order { IsInOrder (W.state wires.old).opened self.old.book }
+        requires order { IsBookInOrder (W.state wires.old).opened self.old.book }
         requires turns { self.old.turns < 2 ^ 64 - 1 }
-        ensures does { TurnsOn U.SafeUser S.Sink W.Wires C.Clock R.Rng (plan_of (K.entries keys.now) plan.now) self.old self.new
+        ensures does { TurnsOn U.SafeUser S.Sink W.Wires C.Clock R.Rng (plan_of_loop (K.entries keys.now) plan.now) self.old self.new
             sink.old sink.new wires.old wires.new clock.old clock.new randoms.old randoms.new result }
-        ensures order { OnOk result (IsInOrder (W.state wires.new).opened self.new.book) }
+        ensures order { OnOk result (IsBookInOrder (W.state wires.new).opened self.new.book) }
         ensures turns { self.new.turns ≤ self.old.turns + 1 }
         ensures sunk { (S.state sink.old).faults ≤ (S.state sink.new).faults }
     {
@@ -376,9 +376,9 @@ impl<U: SafeUser> LiveLoop<U> {
         randoms: &mut R,
         sink: &mut S,
     ) -> Result<Served, LoopFault>
-        requires order { IsInOrder (W.state wires.old).opened self.old.book }
+        requires order { IsBookInOrder (W.state wires.old).opened self.old.book }
         requires turns { self.old.turns ≡ 0 }
-        ensures does { RunsOn U.SafeUser S.Sink W.Wires C.Clock R.Rng (plan_of (K.entries keys.now) plan.now) self.old self.new
+        ensures does { RunsOn U.SafeUser S.Sink W.Wires C.Clock R.Rng (plan_of_loop (K.entries keys.now) plan.now) self.old self.new
             sink.old sink.new wires.old wires.new clock.old clock.new randoms.old randoms.new result }
         ensures sunk { (S.state sink.old).faults ≤ (S.state sink.new).faults }
     {

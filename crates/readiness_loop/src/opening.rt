@@ -3,7 +3,7 @@
 ghost use Rattle.std.specs.Prelude.{◌≡◌, ◌≤◌, ◌==◌, if◌then◌else◌, true, false, length, IfOk, OnOk};
 ghost use Rattle.rand_core.specs.Stream.{next_u64};
 ghost use Rattle.loop_io.specs.Visiting.{DoesOn, Keep};
-ghost use Rattle.readiness_loop.specs.Lives.{sessions_in, IsSeated, IsAwaited, IsFirst, Rests, calling, pair_plan, pair_caller, OpensOn};
+ghost use Rattle.readiness_loop.specs.Lives.{sessions_in, IsSeated, HasAllWakeTimes, HasFirstConnection, KeepsLoopMomentAndTurns, dialled_call_outcome, pair_plan, pair_caller, OpensOn};
 
 use crate::live_loop::{LiveLoop, moment_of};
 use crate::loop_plan::{LoopPlan, see_settings};
@@ -30,16 +30,16 @@ impl<U: SafeUser> LiveLoop<U> {
         randoms: &mut R,
         sink: &mut S,
     ) -> Result<bool, LoopFault>
-        requires awaited { IsAwaited self.old.book }
-        requires first { IsFirst (W.state wires.old).opened conn.0 self.old }
+        requires awaited { HasAllWakeTimes self.old.book }
+        requires first { HasFirstConnection (W.state wires.old).opened conn.0 self.old }
         ensures does { DoesOn S.Sink W.Wires sink.old sink.new wires.old wires.new (sessions_in self.new.book)
-            (calling pair.now plan.now (R.stream randoms.old) self.old.moment conn.0 (U.mind user)) result }
+            (dialled_call_outcome pair.now plan.now (R.stream randoms.old) self.old.moment conn.0 (U.mind user)) result }
         ensures stays { IfOk result (λ stays. (length self.new.book.places.entries == 0) ≡ (if stays then false else true)) }
         ensures seated { OnOk result (IsSeated (W.state wires.new).opened self.new.book) }
-        ensures awaited { OnOk result (IsAwaited self.new.book) }
+        ensures awaited { OnOk result (HasAllWakeTimes self.new.book) }
         ensures stream { OnOk result (R.stream randoms.new ≡ (next_u64 (R.stream randoms.old)).1) }
         ensures users { self.new.users ≡ self.old.users }
-        ensures rests { Rests self.old self.new }
+        ensures rests { KeepsLoopMomentAndTurns self.old self.new }
         ensures keep { Keep S.Sink W.Wires sink.old sink.new wires.old wires.new }
     {
         see_settings(&plan.settings);
@@ -86,12 +86,12 @@ impl<U: SafeUser> LiveLoop<U> {
         sink: &mut S,
     ) -> Result<bool, LoopFault>
         requires dials { plan.now.dials ≡ true }
-        requires awaited { IsAwaited self.old.book }
-        requires first { IsFirst (W.state wires.old).opened conn.0 self.old }
+        requires awaited { HasAllWakeTimes self.old.book }
+        requires first { HasFirstConnection (W.state wires.old).opened conn.0 self.old }
         ensures does { OpensOn U.SafeUser S.Sink W.Wires C.Clock R.Rng (pair_plan pair.now plan.now) (pair_caller pair.now) conn.0 self.old self.new
             sink.old sink.new wires.old wires.new clock.old clock.new randoms.old randoms.new result }
         ensures seated { OnOk result (IsSeated (W.state wires.new).opened self.new.book) }
-        ensures awaited { OnOk result (IsAwaited self.new.book) }
+        ensures awaited { OnOk result (HasAllWakeTimes self.new.book) }
         ensures turns { self.new.turns ≡ self.old.turns }
         ensures sunk { (S.state sink.old).faults ≤ (S.state sink.new).faults }
     {

@@ -2,9 +2,9 @@
 
 ghost use Rattle.std.specs.Prelude.{◌≤◌, ◌<◌, ◌^◌, length, map};
 ghost use Rattle.loop_session.specs.Parts.{Puts};
-ghost use Rattle.loop_model.specs.Journals.{header};
+ghost use Rattle.loop_model.specs.Journals.{trace_header};
 ghost use Rattle.readiness_loop.specs.Claims.{serving, ServesOn};
-ghost use Rattle.readiness_loop.specs.Courses.{plan_of, Serves};
+ghost use Rattle.readiness_loop.specs.Courses.{plan_of_loop, Serves};
 ghost use Rattle.readiness_loop.specs.Lives.{around_at};
 
 use crate::line_plan::{LinePlan, Served};
@@ -28,7 +28,7 @@ pub(crate) fn write_header<S: Sink>(
     settings: &Settings,
     sink: &mut S,
 ) -> Result<(), LoopFault>
-    ensures puts { Puts (S.state sink.old) (S.state sink.new) (header settings.now) result }
+    ensures puts { Puts (S.state sink.old) (S.state sink.new) (trace_header settings.now) result }
     ensures sunk { (S.state sink.old).faults ≤ (S.state sink.new).faults }
 {
     let mut line = Vec::new(alloc);
@@ -48,7 +48,7 @@ fn serve_users<U: SafeUser, K: KeyFinder, W: Wires, C: Clock, R: Rng, S: Sink>(
     randoms: &mut R,
     sink: &mut S,
 ) -> Result<Served, LoopFault>
-    ensures does { Serves (plan_of (K.entries keys.now) plan.now)
+    ensures does { Serves (plan_of_loop (K.entries keys.now) plan.now)
         (around_at S.Sink W.Wires C.Clock sink.old wires.old clock.old)
         (around_at S.Sink W.Wires C.Clock sink.new wires.new clock.new)
         (map U.mind users.items) (R.stream randoms.old) (R.stream randoms.new) address.now result }

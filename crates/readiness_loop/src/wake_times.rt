@@ -4,7 +4,7 @@ ghost use Rattle.std.specs.Prelude.{◌≡◌, ◌<◌, ◌-◌, ◌^◌, ◌==�
 ghost use Rattle.std.specs.Ordering.{nat_cmp};
 ghost use Rattle.std.specs.List.Sorted.{IsPermutation, IsSorted};
 ghost use Rattle.std.specs.BTreeSet.{IsOrdered};
-ghost use Rattle.readiness_loop.specs.WakeTimes.{pair_cmp, has, is_moment, numbers_until, IsFirst};
+ghost use Rattle.readiness_loop.specs.WakeTimes.{pair_cmp, has_wake_time, is_moment, numbers_until, IsFirstWakeTime};
 
 use er_base::{Moment, NoMemory};
 use std::alloc::Global;
@@ -28,7 +28,7 @@ impl WakeTimes {
 
     // The first moment.
     pub(crate) fn first(&self) -> Option<u64>
-        ensures { IsFirst self.now.pairs result }
+        ensures { IsFirstWakeTime self.now.pairs result }
     {
         match self.pairs.first() {
             Some(pair) => Some(pair.0),
@@ -57,8 +57,8 @@ impl WakeTimes {
         before: Option<u64>,
         now: Option<u64>,
     ) -> Result<(), NoMemory>
-        requires { (m : ℕ) → has self.old.pairs m number ≡ is_moment m before }
-        ensures { OnOk result ((m n : ℕ) → has self.new.pairs m n ≡ (if n == number then is_moment m now else has self.old.pairs m n)) }
+        requires { (m : ℕ) → has_wake_time self.old.pairs m number ≡ is_moment m before }
+        ensures { OnOk result ((m n : ℕ) → has_wake_time self.new.pairs m n ≡ (if n == number then is_moment m now else has_wake_time self.old.pairs m n)) }
     {
         // A moment that stays costs nothing.
         if before == now {
@@ -70,7 +70,7 @@ impl WakeTimes {
 
     // A session is no more to be visited at this moment.
     fn forget(&mut self, number: u64, at: Option<u64>)
-        ensures { (m n : ℕ) → has self.new.pairs m n ≡ (if is_moment m at && (n == number) then false else has self.old.pairs m n) }
+        ensures { (m n : ℕ) → has_wake_time self.new.pairs m n ≡ (if is_moment m at && (n == number) then false else has_wake_time self.old.pairs m n) }
     {
         if let Some(at) = at {
             self.pairs.remove(&(at, number));
@@ -79,7 +79,7 @@ impl WakeTimes {
 
     // A session is to be visited at this moment.
     fn keep(&mut self, number: u64, at: Option<u64>) -> Result<(), NoMemory>
-        ensures { OnOk result ((m n : ℕ) → has self.new.pairs m n ≡ (if is_moment m at && (n == number) then true else has self.old.pairs m n)) }
+        ensures { OnOk result ((m n : ℕ) → has_wake_time self.new.pairs m n ≡ (if is_moment m at && (n == number) then true else has_wake_time self.old.pairs m n)) }
     {
         if let Some(at) = at {
             self.pairs.insert((at, number))?;

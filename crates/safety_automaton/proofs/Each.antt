@@ -4,12 +4,12 @@ use Rattle.std.proofs.lemmas.Bool.{ne_eqb}
 use Rattle.des_block.specs.declared.triple_key.TripleKey.{TripleKey}
 use Rattle.cbc_mac.specs.Mac.{mac_of}
 use Rattle.session_keys.specs.Session.{session_of}
-use Rattle.sapdu.specs.Spelling.{Pdu, Au1, Au2, Au3, Ar, Dt, Di, read_of}
+use Rattle.sapdu.specs.Spelling.{SafetyPdu, Au1, Au2, Au3, Ar, Dt, Di, read_of}
 use Rattle.er_base.specs.declared.release.Release.{Release}
 use Rattle.er_base.specs.declared.cause.Cause.{Cause}
 use Rattle.er_base.specs.declared.cause.Cause.TheVariants as cause
-use Rattle.safety_automaton.specs.Safety.{Safety, Connection, Phase, Ready, WaitAu1, WaitAu2, WaitAu3, WaitAr, Connected, Released, SafetyEvent, Refusal, Refused, RefusedReleased, RefusedNotConnected, RefusedLength, SentAu1, SentAu2, SentAu3, SentAr, ReceivedAr, AcceptedDt, SentDt, ReleasedLocally, ReleasedByPeer, NothingDone, peer_flag, au2_text, au3_text, ar_text, message_text, releases, released_by_peer, row, checked, receives, sends, connects, disconnects, step}
-use Rattle.safety_automaton.specs.Rules.{IsOpen, IsInSetUp, IsReady, IsReceived, IsAwaited, CauseMet, OtherFeatureMet, OfAu1, OfAu2, StaysIdle, AtReceived, AtDisconnect, AtConnect, SendsAu1, SendsAu2, SendsAu3, SendsAr, ReceivesAr, AcceptsDt, SendsDt, Refuses, RefusalMet, ReleasesLocally, ReleasesByPeer, StepsEach}
+use Rattle.safety_automaton.specs.Safety.{Safety, Connection, Phase, Ready, WaitAu1, WaitAu2, WaitAu3, WaitAr, Connected, Released, SafetyEvent, Refusal, Refused, RefusedReleased, RefusedNotConnected, RefusedLength, SentAu1, SentAu2, SentAu3, SentAr, ReceivedAr, AcceptedDt, SentDt, ReleasedLocally, ReleasedByPeer, NothingDone, peer_flag, au2_text, au3_text, ar_text, message_text, releases, released_by_peer, row, checked, step_received_octets, sends, connects, disconnects, step}
+use Rattle.safety_automaton.specs.Rules.{IsOpen, IsInSetUp, IsReady, IsReceived, IsAwaited, CauseMet, OtherFeatureMet, OfAu1, OfAu2, StaysIdle, AtReceived, AtDisconnect, AtConnect, SendsAu1, SendsAu2, SendsAu3, SendsAr, ReceivesAr, AcceptsDt, SendsDt, RefusesDataRequest, RefusalMet, ReleasesLocally, ReleasesByPeer, StepsEach}
 use Rattle.safety_automaton.proofs.Flags.{same_flag_at, own_flag}
 use Rattle.safety_automaton.proofs.Only.{message_test, message_refused}
 
@@ -19,18 +19,18 @@ same_number n = eq-eqb n n refl
 -- ---- octets that are read, at a side that isn't released
 
 pub reads_open : (key_of : ℕ → ℕ → Option TripleKey) (s : Safety) (phase : Phase) (octets : List ℕ) → IsOpen phase
-    → receives key_of s phase octets ≡ checked key_of s (read_of octets)
+    → step_received_octets key_of s phase octets ≡ checked key_of s (read_of octets)
 reads_open key_of s (Released release session) octets unreleased = absurd unreleased
 reads_open key_of s phase octets unreleased = refl
 
 -- an SaPDU with the peer's flag comes to its row
-pub comes_to_row : (key_of : ℕ → ℕ → Option TripleKey) (s : Safety) (event : SafetyEvent) (pdu : Pdu) → IsOpen s.phase → IsReceived s event pdu
+pub comes_to_row : (key_of : ℕ → ℕ → Option TripleKey) (s : Safety) (event : SafetyEvent) (pdu : SafetyPdu) → IsOpen s.phase → IsReceived s event pdu
     → step key_of s event ≡ row key_of s s.phase pdu
 comes_to_row key_of s event pdu unreleased received =
     rw (received.event_is, reads_open key_of s s.phase received.octets unreleased, received.read, same_flag_at (peer_flag s)) refl
 
 -- the same at a phase that is told
-at_phase : (key_of : ℕ → ℕ → Option TripleKey) (s : Safety) (event : SafetyEvent) (phase : Phase) (pdu : Pdu) → s.phase ≡ phase → IsOpen phase
+at_phase : (key_of : ℕ → ℕ → Option TripleKey) (s : Safety) (event : SafetyEvent) (phase : Phase) (pdu : SafetyPdu) → s.phase ≡ phase → IsOpen phase
     → IsReceived s event pdu → step key_of s event ≡ row key_of s phase pdu
 at_phase key_of s event phase pdu e unreleased received =
     comes_to_row key_of s event pdu (subst IsOpen (sym e) unreleased) received ∙ ap (λ p. row key_of s p pdu) e
@@ -38,7 +38,7 @@ at_phase key_of s event phase pdu e unreleased received =
 -- ---- releases
 
 -- a readable SaPDU for which the state doesn't wait
-unexpected_row : (key_of : ℕ → ℕ → Option TripleKey) (s : Safety) (phase : Phase) (pdu : Pdu) → (IsAwaited phase pdu → ⊥)
+unexpected_row : (key_of : ℕ → ℕ → Option TripleKey) (s : Safety) (phase : Phase) (pdu : SafetyPdu) → (IsAwaited phase pdu → ⊥)
     → row key_of s phase pdu ≡ releases s cause.Unexpected
 unexpected_row key_of s phase (Di reason sub) other = absurd (other tt)
 unexpected_row key_of s (WaitAu1 ra) (Au1 id feature rb) other = absurd (other (ra, refl))
@@ -166,7 +166,7 @@ refuses_for s user RefusedNotConnected met = not_connected s s.phase user met
 refuses_for s user (RefusedLength found) met = rw (met.0.2, message_refused user met.2, met.1) refl
 
 refuses : (key_of : ℕ → ℕ → Option TripleKey) (s : Safety) (event : SafetyEvent) (next : Safety) (refusal : Refusal)
-    → Refuses s event next refusal → step key_of s event ≡ (next, Refused refusal)
+    → RefusesDataRequest s event next refusal → step key_of s event ≡ (next, Refused refusal)
 refuses key_of s event next refusal met = rw (met.next_is, met.event_is) (refuses_for s met.user refusal met.met)
 
 starts_nothing : (s : Safety) (phase : Phase) → (IsReady phase → ⊥) → connects s phase ≡ (s, NothingDone)

@@ -2,12 +2,12 @@
 use Rattle.std.proofs.Common.{◌≡◌, ℕ, zero, suc, ◌==◌, ◌≤◌, ◌&&◌, nat_le, Bool, true, false, if◌then◌else◌, List, [], ◌∷◌, slice_get, Some, refl, sym, subst, ap, eq-eqb}
 use Rattle.std.proofs.lemmas.Bool.{eqb-true, and_parts, and_from, leb-true, le-leb}
 use Rattle.des_block.specs.declared.triple_key.TripleKey.{TripleKey}
-use Rattle.safety_automaton.specs.Keys.{Entry, is_of, key_at, AreAtOnce, IsApartFrom}
+use Rattle.safety_automaton.specs.Keys.{KmacEntry, is_of, key_at, AreAtOnce, IsApartFrom}
 use Rattle.safety_automaton.specs.Laws.{FindsEach, FindsOnly, IsFound}
 
 -- ---- only such an entry is found
 
-found_if : (b : Bool) (entry : Entry) (entries : List Entry) (now engine rbc : ℕ) (kmac : TripleKey) → is_of now engine rbc entry ≡ b
+found_if : (b : Bool) (entry : KmacEntry) (entries : List KmacEntry) (now engine rbc : ℕ) (kmac : TripleKey) → is_of now engine rbc entry ≡ b
     → (key_at entries now engine rbc ≡ Some kmac → IsFound entries now engine rbc kmac)
     → (if b then Some entry.kmac else key_at entries now engine rbc) ≡ Some kmac → IsFound (entry ∷ entries) now engine rbc kmac
 found_if true entry entries now engine rbc kmac test further e =
@@ -44,10 +44,10 @@ finds_only (entry ∷ entries) now engine rbc kmac e =
 
 -- ---- each entry that holds is found
 
-abbrev Holds : Entry → ℕ → Type 0
+abbrev Holds : KmacEntry → ℕ → Type 0
 Holds entry now = (entry.first ≤ now) × (now ≤ entry.last)
 
-is_own : (entry : Entry) (now : ℕ) → Holds entry now → is_of now entry.engine entry.rbc entry ≡ true
+is_own : (entry : KmacEntry) (now : ℕ) → Holds entry now → is_of now entry.engine entry.rbc entry ≡ true
 is_own entry now holds =
     and_from ((entry.engine == entry.engine) && (entry.rbc == entry.rbc) && nat_le entry.first now) (nat_le now entry.last)
     (and_from ((entry.engine == entry.engine) && (entry.rbc == entry.rbc)) (nat_le entry.first now)
@@ -56,7 +56,7 @@ is_own entry now holds =
     (le-leb now entry.last holds.1)
 
 -- none of these is of one pair and one moment with an entry that is apart from them
-apart_from_each : (first entry : Entry) (entries : List Entry) (k : ℕ) → IsApartFrom first entries → slice_get entries k ≡ Some entry
+apart_from_each : (first entry : KmacEntry) (entries : List KmacEntry) (k : ℕ) → IsApartFrom first entries → slice_get entries k ≡ Some entry
     → AreAtOnce first entry → ⊥
 apart_from_each first entry [] k apart stands both = cc
 apart_from_each first entry (other ∷ others) zero apart stands both =
@@ -64,7 +64,7 @@ apart_from_each first entry (other ∷ others) zero apart stands both =
 apart_from_each first entry (other ∷ others) (suc k) apart stands both = apart_from_each first entry others k apart.1 stands both
 
 -- the first entry is of the same pair at the same moment: then it is the entry
-is_first : (first entry : Entry) (entries : List Entry) (k now : ℕ) (b : Bool) → IsApartFrom first entries → slice_get entries k ≡ Some entry
+is_first : (first entry : KmacEntry) (entries : List KmacEntry) (k now : ℕ) (b : Bool) → IsApartFrom first entries → slice_get entries k ≡ Some entry
     → Holds entry now → is_of now entry.engine entry.rbc first ≡ b → key_at entries now entry.engine entry.rbc ≡ Some entry.kmac
     → (if b then Some first.kmac else key_at entries now entry.engine entry.rbc) ≡ Some entry.kmac
 is_first first entry entries k now true apart stands holds test further =
@@ -85,9 +85,9 @@ pub finds_each : FindsEach
 finds_each [] entry k now distinct stands begun yet = absurd cc
 finds_each (first ∷ entries) entry zero now distinct stands begun yet =
     let same : first ≡ entry = cc in
-    let P : Entry → Type 0 = λ x. is_of now entry.engine entry.rbc x ≡ true in
+    let P : KmacEntry → Type 0 = λ x. is_of now entry.engine entry.rbc x ≡ true in
     let test : is_of now entry.engine entry.rbc first ≡ true = subst P (sym same) (is_own entry now (begun, yet)) in
-    rw test (ap (λ (x : Entry). Some x.kmac) same)
+    rw test (ap (λ (x : KmacEntry). Some x.kmac) same)
 finds_each (first ∷ entries) entry (suc k) now distinct stands begun yet =
     is_first first entry entries k now (is_of now entry.engine entry.rbc first) distinct.0 stands (begun, yet) refl
     (finds_each entries entry k now distinct.1 stands begun yet)

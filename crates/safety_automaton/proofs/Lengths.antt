@@ -3,13 +3,13 @@ use Rattle.std.proofs.Common.{◌≡◌, ◌∙◌, ◌+◌, ℕ, ◌≤◌, Boo
 use Rattle.er_base.specs.Octets.{eight}
 use Rattle.des_block.specs.declared.triple_key.TripleKey.{TripleKey}
 use Rattle.cbc_mac.specs.Mac.{mac_of}
-use Rattle.sapdu.specs.Spelling.{Pdu, Au1, Au2, Au3, Ar, Dt, Di, spelling, IsSpelledBack}
-use Rattle.safety_automaton.specs.Safety.{Safety, SafetyEvent, ConnectRequest, Received, DataRequest, DisconnectRequest, SafetyOutcome, SentAu1, SentAu2, SentAu3, SentAr, ReceivedAr, AcceptedDt, SentDt, Refused, ReleasedLocally, ReleasedByPeer, NothingDone, flag_of, sent_by, step}
+use Rattle.sapdu.specs.Spelling.{SafetyPdu, Au1, Au2, Au3, Ar, Dt, Di, spelling, IsSpelledBack}
+use Rattle.safety_automaton.specs.Safety.{Safety, SafetyEvent, ConnectRequest, Received, DataRequest, DisconnectRequest, SafetyOutcome, SentAu1, SentAu2, SentAu3, SentAr, ReceivedAr, AcceptedDt, SentDt, Refused, ReleasedLocally, ReleasedByPeer, NothingDone, flag_of, octets_sent_in_outcome, step}
 use Rattle.er_base.specs.Stored.{Stored}
 use Rattle.er_base.specs.Stored.{Appends}
 use Rattle.safety_automaton.specs.Reports.{Report, report_of, IfAccepted}
 use Rattle.safety_automaton.specs.Rules.{IsStep}
-use Rattle.safety_automaton.specs.Laws.{IsValidEvent, HasLength, LengthsAre, most_sent, SendsFew}
+use Rattle.safety_automaton.specs.Laws.{IsValidEvent, HasOutcomeLength, LengthsAre, most_sent, SendsFew}
 use Rattle.safety_automaton.proofs.Only.{steps_only}
 use Rattle.safety_automaton.proofs.Valid.{fits_received}
 
@@ -18,7 +18,7 @@ abbrev pub EightAreEight : Type 0
 EightAreEight = (n : ℕ) → length (eight n) ≡ 8
 
 -- the length of an SaPDU
-length_of : Pdu → ℕ
+length_of : SafetyPdu → ℕ
 length_of (Au1 id feature rb) = 13
 length_of (Au2 id feature ra mac) = 21
 length_of (Au3 mac) = 9
@@ -26,7 +26,7 @@ length_of (Ar mac) = 9
 length_of (Dt user mac) = length user + 9
 length_of (Di reason sub) = 3
 
-spelling_length : EightAreEight → (pdu : Pdu) (flag : Bool) → length (spelling pdu flag) ≡ length_of pdu
+spelling_length : EightAreEight → (pdu : SafetyPdu) (flag : Bool) → length (spelling pdu flag) ≡ length_of pdu
 unfolding length_of
 spelling_length long (Au1 id feature rb) flag = let l = long rb in omega arith
 spelling_length long (Au2 id feature ra mac) flag = simp (length-append, long) (omega arith)
@@ -35,11 +35,11 @@ spelling_length long (Ar mac) flag = let l = long mac in omega arith
 spelling_length long (Dt user mac) flag = simp (length-append, long) (omega arith)
 spelling_length long (Di reason sub) flag = omega arith
 
-spelled_length : EightAreEight → (pdu : Pdu) (flag : Bool) (octets : List ℕ) → octets ≡ spelling pdu flag → length octets ≡ length_of pdu
+spelled_length : EightAreEight → (pdu : SafetyPdu) (flag : Bool) (octets : List ℕ) → octets ≡ spelling pdu flag → length octets ≡ length_of pdu
 spelled_length long pdu flag octets e = ap length e ∙ spelling_length long pdu flag
 
 lengths : EightAreEight → IsSpelledBack → (key_of : ℕ → ℕ → Option TripleKey) (s : Safety) (event : SafetyEvent) (next : Safety)
-    (outcome : SafetyOutcome) → IsStep key_of s event next outcome → IsValidEvent event → HasLength outcome
+    (outcome : SafetyOutcome) → IsStep key_of s event next outcome → IsValidEvent event → HasOutcomeLength outcome
 unfolding length_of
 lengths long back key_of s event next (SentAu1 octets) met fine = spelled_length long (Au1 s.me 1 met.rb) (flag_of s.role) octets met.octets_is
 lengths long back key_of s event next (SentAu2 session sealed octets) met fine = spelled_length long (Au2 s.me 1 met.connection.ra (mac_of session sealed)) (flag_of s.role) octets met.octets_is
@@ -72,7 +72,7 @@ fits_at : (n m : ℕ) (event at : SafetyEvent) → event ≡ at → n ≡ m → 
 fits_at n m event at e long few = let same : most_sent event ≡ most_sent at = ap most_sent e in omega arith
 
 few : EightAreEight → (key_of : ℕ → ℕ → Option TripleKey) (s : Safety) (event : SafetyEvent) (next : Safety) (outcome : SafetyOutcome)
-    → IsStep key_of s event next outcome → length (sent_by outcome) ≤ most_sent event
+    → IsStep key_of s event next outcome → length (octets_sent_in_outcome outcome) ≤ most_sent event
 unfolding length_of
 few long key_of s event next (SentAu1 octets) met =
     fits_at (length octets) 13 event ConnectRequest met.event_is (spelled_length long (Au1 s.me 1 met.rb) (flag_of s.role) octets met.octets_is) (omega arith)
@@ -108,11 +108,11 @@ few_appended old new octets n appends short =
     omega arith
 
 -- user octets that were accepted are a message
-pub few_accepted : (told : Report) (outcome : SafetyOutcome) → HasLength outcome → told ≡ report_of outcome
+pub few_accepted : (told : Report) (outcome : SafetyOutcome) → HasOutcomeLength outcome → told ≡ report_of outcome
     → IfAccepted told (λ user. length user ≤ 1023)
 few_accepted told outcome has e = let P : Report → Type 0 = λ r. IfAccepted r (λ user. length user ≤ 1023) in subst P (sym e) (of_outcome outcome has)
   where
-    of_outcome : (outcome : SafetyOutcome) → HasLength outcome → IfAccepted (report_of outcome) (λ user. length user ≤ 1023)
+    of_outcome : (outcome : SafetyOutcome) → HasOutcomeLength outcome → IfAccepted (report_of outcome) (λ user. length user ≤ 1023)
     of_outcome (SentAu1 octets) has = tt
     of_outcome (SentAu2 session sealed octets) has = tt
     of_outcome (SentAu3 session verified sealed octets) has = tt

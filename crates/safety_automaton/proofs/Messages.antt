@@ -2,10 +2,10 @@
 use Rattle.std.proofs.Common.{◌≡◌, ℕ, ◌<◌, ◌^◌, List, Option, Ok, refl, sym, subst}
 use Rattle.des_block.specs.declared.triple_key.TripleKey.{TripleKey}
 use Rattle.cbc_mac.specs.Mac.{mac_of}
-use Rattle.sapdu.specs.Spelling.{Pdu, Dt, Fits, spelling, read_of, IsReadBack, IsSpelledBack}
+use Rattle.sapdu.specs.Spelling.{SafetyPdu, Dt, Fits, spelling, read_of, IsReadBack, IsSpelledBack}
 use Rattle.safety_automaton.specs.Safety.{Safety, Connected, SafetyEvent, Received, SafetyOutcome, SentAu1, SentAu2, SentAu3, SentAr, ReceivedAr, AcceptedDt, SentDt, Refused, ReleasedLocally, ReleasedByPeer, NothingDone, peer_flag, step}
 use Rattle.safety_automaton.specs.Rules.{IsReceived, IsStep, AcceptsDt, StaysIdle, AtReceived, AtDisconnect, AtConnect}
-use Rattle.safety_automaton.specs.Laws.{IsVerified, AcceptsVerified, VerifiedAccepts, AcceptsSpelled, SpelledAccepts, SpelledIsReceived, ReceivedIsSpelled, ComesConnected, WasConnected, HasSentAr, HasReceivedAr, ConnectsOnly, ReleasedRests}
+use Rattle.safety_automaton.specs.Laws.{IsVerifiedMessage, AcceptsVerified, VerifiedAccepts, AcceptsSpelled, SpelledAccepts, SpelledIsReceived, ReceivedIsSpelled, ComesConnected, WasConnected, HasSentAr, HasReceivedAr, ConnectsOnly, ReleasedRests}
 use Rattle.safety_automaton.proofs.Only.{steps_only}
 use Rattle.safety_automaton.proofs.Each.{accepts_dt}
 
@@ -14,7 +14,7 @@ abbrev pub MacsFit : Type 0
 MacsFit = (key : TripleKey) (text : List ℕ) → mac_of key text < 2 ^ 64
 
 -- octets that were received, as they are read
-read_as : (s : Safety) (octets : List ℕ) (pdu : Pdu) → IsReceived s (Received octets) pdu → read_of octets ≡ Ok (pdu, peer_flag s)
+read_as : (s : Safety) (octets : List ℕ) (pdu : SafetyPdu) → IsReceived s (Received octets) pdu → read_of octets ≡ Ok (pdu, peer_flag s)
 read_as s octets pdu r = let same : octets ≡ r.octets = let e = r.event_is in cc in rw same r.read
 
 pub accepts_verified : AcceptsVerified
@@ -54,7 +54,7 @@ spelled_accepts back below key_of s session octets user text small dt =
 
 pub accepts_spelled : IsSpelledBack → AcceptsSpelled
 accepts_spelled back key_of s session octets user text small e =
-    let v : IsVerified s session octets user text = accepts_verified key_of s session octets user text e in
+    let v : IsVerifiedMessage s session octets user text = accepts_verified key_of s session octets user text e in
     let mac : ℕ = mac_of session text in
     let both : Fits (Dt user mac) × (octets ≡ spelling (Dt user mac) (peer_flag s)) = back octets (Dt user mac) (peer_flag s) small v.read in
     record { peer = v.peer; connected = v.connected; message = both.0.user; text_is = v.text_is; spelled = both.1 }

@@ -4,12 +4,12 @@ use Rattle.std.proofs.lemmas.Bool.{eqb-true, eqb-false, and_parts, and_from, leb
 use Rattle.des_block.specs.declared.triple_key.TripleKey.{TripleKey}
 use Rattle.cbc_mac.specs.Mac.{mac_of}
 use Rattle.session_keys.specs.Session.{session_of}
-use Rattle.sapdu.specs.Spelling.{Pdu, Au1, Au2, Au3, Ar, Dt, Di, read_of}
+use Rattle.sapdu.specs.Spelling.{SafetyPdu, Au1, Au2, Au3, Ar, Dt, Di, read_of}
 use Rattle.sapdu.specs.Messages.{IsMessage, is_message}
 use Rattle.sapdu.specs.declared.fault.SaFault.{SaFault}
 use Rattle.er_base.specs.declared.cause.Cause.{Cause}
 use Rattle.er_base.specs.declared.cause.Cause.TheVariants as cause
-use Rattle.safety_automaton.specs.Safety.{Safety, Phase, Ready, WaitAu1, WaitAu2, WaitAu3, WaitAr, Connected, Released, SafetyEvent, ConnectRequest, Received, DataRequest, DisconnectRequest, SafetyOutcome, peer_flag, same_flag, au2_text, au3_text, ar_text, message_text, releases, sends_au2, row, checked, receives, sends, connects, disconnects, step}
+use Rattle.safety_automaton.specs.Safety.{Safety, Phase, Ready, WaitAu1, WaitAu2, WaitAu3, WaitAr, Connected, Released, SafetyEvent, ConnectRequest, Received, DataRequest, DisconnectRequest, SafetyOutcome, peer_flag, same_flag, au2_text, au3_text, ar_text, message_text, releases, sends_au2, row, checked, step_received_octets, sends, connects, disconnects, step}
 use Rattle.safety_automaton.specs.Rules.{IsOpen, IsInSetUp, IsReady, IsReceived, IsAwaited, CauseMet, OfAu1, OfAu2, AtReceived, AtDisconnect, AtConnect, IsStep, StepsOnly}
 use Rattle.safety_automaton.proofs.Flags.{same_flag-true, is_own_flag}
 
@@ -29,7 +29,7 @@ met_releases key_of s event why met =
     record { met = record { cause = why; met = met; releases = record { release_is = refl; next_is = refl; octets_is = refl } } }
 
 -- the pairs of a state and an SaPDU for which it waits
-abbrev pub IsPair : Phase → Pdu → Type 0
+abbrev pub IsPair : Phase → SafetyPdu → Type 0
 IsPair phase (Di reason sub) = Unit {0}
 IsPair (WaitAu1 ra) (Au1 id feature rb) = Unit {0}
 IsPair (WaitAu2 peer kmac rb) (Au2 id feature ra mac) = Unit {0}
@@ -38,7 +38,7 @@ IsPair (WaitAr c) (Ar mac) = Unit {0}
 IsPair (Connected peer session) (Dt user mac) = Unit {0}
 IsPair phase pdu = ⊥
 
-pair_of : (phase : Phase) (pdu : Pdu) → IsAwaited phase pdu → IsPair phase pdu
+pair_of : (phase : Phase) (pdu : SafetyPdu) → IsAwaited phase pdu → IsPair phase pdu
 pair_of phase (Di reason sub) w = is_di phase reason sub
   where
     is_di : (phase : Phase) (reason sub : ℕ) → IsPair phase (Di reason sub)
@@ -49,7 +49,7 @@ pair_of phase (Au3 mac) w = let P : Phase → Type 0 = λ p. IsPair p (Au3 mac) 
 pair_of phase (Ar mac) w = let P : Phase → Type 0 = λ p. IsPair p (Ar mac) in subst P (sym w.1) tt
 pair_of phase (Dt user mac) w = let P : Phase → Type 0 = λ p. IsPair p (Dt user mac) in subst P (sym w.2) tt
 
-met_unexpected : (key_of : ℕ → ℕ → Option TripleKey) (s : Safety) (event : SafetyEvent) (phase : Phase) (pdu : Pdu) → s.phase ≡ phase
+met_unexpected : (key_of : ℕ → ℕ → Option TripleKey) (s : Safety) (event : SafetyEvent) (phase : Phase) (pdu : SafetyPdu) → s.phase ≡ phase
     → IsOpen phase → IsReceived s event pdu → (IsPair phase pdu → ⊥) → IsMet key_of s event (releases s cause.Unexpected)
 met_unexpected key_of s event phase pdu e unreleased received no_pair =
     let no_pair_here : IsPair s.phase pdu → ⊥ = let P : Phase → Type 0 = λ p. IsPair p pdu → ⊥ in subst P (sym e) no_pair in
@@ -82,11 +82,11 @@ met_au1 key_of s event ra id rb (Some kmac) e received found =
       };
     }
 
-received_as : (s : Safety) (event : SafetyEvent) (p q : Pdu) → p ≡ q → IsReceived s event p → IsReceived s event q
-received_as s event p q e h = let P : Pdu → Type 0 = λ x. IsReceived s event x in subst P e h
+received_as : (s : Safety) (event : SafetyEvent) (p q : SafetyPdu) → p ≡ q → IsReceived s event p → IsReceived s event q
+received_as s event p q e h = let P : SafetyPdu → Type 0 = λ x. IsReceived s event x in subst P e h
 
 -- the table
-met_row : (key_of : ℕ → ℕ → Option TripleKey) (s : Safety) (event : SafetyEvent) (phase : Phase) (pdu : Pdu) → s.phase ≡ phase → IsOpen phase
+met_row : (key_of : ℕ → ℕ → Option TripleKey) (s : Safety) (event : SafetyEvent) (phase : Phase) (pdu : SafetyPdu) → s.phase ≡ phase → IsOpen phase
     → IsReceived s event pdu → IsMet key_of s event (row key_of s phase pdu)
 met_row key_of s event phase (Di reason sub) e unreleased received =
     record {
@@ -191,7 +191,7 @@ met_row key_of s event (Released release session) pdu e unreleased received = ab
 met_row key_of s event phase pdu e unreleased received = met_unexpected key_of s event phase pdu e unreleased received (λ pair. pair)
 
 -- octets that were read
-met_checked : (key_of : ℕ → ℕ → Option TripleKey) (s : Safety) (octets : List ℕ) (read : Result (Pdu × Bool) SaFault) → IsOpen s.phase
+met_checked : (key_of : ℕ → ℕ → Option TripleKey) (s : Safety) (octets : List ℕ) (read : Result (SafetyPdu × Bool) SaFault) → IsOpen s.phase
     → read_of octets ≡ read → IsMet key_of s (Received octets) (checked key_of s read)
 met_checked key_of s octets (Err fault) unreleased is =
     met_releases key_of s (Received octets) cause.Malformed
@@ -214,7 +214,7 @@ met_checked key_of s octets (Ok read) unreleased is =
     (record { octets = octets; event_is = refl; read = subst (λ f. read_of octets ≡ Ok (read.0, f)) flag_is is }))
 
 met_receives : (key_of : ℕ → ℕ → Option TripleKey) (s : Safety) (phase : Phase) (octets : List ℕ) → s.phase ≡ phase
-    → IsMet key_of s (Received octets) (receives key_of s phase octets)
+    → IsMet key_of s (Received octets) (step_received_octets key_of s phase octets)
 met_receives key_of s (Released release session) octets e = record { met = AtReceived octets release session refl e refl }
 met_receives key_of s phase octets e = met_checked key_of s octets (read_of octets) (subst IsOpen (sym e) tt) refl
 

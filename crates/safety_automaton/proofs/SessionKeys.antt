@@ -3,7 +3,7 @@ use Rattle.std.proofs.Common.{◌≡◌, ◌∙◌, ℕ, Option, Some, None, sym
 use Rattle.des_block.specs.declared.triple_key.TripleKey.{TripleKey}
 use Rattle.safety_automaton.specs.Safety.{Safety, Phase, SafetyEvent, SafetyOutcome, SentAu1, SentAu2, SentAu3, SentAr, ReceivedAr, AcceptedDt, SentDt, Refused, ReleasedLocally, ReleasedByPeer, NothingDone, session_in, step}
 use Rattle.safety_automaton.specs.Rules.{IsStep}
-use Rattle.safety_automaton.specs.Laws.{keys_of, KeysAreOwn, KeysStay, ComesToKnow, WithAu2, WithAu3, KeysOnly}
+use Rattle.safety_automaton.specs.Laws.{session_keys_of_outcome, KeysAreOwn, KeysStay, ComesToKnow, WithAu2, WithAu3, KeysOnly}
 use Rattle.safety_automaton.proofs.Only.{steps_only}
 use Rattle.safety_automaton.proofs.Messages.{idle_same}
 
@@ -15,7 +15,7 @@ in_same : (s next : Safety) → next ≡ s → session_in next.phase ≡ session
 in_same s next e = ap (λ (n : Safety). session_in n.phase) e
 
 own : (key_of : ℕ → ℕ → Option TripleKey) (s : Safety) (event : SafetyEvent) (next : Safety) (outcome : SafetyOutcome) (session : TripleKey)
-    → IsStep key_of s event next outcome → keys_of outcome ≡ Some session → session_in next.phase ≡ Some session
+    → IsStep key_of s event next outcome → session_keys_of_outcome outcome ≡ Some session → session_in next.phase ≡ Some session
 own key_of s event next (SentAu1 octets) session met e = absurd cc
 own key_of s event next (SentAu2 key sealed octets) session met e = in_next s next _ met.next_is ∙ ap Some (sym met.session_is) ∙ e
 own key_of s event next (SentAu3 key verified sealed octets) session met e = in_next s next _ met.next_is ∙ ap Some (sym met.session_is) ∙ e

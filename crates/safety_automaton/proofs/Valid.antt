@@ -4,11 +4,11 @@ use Rattle.er_base.specs.declared.release.Release.{Release}
 use Rattle.des_block.specs.declared.triple_key.TripleKey.{TripleKey}
 use Rattle.cbc_mac.specs.Mac.{mac_of}
 use Rattle.er_base.specs.Octets.{AreOctets}
-use Rattle.sapdu.specs.Spelling.{Pdu, Au1, Au2, Au3, Ar, Dt, Di, Fits, IsSpelledBack}
+use Rattle.sapdu.specs.Spelling.{SafetyPdu, Au1, Au2, Au3, Ar, Dt, Di, Fits, IsSpelledBack}
 use Rattle.er_base.specs.Causes.{release_of}
 use Rattle.er_base.specs.declared.cause.Cause.{Cause}
 use Rattle.er_base.specs.declared.cause.Cause.TheVariants as cause
-use Rattle.safety_automaton.specs.Safety.{Safety, Connection, Phase, Ready, Connected, WaitAu1, WaitAu2, WaitAu3, WaitAr, SafetyEvent, DataRequest, DisconnectRequest, SafetyOutcome, SentAu1, SentAu2, SentAu3, SentAr, ReceivedAr, AcceptedDt, SentDt, Refused, ReleasedLocally, ReleasedByPeer, NothingDone, peer_flag, sent_by, step}
+use Rattle.safety_automaton.specs.Safety.{Safety, Connection, Phase, Ready, Connected, WaitAu1, WaitAu2, WaitAu3, WaitAr, SafetyEvent, DataRequest, DisconnectRequest, SafetyOutcome, SentAu1, SentAu2, SentAu3, SentAr, ReceivedAr, AcceptedDt, SentDt, Refused, ReleasedLocally, ReleasedByPeer, NothingDone, peer_flag, octets_sent_in_outcome, step}
 use Rattle.safety_automaton.specs.Rules.{IsReceived, IsStep, CauseMet}
 use Rattle.safety_automaton.specs.Laws.{IsValidPhase, IsValid, IsValidEvent, MakesValid, StaysValid, StaysItself, SpellsOwn, SendsOwn}
 use Rattle.safety_automaton.proofs.Only.{steps_only}
@@ -23,7 +23,7 @@ makes_valid =
     }
 
 -- what is received fits
-pub fits_received : IsSpelledBack → (s : Safety) (event : SafetyEvent) (pdu : Pdu) → IsValidEvent event → IsReceived s event pdu → Fits pdu
+pub fits_received : IsSpelledBack → (s : Safety) (event : SafetyEvent) (pdu : SafetyPdu) → IsValidEvent event → IsReceived s event pdu → Fits pdu
 fits_received back s event pdu valid r = (back r.octets pdu (peer_flag s) (subst IsValidEvent r.event_is valid) r.read).0
 
 phase_as : (s : Safety) (phase : Phase) → IsValid s → s.phase ≡ phase → IsValidPhase s.me s.role phase
@@ -107,7 +107,7 @@ user_octets : (event : SafetyEvent) (user : List ℕ) → IsValidEvent event →
 user_octets event user valid e = subst IsValidEvent e valid
 
 sends : MacsFit → (key_of : ℕ → ℕ → Option TripleKey) (s : Safety) (event : SafetyEvent) (next : Safety) (outcome : SafetyOutcome)
-    → IsStep key_of s event next outcome → IsValid s → IsValidEvent event → (sent_by outcome ≡ []) ⊎ SpellsOwn s (sent_by outcome)
+    → IsStep key_of s event next outcome → IsValid s → IsValidEvent event → (octets_sent_in_outcome outcome ≡ []) ⊎ SpellsOwn s (octets_sent_in_outcome outcome)
 sends below key_of s event next (SentAu1 octets) met valid fine =
     let was = phase_as s (Ready met.peer met.kmac met.rb) valid met.waits in
     inr (record { pdu = Au1 s.me 1 met.rb; fits = record { user = tt; octets = (valid.me, omega arith, was.2) }; octets_are = met.octets_is })

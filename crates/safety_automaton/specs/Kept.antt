@@ -1,7 +1,7 @@
 -- Representation: how the code keeps a side of a safe connection, and what one step does to it; no claim rests on it.
 use Rattle.std.specs.Prelude.{ℕ, ◌≡◌, Bool, List, [], ◌∷◌, Option, Some, None, Result, Ok, Err}
 use Rattle.des_block.specs.declared.triple_key.TripleKey.{TripleKey}
-use Rattle.sapdu.specs.Spelling.{Pdu, Au1, Au2, Au3, Ar, Dt, Di, spelling}
+use Rattle.sapdu.specs.Spelling.{SafetyPdu, Au1, Au2, Au3, Ar, Dt, Di, spelling}
 use Rattle.safety_automaton.specs.declared.control_pdu.ControlPdu.{ControlPdu}
 use Rattle.safety_automaton.specs.declared.control_pdu.ControlPdu.TheVariants as control
 use Rattle.safety_automaton.specs.declared.deed.SealRefused.{SealRefused}
@@ -10,7 +10,7 @@ use Rattle.safety_automaton.specs.declared.phase.Stage.{Stage}
 use Rattle.safety_automaton.specs.declared.phase.Stage.TheVariants as stage
 use Rattle.safety_automaton.specs.declared.phase.Phase.{Phase as CodePhase}
 use Rattle.safety_automaton.specs.declared.phase.Phase.TheVariants as code
-use Rattle.safety_automaton.specs.Safety.{Safety, Phase, Ready, WaitAu1, WaitAu2, WaitAu3, WaitAr, Connected, Released, SafetyOutcome, sealed_by, verified_by, sent_by, flag_of}
+use Rattle.safety_automaton.specs.Safety.{Safety, Phase, Ready, WaitAu1, WaitAu2, WaitAu3, WaitAr, Connected, Released, SafetyOutcome, sealed_by, verified_by, octets_sent_in_outcome, flag_of}
 use Rattle.safety_automaton.specs.Reports.{KeptSafe, report_view, report_of, SendsAs}
 
 -- a phase in which the session keys are known, at a side of this number
@@ -38,7 +38,7 @@ connected_of (Connected peer session) = Connected peer session
 connected_of (Released release session) = Released release session
 
 -- an SaPDU without user octets; the safety feature is 1
-abbrev pub pdu_view : ControlPdu → Pdu
+abbrev pub pdu_view : ControlPdu → SafetyPdu
 pdu_view (control.Au1 id rb) = Au1 id 1 rb
 pdu_view (control.Au2 id ra mac) = Au2 id 1 ra mac
 pdu_view (control.Au3 mac) = Au3 mac
@@ -46,17 +46,17 @@ pdu_view (control.Ar mac) = Ar mac
 pdu_view (control.Di reason sub) = Di reason sub
 
 -- its octets with a flag; none where there is none
-abbrev pub octets_of : ControlPdu → Bool → List ℕ
-octets_of pdu flag = spelling (pdu_view pdu) flag
+abbrev pub octets_of_control_sapdu : ControlPdu → Bool → List ℕ
+octets_of_control_sapdu pdu flag = spelling (pdu_view pdu) flag
 
 abbrev pub octets_if : Option ControlPdu → Bool → List ℕ
 octets_if None flag = []
-octets_if (Some pdu) flag = octets_of pdu flag
+octets_if (Some pdu) flag = octets_of_control_sapdu pdu flag
 
 -- the text in a room of octets: none where the room is empty
-abbrev pub text_in : List ℕ → Option (List ℕ)
-text_in [] = None
-text_in (octet ∷ octets) = Some (octet ∷ octets)
+abbrev pub text_in_room : List ℕ → Option (List ℕ)
+text_in_room [] = None
+text_in_room (octet ∷ octets) = Some (octet ∷ octets)
 
 -- a released side keeps no texts
 abbrev pub HasNoTexts : CodePhase → Option (List ℕ) → Option (List ℕ) → Type 0
@@ -67,14 +67,14 @@ HasNoTexts (code.Keyed session) sealed verified = Unit {0}
 HasNoTexts (code.Released release session) sealed verified = (sealed ≡ None) × (verified ≡ None)
 
 -- one step was done: the side after it, the texts that it sealed and verified, what is told, what is to be sent
-pub record Does (next : Safety × SafetyOutcome) (new : KeptSafe) (reaction : Reaction) : Type 0 where
+pub record DoesSafetyStep (next : Safety × SafetyOutcome) (new : KeptSafe) (reaction : Reaction) : Type 0 where
   pub safety : new.safety ≡ next.0
   pub sealed : new.sealed ≡ sealed_by next.1
   pub verified : new.verified ≡ verified_by next.1
   pub report : report_view reaction.deed ≡ report_of next.1
-  pub sends : octets_if reaction.sends (flag_of new.safety.role) ≡ sent_by next.1
+  pub sends : octets_if reaction.sends (flag_of new.safety.role) ≡ octets_sent_in_outcome next.1
 
 -- a send is refused for the model's reason; or the model sends a DT, and this is its MAC
 abbrev pub SealsAs : (user : List ℕ) (flag : Bool) → Result ℕ SealRefused → SafetyOutcome → Type 0
-SealsAs user flag (Ok mac) outcome = SendsAs (Ok tt) outcome × (sent_by outcome ≡ spelling (Dt user mac) flag)
+SealsAs user flag (Ok mac) outcome = SendsAs (Ok tt) outcome × (octets_sent_in_outcome outcome ≡ spelling (Dt user mac) flag)
 SealsAs user flag (Err refused) outcome = SendsAs (Err refused) outcome

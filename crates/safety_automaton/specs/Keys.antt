@@ -4,7 +4,7 @@ use Rattle.std.specs.Prelude.{ℕ, ◌==◌, ◌&&◌, ◌≤◌, ◌≡◌, nat
 use Rattle.des_block.specs.declared.triple_key.TripleKey.{TripleKey}
 
 -- the KMAC of an engine and a radio block centre, with its first and its last moment
-pub record Entry : Type 0 where
+pub record KmacEntry : Type 0 where
   pub engine : ℕ
   pub rbc : ℕ
   pub kmac : TripleKey
@@ -12,16 +12,16 @@ pub record Entry : Type 0 where
   pub last : ℕ
 
 -- whether an entry is that of a pair, and holds at a moment
-abbrev pub is_of : (now engine rbc : ℕ) → Entry → Bool
+abbrev pub is_of : (now engine rbc : ℕ) → KmacEntry → Bool
 is_of now engine rbc entry = (entry.engine == engine) && (entry.rbc == rbc) && nat_le entry.first now && nat_le now entry.last
 
 -- the KMAC of a pair that holds at a moment, if there is one
-abbrev pub key_at : List Entry → (now engine rbc : ℕ) → Option TripleKey
+abbrev pub key_at : List KmacEntry → (now engine rbc : ℕ) → Option TripleKey
 key_at [] now engine rbc = None
 key_at (entry ∷ entries) now engine rbc = if is_of now engine rbc entry then Some entry.kmac else key_at entries now engine rbc
 
 -- both entries are of one pair, and hold at one moment
-pub record AreAtOnce (a b : Entry) : Type 0 where
+pub record AreAtOnce (a b : KmacEntry) : Type 0 where
   pub engine : a.engine ≡ b.engine
   pub rbc : a.rbc ≡ b.rbc
   pub moment : ℕ
@@ -29,14 +29,14 @@ pub record AreAtOnce (a b : Entry) : Type 0 where
   pub to_last : (moment ≤ a.last) × (moment ≤ b.last)
 
 -- an entry is of one pair and one moment with none of these
-abbrev pub IsApartFrom : Entry → List Entry → Type 0
+abbrev pub IsApartFrom : KmacEntry → List KmacEntry → Type 0
 IsApartFrom entry [] = Unit {0}
 IsApartFrom entry (other ∷ others) = (AreAtOnce entry other → ⊥) × IsApartFrom entry others
 
 -- no two entries of one pair have a moment in common
-abbrev pub AreDistinct : List Entry → Type 0
-AreDistinct [] = Unit {0}
-AreDistinct (entry ∷ entries) = IsApartFrom entry entries × AreDistinct entries
+abbrev pub AreKmacEntriesApart : List KmacEntry → Type 0
+AreKmacEntriesApart [] = Unit {0}
+AreKmacEntriesApart (entry ∷ entries) = IsApartFrom entry entries × AreKmacEntriesApart entries
 
 -- a look-up that finds nothing, for events at which no key is looked up
 abbrev pub no_keys : ℕ → ℕ → Option TripleKey

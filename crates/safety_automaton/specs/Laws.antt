@@ -5,19 +5,19 @@ use Rattle.er_base.specs.Octets.{eight, AreOctets}
 use Rattle.er_base.specs.declared.release.Release.{Release}
 use Rattle.des_block.specs.declared.triple_key.TripleKey.{TripleKey}
 use Rattle.cbc_mac.specs.Mac.{mac_of}
-use Rattle.sapdu.specs.Spelling.{Pdu, Dt, Fits, spelling, read_of}
+use Rattle.sapdu.specs.Spelling.{SafetyPdu, Dt, Fits, spelling, read_of}
 use Rattle.sapdu.specs.Messages.{IsMessage}
 use Rattle.safety_automaton.specs.declared.role.Role.{Role}
 use Rattle.safety_automaton.specs.declared.role.Role.TheVariants.{Initiator, Responder}
-use Rattle.safety_automaton.specs.Keys.{Entry, key_at, AreDistinct}
-use Rattle.safety_automaton.specs.Safety.{Safety, Connection, Phase, Ready, WaitAu1, WaitAu2, WaitAu3, WaitAr, Connected, Released, SafetyEvent, ConnectRequest, Received, DataRequest, DisconnectRequest, RefusedReleased, SafetyOutcome, SentAu1, SentAu2, SentAu3, SentAr, ReceivedAr, AcceptedDt, SentDt, Refused, ReleasedLocally, ReleasedByPeer, NothingDone, initiator, responder, fixed, flag_of, peer_flag, session_in, sent_by, au2_text, au3_text, ar_text, message_text, step}
+use Rattle.safety_automaton.specs.Keys.{KmacEntry, key_at, AreKmacEntriesApart}
+use Rattle.safety_automaton.specs.Safety.{Safety, Connection, Phase, Ready, WaitAu1, WaitAu2, WaitAu3, WaitAr, Connected, Released, SafetyEvent, ConnectRequest, Received, DataRequest, DisconnectRequest, RefusedReleased, SafetyOutcome, SentAu1, SentAu2, SentAu3, SentAr, ReceivedAr, AcceptedDt, SentDt, Refused, ReleasedLocally, ReleasedByPeer, NothingDone, initiator, responder, fixed, flag_of, peer_flag, session_in, octets_sent_in_outcome, au2_text, au3_text, ar_text, message_text, step}
 use Rattle.safety_automaton.specs.Rules.{IsReceived}
 
 -- ---- messages
 
 -- a verified message: the side is connected under these session keys, the text is that of a DT to it with the peer's flag, and the
 -- octets are a DT with that flag whose MAC is the MAC of the text
-pub record IsVerified (s : Safety) (session : TripleKey) (octets user text : List ℕ) : Type 0 where
+pub record IsVerifiedMessage (s : Safety) (session : TripleKey) (octets user text : List ℕ) : Type 0 where
   pub peer : ℕ
   pub connected : s.phase ≡ Connected peer session
   pub text_is : text ≡ message_text (peer_flag s) s.me user
@@ -27,13 +27,13 @@ pub record IsVerified (s : Safety) (session : TripleKey) (octets user text : Lis
 abbrev pub AcceptsVerified : Type 0
 AcceptsVerified =
     (key_of : ℕ → ℕ → Option TripleKey) (s : Safety) (session : TripleKey) (octets user text : List ℕ)
-    → (step key_of s (Received octets)).1 ≡ AcceptedDt session user text → IsVerified s session octets user text
+    → (step key_of s (Received octets)).1 ≡ AcceptedDt session user text → IsVerifiedMessage s session octets user text
 
 -- each verified message is accepted, and the side stays as it is
 abbrev pub VerifiedAccepts : Type 0
 VerifiedAccepts =
     (key_of : ℕ → ℕ → Option TripleKey) (s : Safety) (session : TripleKey) (octets user text : List ℕ)
-    → IsVerified s session octets user text → step key_of s (Received octets) ≡ (s, AcceptedDt session user text)
+    → IsVerifiedMessage s session octets user text → step key_of s (Received octets) ≡ (s, AcceptedDt session user text)
 
 -- the same in octets: a connected side receives the DT that its peer spells of a message
 pub record IsPeersDt (s : Safety) (session : TripleKey) (octets user text : List ℕ) : Type 0 where
@@ -58,12 +58,12 @@ SpelledAccepts =
 -- an SaPDU that its peer spells is received
 abbrev pub SpelledIsReceived : Type 0
 SpelledIsReceived =
-    (s : Safety) (octets : List ℕ) (pdu : Pdu) → Fits pdu → octets ≡ spelling pdu (peer_flag s) → IsReceived s (Received octets) pdu
+    (s : Safety) (octets : List ℕ) (pdu : SafetyPdu) → Fits pdu → octets ≡ spelling pdu (peer_flag s) → IsReceived s (Received octets) pdu
 
 -- what is received is spelled so
 abbrev pub ReceivedIsSpelled : Type 0
 ReceivedIsSpelled =
-    (s : Safety) (octets : List ℕ) (pdu : Pdu) → AreOctets octets → IsReceived s (Received octets) pdu → Fits pdu × (octets ≡ spelling pdu (peer_flag s))
+    (s : Safety) (octets : List ℕ) (pdu : SafetyPdu) → AreOctets octets → IsReceived s (Received octets) pdu → Fits pdu × (octets ≡ spelling pdu (peer_flag s))
 
 -- ---- connected only so
 
@@ -141,7 +141,7 @@ StaysItself =
 
 -- octets are the spelling of an SaPDU with the own flag, whose numbers fit
 pub record SpellsOwn (s : Safety) (octets : List ℕ) : Type 0 where
-  pub pdu : Pdu
+  pub pdu : SafetyPdu
   pub fits : Fits pdu
   pub octets_are : octets ≡ spelling pdu (flag_of s.role)
 
@@ -149,29 +149,29 @@ pub record SpellsOwn (s : Safety) (octets : List ℕ) : Type 0 where
 abbrev pub SendsOwn : Type 0
 SendsOwn =
     (key_of : ℕ → ℕ → Option TripleKey) (s : Safety) (event : SafetyEvent) → IsValid s → IsValidEvent event
-    → (sent_by (step key_of s event).1 ≡ []) ⊎ SpellsOwn s (sent_by (step key_of s event).1)
+    → (octets_sent_in_outcome (step key_of s event).1 ≡ []) ⊎ SpellsOwn s (octets_sent_in_outcome (step key_of s event).1)
 
 -- ---- session keys
 
 -- the session keys under which the MACs of an outcome are made
-abbrev pub keys_of : SafetyOutcome → Option TripleKey
-keys_of (SentAu1 octets) = None
-keys_of (SentAu2 session sealed octets) = Some session
-keys_of (SentAu3 session verified sealed octets) = Some session
-keys_of (SentAr connection verified sealed octets) = Some connection.session
-keys_of (ReceivedAr connection verified) = Some connection.session
-keys_of (AcceptedDt session user verified) = Some session
-keys_of (SentDt session user sealed octets) = Some session
-keys_of (Refused refusal) = None
-keys_of (ReleasedLocally release octets) = None
-keys_of (ReleasedByPeer release) = None
-keys_of NothingDone = None
+abbrev pub session_keys_of_outcome : SafetyOutcome → Option TripleKey
+session_keys_of_outcome (SentAu1 octets) = None
+session_keys_of_outcome (SentAu2 session sealed octets) = Some session
+session_keys_of_outcome (SentAu3 session verified sealed octets) = Some session
+session_keys_of_outcome (SentAr connection verified sealed octets) = Some connection.session
+session_keys_of_outcome (ReceivedAr connection verified) = Some connection.session
+session_keys_of_outcome (AcceptedDt session user verified) = Some session
+session_keys_of_outcome (SentDt session user sealed octets) = Some session
+session_keys_of_outcome (Refused refusal) = None
+session_keys_of_outcome (ReleasedLocally release octets) = None
+session_keys_of_outcome (ReleasedByPeer release) = None
+session_keys_of_outcome NothingDone = None
 
 -- they are those of the side after the step
 abbrev pub KeysAreOwn : Type 0
 KeysAreOwn =
     (key_of : ℕ → ℕ → Option TripleKey) (s : Safety) (event : SafetyEvent) (session : TripleKey)
-    → keys_of (step key_of s event).1 ≡ Some session → session_in (step key_of s event).0.phase ≡ Some session
+    → session_keys_of_outcome (step key_of s event).1 ≡ Some session → session_in (step key_of s event).0.phase ≡ Some session
 
 -- session keys that are known stay, also after a release
 abbrev pub KeysStay : Type 0
@@ -192,21 +192,21 @@ KeysOnly =
 -- ---- lengths
 
 -- the length of what an outcome sends, and of what it accepts
-abbrev pub HasLength : SafetyOutcome → Type 0
-HasLength (SentAu1 octets) = length octets ≡ 13
-HasLength (SentAu2 session sealed octets) = length octets ≡ 21
-HasLength (SentAu3 session verified sealed octets) = length octets ≡ 9
-HasLength (SentAr connection verified sealed octets) = length octets ≡ 9
-HasLength (ReceivedAr connection verified) = Unit {0}
-HasLength (AcceptedDt session user verified) = IsMessage user
-HasLength (SentDt session user sealed octets) = IsMessage user × (length octets ≡ length user + 9)
-HasLength (Refused refusal) = Unit {0}
-HasLength (ReleasedLocally release octets) = length octets ≡ 3
-HasLength (ReleasedByPeer release) = Unit {0}
-HasLength NothingDone = Unit {0}
+abbrev pub HasOutcomeLength : SafetyOutcome → Type 0
+HasOutcomeLength (SentAu1 octets) = length octets ≡ 13
+HasOutcomeLength (SentAu2 session sealed octets) = length octets ≡ 21
+HasOutcomeLength (SentAu3 session verified sealed octets) = length octets ≡ 9
+HasOutcomeLength (SentAr connection verified sealed octets) = length octets ≡ 9
+HasOutcomeLength (ReceivedAr connection verified) = Unit {0}
+HasOutcomeLength (AcceptedDt session user verified) = IsMessage user
+HasOutcomeLength (SentDt session user sealed octets) = IsMessage user × (length octets ≡ length user + 9)
+HasOutcomeLength (Refused refusal) = Unit {0}
+HasOutcomeLength (ReleasedLocally release octets) = length octets ≡ 3
+HasOutcomeLength (ReleasedByPeer release) = Unit {0}
+HasOutcomeLength NothingDone = Unit {0}
 
 abbrev pub LengthsAre : Type 0
-LengthsAre = (key_of : ℕ → ℕ → Option TripleKey) (s : Safety) (event : SafetyEvent) → IsValidEvent event → HasLength (step key_of s event).1
+LengthsAre = (key_of : ℕ → ℕ → Option TripleKey) (s : Safety) (event : SafetyEvent) → IsValidEvent event → HasOutcomeLength (step key_of s event).1
 
 -- the most octets that are sent at an event: an AU1, an AU2, the longest DT, a DI
 abbrev pub most_sent : SafetyEvent → ℕ
@@ -217,7 +217,7 @@ most_sent (DisconnectRequest sub) = 3
 
 abbrev pub SendsFew : Type 0
 SendsFew =
-    (key_of : ℕ → ℕ → Option TripleKey) (s : Safety) (event : SafetyEvent) → length (sent_by (step key_of s event).1) ≤ most_sent event
+    (key_of : ℕ → ℕ → Option TripleKey) (s : Safety) (event : SafetyEvent) → length (octets_sent_in_outcome (step key_of s event).1) ≤ most_sent event
 
 -- ---- what sealed texts tell
 
@@ -267,12 +267,12 @@ pub record TextsTell : Type 0 where
 -- an entry that holds at a moment is found by its pair
 abbrev pub FindsEach : Type 0
 FindsEach =
-    (entries : List Entry) (entry : Entry) (k now : ℕ) → AreDistinct entries → slice_get entries k ≡ Some entry
+    (entries : List KmacEntry) (entry : KmacEntry) (k now : ℕ) → AreKmacEntriesApart entries → slice_get entries k ≡ Some entry
     → entry.first ≤ now → now ≤ entry.last → key_at entries now entry.engine entry.rbc ≡ Some entry.kmac
 
 -- an entry that was found, of this pair, at this moment
-pub record IsFound (entries : List Entry) (now engine rbc : ℕ) (kmac : TripleKey) : Type 0 where
-  pub entry : Entry
+pub record IsFound (entries : List KmacEntry) (now engine rbc : ℕ) (kmac : TripleKey) : Type 0 where
+  pub entry : KmacEntry
   pub place : ℕ
   pub stands : slice_get entries place ≡ Some entry
   pub engine_is : entry.engine ≡ engine
@@ -282,4 +282,4 @@ pub record IsFound (entries : List Entry) (now engine rbc : ℕ) (kmac : TripleK
   pub holds_yet : now ≤ entry.last
 
 abbrev pub FindsOnly : Type 0
-FindsOnly = (entries : List Entry) (now engine rbc : ℕ) (kmac : TripleKey) → key_at entries now engine rbc ≡ Some kmac → IsFound entries now engine rbc kmac
+FindsOnly = (entries : List KmacEntry) (now engine rbc : ℕ) (kmac : TripleKey) → key_at entries now engine rbc ≡ Some kmac → IsFound entries now engine rbc kmac

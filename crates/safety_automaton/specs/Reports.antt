@@ -16,8 +16,8 @@ pub record KeptSafe : Type 0 where
   pub verified : Option (List ℕ)
 
 -- a side without texts, as one that was just made
-abbrev pub made : Safety → KeptSafe
-made s = record { safety = s; sealed = None; verified = None }
+abbrev pub kept_side_without_texts : Safety → KeptSafe
+kept_side_without_texts s = record { safety = s; sealed = None; verified = None }
 
 -- the state of a phase
 abbrev pub state_of : Phase → SafeState

@@ -9,7 +9,7 @@ use Rattle.er_base.specs.Causes.{release_of, by_peer_di}
 use Rattle.des_block.specs.declared.triple_key.TripleKey.{TripleKey}
 use Rattle.cbc_mac.specs.Mac.{mac_of}
 use Rattle.session_keys.specs.Session.{session_of}
-use Rattle.sapdu.specs.Spelling.{Pdu, Au1, Au2, Au3, Ar, Dt, Di, spelling, read_of}
+use Rattle.sapdu.specs.Spelling.{SafetyPdu, Au1, Au2, Au3, Ar, Dt, Di, spelling, read_of}
 use Rattle.sapdu.specs.Messages.{IsMessage}
 use Rattle.sapdu.specs.declared.fault.SaFault.{SaFault}
 use Rattle.safety_automaton.specs.Safety.{Safety, Connection, Phase, Ready, WaitAu1, WaitAu2, WaitAu3, WaitAr, Connected, Released, SafetyEvent, ConnectRequest, Received, DataRequest, DisconnectRequest, Refusal, RefusedReleased, RefusedNotConnected, RefusedLength, SafetyOutcome, SentAu1, SentAu2, SentAu3, SentAr, ReceivedAr, AcceptedDt, SentDt, Refused, ReleasedLocally, ReleasedByPeer, NothingDone, flag_of, peer_flag, session_in, au2_text, au3_text, ar_text, message_text, step}
@@ -47,13 +47,13 @@ IsReady (Connected peer session) = ⊥
 IsReady (Released release session) = ⊥
 
 -- octets of the peer are read as an SaPDU with the peer's direction flag
-pub record IsReceived (s : Safety) (event : SafetyEvent) (pdu : Pdu) : Type 0 where
+pub record IsReceived (s : Safety) (event : SafetyEvent) (pdu : SafetyPdu) : Type 0 where
   pub octets : List ℕ
   pub event_is : event ≡ Received octets
   pub read : read_of octets ≡ Ok (pdu, peer_flag s)
 
 -- the SaPDUs for which a state waits; a DI may come in each
-abbrev pub IsAwaited : Phase → Pdu → Type 0
+abbrev pub IsAwaited : Phase → SafetyPdu → Type 0
 IsAwaited phase (Di reason sub) = Unit {0}
 IsAwaited phase (Au1 id feature rb) = (ra : ℕ) × (phase ≡ WaitAu1 ra)
 IsAwaited phase (Au2 id feature ra mac) = (peer : ℕ) × (kmac : TripleKey) × (rb : ℕ) × (phase ≡ WaitAu2 peer kmac rb)
@@ -130,14 +130,14 @@ pub record DtMacWrongMet (s : Safety) (event : SafetyEvent) : Type 0 where
 -- an SaPDU with this side's own direction flag, as one that is reflected
 pub record WrongDirectionMet (s : Safety) (event : SafetyEvent) : Type 0 where
   pub octets : List ℕ
-  pub pdu : Pdu
+  pub pdu : SafetyPdu
   pub unreleased : IsOpen s.phase
   pub event_is : event ≡ Received octets
   pub read : read_of octets ≡ Ok (pdu, flag_of s.role)
 
 -- an SaPDU for which the state doesn't wait
 pub record UnexpectedMet (s : Safety) (event : SafetyEvent) : Type 0 where
-  pub pdu : Pdu
+  pub pdu : SafetyPdu
   pub unreleased : IsOpen s.phase
   pub received : IsReceived s event pdu
   pub unawaited : IsAwaited s.phase pdu → ⊥
@@ -267,7 +267,7 @@ RefusalMet s user (RefusedLength found) =
     ((peer : ℕ) × (session : TripleKey) × (s.phase ≡ Connected peer session)) × (found ≡ length user) × (IsMessage user → ⊥)
 
 -- a send is refused
-pub record Refuses (s : Safety) (event : SafetyEvent) (next : Safety) (refusal : Refusal) : Type 0 where
+pub record RefusesDataRequest (s : Safety) (event : SafetyEvent) (next : Safety) (refusal : Refusal) : Type 0 where
   pub user : List ℕ
   pub event_is : event ≡ DataRequest user
   pub met : RefusalMet s user refusal
@@ -306,7 +306,7 @@ IsStep key_of s event next (SentAr connection verified sealed octets) = SendsAr 
 IsStep key_of s event next (ReceivedAr connection verified) = ReceivesAr s event next connection verified
 IsStep key_of s event next (AcceptedDt session user verified) = AcceptsDt s event next session user verified
 IsStep key_of s event next (SentDt session user sealed octets) = SendsDt s event next session user sealed octets
-IsStep key_of s event next (Refused refusal) = Refuses s event next refusal
+IsStep key_of s event next (Refused refusal) = RefusesDataRequest s event next refusal
 IsStep key_of s event next (ReleasedLocally release octets) = ReleasesLocally key_of s event next release octets
 IsStep key_of s event next (ReleasedByPeer release) = ReleasesByPeer s event next release
 IsStep key_of s event next NothingDone = StaysIdle s event next

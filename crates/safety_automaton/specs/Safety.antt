@@ -8,7 +8,7 @@ use Rattle.er_base.specs.Causes.{release_of, by_peer_di}
 use Rattle.des_block.specs.declared.triple_key.TripleKey.{TripleKey}
 use Rattle.cbc_mac.specs.Mac.{mac_of}
 use Rattle.session_keys.specs.Session.{session_of}
-use Rattle.sapdu.specs.Spelling.{Pdu, Au1, Au2, Au3, Ar, Dt, Di, spelling, read_of}
+use Rattle.sapdu.specs.Spelling.{SafetyPdu, Au1, Au2, Au3, Ar, Dt, Di, spelling, read_of}
 use Rattle.sapdu.specs.Messages.{is_message}
 use Rattle.sapdu.specs.Sealed.{sealed_text}
 use Rattle.sapdu.specs.declared.fault.SaFault.{SaFault}
@@ -196,7 +196,7 @@ sends_dt s peer session user =
 
 -- a readable SaPDU with the peer's direction flag, at a side that isn't released, which looks KMACs up so: the first that fits. The
 -- text of a received SaPDU is that of its header, so it has the peer's flag, and the receiver of its text is this side
-abbrev pub row : (ℕ → ℕ → Option TripleKey) → Safety → Phase → Pdu → Safety × SafetyOutcome
+abbrev pub row : (ℕ → ℕ → Option TripleKey) → Safety → Phase → SafetyPdu → Safety × SafetyOutcome
 row key_of s phase (Di reason sub) = released_by_peer s reason sub
 row key_of s (WaitAu1 ra) (Au1 id feature rb) =
     if not (feature == 1) then releases s OtherFeature
@@ -228,21 +228,21 @@ row key_of s phase pdu = releases s Unexpected
 
 -- what was read of octets from the peer, at a side that isn't released: unreadable; a direction flag that isn't the peer's; then
 -- the rows
-abbrev pub checked : (ℕ → ℕ → Option TripleKey) → Safety → Result (Pdu × Bool) SaFault → Safety × SafetyOutcome
+abbrev pub checked : (ℕ → ℕ → Option TripleKey) → Safety → Result (SafetyPdu × Bool) SaFault → Safety × SafetyOutcome
 checked key_of s (Err fault) = releases s Malformed
 checked key_of s (Ok read) =
     if not (same_flag read.1 (peer_flag s)) then releases s WrongDirection
     else row key_of s s.phase read.0
 
 -- octets from the peer; a released side ignores them
-abbrev pub receives : (ℕ → ℕ → Option TripleKey) → Safety → Phase → List ℕ → Safety × SafetyOutcome
-receives key_of s (Released release session) octets = (s, NothingDone)
-receives key_of s (Ready peer kmac rb) octets = checked key_of s (read_of octets)
-receives key_of s (WaitAu1 ra) octets = checked key_of s (read_of octets)
-receives key_of s (WaitAu2 peer kmac rb) octets = checked key_of s (read_of octets)
-receives key_of s (WaitAu3 connection) octets = checked key_of s (read_of octets)
-receives key_of s (WaitAr connection) octets = checked key_of s (read_of octets)
-receives key_of s (Connected peer session) octets = checked key_of s (read_of octets)
+abbrev pub step_received_octets : (ℕ → ℕ → Option TripleKey) → Safety → Phase → List ℕ → Safety × SafetyOutcome
+step_received_octets key_of s (Released release session) octets = (s, NothingDone)
+step_received_octets key_of s (Ready peer kmac rb) octets = checked key_of s (read_of octets)
+step_received_octets key_of s (WaitAu1 ra) octets = checked key_of s (read_of octets)
+step_received_octets key_of s (WaitAu2 peer kmac rb) octets = checked key_of s (read_of octets)
+step_received_octets key_of s (WaitAu3 connection) octets = checked key_of s (read_of octets)
+step_received_octets key_of s (WaitAr connection) octets = checked key_of s (read_of octets)
+step_received_octets key_of s (Connected peer session) octets = checked key_of s (read_of octets)
 
 -- ---- the user's requests
 
@@ -282,7 +282,7 @@ disconnects s (Connected peer session) sub = releases s (User sub)
 -- one step of a side that looks KMACs up so, by the engine's number and the radio block centre's
 abbrev pub step : (ℕ → ℕ → Option TripleKey) → Safety → SafetyEvent → Safety × SafetyOutcome
 step key_of s ConnectRequest = connects s s.phase
-step key_of s (Received octets) = receives key_of s s.phase octets
+step key_of s (Received octets) = step_received_octets key_of s s.phase octets
 step key_of s (DataRequest user) = sends s s.phase user
 step key_of s (DisconnectRequest sub) = disconnects s s.phase sub
 
@@ -317,15 +317,15 @@ verified_by (ReleasedByPeer release) = None
 verified_by NothingDone = None
 
 -- the octets that it sends, none where it sends none
-abbrev pub sent_by : SafetyOutcome → List ℕ
-sent_by (SentAu1 octets) = octets
-sent_by (SentAu2 session sealed octets) = octets
-sent_by (SentAu3 session verified sealed octets) = octets
-sent_by (SentAr connection verified sealed octets) = octets
-sent_by (ReceivedAr connection verified) = []
-sent_by (AcceptedDt session user verified) = []
-sent_by (SentDt session user sealed octets) = octets
-sent_by (Refused refusal) = []
-sent_by (ReleasedLocally release octets) = octets
-sent_by (ReleasedByPeer release) = []
-sent_by NothingDone = []
+abbrev pub octets_sent_in_outcome : SafetyOutcome → List ℕ
+octets_sent_in_outcome (SentAu1 octets) = octets
+octets_sent_in_outcome (SentAu2 session sealed octets) = octets
+octets_sent_in_outcome (SentAu3 session verified sealed octets) = octets
+octets_sent_in_outcome (SentAr connection verified sealed octets) = octets
+octets_sent_in_outcome (ReceivedAr connection verified) = []
+octets_sent_in_outcome (AcceptedDt session user verified) = []
+octets_sent_in_outcome (SentDt session user sealed octets) = octets
+octets_sent_in_outcome (Refused refusal) = []
+octets_sent_in_outcome (ReleasedLocally release octets) = octets
+octets_sent_in_outcome (ReleasedByPeer release) = []
+octets_sent_in_outcome NothingDone = []

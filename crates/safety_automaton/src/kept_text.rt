@@ -15,12 +15,12 @@ pub struct KeptText {
 
 impl Model for KeptText {
     ghost use Rattle.std.specs.Prelude.{ℕ, List, Option, ◌≤◌, take};
-    ghost use Rattle.safety_automaton.specs.Kept.{text_in};
+    ghost use Rattle.safety_automaton.specs.Kept.{text_in_room};
 
     ghost Value = { Option (List ℕ) };
 
     // a text has an octet at least
-    ghost view = { λ t. text_in (take t.len t.octets) };
+    ghost view = { λ t. text_in_room (take t.len t.octets) };
 
     ghost invariant = { λ t. t.len ≤ 1029 };
 }

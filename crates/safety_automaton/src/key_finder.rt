@@ -1,5 +1,5 @@
 ghost use Rattle.std.specs.Prelude.{List, ◌≡◌};
-ghost use Rattle.safety_automaton.specs.Keys.{Entry, key_at, AreDistinct};
+ghost use Rattle.safety_automaton.specs.Keys.{KmacEntry, key_at, AreKmacEntriesApart};
 ghost use Rattle.safety_automaton.specs.Pairs.{entries_if};
 
 use des_block::TripleKey;
@@ -7,13 +7,13 @@ use des_block::TripleKey;
 /// Where a side of a safe connection finds the KMAC of a pair of ETCS numbers (UNISIG SUBSET-037).
 pub trait KeyFinder {
     // the keys, each with its pair and its moments; no two of one pair have a moment in common
-    ghost entries: { Self → List Entry };
+    ghost entries: { Self → List KmacEntry };
 
     /// The KMAC of an engine and a radio block centre that holds at the moment `now`, in milliseconds, by their ETCS numbers, which
     /// are below 2^24. None where there is none.
     fn find(&self, engine: u32, rbc: u32, now: u64) -> Option<TripleKey>
         ensures found { result ≡ key_at (entries self.now) now engine rbc }
-        ensures distinct { AreDistinct (entries self.now) };
+        ensures distinct { AreKmacEntriesApart (entries self.now) };
 }
 
 /// A finder that may be none: then no key is found.

@@ -20,9 +20,9 @@ pub struct PairKey {
 }
 
 impl Model for PairKey {
-    ghost use Rattle.safety_automaton.specs.Pairs.{Pair};
+    ghost use Rattle.safety_automaton.specs.Pairs.{PairWithKmac};
 
-    ghost Value = { Pair };
+    ghost Value = { PairWithKmac };
 
     ghost view = { λ p. record { engine = p.engine; rbc = p.rbc; kmac = p.kmac } };
 }

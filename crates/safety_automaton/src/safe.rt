@@ -4,12 +4,12 @@ ghost use Rattle.std.specs.Prelude.{◌≡◌, ◌+◌, ◌≤◌, ◌<◌, ◌^
 ghost use Rattle.sapdu.specs.Messages.{HasRoomForSapdu};
 ghost use Rattle.des_block.specs.declared.triple_key.TripleKey.{TripleKey};
 ghost use Rattle.safety_automaton.specs.Keys.{key_at, no_keys};
-ghost use Rattle.safety_automaton.specs.Safety.{flag_of, initiator, responder, fixed, ConnectRequest, Received, DataRequest, DisconnectRequest, Released, step, sealed_by, verified_by, sent_by, session_in, releases};
-ghost use Rattle.safety_automaton.specs.Reports.{made, state_of, report_view, report_of, SendsAs, IfAccepted};
+ghost use Rattle.safety_automaton.specs.Safety.{flag_of, initiator, responder, fixed, ConnectRequest, Received, DataRequest, DisconnectRequest, Released, step, sealed_by, verified_by, octets_sent_in_outcome, session_in, releases};
+ghost use Rattle.safety_automaton.specs.Reports.{kept_side_without_texts, state_of, report_view, report_of, SendsAs, IfAccepted};
 ghost use Rattle.safety_automaton.specs.Laws.{IsValid};
 ghost use Rattle.safety_automaton.specs.declared.safe_state.SafeState.TheVariants as state;
 ghost use Rattle.er_base.specs.Stored.{Appends};
-ghost use Rattle.safety_automaton.specs.Kept.{Does, phase_view, stage_view, octets_of, octets_if};
+ghost use Rattle.safety_automaton.specs.Kept.{DoesSafetyStep, phase_view, stage_view, octets_of_control_sapdu, octets_if};
 
 mod received;
 mod sent;
@@ -63,7 +63,7 @@ impl Safe {
     pub fn initiator(me: u32, peer: u32, kmac: TripleKey, rb: u64) -> Safe
         requires me { me < 2 ^ 24 }
         requires peer { peer < 2 ^ 24 }
-        ensures made { result ≡ made (initiator me peer kmac rb) }
+        ensures made { result ≡ kept_side_without_texts (initiator me peer kmac rb) }
         ensures valid { IsValid result.safety }
     {
         let phase = Phase::Ready {
@@ -77,7 +77,7 @@ impl Safe {
     /// A responder that waits to be called: its ETCS number, below 2^24, and its random number.
     pub fn responder(me: u32, ra: u64) -> Safe
         requires { me < 2 ^ 24 }
-        ensures made { result ≡ made (responder me ra) }
+        ensures made { result ≡ kept_side_without_texts (responder me ra) }
         ensures valid { IsValid result.safety }
     {
         Safe::with_phase(EtcsNumber::new(me), Role::Responder, Phase::WaitAu1 { ra })
@@ -87,7 +87,7 @@ impl Safe {
     pub fn fixed(me: u32, peer: u32, role: Role, session: TripleKey) -> Safe
         requires me { me < 2 ^ 24 }
         requires peer { peer < 2 ^ 24 }
-        ensures made { result ≡ made (fixed me peer role session) }
+        ensures made { result ≡ kept_side_without_texts (fixed me peer role session) }
         ensures valid { IsValid result.safety }
     {
         let session = Session {
@@ -105,7 +105,7 @@ impl Safe {
         ensures safety { self.new.safety ≡ (step no_keys self.old.safety ConnectRequest).0 }
         ensures sealed { self.new.sealed ≡ None }
         ensures verified { self.new.verified ≡ None }
-        ensures out { Appends out.old out.new (sent_by (step no_keys self.old.safety ConnectRequest).1) }
+        ensures out { Appends out.old out.new (octets_sent_in_outcome (step no_keys self.old.safety ConnectRequest).1) }
         ensures sent { length out.new.items ≤ length out.old.items + 13 }
     {
         laws::lengths();
@@ -127,7 +127,7 @@ impl Safe {
         ensures report { report_view result ≡ report_of (step (key_at (K.entries keys.now) now) self.old.safety (Received octets.now)).1 }
         ensures sealed { self.new.sealed ≡ sealed_by (step (key_at (K.entries keys.now) now) self.old.safety (Received octets.now)).1 }
         ensures verified { self.new.verified ≡ verified_by (step (key_at (K.entries keys.now) now) self.old.safety (Received octets.now)).1 }
-        ensures out { Appends out.old out.new (sent_by (step (key_at (K.entries keys.now) now) self.old.safety (Received octets.now)).1) }
+        ensures out { Appends out.old out.new (octets_sent_in_outcome (step (key_at (K.entries keys.now) now) self.old.safety (Received octets.now)).1) }
         ensures sent { length out.new.items ≤ length out.old.items + 21 }
         ensures accepted { IfAccepted (report_view result) (λ user. length user ≤ 1023) }
         ensures inert { state_of self.old.safety.phase ≡ state.Released → (self.new ≡ self.old) × (out.new ≡ out.old) }
@@ -146,7 +146,7 @@ impl Safe {
         requires room { HasRoomForSapdu out.old }
         ensures safety { self.new.safety ≡ (step no_keys self.old.safety (DataRequest user.now)).0 }
         ensures report { SendsAs result (step no_keys self.old.safety (DataRequest user.now)).1 }
-        ensures out { Appends out.old out.new (sent_by (step no_keys self.old.safety (DataRequest user.now)).1) }
+        ensures out { Appends out.old out.new (octets_sent_in_outcome (step no_keys self.old.safety (DataRequest user.now)).1) }
         ensures sealed { OnOk result (self.new.sealed ≡ sealed_by (step no_keys self.old.safety (DataRequest user.now)).1) }
         ensures verified { OnOk result (self.new.verified ≡ None) }
         ensures refused { OnErr result ((self.new ≡ self.old) × (out.new ≡ out.old)) }
@@ -165,7 +165,7 @@ impl Safe {
         ensures safety { self.new.safety ≡ (step no_keys self.old.safety (DisconnectRequest sub)).0 }
         ensures sealed { self.new.sealed ≡ None }
         ensures verified { self.new.verified ≡ None }
-        ensures out { Appends out.old out.new (sent_by (step no_keys self.old.safety (DisconnectRequest sub)).1) }
+        ensures out { Appends out.old out.new (octets_sent_in_outcome (step no_keys self.old.safety (DisconnectRequest sub)).1) }
         ensures sent { length out.new.items ≤ length out.old.items + 3 }
         ensures inert { state_of self.old.safety.phase ≡ state.Released → (self.new ≡ self.old) × (out.new ≡ out.old) }
     {
@@ -178,7 +178,7 @@ impl Safe {
 
     /// Forgets the texts that the last call sealed and verified, as before an event of its owner in which this side has no call.
     pub fn forget(&mut self)
-        ensures { self.new ≡ made self.old.safety }
+        ensures { self.new ≡ kept_side_without_texts self.old.safety }
     {
         self.sealed.clear();
         self.verified.clear();
@@ -229,7 +229,7 @@ impl Safe {
 
     // A side that was just made.
     fn with_phase(me: EtcsNumber, role: Role, phase: Phase) -> Safe
-        ensures { result ≡ made (record { me = me; role = role; phase = phase_view me phase }) }
+        ensures { result ≡ kept_side_without_texts (record { me = me; role = role; phase = phase_view me phase }) }
     {
         Safe {
             me,
@@ -258,7 +258,7 @@ impl Safe {
 
     // Ends the connection; the session keys stay.
     fn set_released(&mut self, release: Release)
-        ensures { self.new ≡ made (record self.old.safety { phase = Released release (session_in self.old.safety.phase) }) }
+        ensures { self.new ≡ kept_side_without_texts (record self.old.safety { phase = Released release (session_in self.old.safety.phase) }) }
     {
         // the session keys are moved from one phase to the next, and not copied
         let before = mem::replace(
@@ -279,7 +279,7 @@ impl Safe {
     // Writes an SaPDU to the peer.
     fn write(&self, pdu: &ControlPdu, out: &mut Room)
         requires { HasRoomForSapdu out.old }
-        ensures { Appends out.old out.new (octets_of pdu.now (flag_of self.now.safety.role)) }
+        ensures { Appends out.old out.new (octets_of_control_sapdu pdu.now (flag_of self.now.safety.role)) }
     {
         sapdu::laws::lengths_of_spellings();
         sapdu::write_into(&pdu.pdu(), self.role.flag(), out);
@@ -298,7 +298,7 @@ impl Safe {
 
     // Releases for a cause, and tells the peer by a DI.
     fn release_for<'o>(&mut self, cause: Cause) -> Reaction<'o>
-        ensures { Does (releases self.old.safety cause) self.new result }
+        ensures { DoesSafetyStep (releases self.old.safety cause) self.new result }
     {
         let release = cause.release();
         let Release { reason, sub, .. } = release;

@@ -9,7 +9,7 @@ use Rattle.er_base.specs.declared.side.Side.{Side}
 use Rattle.des_block.specs.declared.triple_key.TripleKey.{TripleKey}
 use Rattle.cbc_mac.specs.Mac.{mac_of}
 use Rattle.sapdu.specs.declared.fault.SaFault.{SaFault}
-use Rattle.sapdu.specs.Spelling.{Pdu, Dt, read_of}
+use Rattle.sapdu.specs.Spelling.{SafetyPdu, Dt, read_of}
 use Rattle.safety_automaton.specs.Safety.{message_text}
 use Rattle.safety_pair_laws.specs.Facts.{Fact, Sent, Sealed, Verified, Connected, Accepted, SideFact, MarkedFact, is_key, is_sealing, sealings_of, sealings, was_sealed, is_side, is_mistrust_of, is_mistrust, mistrusts, marked_from, marked}
 use Rattle.safety_pair_laws.proofs.Marking.{marks_grow}
@@ -19,7 +19,7 @@ use Rattle.safety_pair_laws.proofs.Tallies.{Tally, tally_of, plus, tally_of-appe
 -- ---- what is under way
 
 -- what the SaPDU of a message with this flag to the side of that number is read as
-abbrev pub message_from : TripleKey → Bool → ℕ → List ℕ → Result (Pdu × Bool) SaFault
+abbrev pub message_from : TripleKey → Bool → ℕ → List ℕ → Result (SafetyPdu × Bool) SaFault
 message_from key flag to user = Ok (Dt user (mac_of key (message_text flag to user)), flag)
 
 -- it is that of this message, which was sealed

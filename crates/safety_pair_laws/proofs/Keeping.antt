@@ -10,15 +10,15 @@ use Rattle.er_base.specs.Sides.{other}
 use Rattle.des_block.specs.declared.triple_key.TripleKey.{TripleKey}
 use Rattle.cbc_mac.specs.Mac.{mac_of}
 use Rattle.session_keys.specs.Session.{session_of}
-use Rattle.sapdu.specs.Spelling.{Pdu, Au2, Au3, Ar, Dt, read_of}
+use Rattle.sapdu.specs.Spelling.{SafetyPdu, Au2, Au3, Ar, Dt, read_of}
 use Rattle.safety_automaton.specs.declared.role.Role.{Role}
 use Rattle.safety_automaton.specs.Safety.{Safety, Connection, Phase, Ready, WaitAu1, WaitAu2, WaitAu3, WaitAr, Connected, Released, SafetyEvent, SafetyOutcome, SentAu1, SentAu2, SentAu3, SentAr, ReceivedAr, AcceptedDt, SentDt, Refused, ReleasedLocally, ReleasedByPeer, NothingDone, flag_of, other_role, peer_flag, au2_text, au3_text, ar_text, message_text}
 use Rattle.safety_automaton.specs.Rules.{IsReceived, SendsAu1, SendsAu2, SendsAu3, SendsAr, ReceivesAr, AcceptsDt, SendsDt, StaysIdle, AtReceived, AtDisconnect, AtConnect, IsStep}
 use Rattle.safety_automaton.specs.Laws.{TextsTell}
 use Rattle.safety_pair_laws.specs.Facts.{Fact, Sent, Sealed, Verified, Accepted, SideFact, MarkedFact, at_side, heard_in, facts_by, is_mistrust, mistrusts, was_sealed, mark, marked_from}
 use Rattle.safety_pair_laws.specs.Facts as fact
-use Rattle.safety_pair_laws.specs.Openings.{PairOpening, OfFixed, OfKeys, role_of, flag_from, number_of, key_for}
-use Rattle.safety_pair_laws.specs.Authentic.{IsReadFrom, WasVerified, Verifies, ConnectsAs, HasSession, IsSend, IsMessage, IsEnginesSealing, IsRbcsSealing, IsVerified, IsOwn, IsConnection, IsAuthentic}
+use Rattle.safety_pair_laws.specs.Openings.{PairOpening, OfFixed, OfKeys, role_of_side, flag_from, etcs_number_of_side, key_for}
+use Rattle.safety_pair_laws.specs.Authentic.{IsReadFrom, WasVerified, Verifies, ConnectsAs, HasSession, IsSend, IsAcceptedMessage, IsEnginesSealing, IsRbcsSealing, IsVerifiedBeforeConnection, IsOwn, IsConnection, IsAuthentic}
 use Rattle.safety_pair_laws.proofs.Along.{Along, any_more, any_at}
 use Rattle.safety_pair_laws.proofs.Sealings.{was_sealed_more}
 use Rattle.safety_pair_laws.proofs.Mistrust.{none_sealed, marked_right, trusted_earlier, only_so}
@@ -47,12 +47,12 @@ trusted_now seen more heard c = λ none.
 -- an engine that calls this peer with this KMAC and random number has a connection of its own by it
 abbrev pub CanCall : PairOpening → (peer : ℕ) → TripleKey → (rb : ℕ) → Type 0
 CanCall opening peer kmac rb =
-    (c : Connection) → c.me ≡ number_of opening E → c.peer ≡ peer → c.rb ≡ rb → c.session ≡ session_of kmac c.ra c.rb → IsOwn opening E c
+    (c : Connection) → c.me ≡ etcs_number_of_side opening E → c.peer ≡ peer → c.rb ≡ rb → c.session ≡ session_of kmac c.ra c.rb → IsOwn opening E c
 
 -- a radio block centre that answers with this random number has one with whom its KMAC is found
 abbrev pub CanAnswer : PairOpening → (ra : ℕ) → Type 0
 CanAnswer opening ra =
-    (c : Connection) (kmac : TripleKey) → key_for opening c.peer c.me ≡ Some kmac → c.me ≡ number_of opening R → c.ra ≡ ra
+    (c : Connection) (kmac : TripleKey) → key_for opening c.peer c.me ≡ Some kmac → c.me ≡ etcs_number_of_side opening R → c.ra ≡ ra
     → c.session ≡ session_of kmac c.ra c.rb → IsOwn opening R c
 
 -- what a side knows in a phase, behind all that came before
@@ -62,14 +62,14 @@ Knows opening seen E (WaitAu1 ra) = ⊥
 Knows opening seen E (WaitAu2 peer kmac rb) = CanCall opening peer kmac rb
 Knows opening seen E (WaitAu3 c) = ⊥
 Knows opening seen E (WaitAr c) = IsOwn opening E c × WasVerified E c.session (au2_of c) seen × IsTrusted seen c
-Knows opening seen E (Connected peer session) = (peer ≡ number_of opening R) × HasSession opening seen E session
+Knows opening seen E (Connected peer session) = (peer ≡ etcs_number_of_side opening R) × HasSession opening seen E session
 Knows opening seen E (Released release session) = Unit {0}
 Knows opening seen R (Ready peer kmac rb) = ⊥
 Knows opening seen R (WaitAu1 ra) = CanAnswer opening ra
 Knows opening seen R (WaitAu2 peer kmac rb) = ⊥
 Knows opening seen R (WaitAu3 c) = IsOwn opening R c
 Knows opening seen R (WaitAr c) = ⊥
-Knows opening seen R (Connected peer session) = (peer ≡ number_of opening E) × HasSession opening seen R session
+Knows opening seen R (Connected peer session) = (peer ≡ etcs_number_of_side opening E) × HasSession opening seen R session
 Knows opening seen R (Released release session) = Unit {0}
 
 session_more : (opening : PairOpening) (seen more : List MarkedFact) (side : Side) (session : TripleKey)
@@ -96,8 +96,8 @@ knows_more opening seen more R phase h = h
 
 -- a side of the opening, with what it knows
 pub record IsSteady (opening : PairOpening) (seen : List MarkedFact) (side : Side) (s : Safety) : Type 0 where
-  pub role_is : s.role ≡ role_of side
-  pub me_is : s.me ≡ number_of opening side
+  pub role_is : s.role ≡ role_of_side side
+  pub me_is : s.me ≡ etcs_number_of_side opening side
   pub knows : Knows opening seen side s.phase
 
 pub steady_more : (opening : PairOpening) (seen more : List MarkedFact) (side : Side) (s : Safety)
@@ -131,15 +131,15 @@ stays : (opening : PairOpening) (seen more : List MarkedFact) (side : Side) (s n
     → IsSteady opening (seen ++ more) side next
 stays opening seen more side s next is steady = subst (IsSteady opening (seen ++ more) side) (sym is) (steady_more opening seen more side s steady)
 
-peers_flag : (side : Side) → flag_of (other_role (role_of side)) ≡ flag_from (other side)
+peers_flag : (side : Side) → flag_of (other_role (role_of_side side)) ≡ flag_from (other side)
 peers_flag E = refl
 peers_flag R = refl
 
-flag_is : (s : Safety) (side : Side) → s.role ≡ role_of side → peer_flag s ≡ flag_from (other side)
+flag_is : (s : Safety) (side : Side) → s.role ≡ role_of_side side → peer_flag s ≡ flag_from (other side)
 flag_is s side role_is = ap (λ (r : Role). flag_of (other_role r)) role_is ∙ peers_flag side
 
 -- what was received was heard with the flag of the other side
-heard_from : (s : Safety) (side : Side) (event : SafetyEvent) (pdu : Pdu) → s.role ≡ role_of side → IsReceived s event pdu
+heard_from : (s : Safety) (side : Side) (event : SafetyEvent) (pdu : SafetyPdu) → s.role ≡ role_of_side side → IsReceived s event pdu
     → IsReadFrom (other side) (heard_in event) pdu
 heard_from s side event pdu role_is r =
     let P : SafetyEvent → Type 0 = λ e. read_of (heard_in e) ≡ Ok (pdu, flag_from (other side)) in
@@ -148,7 +148,7 @@ heard_from s side event pdu role_is r =
 
 -- an AU2 that was verified
 verified_au2 : (opening : PairOpening) (c : Connection) (heard : List ℕ) → IsOwn opening E c
-    → IsReadFrom R heard (Au2 c.peer 1 c.ra (mac_of c.session (au2_of c))) → IsVerified opening E heard c.session (au2_of c)
+    → IsReadFrom R heard (Au2 c.peer 1 c.ra (mac_of c.session (au2_of c))) → IsVerifiedBeforeConnection opening E heard c.session (au2_of c)
 verified_au2 (OfFixed engine rbc ke kr) c heard own read = absurd own
 verified_au2 (OfKeys engine rbc ke kr ra rb) c heard own read =
     let text_is : au2_of c ≡ au2_text true engine rbc 1 c.ra rb = rw (own.me, own.peer, own.own) refl in
@@ -168,12 +168,12 @@ connected_now (OfKeys engine rbc ke kr ra rb) seen more side heard c text own =
       reported = any_at (λ m. (m.side ≡ side) × ConnectsAs c m.fact) seen _ more (refl, refl);
     }
 
-me_of : (opening : PairOpening) (side : Side) (c : Connection) → IsOwn opening side c → c.me ≡ number_of opening side
+me_of : (opening : PairOpening) (side : Side) (c : Connection) → IsOwn opening side c → c.me ≡ etcs_number_of_side opening side
 me_of (OfFixed engine rbc ke kr) side c own = absurd own
 me_of (OfKeys engine rbc ke kr ra rb) E c own = own.me
 me_of (OfKeys engine rbc ke kr ra rb) R c own = own.me
 
-peer_of : (opening : PairOpening) (side : Side) (c : Connection) → IsOwn opening side c → c.peer ≡ number_of opening (other side)
+peer_of : (opening : PairOpening) (side : Side) (c : Connection) → IsOwn opening side c → c.peer ≡ etcs_number_of_side opening (other side)
 peer_of (OfFixed engine rbc ke kr) side c own = absurd own
 peer_of (OfKeys engine rbc ke kr ra rb) E c own = own.peer
 peer_of (OfKeys engine rbc ke kr ra rb) R c own = own.peer
@@ -213,35 +213,35 @@ module _ (tell : TextsTell) (opening : PairOpening) where
       → AllHonest opening seen → IsSteady opening seen side s → HasSession opening seen side session → AcceptsDt s event next session user verified
       → IsProper opening seen side (heard_in event) next (AcceptedDt session user verified)
   accepts seen side s event next session user verified honest steady has r =
-      let text_is : verified ≡ message_text (flag_from (other side)) (number_of opening side) user =
+      let text_is : verified ≡ message_text (flag_from (other side)) (etcs_number_of_side opening side) user =
       r.verified_is ∙ ap₂ (λ (f : Bool) (m : ℕ). message_text f m user) (flag_is s side steady.role_is) steady.me_is in
-      let message : IsMessage opening seen side (heard_in event) user session verified _ =
+      let message : IsAcceptedMessage opening seen side (heard_in event) user session verified _ =
       record {
         session = has;
         text_is = text_is;
         read = heard_from s side event (Dt user (mac_of session verified)) steady.role_is r.received;
         sent = λ unforged.
-            was_sent tell opening (other side) session verified (number_of opening side) user text_is seen honest (not-false (was_sealed session verified seen) unforged);
+            was_sent tell opening (other side) session verified (etcs_number_of_side opening side) user text_is seen honest (not-false (was_sealed session verified seen) unforged);
         only = λ forged. none_sealed session verified seen (not-true (was_sealed session verified seen) forged);
       } in
       record { steady = stays opening seen _ side s next r.next_is steady; along = (record { honest = tt; authentic = message }, tt) }
 
   sends : (seen : List MarkedFact) (side : Side) (s : Safety) (event : SafetyEvent) (heard : List ℕ) (next : Safety) (session : TripleKey) (user sealed octets : List ℕ)
       → IsSteady opening seen side s → (r : SendsDt s event next session user sealed octets)
-      → (r.peer ≡ number_of opening (other side)) × HasSession opening seen side session
+      → (r.peer ≡ etcs_number_of_side opening (other side)) × HasSession opening seen side session
       → IsProper opening seen side heard next (SentDt session user sealed octets)
   sends seen side s event heard next session user sealed octets steady r has =
-      let text_is : sealed ≡ message_text (flag_from side) (number_of opening (other side)) user =
+      let text_is : sealed ≡ message_text (flag_from side) (etcs_number_of_side opening (other side)) user =
       r.sealed_is ∙ ap₂ (λ (t : Role) (to : ℕ). message_text (flag_of t) to user) steady.role_is has.0 in
       let send : IsSend opening seen side user session sealed = record { session = has.1; text_is = text_is } in
       record {
         steady = stays opening seen _ side s next r.next_is steady;
-        along = (record { honest = (number_of opening (other side), text_is); authentic = (refl, send) }, tt);
+        along = (record { honest = (etcs_number_of_side opening (other side), text_is); authentic = (refl, send) }, tt);
       }
 
   -- the peer and the session keys of a connected side
   has_session : (seen : List MarkedFact) (side : Side) (s : Safety) (peer : ℕ) (session : TripleKey) → s.phase ≡ Connected peer session
-      → IsSteady opening seen side s → (peer ≡ number_of opening (other side)) × HasSession opening seen side session
+      → IsSteady opening seen side s → (peer ≡ etcs_number_of_side opening (other side)) × HasSession opening seen side session
   has_session seen E s peer session is steady = subst (Knows opening seen E) is steady.knows
   has_session seen R s peer session is steady = subst (Knows opening seen R) is steady.knows
 
@@ -277,7 +277,7 @@ module _ (tell : TextsTell) (opening : PairOpening) where
       let read : IsReadFrom R heard (Au2 c.peer 1 c.ra (mac_of session verified)) = heard_from s E event _ steady.role_is r.received in
       let read_so : IsReadFrom R heard (Au2 c.peer 1 c.ra (mac_of c.session (au2_of c))) =
       read ∙ ap₂ (λ (k : TripleKey) (t : List ℕ). Ok (Au2 c.peer 1 c.ra (mac_of k t), true)) r.session_is verified_is in
-      let known : IsVerified opening E heard c.session (au2_of c) = verified_au2 opening c heard own read_so in
+      let known : IsVerifiedBeforeConnection opening E heard c.session (au2_of c) = verified_au2 opening c heard own read_so in
       let Q : TripleKey → List ℕ → Type 0 = λ k t. IsProper opening seen E heard next (SentAu3 k t sealed octets) in
       let first : MarkedFact = mark seen (at_side E (Verified heard c.session (au2_of c))) in
       let there : Q c.session (au2_of c) =

@@ -11,13 +11,13 @@ use Rattle.des_block.specs.declared.triple_key.TripleKey.{TripleKey}
 use Rattle.cbc_mac.specs.Mac.{mac_of}
 use Rattle.cbc_mac.specs.Laws.{MacBelow}
 use Rattle.session_keys.specs.Session.{session_of}
-use Rattle.sapdu.specs.Spelling.{Pdu, Au1, Au2, Au3, Ar, Fits, IsReadBack, spelling, read_of}
+use Rattle.sapdu.specs.Spelling.{SafetyPdu, Au1, Au2, Au3, Ar, Fits, IsReadBack, spelling, read_of}
 use Rattle.safety_automaton.specs.declared.role.Role.TheVariants.{Initiator, Responder}
 use Rattle.safety_automaton.specs.Safety.{Safety, Connection, WaitAu2, WaitAu3, WaitAr, initiator, responder, fixed, ConnectRequest, Received, DataRequest, Refusal, RefusedNotConnected, RefusedLength, SafetyOutcome, SentAu1, SentAu2, SentAu3, SentAr, ReceivedAr, SentDt, Refused, au2_text, au3_text, ar_text, message_text}
-use Rattle.safety_automaton.specs.Rules.{IsInSetUp, SendsAu1, SendsAu2, SendsAu3, SendsAr, ReceivesAr, SendsDt, Refuses, StepsEach}
+use Rattle.safety_automaton.specs.Rules.{IsInSetUp, SendsAu1, SendsAu2, SendsAu3, SendsAr, ReceivesAr, SendsDt, RefusesDataRequest, StepsEach}
 use Rattle.safety_pair_laws.specs.Facts.{Sent, Sealed, Verified, Connected, SideFact, MarkedFact, at_side, was_sealed, mistrusts, marked}
 use Rattle.safety_pair_laws.specs.Openings.{PairOpening, OfFixed, OfKeys, key_for, safety_of}
-use Rattle.safety_pair_laws.specs.Deliveries.{sent_of, Flow, under_way, after, happens, delivered, untouched, begun_flow, Flows, Begins, Sends, Delivers, FitsOpening, IsComplete, HasFlowed, FlowsDeliver}
+use Rattle.safety_pair_laws.specs.Deliveries.{sent_of, Flow, under_way, flow_with_answer, flow_behind_event, delivered, untouched, begun_flow, Flows, Begins, Sends, Delivers, FitsOpening, IsFlowComplete, HasFlowed, FlowsDeliver}
 use Rattle.safety_pair_laws.proofs.Tallies.{Tally, no_tally, plus_none, plus_sent_r}
 use Rattle.safety_pair_laws.proofs.Flowing.{Direction, flows_none, flows_later, flows_sent, IsClean, clean_more, none_mistrusted, self_sealing, sealed_by_more, sealed_still}
 use Rattle.safety_pair_laws.proofs.Stages.{flow_of, Room, room_none, room_one, at_first, decide_message, after_refused, message_sapdu, AreConnected, reads_message, sends_connected, delivers_connected, bounded_connected, complete_connected, unforged_connected}
@@ -60,16 +60,16 @@ module _ (engine rbc : ℕ) (ke : TripleKey) (ra rb : ℕ) where
   abbrev text_ar : List ℕ
   text_ar = ar_text true engine
 
-  abbrev au1 : Pdu
+  abbrev au1 : SafetyPdu
   au1 = Au1 engine 1 rb
 
-  abbrev au2 : Pdu
+  abbrev au2 : SafetyPdu
   au2 = Au2 rbc 1 ra (mac_of key text_au2)
 
-  abbrev au3 : Pdu
+  abbrev au3 : SafetyPdu
   au3 = Au3 (mac_of key text_au3)
 
-  abbrev ar : Pdu
+  abbrev ar : SafetyPdu
   ar = Ar (mac_of key text_ar)
 
   pub data SetUp (f : Flow) : Type 0 where
@@ -120,20 +120,20 @@ module _ (each : StepsEach) (below : MacBelow) (back : IsReadBack) (engine rbc :
   -- ---- sends
 
   -- a side in the set-up refuses a send
-  not_connected : (f : Flow) (side : Side) (user : List ℕ) → IsInSetUp (safety_of f.pair side).phase → happens own f side (DataRequest user) ≡ f
+  not_connected : (f : Flow) (side : Side) (user : List ℕ) → IsInSetUp (safety_of f.pair side).phase → flow_behind_event own f side (DataRequest user) ≡ f
   not_connected f side user in_set_up =
       let s : Safety = safety_of f.pair side in
-      let row : Refuses s (DataRequest user) s RefusedNotConnected = record { user = user; event_is = refl; met = in_set_up; next_is = refl } in
-      ap (after f side (DataRequest user)) (each (key_for own) s (DataRequest user) s (Refused RefusedNotConnected) row) ∙ after_refused f side user RefusedNotConnected
+      let row : RefusesDataRequest s (DataRequest user) s RefusedNotConnected = record { user = user; event_is = refl; met = in_set_up; next_is = refl } in
+      ap (flow_with_answer f side (DataRequest user)) (each (key_for own) s (DataRequest user) s (Refused RefusedNotConnected) row) ∙ after_refused f side user RefusedNotConnected
 
   rbc_sends : (facts : List SideFact) (octets : List ℕ) (rest sent : List (List ℕ)) (user : List ℕ) → AreOctets user
       → read_of octets ≡ Ok (ar engine rbc ke ra rb, true) → was_sealed k (text_ar engine rbc ke ra rb) (marked facts) ≡ true → IsClean facts (rbc_tally sent)
       → Direction (marked facts) k true engine rest sent []
-      → Stage (happens own (flow_of facts (trusting engine rbc ke ra rb) (accepting engine rbc ke ra rb) [] (octets ∷ rest) 3) R (DataRequest user))
+      → Stage (flow_behind_event own (flow_of facts (trusting engine rbc ke ra rb) (accepting engine rbc ke ra rb) [] (octets ∷ rest) 3) R (DataRequest user))
   rbc_sends facts octets rest sent user are_octets read sealed_ar clean flows =
       let s : Safety = accepting engine rbc ke ra rb in
       let f : Flow = flow_of facts (trusting engine rbc ke ra rb) s [] (octets ∷ rest) 3 in
-      let P : Safety × SafetyOutcome → Type 0 = λ a. Stage (after f R (DataRequest user) a) in
+      let P : Safety × SafetyOutcome → Type 0 = λ a. Stage (flow_with_answer f R (DataRequest user) a) in
       let text : List ℕ = message_text true engine user in
       let sapdu : List ℕ = message_sapdu k true engine user in
       elim (decide_message user) [
@@ -152,43 +152,43 @@ module _ (each : StepsEach) (below : MacBelow) (back : IsReadBack) (engine rbc :
             subst P (sym (each (key_for own) s (DataRequest user) s (SentDt k user text sapdu) row)) there
         | inr none ↦
             let refusal : Refusal = RefusedLength (length user) in
-            let row : Refuses s (DataRequest user) s refusal =
+            let row : RefusesDataRequest s (DataRequest user) s refusal =
             record { user = user; event_is = refl; met = ((engine, k, refl), refl, none); next_is = refl } in
             subst P (sym (each (key_for own) s (DataRequest user) s (Refused refusal) row))
             (subst Stage (sym (after_refused f R user refusal)) (AtAr facts octets rest sent refl read sealed_ar clean flows))
       ]
 
-  sends_stage : (f : Flow) (side : Side) (user : List ℕ) → AreOctets user → Stage f → Stage (happens own f side (DataRequest user))
+  sends_stage : (f : Flow) (side : Side) (user : List ℕ) → AreOctets user → Stage f → Stage (flow_behind_event own f side (DataRequest user))
   sends_stage f E user are_octets (AtAu1 facts octets is read clean) =
       let g : Flow = flow_of facts (calling engine rbc ke ra rb) (responder rbc ra) (octets ∷ []) [] 0 in
-      let Q : Flow → Type 0 = λ h. Stage (happens own h E (DataRequest user)) in
+      let Q : Flow → Type 0 = λ h. Stage (flow_behind_event own h E (DataRequest user)) in
       subst Q (sym is) (subst Stage (sym (not_connected g E user tt)) (AtAu1 facts octets refl read clean))
   sends_stage f R user are_octets (AtAu1 facts octets is read clean) =
       let g : Flow = flow_of facts (calling engine rbc ke ra rb) (responder rbc ra) (octets ∷ []) [] 0 in
-      let Q : Flow → Type 0 = λ h. Stage (happens own h R (DataRequest user)) in
+      let Q : Flow → Type 0 = λ h. Stage (flow_behind_event own h R (DataRequest user)) in
       subst Q (sym is) (subst Stage (sym (not_connected g R user tt)) (AtAu1 facts octets refl read clean))
   sends_stage f E user are_octets (AtAu2 facts octets is read sealed clean) =
       let g : Flow = flow_of facts (calling engine rbc ke ra rb) (answering engine rbc ke ra rb) [] (octets ∷ []) 1 in
-      let Q : Flow → Type 0 = λ h. Stage (happens own h E (DataRequest user)) in
+      let Q : Flow → Type 0 = λ h. Stage (flow_behind_event own h E (DataRequest user)) in
       subst Q (sym is) (subst Stage (sym (not_connected g E user tt)) (AtAu2 facts octets refl read sealed clean))
   sends_stage f R user are_octets (AtAu2 facts octets is read sealed clean) =
       let g : Flow = flow_of facts (calling engine rbc ke ra rb) (answering engine rbc ke ra rb) [] (octets ∷ []) 1 in
-      let Q : Flow → Type 0 = λ h. Stage (happens own h R (DataRequest user)) in
+      let Q : Flow → Type 0 = λ h. Stage (flow_behind_event own h R (DataRequest user)) in
       subst Q (sym is) (subst Stage (sym (not_connected g R user tt)) (AtAu2 facts octets refl read sealed clean))
   sends_stage f E user are_octets (AtAu3 facts octets is read sealed clean) =
       let g : Flow = flow_of facts (trusting engine rbc ke ra rb) (answering engine rbc ke ra rb) (octets ∷ []) [] 2 in
-      let Q : Flow → Type 0 = λ h. Stage (happens own h E (DataRequest user)) in
+      let Q : Flow → Type 0 = λ h. Stage (flow_behind_event own h E (DataRequest user)) in
       subst Q (sym is) (subst Stage (sym (not_connected g E user tt)) (AtAu3 facts octets refl read sealed clean))
   sends_stage f R user are_octets (AtAu3 facts octets is read sealed clean) =
       let g : Flow = flow_of facts (trusting engine rbc ke ra rb) (answering engine rbc ke ra rb) (octets ∷ []) [] 2 in
-      let Q : Flow → Type 0 = λ h. Stage (happens own h R (DataRequest user)) in
+      let Q : Flow → Type 0 = λ h. Stage (flow_behind_event own h R (DataRequest user)) in
       subst Q (sym is) (subst Stage (sym (not_connected g R user tt)) (AtAu3 facts octets refl read sealed clean))
   sends_stage f E user are_octets (AtAr facts octets rest sent is read sealed clean flows) =
       let g : Flow = flow_of facts (trusting engine rbc ke ra rb) (accepting engine rbc ke ra rb) [] (octets ∷ rest) 3 in
-      let Q : Flow → Type 0 = λ h. Stage (happens own h E (DataRequest user)) in
+      let Q : Flow → Type 0 = λ h. Stage (flow_behind_event own h E (DataRequest user)) in
       subst Q (sym is) (subst Stage (sym (not_connected g E user tt)) (AtAr facts octets rest sent refl read sealed clean flows))
   sends_stage f R user are_octets (AtAr facts octets rest sent is read sealed clean flows) =
-      let Q : Flow → Type 0 = λ h. Stage (happens own h R (DataRequest user)) in
+      let Q : Flow → Type 0 = λ h. Stage (flow_behind_event own h R (DataRequest user)) in
       subst Q (sym is) (rbc_sends facts octets rest sent user are_octets read sealed clean flows)
   sends_stage f side user are_octets (AtConnected c) = AtConnected (sends_connected each below back own engine rbc k 4 f side user are_octets c)
 
@@ -228,7 +228,7 @@ module _ (each : StepsEach) (below : MacBelow) (back : IsReadBack) (engine rbc :
       } in
       let more : List SideFact = at_side R (Sealed k text) ∷ [] in
       let sealed : was_sealed k text (marked (facts ++ more)) ≡ true = sealed_by_more facts more k text (rw (self_sealing k text) refl) in
-      let P : Safety × SafetyOutcome → Type 0 = λ a. Reaches [] R (after g R (Received octets) a) in
+      let P : Safety × SafetyOutcome → Type 0 = λ a. Reaches [] R (flow_with_answer g R (Received octets) a) in
       let there : P (next, SentAu2 k text sapdu) =
       (AtAu2 (facts ++ more) sapdu refl reads_au2 sealed (clean_more facts more no_tally no_tally clean refl (plus_none no_tally)), room_one sapdu) in
       subst P (sym (each (key_for own) s (Received octets) next (SentAu2 k text sapdu) row)) there
@@ -259,7 +259,7 @@ module _ (each : StepsEach) (below : MacBelow) (back : IsReadBack) (engine rbc :
       } in
       let more : List SideFact = at_side E (Verified octets k verified) ∷ at_side E (Sealed k text) ∷ [] in
       let sealed : was_sealed k text (marked (facts ++ more)) ≡ true = sealed_by_more facts more k text (rw (self_sealing k text) refl) in
-      let P : Safety × SafetyOutcome → Type 0 = λ a. Reaches [] E (after g E (Received octets) a) in
+      let P : Safety × SafetyOutcome → Type 0 = λ a. Reaches [] E (flow_with_answer g E (Received octets) a) in
       let there : P (next, SentAu3 k verified text sapdu) =
       (AtAu3 (facts ++ more) sapdu refl reads_au3 sealed (clean_more facts more no_tally no_tally clean (rw was refl) (plus_none no_tally)), room_one sapdu) in
       subst P (sym (each (key_for own) s (Received octets) next (SentAu3 k verified text sapdu) row)) there
@@ -287,7 +287,7 @@ module _ (each : StepsEach) (below : MacBelow) (back : IsReadBack) (engine rbc :
       let more : List SideFact = at_side R (Connected octets c verified) ∷ at_side R (Sealed k text) ∷ [] in
       let trusted : mistrusts R (marked facts) ≡ false = none_mistrusted R (marked facts) clean.unforged in
       let sealed : was_sealed k text (marked (facts ++ more)) ≡ true = sealed_by_more facts more k text (rw (self_sealing k text) refl) in
-      let P : Safety × SafetyOutcome → Type 0 = λ a. Reaches [] R (after g R (Received octets) a) in
+      let P : Safety × SafetyOutcome → Type 0 = λ a. Reaches [] R (flow_with_answer g R (Received octets) a) in
       let there : P (next, SentAr c verified text sapdu) = (
         AtAr (facts ++ more) sapdu [] [] refl reads_ar sealed (clean_more facts more no_tally (rbc_tally []) clean (rw (was, trusted) refl) (plus_none no_tally))
             (flows_none k true engine (marked (facts ++ more))),
@@ -308,8 +308,8 @@ module _ (each : StepsEach) (below : MacBelow) (back : IsReadBack) (engine rbc :
       record { waits = refl; received = record { octets = octets; event_is = refl; read = read }; next_is = refl; verified_is = refl } in
       let more : List SideFact = at_side E (Connected octets c verified) ∷ [] in
       let trusted : mistrusts E (marked facts) ≡ false = none_mistrusted E (marked facts) clean.unforged in
-      let P : Safety × SafetyOutcome → Type 0 = λ a. Reaches [] E (after g E (Received octets) a) in
-      let connected : AreConnected engine rbc k 4 (after g E (Received octets) (next, ReceivedAr c verified)) =
+      let P : Safety × SafetyOutcome → Type 0 = λ a. Reaches [] E (flow_with_answer g E (Received octets) a) in
+      let connected : AreConnected engine rbc k 4 (flow_with_answer g E (Received octets) (next, ReceivedAr c verified)) =
       record {
         facts = facts ++ more;
         from_e = [];
@@ -372,7 +372,7 @@ module _ (each : StepsEach) (below : MacBelow) (back : IsReadBack) (engine rbc :
       let sapdu : List ℕ = spelling (au1 engine rbc ke ra rb) false in
       let row : SendsAu1 s ConnectRequest next sapdu =
       record { peer = rbc; kmac = ke; rb = rb; event_is = refl; waits = refl; next_is = refl; octets_is = refl } in
-      let P : Safety × SafetyOutcome → Type 0 = λ a. Stage (after f E ConnectRequest a) in
+      let P : Safety × SafetyOutcome → Type 0 = λ a. Stage (flow_with_answer f E ConnectRequest a) in
       let there : P (next, SentAu1 sapdu) = AtAu1 [] sapdu refl reads_au1 (record { unforged = refl; tally_is = refl }) in
       subst P (sym (each (key_for own) s ConnectRequest next (SentAu1 sapdu) row)) there
 
@@ -404,7 +404,7 @@ module _ (each : StepsEach) (below : MacBelow) (back : IsReadBack) (engine rbc :
   some_first : (x : List ℕ) (xs : List (List ℕ)) → x ∷ xs ≡ [] → ⊥
   some_first x xs e = cc
 
-  complete_stage : (f : Flow) → Stage f → f.from_e ≡ [] → f.from_r ≡ [] → IsComplete f
+  complete_stage : (f : Flow) → Stage f → f.from_e ≡ [] → f.from_r ≡ [] → IsFlowComplete f
   complete_stage f (AtAu1 facts octets is read clean) none_e none_r = absurd (some_first octets [] (ap (λ (g : Flow). g.from_e) (sym is) ∙ none_e))
   complete_stage f (AtAu2 facts octets is read sealed clean) none_e none_r = absurd (some_first octets [] (ap (λ (g : Flow). g.from_r) (sym is) ∙ none_r))
   complete_stage f (AtAu3 facts octets is read sealed clean) none_e none_r = absurd (some_first octets [] (ap (λ (g : Flow). g.from_e) (sym is) ∙ none_e))

@@ -13,10 +13,10 @@ use Rattle.sapdu.specs.Messages.{IsMessage}
 use Rattle.sapdu.specs.Spelling.{Dt, Fits, IsReadBack, spelling, read_of}
 use Rattle.safety_automaton.specs.declared.role.Role.TheVariants.{Initiator, Responder}
 use Rattle.safety_automaton.specs.Safety.{Safety, fixed, Received, DataRequest, Refusal, RefusedLength, SafetyOutcome, AcceptedDt, SentDt, Refused, message_text}
-use Rattle.safety_automaton.specs.Rules.{AcceptsDt, SendsDt, Refuses, StepsEach}
+use Rattle.safety_automaton.specs.Rules.{AcceptsDt, SendsDt, RefusesDataRequest, StepsEach}
 use Rattle.safety_pair_laws.specs.Facts.{Sent, Accepted, SideFact, MarkedFact, at_side, was_sealed, marked}
 use Rattle.safety_pair_laws.specs.Openings.{PairOpening, key_for, safety_of}
-use Rattle.safety_pair_laws.specs.Deliveries.{sent_of, Flow, under_way, after, happens, delivered, IsComplete}
+use Rattle.safety_pair_laws.specs.Deliveries.{sent_of, Flow, under_way, flow_with_answer, flow_behind_event, delivered, IsFlowComplete}
 use Rattle.safety_pair_laws.proofs.Tallies.{Tally, plus_sent_e, plus_sent_r, plus_accepted_e, plus_accepted_r}
 use Rattle.safety_pair_laws.proofs.Flowing.{message_from, Direction, IsTaken, flows_later, flows_sent, flows_taken, flows_done, flows_length, IsClean, clean_more, self_sealing, sealed_by_more}
 
@@ -51,7 +51,7 @@ decide_message user =
     ]
 
 -- a send that is refused changes nothing
-pub after_refused : (f : Flow) (side : Side) (user : List ℕ) (refusal : Refusal) → after f side (DataRequest user) (safety_of f.pair side, Refused refusal) ≡ f
+pub after_refused : (f : Flow) (side : Side) (user : List ℕ) (refusal : Refusal) → flow_with_answer f side (DataRequest user) (safety_of f.pair side, Refused refusal) ≡ f
 after_refused f E user refusal =
     λ i. record { facts = append-nil f.facts i; pair = f.pair; from_e = append-nil f.from_e i; from_r = f.from_r; deliveries = f.deliveries }
 after_refused f R user refusal =
@@ -95,10 +95,10 @@ module _ (each : StepsEach) (below : MacBelow) (back : IsReadBack) where
         → Direction (marked facts) key false rbc from_e t.sent_e t.accepted_r
         → Direction (marked facts) key true engine from_r t.sent_r t.accepted_e
         → n ≤ base + (length t.accepted_r + length t.accepted_e)
-        → AreConnected engine rbc key base (happens opening (flow_of facts e_side r_side from_e from_r n) side (DataRequest user))
+        → AreConnected engine rbc key base (flow_behind_event opening (flow_of facts e_side r_side from_e from_r n) side (DataRequest user))
     connected_sends facts from_e from_r n E user octets here t clean e_flows r_flows count =
         let f : Flow = flow_of facts e_side r_side from_e from_r n in
-        let P : Safety × SafetyOutcome → Type 0 = λ a. AreConnected engine rbc key base (after f E (DataRequest user) a) in
+        let P : Safety × SafetyOutcome → Type 0 = λ a. AreConnected engine rbc key base (flow_with_answer f E (DataRequest user) a) in
         let text : List ℕ = message_text false rbc user in
         let sapdu : List ℕ = message_sapdu key false rbc user in
         elim (decide_message user) [
@@ -124,14 +124,14 @@ module _ (each : StepsEach) (below : MacBelow) (back : IsReadBack) where
               subst P (sym (each (key_for opening) e_side (DataRequest user) e_side (SentDt key user text sapdu) row)) there
           | inr none ↦
               let refusal : Refusal = RefusedLength (length user) in
-              let row : Refuses e_side (DataRequest user) e_side refusal =
+              let row : RefusesDataRequest e_side (DataRequest user) e_side refusal =
               record { user = user; event_is = refl; met = ((rbc, key, refl), refl, none); next_is = refl } in
               subst P (sym (each (key_for opening) e_side (DataRequest user) e_side (Refused refusal) row))
               (subst (AreConnected engine rbc key base) (sym (after_refused f E user refusal)) here)
         ]
     connected_sends facts from_e from_r n R user octets here t clean e_flows r_flows count =
         let f : Flow = flow_of facts e_side r_side from_e from_r n in
-        let P : Safety × SafetyOutcome → Type 0 = λ a. AreConnected engine rbc key base (after f R (DataRequest user) a) in
+        let P : Safety × SafetyOutcome → Type 0 = λ a. AreConnected engine rbc key base (flow_with_answer f R (DataRequest user) a) in
         let text : List ℕ = message_text true engine user in
         let sapdu : List ℕ = message_sapdu key true engine user in
         elim (decide_message user) [
@@ -157,16 +157,16 @@ module _ (each : StepsEach) (below : MacBelow) (back : IsReadBack) where
               subst P (sym (each (key_for opening) r_side (DataRequest user) r_side (SentDt key user text sapdu) row)) there
           | inr none ↦
               let refusal : Refusal = RefusedLength (length user) in
-              let row : Refuses r_side (DataRequest user) r_side refusal =
+              let row : RefusesDataRequest r_side (DataRequest user) r_side refusal =
               record { user = user; event_is = refl; met = ((engine, key, refl), refl, none); next_is = refl } in
               subst P (sym (each (key_for opening) r_side (DataRequest user) r_side (Refused refusal) row))
               (subst (AreConnected engine rbc key base) (sym (after_refused f R user refusal)) here)
         ]
 
     pub sends_connected : (f : Flow) (side : Side) (user : List ℕ) → AreOctets user → AreConnected engine rbc key base f
-        → AreConnected engine rbc key base (happens opening f side (DataRequest user))
+        → AreConnected engine rbc key base (flow_behind_event opening f side (DataRequest user))
     sends_connected f side user octets c =
-        let Q : Flow → Type 0 = λ g. AreConnected engine rbc key base (happens opening g side (DataRequest user)) in
+        let Q : Flow → Type 0 = λ g. AreConnected engine rbc key base (flow_behind_event opening g side (DataRequest user)) in
         subst Q (sym c.is)
         (connected_sends c.facts c.from_e c.from_r c.n side user octets (subst (AreConnected engine rbc key base) c.is c) c.t c.clean c.e_flows c.r_flows c.count)
 
@@ -199,7 +199,7 @@ module _ (each : StepsEach) (below : MacBelow) (back : IsReadBack) where
         let more : List SideFact = at_side R (Accepted octets user key text) ∷ [] in
         let u : Tally = record t { accepted_r = t.accepted_r ++ user ∷ [] } in
         let longer : length (t.accepted_r ++ user ∷ []) ≡ length t.accepted_r + 1 = length-append t.accepted_r (user ∷ []) in
-        let P : Safety × SafetyOutcome → Type 0 = λ a. Comes from_r R (after g R (Received octets) a) in
+        let P : Safety × SafetyOutcome → Type 0 = λ a. Comes from_r R (flow_with_answer g R (Received octets) a) in
         let there : P (r_side, AcceptedDt key user text) = (
           record {
             facts = facts ++ more;
@@ -236,7 +236,7 @@ module _ (each : StepsEach) (below : MacBelow) (back : IsReadBack) where
         let more : List SideFact = at_side E (Accepted octets user key text) ∷ [] in
         let u : Tally = record t { accepted_e = t.accepted_e ++ user ∷ [] } in
         let longer : length (t.accepted_e ++ user ∷ []) ≡ length t.accepted_e + 1 = length-append t.accepted_e (user ∷ []) in
-        let P : Safety × SafetyOutcome → Type 0 = λ a. Comes from_e E (after g E (Received octets) a) in
+        let P : Safety × SafetyOutcome → Type 0 = λ a. Comes from_e E (flow_with_answer g E (Received octets) a) in
         let there : P (e_side, AcceptedDt key user text) = (
           record {
             facts = facts ++ more;
@@ -277,9 +277,9 @@ module _ (each : StepsEach) (below : MacBelow) (back : IsReadBack) where
         let count : c.n ≤ base + (length c.t.accepted_r + length c.t.accepted_e) = c.count in
         subst Q (sym c.is) (omega arith)
 
-    pub complete_connected : (f : Flow) → AreConnected engine rbc key base f → f.from_e ≡ [] → f.from_r ≡ [] → IsComplete f
+    pub complete_connected : (f : Flow) → AreConnected engine rbc key base f → f.from_e ≡ [] → f.from_r ≡ [] → IsFlowComplete f
     complete_connected f c =
-        let Q : Flow → Type 0 = λ g. g.from_e ≡ [] → g.from_r ≡ [] → IsComplete g in
+        let Q : Flow → Type 0 = λ g. g.from_e ≡ [] → g.from_r ≡ [] → IsFlowComplete g in
         let there : Q (flow_of c.facts e_side r_side c.from_e c.from_r c.n) = λ none_e none_r.
         let e_flows : Direction (marked c.facts) key false rbc [] c.t.sent_e c.t.accepted_r =
         subst (λ (l : List (List ℕ)). Direction (marked c.facts) key false rbc l c.t.sent_e c.t.accepted_r) none_e c.e_flows in

@@ -10,7 +10,7 @@ use Rattle.safety_automaton.specs.Safety.{Safety, SafetyEvent, SafetyOutcome}
 use Rattle.safety_automaton.specs.Rules.{StepsOnly}
 use Rattle.safety_automaton.specs.Laws.{TextsTell}
 use Rattle.safety_pair_laws.specs.Facts.{SideFact, MarkedFact, at_side, heard_in, facts_of, marked_from, marked}
-use Rattle.safety_pair_laws.specs.Openings.{PairOpening, OfFixed, OfKeys, Pair, key_for, safety_of, with_safety, begun}
+use Rattle.safety_pair_laws.specs.Openings.{PairOpening, OfFixed, OfKeys, Pair, key_for, safety_of, with_safety, pair_before_events}
 use Rattle.safety_pair_laws.specs.Talks.{answer, Talks, Begins, Goes}
 use Rattle.safety_pair_laws.specs.Authentic.{TalksAreAuthentic}
 use Rattle.safety_pair_laws.proofs.Along.{Along, along-append, along-at}
@@ -56,7 +56,7 @@ can_answer engine rbc ke kr ra rb c kmac key me own session =
       session = session ∙ ap (λ (n : ℕ). session_of kmac n c.rb) own;
     }
 
-sound_begun : (opening : PairOpening) → IsSound opening [] (begun opening)
+sound_begun : (opening : PairOpening) → IsSound opening [] (pair_before_events opening)
 sound_begun (OfFixed engine rbc ke kr) =
     record { e = record { role_is = refl; me_is = refl; knows = (refl, refl) }; r = record { role_is = refl; me_is = refl; knows = (refl, refl) }; along = tt }
 sound_begun (OfKeys engine rbc ke kr ra rb) =

@@ -8,14 +8,14 @@ use Rattle.er_base.specs.Octets.{eight}
 use Rattle.des_block.specs.declared.triple_key.TripleKey.{TripleKey}
 use Rattle.cbc_mac.specs.Mac.{mac_of}
 use Rattle.session_keys.specs.Session.{session_of}
-use Rattle.sapdu.specs.Spelling.{Pdu, Au2, Au3, Ar, Dt, read_of}
+use Rattle.sapdu.specs.Spelling.{SafetyPdu, Au2, Au3, Ar, Dt, read_of}
 use Rattle.safety_automaton.specs.Safety.{Connection, au2_text, au3_text, ar_text, message_text}
 use Rattle.safety_pair_laws.specs.Facts.{Fact, Sent, Sealed, Verified, Connected, Accepted, SideFact, MarkedFact, marked}
-use Rattle.safety_pair_laws.specs.Openings.{PairOpening, OfFixed, OfKeys, Pair, flag_from, number_of}
+use Rattle.safety_pair_laws.specs.Openings.{PairOpening, OfFixed, OfKeys, Pair, flag_from, etcs_number_of_side}
 use Rattle.safety_pair_laws.specs.Talks.{Talks}
 
 -- what was heard is this SaPDU with the direction flag of that side
-abbrev pub IsReadFrom : Side → (heard : List ℕ) → Pdu → Type 0
+abbrev pub IsReadFrom : Side → (heard : List ℕ) → SafetyPdu → Type 0
 IsReadFrom side heard pdu = read_of heard ≡ Ok (pdu, flag_from side)
 
 -- ---- what a side had done before
@@ -91,10 +91,10 @@ pub record IsAu2 (engine rbc : ℕ) (ke : TripleKey) (rb : ℕ) (heard : List �
   pub read : IsReadFrom R heard (Au2 rbc 1 ra (mac_of key text))
 
 -- what is verified before a connection: the AU2 at an engine that called, and nothing else
-abbrev pub IsVerified : PairOpening → Side → (heard : List ℕ) → TripleKey → (text : List ℕ) → Type 0
-IsVerified (OfFixed engine rbc ke kr) side heard key text = ⊥
-IsVerified (OfKeys engine rbc ke kr ra rb) E heard key text = IsAu2 engine rbc ke rb heard key text
-IsVerified (OfKeys engine rbc ke kr ra rb) R heard key text = ⊥
+abbrev pub IsVerifiedBeforeConnection : PairOpening → Side → (heard : List ℕ) → TripleKey → (text : List ℕ) → Type 0
+IsVerifiedBeforeConnection (OfFixed engine rbc ke kr) side heard key text = ⊥
+IsVerifiedBeforeConnection (OfKeys engine rbc ke kr ra rb) E heard key text = IsAu2 engine rbc ke rb heard key text
+IsVerifiedBeforeConnection (OfKeys engine rbc ke kr ra rb) R heard key text = ⊥
 
 -- a connection as a side of this opening can have it: its own number, the number of the other side, its own random number, and the session
 -- keys of its KMAC with both random numbers
@@ -204,15 +204,15 @@ HasSession (OfKeys engine rbc ke kr ra rb) before side key = IsConnectedUnder (O
 -- a send: the text is that of these user octets to the other side, sealed under the side's session keys
 pub record IsSend (opening : PairOpening) (before : List MarkedFact) (side : Side) (user : List ℕ) (key : TripleKey) (text : List ℕ) : Type 0 where
   pub session : HasSession opening before side key
-  pub text_is : text ≡ message_text (flag_from side) (number_of opening (other side)) user
+  pub text_is : text ≡ message_text (flag_from side) (etcs_number_of_side opening (other side)) user
 
 -- an accepted message: what was heard is a DT with these user octets and the peer's direction flag, whose MAC is the MAC of the text
 -- under the side's session keys; the text is that of these user octets to this side; and unless it is forged, the peer sent these
 -- octets before, sealed as this text under these session keys. It is forged only where neither side had sealed the text
-pub record IsMessage (opening : PairOpening) (before : List MarkedFact) (side : Side) (heard user : List ℕ) (key : TripleKey) (text : List ℕ)
+pub record IsAcceptedMessage (opening : PairOpening) (before : List MarkedFact) (side : Side) (heard user : List ℕ) (key : TripleKey) (text : List ℕ)
     (forged : Bool) : Type 0 where
   pub session : HasSession opening before side key
-  pub text_is : text ≡ message_text (flag_from (other side)) (number_of opening side) user
+  pub text_is : text ≡ message_text (flag_from (other side)) (etcs_number_of_side opening side) user
   pub read : IsReadFrom (other side) heard (Dt user (mac_of key text))
   pub sent : forged ≡ false → WasSent (other side) user key text before
   pub only : forged ≡ true → EitherSealed key text before → ⊥
@@ -224,9 +224,9 @@ abbrev pub IsAuthentic : PairOpening → (before : List MarkedFact) → Side →
 IsAuthentic opening before side (Sent user key text) forged = (forged ≡ false) × IsSend opening before side user key text
 IsAuthentic opening before side (Sealed key text) forged = (forged ≡ false) × IsSetUpSealing opening side key text
 IsAuthentic opening before side (Verified heard key text) forged =
-    IsVerified opening side heard key text × IsMarkedRight before key text forged
+    IsVerifiedBeforeConnection opening side heard key text × IsMarkedRight before key text forged
 IsAuthentic opening before side (Connected heard connection text) forged = IsConnection opening before side heard connection text forged
-IsAuthentic opening before side (Accepted heard user key text) forged = IsMessage opening before side heard user key text forged
+IsAuthentic opening before side (Accepted heard user key text) forged = IsAcceptedMessage opening before side heard user key text forged
 
 -- this holds of each fact, at the moment when it came
 abbrev pub Authentic : PairOpening → List SideFact → Type 0

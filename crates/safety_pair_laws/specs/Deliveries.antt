@@ -8,7 +8,7 @@ use Rattle.er_base.specs.Sides.{other}
 use Rattle.er_base.specs.Octets.{AreOctets}
 use Rattle.safety_automaton.specs.Safety.{Safety, SafetyEvent, ConnectRequest, Received, DataRequest, SafetyOutcome, SentAu1, SentAu2, SentAu3, SentAr, ReceivedAr, AcceptedDt, SentDt, Refused, ReleasedLocally, ReleasedByPeer, NothingDone}
 use Rattle.safety_pair_laws.specs.Facts.{SideFact, at_side, facts_of, is_side, marked}
-use Rattle.safety_pair_laws.specs.Openings.{PairOpening, OfFixed, OfKeys, Pair, with_safety, begun, Agrees}
+use Rattle.safety_pair_laws.specs.Openings.{PairOpening, OfFixed, OfKeys, Pair, with_safety, pair_before_events, Agrees}
 use Rattle.safety_pair_laws.specs.Messages.{sent_in, accepted_in, set_up_sapdus, IsConnectedPhase}
 use Rattle.safety_pair_laws.specs.Talks.{answer}
 
@@ -55,33 +55,33 @@ with_under_way f E sapdus = record f { from_e = sapdus }
 with_under_way f R sapdus = record f { from_r = sapdus }
 
 -- a side did this with an event
-abbrev pub after : Flow → Side → SafetyEvent → Safety × SafetyOutcome → Flow
-after f side event a = with_under_way
+abbrev pub flow_with_answer : Flow → Side → SafetyEvent → Safety × SafetyOutcome → Flow
+flow_with_answer f side event a = with_under_way
     (record f { facts = f.facts ++ map (at_side side) (facts_of event a.1); pair = with_safety f.pair side a.0 })
     side (under_way f side ++ sapdus_of a.1)
 
 -- a side is given an event
-abbrev pub happens : PairOpening → Flow → Side → SafetyEvent → Flow
-happens opening f side event = after f side event (answer opening f.pair side event)
+abbrev pub flow_behind_event : PairOpening → Flow → Side → SafetyEvent → Flow
+flow_behind_event opening f side event = flow_with_answer f side event (answer opening f.pair side event)
 
 -- the first SaPDU of a side comes to the other, and the rest stay under way
 abbrev pub delivered : PairOpening → Flow → Side → (octets : List ℕ) → (rest : List (List ℕ)) → Flow
 delivered opening f side octets rest =
-    happens opening (record (with_under_way f side rest) { deliveries = f.deliveries + 1 }) (other side) (Received octets)
+    flow_behind_event opening (record (with_under_way f side rest) { deliveries = f.deliveries + 1 }) (other side) (Received octets)
 
 abbrev pub untouched : PairOpening → Flow
-untouched opening = record { facts = []; pair = begun opening; from_e = []; from_r = []; deliveries = 0 }
+untouched opening = record { facts = []; pair = pair_before_events opening; from_e = []; from_r = []; deliveries = 0 }
 
 -- the two as they begin; an engine that calls begins at once
 abbrev pub begun_flow : PairOpening → Flow
 begun_flow (OfFixed engine rbc ke kr) = untouched (OfFixed engine rbc ke kr)
 begun_flow (OfKeys engine rbc ke kr ra rb) =
-    happens (OfKeys engine rbc ke kr ra rb) (untouched (OfKeys engine rbc ke kr ra rb)) E ConnectRequest
+    flow_behind_event (OfKeys engine rbc ke kr ra rb) (untouched (OfKeys engine rbc ke kr ra rb)) E ConnectRequest
 
 -- sends and deliveries, and nothing else
 pub data Flows (opening : PairOpening) : Flow → Type 0 where
   Begins : Flows opening (begun_flow opening)
-  Sends : (f : Flow) (side : Side) (user : List ℕ) → AreOctets user → Flows opening f → Flows opening (happens opening f side (DataRequest user))
+  Sends : (f : Flow) (side : Side) (user : List ℕ) → AreOctets user → Flows opening f → Flows opening (flow_behind_event opening f side (DataRequest user))
   Delivers : (f : Flow) (side : Side) (octets : List ℕ) (rest : List (List ℕ)) → under_way f side ≡ octets ∷ rest → Flows opening f
       → Flows opening (delivered opening f side octets rest)
 
@@ -93,7 +93,7 @@ FitsOpening (OfFixed engine rbc ke kr) = (engine < 2 ^ 24) × (rbc < 2 ^ 24)
 FitsOpening (OfKeys engine rbc ke kr ra rb) = (engine < 2 ^ 24) × (rbc < 2 ^ 24) × (ra < 2 ^ 64) × (rb < 2 ^ 64)
 
 -- both sides are connected, and each accepted all that the other sent, in order
-pub record IsComplete (f : Flow) : Type 0 where
+pub record IsFlowComplete (f : Flow) : Type 0 where
   pub e_connected : IsConnectedPhase f.pair.e.phase
   pub r_connected : IsConnectedPhase f.pair.r.phase
   pub at_r : accepted_of R f.facts ≡ sent_of E f.facts
@@ -104,7 +104,7 @@ pub record IsComplete (f : Flow) : Type 0 where
 pub record HasFlowed (opening : PairOpening) (f : Flow) : Type 0 where
   pub unforged : list_any (λ m. m.forged) (marked f.facts) ≡ false
   pub bounded : f.deliveries ≤ set_up_sapdus opening + (length (sent_of E f.facts) + length (sent_of R f.facts))
-  pub complete : f.from_e ≡ [] → f.from_r ≡ [] → IsComplete f
+  pub complete : f.from_e ≡ [] → f.from_r ≡ [] → IsFlowComplete f
   pub room : (side : Side) (octets : List ℕ) (rest : List (List ℕ)) (most : ℕ) → under_way f side ≡ octets ∷ rest → 1 ≤ most
       → length (under_way f (other side)) ≤ most → length (under_way (delivered opening f side octets rest) (other side)) ≤ most
 

@@ -17,20 +17,20 @@ pub data PairOpening : Type 0 where
   OfKeys : (engine rbc : ℕ) (ke : TripleKey) (kr : Option TripleKey) (ra rb : ℕ) → PairOpening
 
 -- the engine is the initiator, the radio block centre the responder
-abbrev pub role_of : Side → Role
-role_of E = Initiator
-role_of R = Responder
+abbrev pub role_of_side : Side → Role
+role_of_side E = Initiator
+role_of_side R = Responder
 
 -- the direction flag of what a side sends
 abbrev pub flag_from : Side → Bool
-flag_from side = flag_of (role_of side)
+flag_from side = flag_of (role_of_side side)
 
 -- the ETCS number of a side
-abbrev pub number_of : PairOpening → Side → ℕ
-number_of (OfFixed engine rbc ke kr) E = engine
-number_of (OfFixed engine rbc ke kr) R = rbc
-number_of (OfKeys engine rbc ke kr ra rb) E = engine
-number_of (OfKeys engine rbc ke kr ra rb) R = rbc
+abbrev pub etcs_number_of_side : PairOpening → Side → ℕ
+etcs_number_of_side (OfFixed engine rbc ke kr) E = engine
+etcs_number_of_side (OfFixed engine rbc ke kr) R = rbc
+etcs_number_of_side (OfKeys engine rbc ke kr ra rb) E = engine
+etcs_number_of_side (OfKeys engine rbc ke kr ra rb) R = rbc
 
 -- the KMACs that can be found: at every moment the radio block centre's for this pair, and none for any other
 abbrev pub key_for : PairOpening → (engine rbc : ℕ) → Option TripleKey
@@ -51,9 +51,9 @@ with_safety pair E s = record pair { e = s }
 with_safety pair R s = record pair { r = s }
 
 -- the two before any event
-abbrev pub begun : PairOpening → Pair
-begun (OfFixed engine rbc ke kr) = record { e = fixed engine rbc Initiator ke; r = fixed rbc engine Responder kr }
-begun (OfKeys engine rbc ke kr ra rb) = record { e = initiator engine rbc ke rb; r = responder rbc ra }
+abbrev pub pair_before_events : PairOpening → Pair
+pair_before_events (OfFixed engine rbc ke kr) = record { e = fixed engine rbc Initiator ke; r = fixed rbc engine Responder kr }
+pair_before_events (OfKeys engine rbc ke kr ra rb) = record { e = initiator engine rbc ke rb; r = responder rbc ra }
 
 -- the two sides agree: on their session keys, or on their KMAC
 abbrev pub Agrees : PairOpening → Type 0

@@ -4,7 +4,7 @@ use Rattle.std.specs.Prelude.{List, [], ◌++◌, map}
 use Rattle.er_base.specs.declared.side.Side.{Side}
 use Rattle.safety_automaton.specs.Safety.{Safety, SafetyEvent, SafetyOutcome, step}
 use Rattle.safety_pair_laws.specs.Facts.{SideFact, at_side, facts_of}
-use Rattle.safety_pair_laws.specs.Openings.{PairOpening, Pair, key_for, safety_of, with_safety, begun}
+use Rattle.safety_pair_laws.specs.Openings.{PairOpening, Pair, key_for, safety_of, with_safety, pair_before_events}
 
 -- what a side answers to an event
 abbrev pub answer : PairOpening → Pair → Side → SafetyEvent → Safety × SafetyOutcome
@@ -12,7 +12,7 @@ answer opening pair side event = step (key_for opening) (safety_of pair side) ev
 
 -- the facts of both sides so far, and the two after them
 pub data Talks (opening : PairOpening) : List SideFact → Pair → Type 0 where
-  Begins : Talks opening [] (begun opening)
+  Begins : Talks opening [] (pair_before_events opening)
   Goes : (facts : List SideFact) (pair : Pair) (side : Side) (event : SafetyEvent) → Talks opening facts pair
       → Talks opening (facts ++ map (at_side side) (facts_of event (answer opening pair side event).1))
       (with_safety pair side (answer opening pair side event).0)

@@ -3,8 +3,8 @@ use Rattle.std.proofs.Common.{arith, ℕ, zero, suc, ◌+◌, ◌<◌, ◌≤◌
 use Rattle.er_base.specs.Octets.{two, three, eight, AreOctets}
 use Rattle.sapdu.specs.declared.kind.SaKind.{SaKind}
 use Rattle.sapdu.specs.declared.kind.SaKind.TheVariants as kind
-use Rattle.sapdu.specs.Kinds.{row}
-use Rattle.sapdu.specs.Spelling.{Pdu, Au1, Au2, Au3, Ar, Dt, Di, Fits, HasUserOctets, df, kind_of, header, SpellsOctets}
+use Rattle.sapdu.specs.Kinds.{row_of_sapdu_kind}
+use Rattle.sapdu.specs.Spelling.{SafetyPdu, Au1, Au2, Au3, Ar, Dt, Di, Fits, HasUserOctets, df, kind_of, header, SpellsOctets}
 use Rattle.sapdu.specs.Sealed.{sealed_part, addressed, SealsOctets}
 use Rattle.sapdu.proofs.Facts.{Facts, PartFacts, octets_before}
 
@@ -12,7 +12,7 @@ no_octets : AreOctets []
 no_octets k = omega arith
 
 -- a header octet is one
-head_small : (one : SaKind) (flag : Bool) → (row one).header + df flag < 256
+head_small : (one : SaKind) (flag : Bool) → (row_of_sapdu_kind one).header + df flag < 256
 head_small kind.Au1 false = omega arith
 head_small kind.Au1 true = omega arith
 head_small kind.Au2 false = omega arith
@@ -27,7 +27,7 @@ head_small kind.Di false = omega arith
 head_small kind.Di true = omega arith
 
 -- octets behind a header octet
-behind_header : (p : Pdu) (flag : Bool) (xs : List ℕ) → AreOctets xs → AreOctets (header p flag ∷ xs)
+behind_header : (p : SafetyPdu) (flag : Bool) (xs : List ℕ) → AreOctets xs → AreOctets (header p flag ∷ xs)
 behind_header p flag xs all = octets_before (header p flag) xs (head_small (kind_of p) flag) all
 
 -- octets behind a number below 2 ^ 24, and behind one below 2 ^ 64
@@ -56,7 +56,7 @@ spelling_octets facts part (Di reason sub) flag fits =
     (octets_before reason (sub ∷ []) fits.octets.0 (octets_before sub [] fits.octets.1 no_octets))
 
 -- the part of an SaPDU that its MAC seals is octets, and short
-part_octets : Facts → PartFacts → (p : Pdu) (flag : Bool) (ra rb : ℕ) → Fits p → ra < 2 ^ 64 → rb < 2 ^ 64 → AreOctets (sealed_part p flag ra rb)
+part_octets : Facts → PartFacts → (p : SafetyPdu) (flag : Bool) (ra rb : ℕ) → Fits p → ra < 2 ^ 64 → rb < 2 ^ 64 → AreOctets (sealed_part p flag ra rb)
 part_octets facts part (Au1 id feature own) flag ra rb fits small small' = no_octets
 part_octets facts part (Au2 id feature own mac) flag ra rb fits small small' =
     behind_header (Au2 id feature own mac) flag (three id ++ feature ∷ eight own ++ eight rb)
@@ -68,7 +68,7 @@ part_octets facts part (Ar mac) flag ra rb fits small small' = behind_header (Ar
 part_octets facts part (Dt user mac) flag ra rb fits small small' = behind_header (Dt user mac) flag user fits.octets.0
 part_octets facts part (Di reason sub) flag ra rb fits small small' = no_octets
 
-part_length : Facts → (p : Pdu) (flag : Bool) (ra rb : ℕ) → HasUserOctets p → length (sealed_part p flag ra rb) ≤ 1024
+part_length : Facts → (p : SafetyPdu) (flag : Bool) (ra rb : ℕ) → HasUserOctets p → length (sealed_part p flag ra rb) ≤ 1024
 part_length facts (Au1 id feature own) flag ra rb sized = omega arith
 part_length facts (Au2 id feature own mac) flag ra rb sized = omega (arith, length-append (eight own) (eight rb), facts.eight.long own, facts.eight.long rb)
 part_length facts (Au3 mac) flag ra rb sized = omega (arith, length-append (eight ra) (eight rb), facts.eight.long ra, facts.eight.long rb)

@@ -6,13 +6,13 @@ use Rattle.er_base.specs.Octets.{eight, number_in}
 use Rattle.sapdu.specs.declared.kind.SaKind.{SaKind}
 use Rattle.sapdu.specs.declared.kind.SaKind.TheVariants as kind
 use Rattle.sapdu.specs.declared.fault.SaFault.{SaFault}
-use Rattle.sapdu.specs.Kinds.{Row, row, kind_with}
-use Rattle.sapdu.specs.Spelling.{Pdu, Au1, Au2, Au3, Ar, Dt, Di, Fits, HasUserOctets, df, kind_of, body, fields_of, fault_of_length, read_of, IsReadBack, SpellsOne}
+use Rattle.sapdu.specs.Kinds.{SapduKindRow, row_of_sapdu_kind, kind_with}
+use Rattle.sapdu.specs.Spelling.{SafetyPdu, Au1, Au2, Au3, Ar, Dt, Di, Fits, HasUserOctets, df, kind_of, body, fields_of, fault_of_length, read_of, IsReadBack, SpellsOne}
 use Rattle.sapdu.specs.Representation.{IsLong}
 use Rattle.sapdu.proofs.Facts.{Facts, number_in_front, number_in_back}
 
 -- a header octet tells its kind
-pub kind_read : (one : SaKind) (flag : Bool) → kind_with ((row one).header + df flag) ≡ Some one
+pub kind_read : (one : SaKind) (flag : Bool) → kind_with ((row_of_sapdu_kind one).header + df flag) ≡ Some one
 kind_read kind.Au1 false = refl
 kind_read kind.Au1 true = refl
 kind_read kind.Au2 false = refl
@@ -27,7 +27,7 @@ kind_read kind.Di false = refl
 kind_read kind.Di true = refl
 
 -- and its flag
-pub flag_read : (one : SaKind) (flag : Bool) → (((row one).header + df flag) % 2 == 1) ≡ flag
+pub flag_read : (one : SaKind) (flag : Bool) → (((row_of_sapdu_kind one).header + df flag) % 2 == 1) ≡ flag
 flag_read kind.Au1 false = refl
 flag_read kind.Au1 true = refl
 flag_read kind.Au2 false = refl
@@ -42,11 +42,11 @@ flag_read kind.Di false = refl
 flag_read kind.Di true = refl
 
 -- a length that the row allows is no fault
-pub no_fault : (of : Row) (found : ℕ) → IsLong of found → fault_of_length of found ≡ None
+pub no_fault : (of : SapduKindRow) (found : ℕ) → IsLong of found → fault_of_length of found ≡ None
 no_fault of found long = rw (le-ltb found of.least long.0, le-ltb of.greatest found long.1) refl
 
 -- an SaPDU has as many octets as its kind
-pub body_long : Facts → (pdu : Pdu) → HasUserOctets pdu → IsLong (row (kind_of pdu)) (suc (length (body pdu)))
+pub body_long : Facts → (pdu : SafetyPdu) → HasUserOctets pdu → IsLong (row_of_sapdu_kind (kind_of pdu)) (suc (length (body pdu)))
 body_long facts (Au1 id feature rb) sized = (omega (arith, facts.eight.long rb), omega (arith, facts.eight.long rb))
 body_long facts (Au2 id feature ra mac) sized =
     let both : length (eight ra ++ eight mac) ≡ 16 = omega (arith, length-append (eight ra) (eight mac), facts.eight.long ra, facts.eight.long mac) in
@@ -66,7 +66,7 @@ dt_fields : Facts → (user : List ℕ) (mac : ℕ) (n : ℕ) → mac < 2 ^ 64 �
 dt_fields facts user mac n small long = rw (take_at user (eight mac) n (sym long), drop_at user (eight mac) n (sym long), facts.eight.number mac small) refl
 
 -- the fields by their places are those that were spelled
-pub fields_back : Facts → (pdu : Pdu) → Fits pdu → fields_of (kind_of pdu) (body pdu) ≡ pdu
+pub fields_back : Facts → (pdu : SafetyPdu) → Fits pdu → fields_of (kind_of pdu) (body pdu) ≡ pdu
 fields_back facts (Au1 id feature rb) fits = rw (facts.three.number id fits.octets.0, facts.eight.number rb fits.octets.2) refl
 fields_back facts (Au2 id feature ra mac) fits =
     rw (facts.three.number id fits.octets.0, number_in_front facts ra (eight mac) fits.octets.2, number_in_back facts ra mac fits.octets.3) refl
@@ -82,13 +82,13 @@ pub read_spelling : Facts → IsReadBack
 read_spelling facts pdu flag fits =
     rw (
       kind_read (kind_of pdu) flag,
-      no_fault (row (kind_of pdu)) (suc (length (body pdu))) (body_long facts pdu fits.user),
+      no_fault (row_of_sapdu_kind (kind_of pdu)) (suc (length (body pdu))) (body_long facts pdu fits.user),
       fields_back facts pdu fits,
       flag_read (kind_of pdu) flag,
     ) refl
 
 -- the value of an answer, where it has one
-unfoldable pub value_or : Pdu × Bool → Result (Pdu × Bool) SaFault → Pdu × Bool
+unfoldable pub value_or : SafetyPdu × Bool → Result (SafetyPdu × Bool) SaFault → SafetyPdu × Bool
 value_or other (Ok value) = value
 value_or other (Err fault) = other
 
@@ -98,4 +98,4 @@ unfolding value_or
 spelling_injective reads p q f g first second same =
     let read : Ok (p, f) ≡ Ok (q, g) = sym (reads p f first) ∙ ap read_of same ∙ reads q g second in
     let pair : (p, f) ≡ (q, g) = ap (value_or (p, f)) read in
-    (ap (λ (r : Pdu × Bool). r.0) pair, ap (λ (r : Pdu × Bool). r.1) pair)
+    (ap (λ (r : SafetyPdu × Bool). r.0) pair, ap (λ (r : SafetyPdu × Bool). r.1) pair)

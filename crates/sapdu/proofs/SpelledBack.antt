@@ -7,8 +7,8 @@ use Rattle.sapdu.specs.declared.fault.SaFault.{SaFault}
 use Rattle.sapdu.specs.declared.fault.SaFault.TheVariants.{Short, Long}
 use Rattle.sapdu.specs.declared.kind.SaKind.{SaKind}
 use Rattle.sapdu.specs.declared.kind.SaKind.TheVariants as kind
-use Rattle.sapdu.specs.Kinds.{Row, row, kind_among, kind_with, kinds}
-use Rattle.sapdu.specs.Spelling.{Pdu, Fits, df, kind_of, body, spelling, fields_of, fault_of_length, read_behind, IsSpelledBack}
+use Rattle.sapdu.specs.Kinds.{SapduKindRow, row_of_sapdu_kind, kind_among, kind_with, kinds}
+use Rattle.sapdu.specs.Spelling.{SafetyPdu, Fits, df, kind_of, body, spelling, fields_of, fault_of_length, read_behind, IsSpelledBack}
 use Rattle.sapdu.specs.Representation.{IsBody, IsLong}
 use Rattle.sapdu.proofs.Facts.{Facts, PartFacts}
 use Rattle.sapdu.proofs.ReadBack.{value_or}
@@ -16,15 +16,15 @@ use Rattle.sapdu.proofs.ReadBack.{value_or}
 -- ---- the parts of what is read
 
 -- a kind that was found, a length that it has, and the fields by their places
-record IsRead (found : Option SaKind) (octet : ℕ) (rest : List ℕ) (pdu : Pdu) (flag : Bool) : Type 0 where
+record IsRead (found : Option SaKind) (octet : ℕ) (rest : List ℕ) (pdu : SafetyPdu) (flag : Bool) : Type 0 where
   pub one : SaKind
   pub kind : found ≡ Some one
-  pub long : fault_of_length (row one) (suc (length rest)) ≡ None
+  pub long : fault_of_length (row_of_sapdu_kind one) (suc (length rest)) ≡ None
   pub fields : fields_of one rest ≡ pdu
   pub flagged : (octet % 2 == 1) ≡ flag
 
-behind : (one : SaKind) (fault : Option SaFault) (octet : ℕ) (rest : List ℕ) (pdu : Pdu) (flag : Bool)
-    → fault_of_length (row one) (suc (length rest)) ≡ fault
+behind : (one : SaKind) (fault : Option SaFault) (octet : ℕ) (rest : List ℕ) (pdu : SafetyPdu) (flag : Bool)
+    → fault_of_length (row_of_sapdu_kind one) (suc (length rest)) ≡ fault
     → read_behind octet (Some one) rest ≡ Ok (pdu, flag) → IsRead (Some one) octet rest pdu flag
 unfolding value_or
 behind one (Some fault) octet rest pdu flag is read =
@@ -36,17 +36,17 @@ behind one None octet rest pdu flag is read =
       one = one;
       kind = refl;
       long = is;
-      fields = ap (λ (r : Pdu × Bool). r.0) pair;
-      flagged = ap (λ (r : Pdu × Bool). r.1) pair;
+      fields = ap (λ (r : SafetyPdu × Bool). r.0) pair;
+      flagged = ap (λ (r : SafetyPdu × Bool). r.1) pair;
     }
 
-read_parts : (found : Option SaKind) (octet : ℕ) (rest : List ℕ) (pdu : Pdu) (flag : Bool)
+read_parts : (found : Option SaKind) (octet : ℕ) (rest : List ℕ) (pdu : SafetyPdu) (flag : Bool)
     → read_behind octet found rest ≡ Ok (pdu, flag) → IsRead found octet rest pdu flag
 read_parts None octet rest pdu flag read = absurd (cc)
-read_parts (Some one) octet rest pdu flag read = behind one (fault_of_length (row one) (suc (length rest))) octet rest pdu flag refl read
+read_parts (Some one) octet rest pdu flag read = behind one (fault_of_length (row_of_sapdu_kind one) (suc (length rest))) octet rest pdu flag refl read
 
 -- a length that is no fault is one that the row allows
-long_of : (of : Row) (found : ℕ) → fault_of_length of found ≡ None → IsLong of found
+long_of : (of : SapduKindRow) (found : ℕ) → fault_of_length of found ≡ None → IsLong of found
 long_of of found e =
     elim (cases_Bool (nat_lt found of.least)) [
       | inl short ↦ let bad : Some (Short of.least found) ≡ None = rw short at e in absurd (cc)
@@ -58,14 +58,14 @@ long_of of found e =
     ]
 
 -- the kind that is found among some has this header octet
-header_of : (some : List SaKind) (octet : ℕ) (one : SaKind) → kind_among some octet ≡ Some one → octet - octet % 2 ≡ (row one).header
+header_of : (some : List SaKind) (octet : ℕ) (one : SaKind) → kind_among some octet ≡ Some one → octet - octet % 2 ≡ (row_of_sapdu_kind one).header
 header_of [] octet one e = absurd (cc)
 header_of (first ∷ others) octet one e =
-    elim (cases_Bool (octet - octet % 2 == (row first).header)) [
+    elim (cases_Bool (octet - octet % 2 == (row_of_sapdu_kind first).header)) [
       | inl here ↦
           let found : Some first ≡ Some one = rw here at e in
           let same : first ≡ one = cc in
-          eqb-true _ _ here ∙ ap (λ k. (row k).header) same
+          eqb-true _ _ here ∙ ap (λ k. (row_of_sapdu_kind k).header) same
       | inr other ↦ header_of others octet one (rw other at e)
     ]
 
@@ -130,7 +130,7 @@ dt_body facts part rest n all long =
     (cut.front, mac.0, rw mac.1 (sym (take-append-drop n rest)))
 
 -- the fields of a kind by their places fit, and are spelled by the octets
-fields_spelled : Facts → PartFacts → (one : SaKind) (rest : List ℕ) → AreOctets rest → IsLong (row one) (suc (length rest))
+fields_spelled : Facts → PartFacts → (one : SaKind) (rest : List ℕ) → AreOctets rest → IsLong (row_of_sapdu_kind one) (suc (length rest))
     → IsBody one rest (fields_of one rest)
 fields_spelled facts part kind.Au1 rest all long =
     let least = long.0 in
@@ -164,14 +164,14 @@ fields_spelled facts part kind.Di rest all long =
     (refl, record { user = tt; octets = (all 0, all 1) }, di_body rest (omega arith))
 
 -- a header octet and a body are a spelling
-spelled_by : (octet : ℕ) (rest : List ℕ) (one : SaKind) (pdu : Pdu) (flag : Bool) → kind_of pdu ≡ one
-    → octet ≡ (row one).header + df flag → rest ≡ body pdu → octet ∷ rest ≡ spelling pdu flag
+spelled_by : (octet : ℕ) (rest : List ℕ) (one : SaKind) (pdu : SafetyPdu) (flag : Bool) → kind_of pdu ≡ one
+    → octet ≡ (row_of_sapdu_kind one).header + df flag → rest ≡ body pdu → octet ∷ rest ≡ spelling pdu flag
 spelled_by octet rest one pdu flag same head is =
-    let first : octet ≡ (row (kind_of pdu)).header + df flag = head ∙ ap (λ (k : SaKind). (row k).header + df flag) (sym same) in
-    ap (λ (o : ℕ). o ∷ rest) first ∙ ap (λ (l : List ℕ). ((row (kind_of pdu)).header + df flag) ∷ l) is
+    let first : octet ≡ (row_of_sapdu_kind (kind_of pdu)).header + df flag = head ∙ ap (λ (k : SaKind). (row_of_sapdu_kind k).header + df flag) (sym same) in
+    ap (λ (o : ℕ). o ∷ rest) first ∙ ap (λ (l : List ℕ). ((row_of_sapdu_kind (kind_of pdu)).header + df flag) ∷ l) is
 
 -- what is spelled by octets, by other names
-moved : (octets : List ℕ) (p q : Pdu) (f g : Bool) → p ≡ q → f ≡ g → Fits p × (octets ≡ spelling p f) → Fits q × (octets ≡ spelling q g)
+moved : (octets : List ℕ) (p q : SafetyPdu) (f g : Bool) → p ≡ q → f ≡ g → Fits p × (octets ≡ spelling p f) → Fits q × (octets ≡ spelling q g)
 moved octets p q f g same flag is = rw (← same, ← flag) is
 
 -- ---- the law
@@ -181,8 +181,8 @@ pub spelling_read : Facts → PartFacts → IsSpelledBack
 spelling_read facts part [] pdu flag all read = absurd (cc)
 spelling_read facts part (octet ∷ rest) pdu flag all read =
     let is = read_parts (kind_with octet) octet rest pdu flag read in
-    let body_is = fields_spelled facts part is.one rest (λ k. all (suc k)) (long_of (row is.one) (suc (length rest)) is.long) in
-    let head : octet ≡ (row is.one).header + df (octet % 2 == 1) = with_flag octet (row is.one).header (header_of kinds octet is.one is.kind) in
+    let body_is = fields_spelled facts part is.one rest (λ k. all (suc k)) (long_of (row_of_sapdu_kind is.one) (suc (length rest)) is.long) in
+    let head : octet ≡ (row_of_sapdu_kind is.one).header + df (octet % 2 == 1) = with_flag octet (row_of_sapdu_kind is.one).header (header_of kinds octet is.one is.kind) in
     let here : Fits (fields_of is.one rest) × (octet ∷ rest ≡ spelling (fields_of is.one rest) (octet % 2 == 1)) =
     (body_is.1, spelled_by octet rest is.one (fields_of is.one rest) (octet % 2 == 1) body_is.0 head body_is.2)
     in

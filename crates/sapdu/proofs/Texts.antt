@@ -5,8 +5,8 @@ use Rattle.er_base.specs.Octets.{two, three, eight, number_in}
 use Rattle.sapdu.specs.declared.kind.SaKind.{SaKind}
 use Rattle.sapdu.specs.declared.kind.SaKind.TheVariants as kind
 use Rattle.sapdu.specs.Kinds.{kind_with}
-use Rattle.sapdu.specs.Spelling.{Pdu, Au1, Au2, Au3, Ar, Dt, Di, Fits, kind_of, header}
-use Rattle.sapdu.specs.Sealed.{HasMac, sealed_part, addressed, Content, OfAu2, OfAu3, OfDt, OfNone, content_of, Sealing, padded_text, SameHeading, SealsOne}
+use Rattle.sapdu.specs.Spelling.{SafetyPdu, Au1, Au2, Au3, Ar, Dt, Di, Fits, kind_of, header}
+use Rattle.sapdu.specs.Sealed.{HasMac, sealed_part, addressed, Content, OfAu2, OfAu3, OfDt, OfNone, sealed_content_of_sapdu, SealedSapdu, padded_text, SameHeading, SealsOne}
 use Rattle.sapdu.proofs.Facts.{Facts, number_in_front, number_in_back}
 use Rattle.sapdu.proofs.ReadBack.{kind_read, flag_read}
 
@@ -32,7 +32,7 @@ three_injective m n x y e =
 -- ---- the header in the part
 
 -- the part of an SaPDU with a MAC begins with its header octet
-part_header : (p : Pdu) (f : Bool) (ra rb : ℕ) → HasMac p → get_or (sealed_part p f ra rb) 0 0 ≡ header p f
+part_header : (p : SafetyPdu) (f : Bool) (ra rb : ℕ) → HasMac p → get_or (sealed_part p f ra rb) 0 0 ≡ header p f
 part_header (Au1 id feature own) f ra rb has = absurd has
 part_header (Au2 id feature own mac) f ra rb has = refl
 part_header (Au3 mac) f ra rb has = refl
@@ -46,12 +46,12 @@ kind_or other None = other
 kind_or other (Some one) = one
 
 -- a header octet tells its kind and flag
-same_kind : (p q : Pdu) (f g : Bool) → header p f ≡ header q g → kind_of p ≡ kind_of q
+same_kind : (p q : SafetyPdu) (f g : Bool) → header p f ≡ header q g → kind_of p ≡ kind_of q
 unfolding kind_or
 same_kind p q f g e =
     ap (kind_or (kind_of p)) (sym (kind_read (kind_of p) f) ∙ ap kind_with e ∙ kind_read (kind_of q) g)
 
-same_flag : (p q : Pdu) (f g : Bool) → header p f ≡ header q g → f ≡ g
+same_flag : (p q : SafetyPdu) (f g : Bool) → header p f ≡ header q g → f ≡ g
 same_flag p q f g e = sym (flag_read (kind_of p) f) ∙ ap (λ (o : ℕ). o % 2 == 1) e ∙ flag_read (kind_of q) g
 
 -- ---- the content of a part by its places
@@ -66,8 +66,8 @@ content_in kind.Dt part = OfDt (drop 1 part)
 content_in kind.Di part = OfNone
 
 -- is that of its SaPDU
-content_read : Facts → (p : Pdu) (f : Bool) (ra rb : ℕ) → Fits p → ra < 2 ^ 64 → rb < 2 ^ 64
-    → content_in (kind_of p) (sealed_part p f ra rb) ≡ content_of p ra rb
+content_read : Facts → (p : SafetyPdu) (f : Bool) (ra rb : ℕ) → Fits p → ra < 2 ^ 64 → rb < 2 ^ 64
+    → content_in (kind_of p) (sealed_part p f ra rb) ≡ sealed_content_of_sapdu p ra rb
 unfolding content_in
 content_read facts (Au1 id feature own) f ra rb fits small small' = refl
 content_read facts (Au2 id feature own mac) f ra rb fits small small' =
@@ -80,16 +80,16 @@ content_read facts (Di reason sub) f ra rb fits small small' = refl
 -- ---- the law
 
 -- texts that are equal after padding have one part
-same_addressed : (a b : Sealing) (j k : ℕ) → padded_text a j ≡ padded_text b k
+same_addressed : (a b : SealedSapdu) (j k : ℕ) → padded_text a j ≡ padded_text b k
     → addressed a.pdu a.flag a.receiver a.ra a.rb ≡ addressed b.pdu b.flag b.receiver b.ra b.rb
 same_addressed a b j k e =
     same_behind_length (addressed a.pdu a.flag a.receiver a.ra a.rb) (addressed b.pdu b.flag b.receiver b.ra b.rb) j k e
 
-same_part : (a b : Sealing) → addressed a.pdu a.flag a.receiver a.ra a.rb ≡ addressed b.pdu b.flag b.receiver b.ra b.rb
+same_part : (a b : SealedSapdu) → addressed a.pdu a.flag a.receiver a.ra a.rb ≡ addressed b.pdu b.flag b.receiver b.ra b.rb
     → sealed_part a.pdu a.flag a.ra a.rb ≡ sealed_part b.pdu b.flag b.ra b.rb
 same_part a b e = ap (λ (l : List ℕ). drop 3 l) e
 
-same_heading : (a b : Sealing) → HasMac a.pdu → HasMac b.pdu
+same_heading : (a b : SealedSapdu) → HasMac a.pdu → HasMac b.pdu
     → addressed a.pdu a.flag a.receiver a.ra a.rb ≡ addressed b.pdu b.flag b.receiver b.ra b.rb → SameHeading a b
 same_heading a b has has' e =
     let heads : header a.pdu a.flag ≡ header b.pdu b.flag =

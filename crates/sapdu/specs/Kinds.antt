@@ -7,19 +7,19 @@ use Rattle.sapdu.specs.declared.kind.SaKind.{SaKind}
 use Rattle.sapdu.specs.declared.kind.SaKind.TheVariants as kind
 
 -- a row of the table: the header octet with DF 0, the least and the greatest number of octets
-pub record Row : Type 0 where
+pub record SapduKindRow : Type 0 where
   pub header : ℕ
   pub least : ℕ
   pub greatest : ℕ
 
 -- the table
-abbrev pub row : SaKind → Row
-row kind.Au1 = record { header = 0x42; least = 13; greatest = 13 }
-row kind.Au2 = record { header = 0x24; least = 21; greatest = 21 }
-row kind.Au3 = record { header = 0x06; least = 9; greatest = 9 }
-row kind.Ar = record { header = 0x12; least = 9; greatest = 9 }
-row kind.Dt = record { header = 0x0a; least = 10; greatest = most_octets }
-row kind.Di = record { header = 0x10; least = 3; greatest = 3 }
+abbrev pub row_of_sapdu_kind : SaKind → SapduKindRow
+row_of_sapdu_kind kind.Au1 = record { header = 0x42; least = 13; greatest = 13 }
+row_of_sapdu_kind kind.Au2 = record { header = 0x24; least = 21; greatest = 21 }
+row_of_sapdu_kind kind.Au3 = record { header = 0x06; least = 9; greatest = 9 }
+row_of_sapdu_kind kind.Ar = record { header = 0x12; least = 9; greatest = 9 }
+row_of_sapdu_kind kind.Dt = record { header = 0x0a; least = 10; greatest = most_octets }
+row_of_sapdu_kind kind.Di = record { header = 0x10; least = 3; greatest = 3 }
 
 -- all kinds
 abbrev pub kinds : List SaKind
@@ -28,7 +28,7 @@ kinds = kind.Au1 ∷ kind.Au2 ∷ kind.Au3 ∷ kind.Ar ∷ kind.Dt ∷ kind.Di �
 -- the kind among these with this header octet, where there is one
 abbrev pub kind_among : List SaKind → ℕ → Option SaKind
 kind_among [] octet = None
-kind_among (one ∷ others) octet = if octet - octet % 2 == (row one).header then Some one else kind_among others octet
+kind_among (one ∷ others) octet = if octet - octet % 2 == (row_of_sapdu_kind one).header then Some one else kind_among others octet
 
 -- the kind with this header octet, whatever its bit DF
 abbrev pub kind_with : ℕ → Option SaKind

@@ -3,10 +3,10 @@ use Rattle.std.specs.Prelude.{ℕ, ◌≡◌, Bool, List, None, Some, Result, Ok
 use Rattle.sapdu.specs.declared.fault.SaFault.{SaFault}
 use Rattle.sapdu.specs.declared.pdu.SaPdu.{SaPdu}
 use Rattle.sapdu.specs.declared.pdu.SaPdu.TheVariants as code
-use Rattle.sapdu.specs.Spelling.{Pdu, Au1, Au2, Au3, Ar, Dt, Di, Fits, spelling, first_fault}
+use Rattle.sapdu.specs.Spelling.{SafetyPdu, Au1, Au2, Au3, Ar, Dt, Di, Fits, spelling, first_fault}
 
 -- an SaPDU as plain data
-abbrev pub view : SaPdu → Pdu
+abbrev pub view : SaPdu → SafetyPdu
 view (code.Au1 id feature rb) = Au1 id feature rb
 view (code.Au2 id feature ra mac) = Au2 id feature ra mac
 view (code.Au3 mac) = Au3 mac
@@ -15,7 +15,7 @@ view (code.Dt user mac) = Dt user.now mac
 view (code.Di reason sub) = Di reason sub
 
 -- the answer as plain data
-abbrev pub viewed : Result (SaPdu × Bool) SaFault → Result (Pdu × Bool) SaFault
+abbrev pub viewed : Result (SaPdu × Bool) SaFault → Result (SafetyPdu × Bool) SaFault
 viewed (Ok read) = Ok (view read.0, read.1)
 viewed (Err fault) = Err fault
 

@@ -2,10 +2,10 @@
 -- the receiver's number DA in three, and the part m of the SaPDU. It isn't padded here.
 use Rattle.std.specs.Prelude.{ℕ, ◌^◌, ◌≡◌, ◌<◌, ◌≤◌, Bool, true, false, List, [], ◌∷◌, ◌++◌, length, replicate, refl}
 use Rattle.er_base.specs.Octets.{two, three, eight, AreOctets}
-use Rattle.sapdu.specs.Spelling.{Pdu, Au1, Au2, Au3, Ar, Dt, Di, Fits, HasUserOctets, header, kind_of}
+use Rattle.sapdu.specs.Spelling.{SafetyPdu, Au1, Au2, Au3, Ar, Dt, Di, Fits, HasUserOctets, header, kind_of}
 
 -- AU1 and DI have no MAC
-abbrev pub HasMac : Pdu → Type 0
+abbrev pub HasMac : SafetyPdu → Type 0
 HasMac (Au1 id feature rb) = ⊥
 HasMac (Au2 id feature ra mac) = Unit {0}
 HasMac (Au3 mac) = Unit {0}
@@ -15,7 +15,7 @@ HasMac (Di reason sub) = ⊥
 
 -- the part m of an SaPDU with its flag, by the random numbers Ra and Rb: of an AU2 its first 13 octets and Rb, of an AU3 its header
 -- and both random numbers, of an AR its header, of a DT its header and user octets
-abbrev pub sealed_part : Pdu → Bool → ℕ → ℕ → List ℕ
+abbrev pub sealed_part : SafetyPdu → Bool → ℕ → ℕ → List ℕ
 sealed_part (Au1 id feature own) flag ra rb = []
 sealed_part (Au2 id feature own mac) flag ra rb =
     header (Au2 id feature own mac) flag ∷ three id ++ feature ∷ eight own ++ eight rb
@@ -25,31 +25,31 @@ sealed_part (Dt user mac) flag ra rb = header (Dt user mac) flag ∷ user
 sealed_part (Di reason sub) flag ra rb = []
 
 -- what follows the length: DA and m
-abbrev pub addressed : Pdu → Bool → ℕ → ℕ → ℕ → List ℕ
+abbrev pub addressed : SafetyPdu → Bool → ℕ → ℕ → ℕ → List ℕ
 addressed pdu flag da ra rb = three da ++ sealed_part pdu flag ra rb
 
 -- the sealed text of an SaPDU with its flag, to the receiver `da`
-abbrev pub sealed_text : Pdu → Bool → ℕ → ℕ → ℕ → List ℕ
+abbrev pub sealed_text : SafetyPdu → Bool → ℕ → ℕ → ℕ → List ℕ
 sealed_text pdu flag da ra rb = two (length (addressed pdu flag da ra rb)) ++ addressed pdu flag da ra rb
 
 -- what is sealed: an SaPDU with its flag, to a receiver, in a set-up with these random numbers
-pub record Sealing : Type 0 where
-  pub pdu : Pdu
+pub record SealedSapdu : Type 0 where
+  pub pdu : SafetyPdu
   pub flag : Bool
   pub receiver : ℕ
   pub ra : ℕ
   pub rb : ℕ
 
 -- its text
-abbrev pub text : Sealing → List ℕ
-text it = sealed_text it.pdu it.flag it.receiver it.ra it.rb
+abbrev pub text_of_sealing : SealedSapdu → List ℕ
+text_of_sealing it = sealed_text it.pdu it.flag it.receiver it.ra it.rb
 
 -- its text as a MAC takes it, with so many zero octets behind it
-abbrev pub padded_text : Sealing → ℕ → List ℕ
-padded_text it zeros = text it ++ replicate zeros 0
+abbrev pub padded_text : SealedSapdu → ℕ → List ℕ
+padded_text it zeros = text_of_sealing it ++ replicate zeros 0
 
 -- an SaPDU that has a MAC and a spelling, and numbers that fit their octets
-pub record IsSealing (it : Sealing) : Type 0 where
+pub record IsSealing (it : SealedSapdu) : Type 0 where
   pub fits : Fits it.pdu
   pub has_mac : HasMac it.pdu
   pub receiver : it.receiver < 2 ^ 24
@@ -67,34 +67,34 @@ pub data Content : Type 0 where
   -- of the others: nothing
   OfNone : Content
 
-abbrev pub content_of : Pdu → ℕ → ℕ → Content
-content_of (Au1 id feature own) ra rb = OfNone
-content_of (Au2 id feature own mac) ra rb = OfAu2 id feature own rb
-content_of (Au3 mac) ra rb = OfAu3 ra rb
-content_of (Ar mac) ra rb = OfNone
-content_of (Dt user mac) ra rb = OfDt user
-content_of (Di reason sub) ra rb = OfNone
+abbrev pub sealed_content_of_sapdu : SafetyPdu → ℕ → ℕ → Content
+sealed_content_of_sapdu (Au1 id feature own) ra rb = OfNone
+sealed_content_of_sapdu (Au2 id feature own mac) ra rb = OfAu2 id feature own rb
+sealed_content_of_sapdu (Au3 mac) ra rb = OfAu3 ra rb
+sealed_content_of_sapdu (Ar mac) ra rb = OfNone
+sealed_content_of_sapdu (Dt user mac) ra rb = OfDt user
+sealed_content_of_sapdu (Di reason sub) ra rb = OfNone
 
 -- the same kind, flag and receiver
-pub record SameHeading (a b : Sealing) : Type 0 where
+pub record SameHeading (a b : SealedSapdu) : Type 0 where
   pub kind : kind_of a.pdu ≡ kind_of b.pdu
   pub flag : a.flag ≡ b.flag
   pub receiver : a.receiver ≡ b.receiver
 
 -- and the same content
-pub record SameSealed (a b : Sealing) : Type 0 where
+pub record SameSealed (a b : SealedSapdu) : Type 0 where
   pub heading : SameHeading a b
-  pub content : content_of a.pdu a.ra a.rb ≡ content_of b.pdu b.ra b.rb
+  pub content : sealed_content_of_sapdu a.pdu a.ra a.rb ≡ sealed_content_of_sapdu b.pdu b.ra b.rb
 
 -- ---- laws
 
 -- sealed texts that are equal, or equal after padding with zero octets, are those of the same content
 abbrev pub SealsOne : Type 0
-SealsOne = (a b : Sealing) (j k : ℕ) → IsSealing a → IsSealing b → padded_text a j ≡ padded_text b k → SameSealed a b
+SealsOne = (a b : SealedSapdu) (j k : ℕ) → IsSealing a → IsSealing b → padded_text a j ≡ padded_text b k → SameSealed a b
 
 -- texts that are equal have the same kind, flag and receiver, whatever their numbers are
 abbrev pub TellsHeading : Type 0
-TellsHeading = (a b : Sealing) → HasMac a.pdu → HasMac b.pdu → text a ≡ text b → SameHeading a b
+TellsHeading = (a b : SealedSapdu) → HasMac a.pdu → HasMac b.pdu → text_of_sealing a ≡ text_of_sealing b → SameHeading a b
 
 -- and those of two messages have the same user octets
 abbrev pub TellsUser : Type 0
@@ -104,11 +104,11 @@ TellsUser =
 
 -- a sealed text is octets
 abbrev pub SealsOctets : Type 0
-SealsOctets = (it : Sealing) → IsSealing it → AreOctets (text it)
+SealsOctets = (it : SealedSapdu) → IsSealing it → AreOctets (text_of_sealing it)
 
 -- and has at most 1,029 of them
 abbrev pub SealsFew : Type 0
-SealsFew = (it : Sealing) → HasUserOctets it.pdu → length (text it) ≤ 1029
+SealsFew = (it : SealedSapdu) → HasUserOctets it.pdu → length (text_of_sealing it) ≤ 1029
 
 -- ---- known answers
 

@@ -6,26 +6,26 @@ use Rattle.sapdu.specs.declared.fault.SaFault.{SaFault}
 use Rattle.sapdu.specs.declared.fault.SaFault.TheVariants.{Short, Kind, Long}
 use Rattle.sapdu.specs.declared.kind.SaKind.{SaKind}
 use Rattle.sapdu.specs.declared.kind.SaKind.TheVariants as kind
-use Rattle.sapdu.specs.Kinds.{Row, row, kind_with}
+use Rattle.sapdu.specs.Kinds.{SapduKindRow, row_of_sapdu_kind, kind_with}
 use Rattle.sapdu.specs.Messages.{IsMessage, most_octets}
 
 -- an SaPDU without its flag
-pub data Pdu : Type 0 where
+pub data SafetyPdu : Type 0 where
   -- the first message of the initiator: its ETCS number, the safety feature, its random number Rb
-  Au1 : (id feature rb : ℕ) → Pdu
+  Au1 : (id feature rb : ℕ) → SafetyPdu
   -- the responder's answer: its ETCS number, the safety feature, its random number Ra, a MAC
-  Au2 : (id feature ra mac : ℕ) → Pdu
+  Au2 : (id feature ra mac : ℕ) → SafetyPdu
   -- the initiator's answer to that
-  Au3 : (mac : ℕ) → Pdu
+  Au3 : (mac : ℕ) → SafetyPdu
   -- the responder's last message of the set-up
-  Ar : (mac : ℕ) → Pdu
+  Ar : (mac : ℕ) → SafetyPdu
   -- a message of the user
-  Dt : (user : List ℕ) (mac : ℕ) → Pdu
+  Dt : (user : List ℕ) (mac : ℕ) → SafetyPdu
   -- the end of the connection: a reason and a sub-reason
-  Di : (reason sub : ℕ) → Pdu
+  Di : (reason sub : ℕ) → SafetyPdu
 
 -- its kind
-abbrev pub kind_of : Pdu → SaKind
+abbrev pub kind_of : SafetyPdu → SaKind
 kind_of (Au1 id feature rb) = kind.Au1
 kind_of (Au2 id feature ra mac) = kind.Au2
 kind_of (Au3 mac) = kind.Au3
@@ -34,8 +34,8 @@ kind_of (Dt user mac) = kind.Dt
 kind_of (Di reason sub) = kind.Di
 
 -- the header octet with DF 0
-abbrev pub header_without_flag : Pdu → ℕ
-header_without_flag pdu = (row (kind_of pdu)).header
+abbrev pub header_without_flag : SafetyPdu → ℕ
+header_without_flag pdu = (row_of_sapdu_kind (kind_of pdu)).header
 
 -- the bit DF
 abbrev pub df : Bool → ℕ
@@ -43,11 +43,11 @@ df false = 0
 df true = 1
 
 -- the header octet
-abbrev pub header : Pdu → Bool → ℕ
+abbrev pub header : SafetyPdu → Bool → ℕ
 header pdu flag = header_without_flag pdu + df flag
 
 -- what follows the header octet: an ETCS number in three octets, the safety feature in one, a random number and a MAC in eight
-abbrev pub body : Pdu → List ℕ
+abbrev pub body : SafetyPdu → List ℕ
 body (Au1 id feature rb) = three id ++ feature ∷ eight rb
 body (Au2 id feature ra mac) = three id ++ feature ∷ eight ra ++ eight mac
 body (Au3 mac) = eight mac
@@ -56,11 +56,11 @@ body (Dt user mac) = user ++ eight mac
 body (Di reason sub) = reason ∷ sub ∷ []
 
 -- the octets of an SaPDU with its flag
-abbrev pub spelling : Pdu → Bool → List ℕ
+abbrev pub spelling : SafetyPdu → Bool → List ℕ
 spelling pdu flag = header pdu flag ∷ body pdu
 
 -- the user octets of a DT are a message
-abbrev pub HasUserOctets : Pdu → Type 0
+abbrev pub HasUserOctets : SafetyPdu → Type 0
 HasUserOctets (Au1 id feature rb) = Unit {0}
 HasUserOctets (Au2 id feature ra mac) = Unit {0}
 HasUserOctets (Au3 mac) = Unit {0}
@@ -69,7 +69,7 @@ HasUserOctets (Dt user mac) = IsMessage user
 HasUserOctets (Di reason sub) = Unit {0}
 
 -- an ETCS number fits its three octets
-abbrev pub HasNumber : Pdu → Type 0
+abbrev pub HasNumber : SafetyPdu → Type 0
 HasNumber (Au1 id feature rb) = id < 2 ^ 24
 HasNumber (Au2 id feature ra mac) = id < 2 ^ 24
 HasNumber (Au3 mac) = Unit {0}
@@ -78,7 +78,7 @@ HasNumber (Dt user mac) = Unit {0}
 HasNumber (Di reason sub) = Unit {0}
 
 -- each number fits its octets
-abbrev pub HasOctets : Pdu → Type 0
+abbrev pub HasOctets : SafetyPdu → Type 0
 HasOctets (Au1 id feature rb) = (id < 2 ^ 24) × (feature < 256) × (rb < 2 ^ 64)
 HasOctets (Au2 id feature ra mac) = (id < 2 ^ 24) × (feature < 256) × (ra < 2 ^ 64) × (mac < 2 ^ 64)
 HasOctets (Au3 mac) = mac < 2 ^ 64
@@ -87,29 +87,29 @@ HasOctets (Dt user mac) = AreOctets user × (mac < 2 ^ 64)
 HasOctets (Di reason sub) = (reason < 256) × (sub < 256)
 
 -- an SaPDU that has a spelling
-pub record Fits (pdu : Pdu) : Type 0 where
+pub record Fits (pdu : SafetyPdu) : Type 0 where
   pub user : HasUserOctets pdu
   pub octets : HasOctets pdu
 
 -- the fault of so many octets of a kind, where they have one
-abbrev pub fault_of_length : Row → ℕ → Option SaFault
+abbrev pub fault_of_length : SapduKindRow → ℕ → Option SaFault
 fault_of_length of found =
     if nat_lt found of.least then Some (Short of.least found)
     else if nat_lt of.greatest found then Some (Long of.greatest found)
     else None
 
 -- the fault of so many octets, of which the first is this one
-abbrev pub fault_behind : ℕ → Option SaKind → ℕ → Option SaFault
-fault_behind octet None found = Some (Kind octet)
-fault_behind octet (Some one) found = fault_of_length (row one) found
+abbrev pub sapdu_fault_behind_header : ℕ → Option SaKind → ℕ → Option SaFault
+sapdu_fault_behind_header octet None found = Some (Kind octet)
+sapdu_fault_behind_header octet (Some one) found = fault_of_length (row_of_sapdu_kind one) found
 
 -- the first fault of octets, where there is one: no octet, an unknown header, too few octets, too many
 abbrev pub first_fault : List ℕ → Option SaFault
 first_fault [] = Some (Short 1 0)
-first_fault (octet ∷ rest) = fault_behind octet (kind_with octet) (length (octet ∷ rest))
+first_fault (octet ∷ rest) = sapdu_fault_behind_header octet (kind_with octet) (length (octet ∷ rest))
 
 -- the fields of a kind by their places behind the header octet
-abbrev pub fields_of : SaKind → List ℕ → Pdu
+abbrev pub fields_of : SaKind → List ℕ → SafetyPdu
 fields_of kind.Au1 rest = Au1 (number_in (take 3 rest)) (slice_index rest 3) (number_in (drop 4 rest))
 fields_of kind.Au2 rest = Au2 (number_in (take 3 rest)) (slice_index rest 3) (number_in (take 8 (drop 4 rest))) (number_in (drop 12 rest))
 fields_of kind.Au3 rest = Au3 (number_in rest)
@@ -118,17 +118,17 @@ fields_of kind.Dt rest = Dt (take (length rest - 8) rest) (number_in (drop (leng
 fields_of kind.Di rest = Di (slice_index rest 0) (slice_index rest 1)
 
 -- the fault where there is one, else the value
-abbrev pub unless : Option SaFault → Pdu × Bool → Result (Pdu × Bool) SaFault
+abbrev pub unless : Option SaFault → SafetyPdu × Bool → Result (SafetyPdu × Bool) SaFault
 unless (Some fault) value = Err fault
 unless None value = Ok value
 
 -- what octets behind a header octet are read as
-abbrev pub read_behind : ℕ → Option SaKind → List ℕ → Result (Pdu × Bool) SaFault
+abbrev pub read_behind : ℕ → Option SaKind → List ℕ → Result (SafetyPdu × Bool) SaFault
 read_behind octet None rest = Err (Kind octet)
-read_behind octet (Some one) rest = unless (fault_of_length (row one) (length (octet ∷ rest))) (fields_of one rest, octet % 2 == 1)
+read_behind octet (Some one) rest = unless (fault_of_length (row_of_sapdu_kind one) (length (octet ∷ rest))) (fields_of one rest, octet % 2 == 1)
 
 -- what octets are read as
-abbrev pub read_of : List ℕ → Result (Pdu × Bool) SaFault
+abbrev pub read_of : List ℕ → Result (SafetyPdu × Bool) SaFault
 read_of [] = Err (Short 1 0)
 read_of (octet ∷ rest) = read_behind octet (kind_with octet) rest
 
@@ -137,22 +137,22 @@ abbrev pub di_in : List ℕ → Bool → Option (ℕ × ℕ)
 di_in [] flag = None
 di_in (octet ∷ []) flag = None
 di_in (octet ∷ reason ∷ []) flag = None
-di_in (octet ∷ reason ∷ sub ∷ []) flag = if octet == (row kind.Di).header + df flag then Some (reason, sub) else None
+di_in (octet ∷ reason ∷ sub ∷ []) flag = if octet == (row_of_sapdu_kind kind.Di).header + df flag then Some (reason, sub) else None
 di_in (octet ∷ reason ∷ sub ∷ more ∷ rest) flag = None
 
 -- ---- laws
 
 -- what is spelled is read back
 abbrev pub IsReadBack : Type 0
-IsReadBack = (pdu : Pdu) (flag : Bool) → Fits pdu → read_of (spelling pdu flag) ≡ Ok (pdu, flag)
+IsReadBack = (pdu : SafetyPdu) (flag : Bool) → Fits pdu → read_of (spelling pdu flag) ≡ Ok (pdu, flag)
 
 -- what is read has a spelling, which is what it was read from
 abbrev pub IsSpelledBack : Type 0
-IsSpelledBack = (octets : List ℕ) (pdu : Pdu) (flag : Bool) → AreOctets octets → read_of octets ≡ Ok (pdu, flag) → Fits pdu × (octets ≡ spelling pdu flag)
+IsSpelledBack = (octets : List ℕ) (pdu : SafetyPdu) (flag : Bool) → AreOctets octets → read_of octets ≡ Ok (pdu, flag) → Fits pdu × (octets ≡ spelling pdu flag)
 
 -- a list of octets spells at most one SaPDU and flag
 abbrev pub SpellsOne : Type 0
-SpellsOne = (p q : Pdu) (f g : Bool) → Fits p → Fits q → spelling p f ≡ spelling q g → (p ≡ q) × (f ≡ g)
+SpellsOne = (p q : SafetyPdu) (f g : Bool) → Fits p → Fits q → spelling p f ≡ spelling q g → (p ≡ q) × (f ≡ g)
 
 -- a DI with this flag is what is read as one
 abbrev pub IsReadAsDi : Type 0
@@ -160,14 +160,14 @@ IsReadAsDi = (octets : List ℕ) (flag : Bool) (reason sub : ℕ) → (di_in oct
 
 -- a spelling is octets
 abbrev pub SpellsOctets : Type 0
-SpellsOctets = (pdu : Pdu) (flag : Bool) → Fits pdu → AreOctets (spelling pdu flag)
+SpellsOctets = (pdu : SafetyPdu) (flag : Bool) → Fits pdu → AreOctets (spelling pdu flag)
 
 -- as many as its kind has
 abbrev pub SpellsItsLength : Type 0
 SpellsItsLength =
-    (pdu : Pdu) (flag : Bool) → HasUserOctets pdu
-    → ((row (kind_of pdu)).least ≤ length (spelling pdu flag)) × (length (spelling pdu flag) ≤ (row (kind_of pdu)).greatest)
+    (pdu : SafetyPdu) (flag : Bool) → HasUserOctets pdu
+    → ((row_of_sapdu_kind (kind_of pdu)).least ≤ length (spelling pdu flag)) × (length (spelling pdu flag) ≤ (row_of_sapdu_kind (kind_of pdu)).greatest)
 
 -- and never more than 1,032
 abbrev pub SpellsFew : Type 0
-SpellsFew = (pdu : Pdu) (flag : Bool) → HasUserOctets pdu → length (spelling pdu flag) ≤ most_octets
+SpellsFew = (pdu : SafetyPdu) (flag : Bool) → HasUserOctets pdu → length (spelling pdu flag) ≤ most_octets

@@ -1,5 +1,5 @@
 ghost use Rattle.std.specs.Prelude.{◌≡◌, ◌+◌};
-ghost use Rattle.sapdu.specs.Kinds.{row, kind_with};
+ghost use Rattle.sapdu.specs.Kinds.{row_of_sapdu_kind, kind_with};
 ghost use Rattle.sapdu.specs.Spelling.{df};
 
 use crate::message::MOST_OCTETS;
@@ -51,7 +51,7 @@ impl SaKind {
 
     /// The header octet with this direction flag, true from the responder.
     pub fn header(self, flag: bool) -> u8
-        ensures { result ≡ (row self).header + df flag }
+        ensures { result ≡ (row_of_sapdu_kind self).header + df flag }
     {
         let from_initiator = match self {
             SaKind::Au1 => AU1,
@@ -70,7 +70,7 @@ impl SaKind {
 
     /// The least number of octets.
     pub fn least(self) -> usize
-        ensures { result ≡ (row self).least }
+        ensures { result ≡ (row_of_sapdu_kind self).least }
     {
         match self {
             SaKind::Au1 => 13,
@@ -83,7 +83,7 @@ impl SaKind {
 
     /// The greatest number of octets.
     pub fn greatest(self) -> usize
-        ensures { result ≡ (row self).greatest }
+        ensures { result ≡ (row_of_sapdu_kind self).greatest }
     {
         match self {
             SaKind::Dt => MOST_OCTETS,

@@ -1,5 +1,5 @@
 ghost use Rattle.std.specs.Prelude.{◌≡◌, ◌+◌, ◌≤◌, length};
-ghost use Rattle.sapdu.specs.Kinds.{row};
+ghost use Rattle.sapdu.specs.Kinds.{row_of_sapdu_kind};
 ghost use Rattle.sapdu.specs.Spelling.{read_of, di_in, fault_of_length};
 ghost use Rattle.sapdu.specs.Reading.{Reads, view, viewed};
 ghost use Rattle.sapdu.specs.Representation.{IsBody, IsLong};
@@ -13,7 +13,7 @@ use er_base::{Cursor, number_of};
 
 /// The fault of so many octets of an SaPDU of this kind.
 fn fault_of_length(kind: SaKind, found: usize) -> Option<SaFault>
-    ensures { result ≡ fault_of_length (row kind) found }
+    ensures { result ≡ fault_of_length (row_of_sapdu_kind kind) found }
 {
     let need = kind.least();
     let max = kind.greatest();
@@ -78,7 +78,7 @@ fn di(fields: &[u8; 2]) -> SaPdu<'static>
 
 /// The SaPDU of this kind with these octets behind its header, as many as the kind has.
 fn pdu_of(kind: SaKind, fields: &[u8]) -> SaPdu<'_>
-    requires { IsLong (row kind) (length fields.now + 1) }
+    requires { IsLong (row_of_sapdu_kind kind) (length fields.now + 1) }
     ensures { IsBody kind fields.now (view result) }
 {
     match kind {

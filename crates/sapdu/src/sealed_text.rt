@@ -3,7 +3,7 @@ ghost use Rattle.er_base.specs.Octets.{two, three, eight};
 ghost use Rattle.sapdu.specs.Spelling.{HasUserOctets, HasNumber};
 ghost use Rattle.sapdu.specs.Sealed.{sealed_text};
 ghost use Rattle.sapdu.specs.Messages.{IsMessage};
-ghost use Rattle.sapdu.specs.Representation.{IsTextOf};
+ghost use Rattle.sapdu.specs.Representation.{IsLengthAndOctets};
 ghost use Rattle.sapdu.specs.Reading.{view};
 
 use crate::pdu::SaPdu;
@@ -75,7 +75,7 @@ impl SealedText {
         ra: u64,
         rb: u64,
     ) -> SealedText
-        ensures { IsTextOf (three receiver ++ header ∷ three id ++ feature ∷ eight ra ++ eight rb) result }
+        ensures { IsLengthAndOctets (three receiver ++ header ∷ three id ++ feature ∷ eight ra ++ eight rb) result }
     {
         let mut text = SealedText::addressed(receiver);
         text.put(&[header]);
@@ -88,7 +88,7 @@ impl SealedText {
 
     // The text of an AU3.
     fn of_au3(receiver: EtcsNumber, header: u8, ra: u64, rb: u64) -> SealedText
-        ensures { IsTextOf (three receiver ++ header ∷ eight ra ++ eight rb) result }
+        ensures { IsLengthAndOctets (three receiver ++ header ∷ eight ra ++ eight rb) result }
     {
         let mut text = SealedText::addressed(receiver);
         text.put(&[header]);
@@ -99,7 +99,7 @@ impl SealedText {
 
     // The text of an AR.
     fn of_ar(receiver: EtcsNumber, header: u8) -> SealedText
-        ensures { IsTextOf (three receiver ++ header ∷ []) result }
+        ensures { IsLengthAndOctets (three receiver ++ header ∷ []) result }
     {
         let mut text = SealedText::addressed(receiver);
         text.put(&[header]);
@@ -109,7 +109,7 @@ impl SealedText {
     // The text of a DT.
     fn of_dt(receiver: EtcsNumber, header: u8, user: &[u8]) -> SealedText
         requires { IsMessage user.now }
-        ensures { IsTextOf (three receiver ++ header ∷ user.now) result }
+        ensures { IsLengthAndOctets (three receiver ++ header ∷ user.now) result }
     {
         let mut text = SealedText::addressed(receiver);
         text.put(&[header]);

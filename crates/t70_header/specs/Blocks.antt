@@ -17,13 +17,13 @@ more_of block =
     if has_header 0x00 block then Some false else if has_header 0x80 block then Some true else None
 
 -- the octets behind the header
-abbrev pub content_of : List ℕ → List ℕ
-content_of block = drop 2 block
+abbrev pub content_of_block : List ℕ → List ℕ
+content_of_block block = drop 2 block
 
 -- the octets of several blocks, joined
 abbrev pub joined_contents : List (List ℕ) → List ℕ
 joined_contents [] = []
-joined_contents (block ∷ blocks) = content_of block ++ joined_contents blocks
+joined_contents (block ∷ blocks) = content_of_block block ++ joined_contents blocks
 
 -- each of the blocks has the more-bit
 abbrev pub AllMore : List (List ℕ) → Type 0

@@ -3,21 +3,21 @@
 use Rattle.std.specs.Prelude.{ℕ, ◌≡◌, ◌<◌, ◌≤◌, ◌↔◌, ◌⊎◌, nat_lt, if◌then◌else◌, Bool, false, IsSome, IsNone, List, [], ◌∷◌, ◌++◌, length, slice_index, Option, Some, None, Result, Ok, Err}
 use Rattle.t70_header.specs.declared.fault.BlockFault.{BlockFault}
 use Rattle.t70_header.specs.declared.fault.BlockFault.TheVariants.{Header, Long}
-use Rattle.t70_header.specs.Blocks.{last_block, more_of, content_of, joined_contents, AllMore}
+use Rattle.t70_header.specs.Blocks.{last_block, more_of, content_of_block, joined_contents, AllMore}
 
 -- what blocks come to: nothing yet, a whole TPDU, or a fault
-abbrev pub Answer : Type 0
-Answer = Result (Option (List ℕ)) BlockFault
+abbrev pub BlockJoiningResult : Type 0
+BlockJoiningResult = Result (Option (List ℕ)) BlockFault
 
 -- the fault of a header; octets that the block doesn't have are given as 0
 abbrev pub fault_of_header : List ℕ → BlockFault
 fault_of_header block = Header (length block) (slice_index block 0) (slice_index block 1)
 
 -- one block behind the octets that are held: what is held then, and the answer
-abbrev pub step : List ℕ → List ℕ → List ℕ × Answer
-step held block = joined_to (more_of block) (held ++ content_of block)
+abbrev pub block_step : List ℕ → List ℕ → List ℕ × BlockJoiningResult
+block_step held block = joined_to (more_of block) (held ++ content_of_block block)
   where
-    joined_to : Option Bool → List ℕ → List ℕ × Answer
+    joined_to : Option Bool → List ℕ → List ℕ × BlockJoiningResult
     joined_to None octets = ([], Err (fault_of_header block))
     joined_to (Some more) octets =
         if nat_lt 1024 (length octets) then ([], Err (Long (length octets)))
@@ -25,12 +25,12 @@ step held block = joined_to (more_of block) (held ++ content_of block)
         else ([], Ok (Some octets))
 
 -- the answer to the last of several blocks that are given one by one, up to the first other than None
-abbrev pub answer_to : List ℕ → List (List ℕ) → Answer
-answer_to held [] = Ok None
-answer_to held (block ∷ blocks) =
-    first_answer (step held block).1 (answer_to (step held block).0 blocks)
+abbrev pub answer_to_last_block : List ℕ → List (List ℕ) → BlockJoiningResult
+answer_to_last_block held [] = Ok None
+answer_to_last_block held (block ∷ blocks) =
+    first_answer (block_step held block).1 (answer_to_last_block (block_step held block).0 blocks)
   where
-    first_answer : Answer → Answer → Answer
+    first_answer : BlockJoiningResult → BlockJoiningResult → BlockJoiningResult
     first_answer (Ok None) later = later
     first_answer answer later = answer
 
@@ -39,17 +39,17 @@ abbrev pub HasFault : List ℕ → List ℕ → BlockFault → Type 0
 HasFault held block (Header found first second) =
     IsNone (more_of block) × (Header found first second ≡ fault_of_header block)
 HasFault held block (Long n) =
-    IsSome (more_of block) × (n ≡ length (held ++ content_of block)) × (1024 < n)
+    IsSome (more_of block) × (n ≡ length (held ++ content_of_block block)) × (1024 < n)
 
 -- the blocks up to the first one without the more-bit make this TPDU
-pub record IsWhole (held : List ℕ) (blocks : List (List ℕ)) (tpdu : List ℕ) : Type 0 where
+pub record MakesWholeTpdu (held : List ℕ) (blocks : List (List ℕ)) (tpdu : List ℕ) : Type 0 where
   pub front : List (List ℕ)
   pub last : List ℕ
   pub rest : List (List ℕ)
   pub cut : blocks ≡ front ++ last ∷ rest
   pub more : AllMore front
   pub ends : more_of last ≡ Some false
-  pub octets : tpdu ≡ held ++ joined_contents front ++ content_of last
+  pub octets : tpdu ≡ held ++ joined_contents front ++ content_of_block last
   pub fits : length tpdu ≤ 1024
 
 -- one block, behind blocks with the more-bit that could be joined, has this fault
@@ -63,24 +63,24 @@ pub record IsFaulty (held : List ℕ) (blocks : List (List ℕ)) (fault : BlockF
   pub has_fault : HasFault (held ++ joined_contents front) block fault
 
 -- what the blocks come to behind octets that are held
-abbrev pub JoinedBehind : List ℕ → List (List ℕ) → Answer → Type 0
+abbrev pub JoinedBehind : List ℕ → List (List ℕ) → BlockJoiningResult → Type 0
 JoinedBehind held blocks (Ok None) = AllMore blocks × (length (held ++ joined_contents blocks) ≤ 1024)
-JoinedBehind held blocks (Ok (Some tpdu)) = IsWhole held blocks tpdu
+JoinedBehind held blocks (Ok (Some tpdu)) = MakesWholeTpdu held blocks tpdu
 JoinedBehind held blocks (Err fault) = IsFaulty held blocks fault
 
 -- what a list of blocks comes to: they are joined up to the first one without the more-bit
-abbrev pub Joined : List (List ℕ) → Answer → Type 0
+abbrev pub Joined : List (List ℕ) → BlockJoiningResult → Type 0
 Joined blocks answer = JoinedBehind [] blocks answer
 
 -- giving blocks to a joiner one by one joins them, and nothing else is an answer to them
 abbrev pub AddingJoins : Type 0
-AddingJoins = (blocks : List (List ℕ)) (answer : Answer) → Joined blocks answer ↔ (answer_to [] blocks ≡ answer)
+AddingJoins = (blocks : List (List ℕ)) (answer : BlockJoiningResult) → Joined blocks answer ↔ (answer_to_last_block [] blocks ≡ answer)
 
 -- a joiner holds octets behind an answer only where that answer is that more blocks follow
 abbrev pub HoldsOnlyWhatWaits : Type 0
 HoldsOnlyWhatWaits =
-    (held block : List ℕ) → ((step held block).0 ≡ []) ⊎ ((step held block).1 ≡ Ok None)
+    (held block : List ℕ) → ((block_step held block).0 ≡ []) ⊎ ((block_step held block).1 ≡ Ok None)
 
 -- a TPDU that was wrapped in one block is joined to itself
 abbrev pub WrappedIsJoined : Type 0
-WrappedIsJoined = (tpdu : List ℕ) → length tpdu ≤ 1024 → step [] (last_block tpdu) ≡ ([], Ok (Some tpdu))
+WrappedIsJoined = (tpdu : List ℕ) → length tpdu ≤ 1024 → block_step [] (last_block tpdu) ≡ ([], Ok (Some tpdu))

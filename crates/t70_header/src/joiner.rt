@@ -1,6 +1,6 @@
 ghost use Rattle.std.specs.Prelude.{◌≡◌, []};
 ghost use Rattle.std.specs.Borrow.{sem};
-ghost use Rattle.t70_header.specs.Joining.{step, fault_of_header};
+ghost use Rattle.t70_header.specs.Joining.{block_step, fault_of_header};
 ghost use Rattle.t70_header.specs.Blocks.{more_of};
 
 use crate::fault::BlockFault;
@@ -28,7 +28,7 @@ impl Model for Joiner {
 }
 
 impl Joiner {
-    ghost use Rattle.t70_header.specs.Resting.{Rests, Gives};
+    ghost use Rattle.t70_header.specs.Resting.{LeavesJoinerAs, LendsAnswerOctets};
 
     /// A joiner that holds no octets.
     pub fn new() -> Joiner
@@ -43,8 +43,8 @@ impl Joiner {
     /// Adds a block: lends the whole TPDU where it was the last block, from the block itself where that is all of it, and answers None
     /// exactly where more blocks follow. After a whole TPDU and after a fault the joiner holds no octets.
     pub fn add<'a>(&'a mut self, block: &'a [u8]) -> Result<Option<&'a [u8]>, BlockFault>
-        ensures* after { sem 𝓛 (Rests self.entry (step self.old block.now).0) }
-        ensures gives { Gives result (step self.old block.now).1 }
+        ensures* after { sem 𝓛 (LeavesJoinerAs self.entry (block_step self.old block.now).0) }
+        ensures gives { LendsAnswerOctets result (block_step self.old block.now).1 }
     {
         let Some(more) = more_follows(block) else {
             self.len = 0;

@@ -10,7 +10,7 @@ use Rattle.hdlc_station_model.specs.Frames.{SetUp}
 use Rattle.hdlc_station_model.specs.Sending.{gives_up, counts_expiry, starts_timer, sends_again, is_due, expires, expires_if_due, sends_waiting}
 use Rattle.hdlc_station_model.specs.Calls as station
 use Rattle.safety_automaton.specs.Keys.{no_keys}
-use Rattle.safety_automaton.specs.Safety.{Safety, SafetyOutcome, DataRequest, DisconnectRequest, sent_by, step}
+use Rattle.safety_automaton.specs.Safety.{Safety, SafetyOutcome, DataRequest, DisconnectRequest, octets_sent_in_outcome, step}
 use Rattle.er_end_model.specs.Outcomes.{SendRefusal}
 use Rattle.er_end_model.specs.Steps.{new_event, new_event_at, with_release, send_dr, normal_disconnect, with_safety_step, hand_text, conclude_event, step_start, on_send, step_send_unless, step_take, step_release, is_spent, di_of, on_expiry, step_tick, step_break}
 use Rattle.er_end_model.specs.Layers.{Core, model}
@@ -116,7 +116,7 @@ module _ (opened calling : Bool) (x : Core) (l : Listens opened calling (noted x
       let a : Safety × SafetyOutcome = step no_keys x.safe.safety (DataRequest user) in
       let y : Core = with_safety_step model (DataRequest user) a b in
       let z : Core = record y { upper = model.sends y.upper user } in
-      same (on_send model user b) (concludes_noted (hand_text model (sent_by a.1) z) ∙ says_noted (sent_by a.1) z)
+      same (on_send model user b) (concludes_noted (hand_text model (octets_sent_in_outcome a.1) z) ∙ says_noted (octets_sent_in_outcome a.1) z)
 
   pub send_goes : (user : List ℕ) (r : Option SendRefusal)
       → Goes opened calling (noted x) [] (received_unless r (step_send_unless model r now user x)) (noted (step_send_unless model r now user x))
@@ -132,8 +132,8 @@ module _ (opened calling : Bool) (x : Core) (l : Listens opened calling (noted x
   leave_goes sub =
       let a : Safety × SafetyOutcome = step no_keys x.safe.safety (DisconnectRequest sub) in
       let z : Core = with_safety_step model (DisconnectRequest sub) a b in
-      let y : Core = send_dr model (release_of (User sub)) normal_disconnect (sent_by a.1) z in
-      let left : LeftAs z y = departs_left (release_of (User sub)) normal_disconnect (sent_by a.1) z in
+      let y : Core = send_dr model (release_of (User sub)) normal_disconnect (octets_sent_in_outcome a.1) z in
+      let left : LeftAs z y = departs_left (release_of (User sub)) normal_disconnect (octets_sent_in_outcome a.1) z in
       like (step_release model now sub x) y (noted_unless x.released b y l.live) (over y left.why left.released left.received left.taken)
 
   time_goes : (z : Core) → noted z ≡ record (noted b) { received = [] } → Claim (on_expiry model None z)

@@ -1,5 +1,6 @@
 -- What an end does with a payload that its station took, and what that is to an ear.
 use Rattle.std.proofs.Common.{◌≡◌, ◌∙◌, ◌⊎◌, inl, inr, ℕ, ◌+◌, ◌-◌, Bool, true, false, ◌&&◌, not, List, [], ◌∷◌, ◌++◌, length, Option, Some, None, Result, Ok, Err, refl, sym, ap, subst, length-append}
+use Rattle.hdlc_station_model.specs.Receiving.{is_some_octets}
 use Rattle.std.specs.Prelude.{◌%◌, ◌==◌, min, nat_lt, nat_le, if◌then◌else◌}
 use Rattle.std.specs.Option.{option_to_list}
 use Rattle.er_base.specs.declared.release.Release.{Release}
@@ -11,21 +12,21 @@ use Rattle.hdlc_station_model.specs.Stations.{Station, is_down}
 use Rattle.hdlc_station_model.specs.Calls.{closes_at}
 use Rattle.t70_header.specs.Joining as joining
 use Rattle.x224_tpdu.specs.declared.fault.TpFault.{TpFault}
-use Rattle.x224_tpdu.specs.Spelling.{Pdu, connection_request, connection_confirm, disconnect_request, disconnect_confirm, data_tpdu, acknowledgement, tpdu_error}
+use Rattle.x224_tpdu.specs.Spelling.{TransportPdu, connection_request, connection_confirm, disconnect_request, disconnect_confirm, data_tpdu, acknowledgement, tpdu_error}
 use Rattle.x224_tpdu.specs.Function.{reading}
 use Rattle.x224_class2.specs.declared.stage.Stage.{Stage}
 use Rattle.x224_class2.specs.declared.stage.Stage.TheVariants as stages
 use Rattle.x224_class2.specs.Refusals.{protocol_error, tpdu_refused, message_too_long, dr_reason}
 use Rattle.x224_class2.specs.Segments.{Segment, text_behind, text_so_far}
-use Rattle.x224_class2.specs.Tpdus.{Given, Dr, Dc}
-use Rattle.x224_class2.specs.Transport.{Transport, Deed, Nothing, Called, Confirmed, Message, Disconnected, is_new, is_calling, is_open, is_over, refusal, is_expected, on_data, number_named, on_named, on_reading, reception}
+use Rattle.x224_class2.specs.Tpdus.{GivenTpdu, Dr, Dc}
+use Rattle.x224_class2.specs.Transport.{Transport, ReceptionDeed, Nothing, Called, Confirmed, Message, Disconnected, is_new, is_calling, is_open, is_over, refusal_of_tpdu, is_expected, on_data, number_named, on_named, on_reading, reception}
 use Rattle.sapdu.specs.Spelling.{di_in}
 use Rattle.safety_automaton.specs.Reports.{Report, ToldAnswered, ToldConnected, ToldAccepted, ToldReleased, ToldIgnored, report_of}
-use Rattle.safety_automaton.specs.Safety.{Safety, SafetyOutcome, Received, peer_flag, sent_by, step}
-use Rattle.er_end_model.specs.Steps.{Finds, hand_tpdu, hand_tpdu_if_may, close_link, send_owed_answer, send_dr, answer_dr, end_after_di, on_safety_release, why_of, normal_disconnect, with_safety_step, is_some_octets, accept_text, skip_message, Carrier, InCr, InCc, InDt, hand_answer, keep_message, on_safety_report, on_text, on_transport_deed, on_tpdu, on_joined_block}
+use Rattle.safety_automaton.specs.Safety.{Safety, SafetyOutcome, Received, peer_flag, octets_sent_in_outcome, step}
+use Rattle.er_end_model.specs.Steps.{Finds, hand_tpdu, hand_tpdu_if_may, close_link, send_owed_answer, send_dr, answer_dr, end_after_di, on_safety_release, why_of, normal_disconnect, with_safety_step, accept_text, skip_message, Carrier, InCr, InCc, InDt, hand_answer, keep_message, on_safety_report, on_text, on_transport_deed, on_tpdu, on_joined_block}
 use Rattle.er_end_model.specs.Layers.{Core, model}
 use Rattle.tap_model.specs.Given.{received_by}
-use Rattle.tap_model.specs.Ears.{Ear, Turn, GoesOn, Says, Parts, Ends, turn_at_data, turn_at_pdu, turn_at_block}
+use Rattle.tap_model.specs.Ears.{Ear, TapFrameTurn, GoesOn, Says, Parts, Ends, turn_at_data, turn_at_pdu, turn_at_block}
 use Rattle.tap_hearing.proofs.Noting.{Tuned, Noted, noted, noted_if, hands_tuned, finishes_tuned, says_noted}
 use Rattle.tap_hearing.proofs.Stations.{phase_at}
 
@@ -79,7 +80,7 @@ closed_taken Down s = refl
 shuts_both : (x : Core) → both (close_link model x) ≡ both x
 shuts_both x = ap (λ (t : List (List ℕ)). (received_by x, t)) (closed_taken x.line.phase x.line)
 
-gives_both : (g : Given) (x : Core) → both (hand_tpdu_if_may model g x) ≡ both x
+gives_both : (g : GivenTpdu) (x : Core) → both (hand_tpdu_if_may model g x) ≡ both x
 gives_both g x =
     both_if (model.may_send x.line) (hand_tpdu model g x) x (both x)
     (ap (λ (v : Tuned). (received_by x, v.taken)) (hands_tuned x.moment _ x.line)) refl
@@ -136,12 +137,12 @@ acts_kept by ToldIgnored octets x going = inl refl
 
 -- ---- what follows of a turn
 
-abbrev pub told : Option (List ℕ) → Ear → Turn
+abbrev pub told : Option (List ℕ) → Ear → TapFrameTurn
 told None next = GoesOn next
 told (Some text) next = Says text next
 
 -- it lives, and was given what the ear says; or it is released, and was given nothing, or that text
-pub data Follows (calling : Bool) (taken : List (List ℕ)) (turn : Turn) (n : Noted) : Type 0 where
+pub data Follows (calling : Bool) (taken : List (List ℕ)) (turn : TapFrameTurn) (n : Noted) : Type 0 where
   Live : (text : Option (List ℕ)) → n.received ≡ option_to_list text → Listens true calling n → turn ≡ told text (ear_at true n) → n.line.taken ≡ taken
       → Follows calling taken turn n
   Silent : (why : Release) → n.released ≡ Some why → n.received ≡ [] → n.line.taken ≡ taken → Follows calling taken turn n
@@ -191,16 +192,16 @@ third true false false d e h = absurd cc
 third false b false d e h = absurd cc
 
 module _ (calling : Bool) (finds : Finds) where
-  silent : (x y : Core) (turn : Turn) → received_by x ≡ [] → LeftAs x y → Follows calling x.line.taken turn (noted y)
+  silent : (x y : Core) (turn : TapFrameTurn) → received_by x ≡ [] → LeftAs x y → Follows calling x.line.taken turn (noted y)
   silent x y turn none l = Silent l.why l.released (l.received ∙ none) l.taken
 
-  text_follows : (x : Core) (by : Carrier) (text : List ℕ) (turn : Turn) → Listens true calling (noted x) → turn ≡ Says text (ear_at true (noted x))
+  text_follows : (x : Core) (by : Carrier) (text : List ℕ) (turn : TapFrameTurn) → Listens true calling (noted x) → turn ≡ Says text (ear_at true (noted x))
       → Follows calling x.line.taken turn (noted (on_text model finds by text x))
   text_follows x by text turn l t =
       let a : Safety × SafetyOutcome = step (finds x.moment) x.safe.safety (Received text) in
       let z : Core = with_safety_step model (Received text) a x in
       let n : Noted = record (noted x) { received = text ∷ [] } in
-      elim (acts_kept by (report_of a.1) (sent_by a.1) z l.going) [
+      elim (acts_kept by (report_of a.1) (octets_sent_in_outcome a.1) z l.going) [
         | inl e ↦
             subst (λ (m : Noted). Follows calling x.line.taken turn m) (sym e)
             (Live (Some text) refl (listens_with calling (noted x) (text ∷ []) l) t refl)
@@ -210,7 +211,7 @@ module _ (calling : Bool) (finds : Finds) where
   -- ---- a TPDU
 
   -- behind what a reception came to
-  abbrev behind : Transport × Deed → Core → Core
+  abbrev behind : Transport × ReceptionDeed → Core → Core
   behind r x = on_transport_deed model finds r.1 (record x { upper = record (x.upper) { transport = r.0 } })
 
   module _ (x : Core) (l : Listens true calling (noted x)) (none : received_by x ≡ []) where
@@ -220,10 +221,10 @@ module _ (calling : Bool) (finds : Finds) where
     abbrev k : Ear
     k = ear_at true (noted x)
 
-    abbrev After : Turn → Transport × Deed → Type 0
+    abbrev After : TapFrameTurn → Transport × ReceptionDeed → Type 0
     After turn r = Follows calling x.line.taken turn (noted (behind r x))
 
-    refusal_follows : (turn : Turn) (sub reason : ℕ) → After turn (refusal t sub reason)
+    refusal_follows : (turn : TapFrameTurn) (sub reason : ℕ) → After turn (refusal_of_tpdu t sub reason)
     refusal_follows turn sub reason =
         let y : Core = record x { upper = record (x.upper) { transport = record t { stage = stages.Over } } } in
         let left = departs_left (by_this_end 2 sub) reason [] y in
@@ -245,17 +246,17 @@ module _ (calling : Bool) (finds : Finds) where
         text_follows y by user (Says user k) (subst (λ (n : Noted). Listens true calling n) (sym e) l) (ap (λ (n : Noted). Says user (ear_at true n)) (sym e))
 
     request_follows : (user : List ℕ) (u : Transport) (b : Bool) → is_over u.stage ≡ false → u.contents ≡ t.contents
-        → After (Says user k) (if b then (u, Called user) else refusal t tpdu_refused protocol_error)
+        → After (Says user k) (if b then (u, Called user) else refusal_of_tpdu t tpdu_refused protocol_error)
     request_follows user u true over same = brought InCr user u over same
     request_follows user u false over same = refusal_follows (Says user k) tpdu_refused protocol_error
 
     confirm_follows : (user : List ℕ) (u : Transport) (b : Bool) → is_over u.stage ≡ false → u.contents ≡ t.contents
-        → After (Says user k) (if b then (u, Confirmed user) else refusal t tpdu_refused protocol_error)
+        → After (Says user k) (if b then (u, Confirmed user) else refusal_of_tpdu t tpdu_refused protocol_error)
     confirm_follows user u true over same = brought InCc user u over same
     confirm_follows user u false over same = refusal_follows (Says user k) tpdu_refused protocol_error
 
-    disconnect_follows : (user : List ℕ) (turn : Turn) (b : Bool)
-        → After turn (if b then (record t { stage = stages.Over }, Disconnected user) else refusal t tpdu_refused protocol_error)
+    disconnect_follows : (user : List ℕ) (turn : TapFrameTurn) (b : Bool)
+        → After turn (if b then (record t { stage = stages.Over }, Disconnected user) else refusal_of_tpdu t tpdu_refused protocol_error)
     disconnect_follows user turn true =
         let y : Core = record x { upper = record (x.upper) { transport = record t { stage = stages.Over } } } in
         let left = cut_off_left (why_of (di_in user (peer_flag x.safe.safety))) y in
@@ -266,12 +267,12 @@ module _ (calling : Bool) (finds : Finds) where
     named_follows credit None = refusal_follows (GoesOn k) tpdu_refused protocol_error
     named_follows credit (Some n) = by (nat_lt (n + credit) t.edge)
       where
-        by : (b : Bool) → After (GoesOn k) (if b then refusal t tpdu_refused protocol_error else (record t { acked = n; edge = n + credit }, Nothing))
+        by : (b : Bool) → After (GoesOn k) (if b then refusal_of_tpdu t tpdu_refused protocol_error else (record t { acked = n; edge = n + credit }, Nothing))
         by true = refusal_follows (GoesOn k) tpdu_refused protocol_error
         by false = Live None none l refl refl
 
     acknowledged : (credit number : ℕ) (b : Bool)
-        → After (GoesOn k) (if b then on_named t credit (number_named t.acked (t.given - t.acked) number) else refusal t tpdu_refused protocol_error)
+        → After (GoesOn k) (if b then on_named t credit (number_named t.acked (t.given - t.acked) number) else refusal_of_tpdu t tpdu_refused protocol_error)
     acknowledged credit number true = named_follows credit (number_named t.acked (t.given - t.acked) number)
     acknowledged credit number false = refusal_follows (GoesOn k) tpdu_refused protocol_error
 
@@ -306,8 +307,8 @@ module _ (calling : Bool) (finds : Finds) where
         else if last then Says (k.begun ++ user) (record k { dts = k.dts + 1; begun = [] })
         else GoesOn (record k { dts = k.dts + 1; begun = k.begun ++ user }))
         (
-        if not expected then refusal t tpdu_refused protocol_error
-        else if long then refusal t message_too_long protocol_error
+        if not expected then refusal_of_tpdu t tpdu_refused protocol_error
+        else if long then refusal_of_tpdu t message_too_long protocol_error
         else (more last user, if last then Message (text_so_far t.contents ++ user) else Nothing))
     data_by last number user false long counts h = refusal_follows _ tpdu_refused protocol_error
     data_by last number user true true counts h = refusal_follows _ message_too_long protocol_error
@@ -319,7 +320,7 @@ module _ (calling : Bool) (finds : Finds) where
         data_by last number user (is_expected t dst number user) (nat_lt 1032 (length (text_so_far t.contents ++ user))) (number == length t.contents % 128)
         (third (is_open t.stage) (dst == 1) (number == length t.contents % 128) (nat_lt (length t.contents) (t.newest + t.credit)) (nat_le (length user) (t.size - 5)))
 
-    pdu_follows : (read : Result Pdu TpFault) → After (turn_at_pdu k read) (on_reading t read)
+    pdu_follows : (read : Result TransportPdu TpFault) → After (turn_at_pdu k read) (on_reading t read)
     pdu_follows (Ok (connection_request credit dst src size user)) =
         request_follows user (record t { stage = stages.Called; size = min (min size 1024) t.size; edge = credit })
         (not t.is_caller && is_new t.stage && (dst == 0) && (src == 1)) refl refl
@@ -335,13 +336,13 @@ module _ (calling : Bool) (finds : Finds) where
 
     tpdu_follows : (tpdu : List ℕ) → Follows calling x.line.taken (turn_at_pdu k (reading tpdu)) (noted (on_tpdu model finds tpdu x))
     tpdu_follows tpdu =
-        subst (λ (r : Transport × Deed). After (turn_at_pdu k (reading tpdu)) r) (sym (unless_over t.stage (reception t tpdu) l.going)) (pdu_follows (reading tpdu))
+        subst (λ (r : Transport × ReceptionDeed). After (turn_at_pdu k (reading tpdu)) r) (sym (unless_over t.stage (reception t tpdu) l.going)) (pdu_follows (reading tpdu))
       where
-        unless_over : (stage : Stage) (r : Transport × Deed) → is_over stage ≡ false → (if is_over stage then (t, Nothing) else on_reading t (reading tpdu)) ≡ on_reading t (reading tpdu)
+        unless_over : (stage : Stage) (r : Transport × ReceptionDeed) → is_over stage ≡ false → (if is_over stage then (t, Nothing) else on_reading t (reading tpdu)) ≡ on_reading t (reading tpdu)
         unless_over stage r e = rw e refl
 
     -- ---- a block
-    pub block_follows : (answer : joining.Answer) → Follows calling x.line.taken (turn_at_block k answer) (noted (on_joined_block model finds answer x))
+    pub block_follows : (answer : joining.BlockJoiningResult) → Follows calling x.line.taken (turn_at_block k answer) (noted (on_joined_block model finds answer x))
     block_follows (Ok None) = Live None none l refl refl
     block_follows (Ok (Some tpdu)) = tpdu_follows tpdu
     block_follows (Err fault) = silent x (send_dr model (release_of BlockRefused) protocol_error [] x) Ends none (departs_left (release_of BlockRefused) protocol_error [] x)

@@ -1,5 +1,6 @@
 -- What frames come to at an end, and what is heard of them.
 use Rattle.std.proofs.Common.{◌≡◌, ◌∙◌, ◌≤◌, inl, inr, ℕ, ◌+◌, max, Bool, true, false, ◌&&◌, List, [], ◌∷◌, ◌++◌, length, Option, Some, None, refl, sym, ap, ap₂, subst, arith, append-nil, length-append}
+use Rattle.hdlc_station_model.specs.Receiving.{is_some_octets}
 use Rattle.std.specs.Prelude.{is_some, if◌then◌else◌}
 use Rattle.std.specs.Option.{option_to_list}
 use Rattle.er_base.specs.declared.release.Release.{Release}
@@ -11,13 +12,13 @@ use Rattle.hdlc_station_model.specs.Stations as station
 use Rattle.t70_header.specs.Joining as joining
 use Rattle.x224_class2.specs.Segments.{text_so_far}
 use Rattle.safety_automaton.specs.Keys.{no_keys}
-use Rattle.safety_automaton.specs.Safety.{Safety, SafetyOutcome, ConnectRequest, sent_by, step}
-use Rattle.er_end_model.specs.Steps.{Finds, new_event_at, with_safety_step, is_some_octets, is_ready, connect_with_text, on_link_up, on_joined_block, on_link_deed, conclude_event, step_frame}
+use Rattle.safety_automaton.specs.Safety.{Safety, SafetyOutcome, ConnectRequest, octets_sent_in_outcome, step}
+use Rattle.er_end_model.specs.Steps.{Finds, new_event_at, with_safety_step, is_ready, connect_with_text, on_link_up, on_joined_block, on_link_deed, conclude_event, step_frame}
 use Rattle.er_end_model.specs.Layers.{Core, model}
 use Rattle.er_end_model.specs.Hearing.{station_behind}
-use Rattle.tap_model.specs.Hearing.{ReadFrame, read_frame, opens, ends, is_next, Hearing}
+use Rattle.tap_model.specs.Hearing.{ReadFrame, read_frame, is_link_opening, ends, is_next, Hearing}
 use Rattle.tap_model.specs.Given.{received_by}
-use Rattle.tap_model.specs.Ears.{Ear, open_ear, hears, Turn, turn_at_block, behind_turn, HearingTurns}
+use Rattle.tap_model.specs.Ears.{Ear, open_ear, hearing_of_frames, TapFrameTurn, turn_at_block, behind_turn, HearingTurns}
 use Rattle.tap_hearing.proofs.Noting.{Tuned, tuned, Noted, noted, noted_if, concludes_noted}
 use Rattle.tap_hearing.proofs.Sorting.{Weight, Nothing, Opens, Counts, EndsIt, weight_in, turn_by, pieces_if, pieces, pieces_by, hears_by, pieces_with}
 use Rattle.tap_hearing.proofs.Stations.{sender, phase_at, IsLeft, Does}
@@ -37,11 +38,11 @@ Begins xs ys = (rest : List (List ℕ)) × (ys ≡ xs ++ rest)
 -- was given a beginning of what is heard, and took a beginning of what counts. Each text came in a payload of its own
 pub data Goes (opened calling : Bool) (m : Noted) (frames : List ReadFrame) (given : List (List ℕ)) (n : Noted) : Type 0 where
   Lives : (now : Bool) (took : List (List ℕ)) → Listens now calling n
-      → ((rest : List ReadFrame) → hears (sender calling) (ear_at opened m) (frames ++ rest) ≡ with_texts given (hears (sender calling) (ear_at now n) rest))
+      → ((rest : List ReadFrame) → hearing_of_frames (sender calling) (ear_at opened m) (frames ++ rest) ≡ with_texts given (hearing_of_frames (sender calling) (ear_at now n) rest))
       → ((rest : List ReadFrame) → pieces (sender calling) (ear_at opened m) (frames ++ rest) ≡ took ++ pieces (sender calling) (ear_at now n) rest)
       → n.line.taken ≡ m.line.taken ++ took → length given ≤ length took → Goes opened calling m frames given n
   Left : (why : Release) (took : List (List ℕ)) → n.released ≡ Some why
-      → ((rest : List ReadFrame) → Begins given (hears (sender calling) (ear_at opened m) (frames ++ rest)).texts)
+      → ((rest : List ReadFrame) → Begins given (hearing_of_frames (sender calling) (ear_at opened m) (frames ++ rest)).texts)
       → ((rest : List ReadFrame) → Begins took (pieces (sender calling) (ear_at opened m) (frames ++ rest)))
       → n.line.taken ≡ m.line.taken ++ took → length given ≤ length took → Goes opened calling m frames given n
 
@@ -74,7 +75,7 @@ closed_by true side n (f ∷ fs) e = absurd (never (ends side f) (is_next side n
 open_by : (opened : Bool) (side : Side) (n : ℕ) (read : List ReadFrame) (piece : List ℕ) → weight_in opened side n read ≡ Counts piece → opened ≡ true
 open_by true side n read piece e = refl
 open_by false side n [] piece e = absurd cc
-open_by false side n (f ∷ fs) piece e = absurd (never (opens side f) e)
+open_by false side n (f ∷ fs) piece e = absurd (never (is_link_opening side f) e)
   where
     never : (a : Bool) → (if a then Opens else Nothing) ≡ Counts piece → ⊥
     never true h = cc
@@ -111,9 +112,9 @@ module _ (turns : HearingTurns) (calling : Bool) (finds : Finds) (now : ℕ) (v 
   Claim n = Goes opened calling (noted x) read n.received n
 
   weight_turn : (w : Weight) → weight_in opened side k.count read ≡ w → (rest : List ReadFrame)
-      → hears side k (read ++ rest) ≡ behind_turn (turn_by k w) (λ next. hears side next rest)
+      → hearing_of_frames side k (read ++ rest) ≡ behind_turn (turn_by k w) (λ next. hearing_of_frames side next rest)
   weight_turn w is rest =
-      hears_by turns side k read rest (is_one v) ∙ ap (λ (u : Weight). behind_turn (turn_by k u) (λ next. hears side next rest)) is
+      hears_by turns side k read rest (is_one v) ∙ ap (λ (u : Weight). behind_turn (turn_by k u) (λ next. hearing_of_frames side next rest)) is
 
   weight_pieces : (w : Weight) → weight_in opened side k.count read ≡ w → (rest : List ReadFrame) → pieces side k (read ++ rest) ≡ pieces_by side k w rest
   weight_pieces w is rest = pieces_with turns side k read rest (is_one v) ∙ ap (λ (u : Weight). pieces_by side k u rest) is
@@ -122,7 +123,7 @@ module _ (turns : HearingTurns) (calling : Bool) (finds : Finds) (now : ℕ) (v 
   nothing_left : (n : Noted) (why : Release) → n.released ≡ Some why → n.received ≡ [] → n.line.taken ≡ x.line.taken → Claim n
   nothing_left n why r g t =
       subst (λ (given : List (List ℕ)). Goes opened calling (noted x) read given n) (sym g)
-      (Left why [] r (λ rest. ((hears side k (read ++ rest)).texts, refl)) (λ rest. (pieces side k (read ++ rest), refl)) (t ∙ sym (append-nil x.line.taken)) (omega arith))
+      (Left why [] r (λ rest. ((hearing_of_frames side k (read ++ rest)).texts, refl)) (λ rest. (pieces side k (read ++ rest), refl)) (t ∙ sym (append-nil x.line.taken)) (omega arith))
 
   left_goes : IsLeft x.line (station_behind x now v) → Claim (noted (step_frame model finds now v x))
   left_goes left =
@@ -149,8 +150,8 @@ module _ (turns : HearingTurns) (calling : Bool) (finds : Finds) (now : ℕ) (v 
   up_noted =
       let a : Safety × SafetyOutcome = step no_keys z.safe.safety ConnectRequest in
       let s : Core = with_safety_step model ConnectRequest a z in
-      noted_if (model.may_connect z.upper && is_ready z.safe.safety.phase) (connect_with_text model (sent_by a.1) s) z (record (noted z) { received = [] })
-      (noted_if (is_some_octets (sent_by a.1)) _ s (record (noted z) { received = [] }) (ap (λ (b : Bool). record (noted z) { over = b; received = [] }) (sym l.going)) refl)
+      noted_if (model.may_connect z.upper && is_ready z.safe.safety.phase) (connect_with_text model (octets_sent_in_outcome a.1) s) z (record (noted z) { received = [] })
+      (noted_if (is_some_octets (octets_sent_in_outcome a.1)) _ s (record (noted z) { received = [] }) (ap (λ (b : Bool). record (noted z) { over = b; received = [] }) (sym l.going)) refl)
       refl
 
   up_goes : opened ≡ false → weight_in opened side k.count read ≡ Opens → tuned (station_behind x now v) ≡ up_line → Claim (noted (step_frame model finds now v x))
@@ -166,7 +167,7 @@ module _ (turns : HearingTurns) (calling : Bool) (finds : Finds) (now : ℕ) (v 
       ∙ ap (λ (c : List (Bool × List ℕ)). record (ear_at true n) { dts = length c; begun = text_so_far c }) (sym f.contents) in
       subst Claim (sym e)
       (Lives true [] (record { live = l.live; role = l.role; plain = l.plain; stands = refl; going = l.going; fresh = λ g. absurd cc })
-      (λ rest. weight_turn Opens is rest ∙ ap (λ (next : Ear). hears side next rest) anew)
+      (λ rest. weight_turn Opens is rest ∙ ap (λ (next : Ear). hearing_of_frames side next rest) anew)
       (λ rest. weight_pieces Opens is rest ∙ ap (λ (next : Ear). pieces side next rest) anew)
       (sym (append-nil x.line.taken)) (omega arith))
 
@@ -174,8 +175,8 @@ module _ (turns : HearingTurns) (calling : Bool) (finds : Finds) (now : ℕ) (v 
 
   module _ (is_open : opened ≡ true) (piece : List ℕ) (is : weight_in opened side k.count read ≡ Counts piece)
       (took : tuned (station_behind x now v) ≡ record (tuned (settled x.line)) { taken = x.line.taken ++ piece ∷ []; deed = record { up = false; payload = Some piece; more = []; released = None } }) where
-    abbrev joined : List ℕ × joining.Answer
-    joined = joining.step x.joined piece
+    abbrev joined : List ℕ × joining.BlockJoiningResult
+    joined = joining.block_step x.joined piece
 
     -- the end behind the station and the blocks
     abbrev w : Core
@@ -201,12 +202,12 @@ module _ (turns : HearingTurns) (calling : Bool) (finds : Finds) (now : ℕ) (v 
         ∙ ap (λ (n : ℕ). record (ear_at true (noted w)) { count = n })
         (sym (length-append x.line.taken (piece ∷ [])) ∙ ap (λ (t : List (List ℕ)). length t) (sym w_taken))
 
-    abbrev turn_then : Turn
+    abbrev turn_then : TapFrameTurn
     turn_then = turn_at_block (ear_at true (noted w)) joined.1
 
-    hears_then : (rest : List ReadFrame) → hears side k (read ++ rest) ≡ behind_turn turn_then (λ next. hears side next rest)
+    hears_then : (rest : List ReadFrame) → hearing_of_frames side k (read ++ rest) ≡ behind_turn turn_then (λ next. hearing_of_frames side next rest)
     hears_then rest =
-        weight_turn (Counts piece) is rest ∙ ap (λ (e : Ear). behind_turn (turn_at_block e joined.1) (λ next. hears side next rest)) w_ear
+        weight_turn (Counts piece) is rest ∙ ap (λ (e : Ear). behind_turn (turn_at_block e joined.1) (λ next. hearing_of_frames side next rest)) w_ear
 
     pieces_then : (rest : List ReadFrame) → pieces side k (read ++ rest) ≡ piece ∷ pieces side (ear_at true (noted w)) rest
     pieces_then rest =
@@ -218,20 +219,20 @@ module _ (turns : HearingTurns) (calling : Bool) (finds : Finds) (now : ℕ) (v 
     follows_goes n (Live text g listens t taken) =
         subst (λ (given : List (List ℕ)). Goes opened calling (noted x) read given n) (sym g)
         (Lives true (piece ∷ []) listens
-        (λ rest. hears_then rest ∙ ap (λ (u : Turn). behind_turn u (λ next. hears side next rest)) t ∙ told_behind text (ear_at true n) (λ next. hears side next rest))
+        (λ rest. hears_then rest ∙ ap (λ (u : TapFrameTurn). behind_turn u (λ next. hearing_of_frames side next rest)) t ∙ told_behind text (ear_at true n) (λ next. hearing_of_frames side next rest))
         (λ rest. pieces_then rest ∙ ap (λ (ps : List (List ℕ)). piece ∷ ps)
         (pieces_at side (ear_at true (noted w)) (ear_at true n) rest refl (ap (λ (ts : List (List ℕ)). length ts) (sym taken))))
         (taken ∙ w_taken) (one_at_most text))
     follows_goes n (Silent why r g taken) =
         subst (λ (given : List (List ℕ)). Goes opened calling (noted x) read given n) (sym g)
-        (Left why (piece ∷ []) r (λ rest. ((hears side k (read ++ rest)).texts, refl)) (λ rest. (pieces side (ear_at true (noted w)) rest, pieces_then rest))
+        (Left why (piece ∷ []) r (λ rest. ((hearing_of_frames side k (read ++ rest)).texts, refl)) (λ rest. (pieces side (ear_at true (noted w)) rest, pieces_then rest))
         (taken ∙ w_taken) (omega arith))
     follows_goes n (Last why text next r g t taken) =
         subst (λ (given : List (List ℕ)). Goes opened calling (noted x) read given n) (sym g)
         (Left why (piece ∷ []) r
         (λ rest. (
-          (hears side next rest).texts,
-          ap (λ (h : Hearing). h.texts) (hears_then rest ∙ ap (λ (u : Turn). behind_turn u (λ e. hears side e rest)) t),
+          (hearing_of_frames side next rest).texts,
+          ap (λ (h : Hearing). h.texts) (hears_then rest ∙ ap (λ (u : TapFrameTurn). behind_turn u (λ e. hearing_of_frames side e rest)) t),
         ))
         (λ rest. (pieces side (ear_at true (noted w)) rest, pieces_then rest))
         (taken ∙ w_taken) (omega arith))

@@ -1,5 +1,6 @@
 -- What an end's safety side was given is what is heard of the stream that came.
 use Rattle.std.proofs.Common.{◌≡◌, ◌∙◌, ℕ, Bool, true, false, List, [], ◌∷◌, ◌++◌, length, drop, None, refl, sym, ap, ap₂, subst, arith, append_assoc, append-nil}
+use Rattle.hdlc_station_model.specs.Lines.{IsPrefix}
 use Rattle.std.specs.Prelude.{◌==◌}
 use Rattle.std.proofs.Math.Seq.{take-append_seam, drop-append_seam}
 use Rattle.std.proofs.lemmas.Grind.{flat_map-append}
@@ -17,11 +18,11 @@ use Rattle.hdlc_station_model.specs.Events.{news}
 use Rattle.x224_class2.specs.Segments.{text_so_far}
 use Rattle.er_end_model.specs.Steps.{Finds, new_event_at, step_frame, refusal_of}
 use Rattle.er_end_model.specs.Layers.{Core, model}
-use Rattle.er_end_model.specs.Ends.{Call, Answer, Event, Start, Come, Send, Take, Leave, Tick, Ended, Fault, Stalled, End, Moment, opened, hears_each, step, run}
-use Rattle.er_end_model.specs.Origins.{octets_in}
+use Rattle.er_end_model.specs.Ends.{Call, Answer, Event, Start, Come, Send, Take, Leave, Tick, Ended, Fault, Stalled, End, Moment, opened, hears_each, step_event, end_run}
+use Rattle.er_end_model.specs.Origins.{octets_brought_by_event}
 use Rattle.tap_model.specs.Hearing.{ReadFrame, read_frame, frames_read, payloads, Hearing, silence, heard}
-use Rattle.tap_model.specs.Given.{received_by, received_of_each, received_at, received, octets_of, IsBegun, IsPrefix, IsHeard, GivenIsHeard}
-use Rattle.tap_model.specs.Ears.{Ear, new_ear, hears, HearingTurns}
+use Rattle.tap_model.specs.Given.{received_by, received_of_each, received_at, received, octets_of_moments, IsCallerStartedFirst, HasHeardStreamTexts, GivenIsHeard}
+use Rattle.tap_model.specs.Ears.{Ear, new_ear, hearing_of_frames, HearingTurns}
 use Rattle.tap_hearing.proofs.Noting.{Noted, noted, concludes_noted}
 use Rattle.tap_hearing.proofs.Sorting.{pieces}
 use Rattle.tap_hearing.proofs.Stations.{sender}
@@ -47,20 +48,20 @@ closed Stalled m = []
 
 abbrev closed_in : List Moment → End → List Verdict
 closed_in [] m = []
-closed_in (e ∷ events) m = closed e.event m ++ closed_in events (step e.now e.event m).0
+closed_in (e ∷ events) m = closed e.event m ++ closed_in events (step_event e.now e.event m).0
 
 module _ (stands : KeptStandsForStream) where
   -- frames grow at the end alone
   grows : (stream octets : List ℕ) → frames_of (stream ++ octets) ≡ frames_of stream ++ news stream octets
   grows stream octets =
-      let more : List Verdict = frames_of (deframing.stream_of (deframing.kept_of stream) ++ octets) in
+      let more : List Verdict = frames_of (deframing.stream_behind_kept (deframing.kept_of stream) ++ octets) in
       let e : frames_of (stream ++ octets) ≡ frames_of stream ++ more = (stands stream octets).1.0 in
       e ∙ ap (λ (fs : List Verdict). frames_of stream ++ fs) (sym (ap (λ (fs : List Verdict). drop (length (frames_of stream)) fs) e ∙ drop-append_seam (frames_of stream) more))
 
   nothing_more : (stream : List ℕ) → frames_of (stream ++ []) ≡ frames_of stream ++ []
   nothing_more stream = ap frames_of (append-nil stream) ∙ sym (append-nil (frames_of stream))
 
-  event_closes : (event : Event) (m : End) → frames_of (m.stream ++ octets_in event) ≡ frames_of m.stream ++ closed event m
+  event_closes : (event : Event) (m : End) → frames_of (m.stream ++ octets_brought_by_event event) ≡ frames_of m.stream ++ closed event m
   event_closes Start m = nothing_more m.stream
   event_closes (Come finds octets) m = grows m.stream octets
   event_closes (Send user) m = nothing_more m.stream
@@ -71,7 +72,7 @@ module _ (stands : KeptStandsForStream) where
   event_closes Fault m = nothing_more m.stream
   event_closes Stalled m = nothing_more m.stream
 
-  stream_behind : (now : ℕ) (event : Event) (m : End) → (step now event m).0.stream ≡ m.stream ++ octets_in event
+  stream_behind : (now : ℕ) (event : Event) (m : End) → (step_event now event m).0.stream ≡ m.stream ++ octets_brought_by_event event
   stream_behind now Start m = sym (append-nil m.stream)
   stream_behind now (Come finds octets) m = refl
   stream_behind now (Send user) m = sym (append-nil m.stream)
@@ -82,14 +83,14 @@ module _ (stands : KeptStandsForStream) where
   stream_behind now Fault m = sym (append-nil m.stream)
   stream_behind now Stalled m = sym (append-nil m.stream)
 
-  run_closes : (events : List Moment) (m : End) → frames_of (m.stream ++ octets_of events) ≡ frames_of m.stream ++ closed_in events m
+  run_closes : (events : List Moment) (m : End) → frames_of (m.stream ++ octets_of_moments events) ≡ frames_of m.stream ++ closed_in events m
   run_closes [] m = nothing_more m.stream
   run_closes (e ∷ events) m =
-      let n : End = (step e.now e.event m).0 in
-      let os : List ℕ = octets_in e.event in
+      let n : End = (step_event e.now e.event m).0 in
+      let os : List ℕ = octets_brought_by_event e.event in
       let s : n.stream ≡ m.stream ++ os = stream_behind e.now e.event m in
-      ap frames_of (sym (append_assoc m.stream os (octets_of events)))
-      ∙ ap (λ (z : List ℕ). frames_of (z ++ octets_of events)) (sym s)
+      ap frames_of (sym (append_assoc m.stream os (octets_of_moments events)))
+      ∙ ap (λ (z : List ℕ). frames_of (z ++ octets_of_moments events)) (sym s)
       ∙ run_closes events n
       ∙ ap (λ (z : List ℕ). frames_of z ++ closed_in events n) s
       ∙ ap (λ (fs : List Verdict). fs ++ closed_in events n) (event_closes e.event m)
@@ -116,7 +117,7 @@ module _ (turns : HearingTurns) (calling : Bool) where
       (λ o k. each_goes finds now vs y o k) (λ why r. each_rests finds now vs y why r) (frame_goes turns calling finds now v x opened l)
 
   event_goes : (now : ℕ) (event : Event) (m : End) (opened : Bool) → Listens opened calling (noted m.core)
-      → Goes opened calling (noted m.core) (frames_read (closed event m)) (received_at now event m) (noted (step now event m).0.core)
+      → Goes opened calling (noted m.core) (frames_read (closed event m)) (received_at now event m) (noted (step_event now event m).0.core)
   unfolding frames_read
   event_goes now Start m opened l = start_goes opened calling m.core l now
   event_goes now (Come finds octets) m opened l =
@@ -133,14 +134,14 @@ module _ (turns : HearingTurns) (calling : Bool) where
   event_goes now Stalled m opened l = break_goes opened calling m.core l now LineStalled
 
   run_goes : (events : List Moment) (m : End) (opened : Bool) → Listens opened calling (noted m.core)
-      → Goes opened calling (noted m.core) (frames_read (closed_in events m)) (received events m) (noted (run events m).core)
+      → Goes opened calling (noted m.core) (frames_read (closed_in events m)) (received events m) (noted (end_run events m).core)
   run_goes [] m opened l = each_goes (λ now engine rbc. None) 0 [] m.core opened l
   run_goes (e ∷ events) m opened l =
-      let n : End = (step e.now e.event m).0 in
-      subst (λ (fs : List ReadFrame). Goes opened calling (noted m.core) fs (received (e ∷ events) m) (noted (run events n).core))
+      let n : End = (step_event e.now e.event m).0 in
+      subst (λ (fs : List ReadFrame). Goes opened calling (noted m.core) fs (received (e ∷ events) m) (noted (end_run events n).core))
       (sym (reads_both (closed e.event m) (closed_in events n)))
       (then_goes opened calling (noted m.core) (frames_read (closed e.event m)) (received_at e.now e.event m) (noted n.core) (frames_read (closed_in events n)) (received events n)
-      (noted (run events n).core) (λ o k. run_goes events n o k) (λ why r. run_rests events n why r) (event_goes e.now e.event m opened l))
+      (noted (end_run events n).core) (λ o k. run_goes events n o k) (λ why r. run_rests events n why r) (event_goes e.now e.event m opened l))
 
   -- ---- the law
 
@@ -167,14 +168,14 @@ module _ (turns : HearingTurns) (calling : Bool) where
         ∙ ap (λ (h : List ℕ). record (ear_at false m) { count = 0; held = h }) f.joined
         ∙ ap (λ (c : List (Bool × List ℕ)). record new_ear { dts = length c; begun = text_so_far c }) f.contents
 
-    heard_is : heard side stream ≡ hears side (ear_at false m) (frames ++ [])
+    heard_is : heard side stream ≡ hearing_of_frames side (ear_at false m) (frames ++ [])
     heard_is =
-        sym (turns.begins side stream) ∙ ap₂ (λ (k : Ear) (fs : List ReadFrame). hears side k fs) (sym anew) (sym (append-nil frames))
+        sym (turns.begins side stream) ∙ ap₂ (λ (k : Ear) (fs : List ReadFrame). hearing_of_frames side k fs) (sym anew) (sym (append-nil frames))
 
     payloads_are : payloads side stream ≡ pieces side (ear_at false m) (frames ++ [])
     payloads_are = sym (pieces_are stream) ∙ ap₂ (λ (k : Ear) (fs : List ReadFrame). pieces side k fs) (sym anew) (sym (append-nil frames))
 
-    heard_by : Goes false calling m frames given (noted z.core) → IsHeard side stream given z
+    heard_by : Goes false calling m frames given (noted z.core) → HasHeardStreamTexts side stream given z
     heard_by (Lives now took l hears_all counts taken few) =
         let next : Ear = ear_at now (noted z.core) in
         let e : heard side stream ≡ with_texts given silence = heard_is ∙ hears_all [] ∙ ap (λ (h : Hearing). with_texts given h) (turns.rests side next) in
@@ -205,20 +206,20 @@ module _ (turns : HearingTurns) (calling : Bool) where
 module _ (stands : KeptStandsForStream) (turns : HearingTurns) where
   -- all events behind an end whose stream is empty
   from_here : (calling : Bool) (events : List Moment) (m : End) → m.stream ≡ [] → Listens false calling (noted m.core) → Fresh (noted m.core)
-      → IsHeard (sender calling) (octets_of events) (received events m) (run events m)
+      → HasHeardStreamTexts (sender calling) (octets_of_moments events) (received events m) (end_run events m)
   from_here calling events m s l f =
-      let e : frames_of (octets_of events) ≡ closed_in events m =
-      ap (λ (z : List ℕ). frames_of (z ++ octets_of events)) (sym s) ∙ run_closes stands events m
+      let e : frames_of (octets_of_moments events) ≡ closed_in events m =
+      ap (λ (z : List ℕ). frames_of (z ++ octets_of_moments events)) (sym s) ∙ run_closes stands events m
       ∙ ap (λ (z : List ℕ). frames_of z ++ closed_in events m) s ∙ ap (λ (fs : List Verdict). fs ++ closed_in events m) no_frames in
-      heard_by turns calling (octets_of events) (noted m.core) f (received events m) (run events m)
-      (subst (λ (vs : List Verdict). Goes false calling (noted m.core) (frames_read vs) (received events m) (noted (run events m).core)) (sym e)
+      heard_by turns calling (octets_of_moments events) (noted m.core) f (received events m) (end_run events m)
+      (subst (λ (vs : List Verdict). Goes false calling (noted m.core) (frames_read vs) (received events m) (noted (end_run events m).core)) (sym e)
       (run_goes turns calling events m false l))
 
   basic : (settings : Settings) → settings.modulo ≡ 8 → (settings.modulo == 128) ≡ false
   basic settings e = ap (λ (n : ℕ). n == 128) e
 
   answers : (settings : Settings) (me ra now : ℕ) (events : List Moment) → settings.modulo ≡ 8
-      → IsHeard E (octets_of events) (received events (opened (Answer settings me ra now))) (run events (opened (Answer settings me ra now)))
+      → HasHeardStreamTexts E (octets_of_moments events) (received events (opened (Answer settings me ra now))) (end_run events (opened (Answer settings me ra now)))
   answers settings me ra now events e =
       from_here false events (opened (Answer settings me ra now)) refl
       (record { live = refl; role = refl; plain = basic settings e; stands = refl; going = refl; fresh = λ c. record { taken = refl; joined = refl; contents = refl } })
@@ -229,11 +230,11 @@ module _ (stands : KeptStandsForStream) (turns : HearingTurns) where
     caller = opened (Call settings me peer kmac rb now)
 
     -- nothing came
-    still : IsHeard R [] [] caller
+    still : HasHeardStreamTexts R [] [] caller
     unfolding frames_read
     still =
         let h : heard R [] ≡ silence =
-        sym (turns.begins R []) ∙ ap (λ (fs : List Verdict). hears R new_ear (frames_read fs)) no_frames ∙ turns.rests R new_ear in
+        sym (turns.begins R []) ∙ ap (λ (fs : List Verdict). hearing_of_frames R new_ear (frames_read fs)) no_frames ∙ turns.rests R new_ear in
         record {
           given = refl;
           all = λ live. (sym (ap (λ (t : Hearing). t.texts) h), ap (λ (t : Hearing). t.parting) h);
@@ -244,7 +245,7 @@ module _ (stands : KeptStandsForStream) (turns : HearingTurns) where
     -- an end that was started
     module _ (at : ℕ) where
       abbrev started : End
-      started = (step at Start caller).0
+      started = (step_event at Start caller).0
 
       -- its line, before anything goes down
       abbrev ready : Core
@@ -265,16 +266,16 @@ module _ (stands : KeptStandsForStream) (turns : HearingTurns) where
           )
 
       behind_start : (events : List Moment)
-          → IsHeard R (octets_of events) (received_at at Start caller ++ received events started) (run events started)
+          → HasHeardStreamTexts R (octets_of_moments events) (received_at at Start caller ++ received events started) (end_run events started)
       behind_start events =
-          subst (λ (g : List (List ℕ)). IsHeard R (octets_of events) (g ++ received events started) (run events started)) (sym stands_ready.2)
+          subst (λ (g : List (List ℕ)). HasHeardStreamTexts R (octets_of_moments events) (g ++ received events started) (end_run events started)) (sym stands_ready.2)
           (from_here true events started refl stands_ready.0 stands_ready.1)
 
-    calls : (events : List Moment) → IsBegun (Call settings me peer kmac rb now) events → IsHeard R (octets_of events) (received events caller) (run events caller)
+    calls : (events : List Moment) → IsCallerStartedFirst (Call settings me peer kmac rb now) events → HasHeardStreamTexts R (octets_of_moments events) (received events caller) (end_run events caller)
     calls [] begun = still
     calls (first ∷ events) begun =
-        subst (λ (event : Event). IsHeard R (octets_in event ++ octets_of events) (received_at first.now event caller ++ received events (step first.now event caller).0)
-        (run events (step first.now event caller).0)) (sym begun) (behind_start first.now events)
+        subst (λ (event : Event). HasHeardStreamTexts R (octets_brought_by_event event ++ octets_of_moments events) (received_at first.now event caller ++ received events (step_event first.now event caller).0)
+        (end_run events (step_event first.now event caller).0)) (sym begun) (behind_start first.now events)
 
   pub given_is_heard : GivenIsHeard
   given_is_heard (Call settings me peer kmac rb now) events e begun = calls settings me peer kmac rb now e events begun

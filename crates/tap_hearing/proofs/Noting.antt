@@ -1,5 +1,6 @@
 -- What of an end its hearing rests on, and what leaves that alone.
 use Rattle.std.proofs.Common.{◌≡◌, ◌∙◌, ℕ, zero, suc, Bool, true, false, ◌&&◌, List, [], ◌∷◌, ◌++◌, Option, Some, None, refl, ap}
+use Rattle.hdlc_station_model.specs.Receiving.{is_some_octets}
 use Rattle.std.specs.Prelude.{is_some, if◌then◌else◌}
 use Rattle.er_base.specs.declared.release.Release.{Release}
 use Rattle.hdlc_station_model.specs.declared.phase.Phase.{Phase}
@@ -9,9 +10,9 @@ use Rattle.hdlc_station_model.specs.Calls.{hands, finishes}
 use Rattle.t70_header.specs.Blocks.{last_block}
 use Rattle.x224_class2.specs.declared.stage.Stage.{Stage}
 use Rattle.x224_class2.specs.Segments.{Segment}
-use Rattle.x224_class2.specs.Tpdus.{Given}
-use Rattle.x224_class2.specs.Transport.{Transport, is_over, Turn, Rest, Opening, Acknowledgement, Data, turn_of, state_behind, with_given, next_tpdu}
-use Rattle.er_end_model.specs.Steps.{is_some_octets, hand_text, hand_next_tpdu, has_next_tpdu, hand_waiting_tpdus, most_offers, conclude_event}
+use Rattle.x224_class2.specs.Tpdus.{GivenTpdu}
+use Rattle.x224_class2.specs.Transport.{Transport, is_over, TpduTurn, Rest, Opening, Acknowledgement, Data, turn_of, state_behind, with_given, next_tpdu}
+use Rattle.er_end_model.specs.Steps.{hand_text, hand_next_tpdu, has_next_tpdu, hand_waiting_tpdus, most_offers, conclude_event}
 use Rattle.er_end_model.specs.Layers.{Core, model}
 use Rattle.tap_model.specs.Given.{received_by}
 
@@ -73,7 +74,7 @@ noted_if true x y v h g = h
 noted_if false x y v h g = g
 
 -- what goes down
-turn_keeps : (t : Transport) (turn : Turn) (g : Option Given)
+turn_keeps : (t : Transport) (turn : TpduTurn) (g : Option GivenTpdu)
     → ((with_given (state_behind t turn) g).stage ≡ t.stage) × ((with_given (state_behind t turn) g).contents ≡ t.contents)
 turn_keeps t Rest None = (refl, refl)
 turn_keeps t Rest (Some g) = (refl, refl)

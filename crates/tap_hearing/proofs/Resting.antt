@@ -9,7 +9,7 @@ use Rattle.hdlc_station_model.specs.Events.{news}
 use Rattle.er_end_model.specs.Outcomes.{SendRefusal, RefusedReleased}
 use Rattle.er_end_model.specs.Steps.{Finds, new_event, new_event_at, conclude_event, step_frame, step_start, refusal_of, refusal_at, is_connected, step_send_unless, step_take, step_release, step_tick, step_break}
 use Rattle.er_end_model.specs.Layers.{Core, model}
-use Rattle.er_end_model.specs.Ends.{Event, Start, Come, Send, Take, Leave, Tick, Ended, Fault, Stalled, End, Moment, hears_each, step, run}
+use Rattle.er_end_model.specs.Ends.{Event, Start, Come, Send, Take, Leave, Tick, Ended, Fault, Stalled, End, Moment, hears_each, step_event, end_run}
 use Rattle.tap_model.specs.Given.{received_by, received_of_each, received_unless, received_at, received}
 use Rattle.tap_hearing.proofs.Noting.{Noted, noted, noted_if, concludes_noted}
 use Rattle.tap_hearing.proofs.Runs.{Rests}
@@ -57,7 +57,7 @@ each_rests finds now (v ∷ vs) x why is =
     then_rests (noted x) (received_by y) (noted y) (received_of_each finds now vs y) (noted (hears_each finds now vs y)) a (each_rests finds now vs y why (a.released ∙ is))
 
 pub event_rests : (now : ℕ) (event : Event) (m : End) (why : Release) → m.core.released ≡ Some why
-    → Rests (noted m.core) (received_at now event m) (noted (step now event m).0.core)
+    → Rests (noted m.core) (received_at now event m) (noted (step_event now event m).0.core)
 event_rests now Start m why is = still m.core why is now (step_start model now m.core) (noted_where m.core.released why (new_event_at model now m.core) _ is)
 event_rests now (Come finds octets) m why is =
     let b : Core = new_event_at model now m.core in
@@ -75,9 +75,9 @@ event_rests now Ended m why is = breaks_rest m.core why is now LineEnded
 event_rests now Fault m why is = breaks_rest m.core why is now LineFailed
 event_rests now Stalled m why is = breaks_rest m.core why is now LineStalled
 
-pub run_rests : (events : List Moment) (m : End) (why : Release) → m.core.released ≡ Some why → Rests (noted m.core) (received events m) (noted (run events m).core)
+pub run_rests : (events : List Moment) (m : End) (why : Release) → m.core.released ≡ Some why → Rests (noted m.core) (received events m) (noted (end_run events m).core)
 run_rests [] m why is = record { released = refl; none = refl; taken = refl }
 run_rests (e ∷ events) m why is =
-    let n : End = (step e.now e.event m).0 in
+    let n : End = (step_event e.now e.event m).0 in
     let a : Rests (noted m.core) (received_at e.now e.event m) (noted n.core) = event_rests e.now e.event m why is in
-    then_rests (noted m.core) (received_at e.now e.event m) (noted n.core) (received events n) (noted (run events n).core) a (run_rests events n why (a.released ∙ is))
+    then_rests (noted m.core) (received_at e.now e.event m) (noted n.core) (received events n) (noted (end_run events n).core) a (run_rests events n why (a.released ∙ is))

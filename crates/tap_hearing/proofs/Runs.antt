@@ -2,7 +2,7 @@
 use Rattle.std.proofs.Common.{◌≡◌, ◌∙◌, ◌≤◌, ℕ, Bool, List, [], ◌++◌, length, Some, sym, ap, subst, arith, append_assoc, append-nil, length-append}
 use Rattle.er_base.specs.declared.release.Release.{Release}
 use Rattle.tap_model.specs.Hearing.{ReadFrame, Hearing}
-use Rattle.tap_model.specs.Ears.{hears}
+use Rattle.tap_model.specs.Ears.{hearing_of_frames}
 use Rattle.tap_hearing.proofs.Noting.{Noted}
 use Rattle.tap_hearing.proofs.Sorting.{pieces}
 use Rattle.tap_hearing.proofs.Stations.{sender}
@@ -26,13 +26,13 @@ module _ (opened calling : Bool) (m : Noted) (fs : List ReadFrame) (g : List (Li
   All = Goes opened calling m (fs ++ hs) (g ++ h) p
 
   lives_then : (now : Bool) (took : List (List ℕ))
-      → ((rest : List ReadFrame) → hears (sender calling) (ear_at opened m) (fs ++ rest) ≡ with_texts g (hears (sender calling) (ear_at now n) rest))
+      → ((rest : List ReadFrame) → hearing_of_frames (sender calling) (ear_at opened m) (fs ++ rest) ≡ with_texts g (hearing_of_frames (sender calling) (ear_at now n) rest))
       → ((rest : List ReadFrame) → pieces (sender calling) (ear_at opened m) (fs ++ rest) ≡ took ++ pieces (sender calling) (ear_at now n) rest)
       → n.line.taken ≡ m.line.taken ++ took → length g ≤ length took → Goes now calling n hs h p → All
   lives_then now took heard counted taken few (Lives later more l heard' counted' taken' few') =
       Lives later (took ++ more) l
-      (λ rest. ap (λ (r : List ReadFrame). hears (sender calling) (ear_at opened m) r) (append_assoc fs hs rest)
-      ∙ heard (hs ++ rest) ∙ ap (λ (t : Hearing). with_texts g t) (heard' rest) ∙ both_texts g h (hears (sender calling) (ear_at later p) rest))
+      (λ rest. ap (λ (r : List ReadFrame). hearing_of_frames (sender calling) (ear_at opened m) r) (append_assoc fs hs rest)
+      ∙ heard (hs ++ rest) ∙ ap (λ (t : Hearing). with_texts g t) (heard' rest) ∙ both_texts g h (hearing_of_frames (sender calling) (ear_at later p) rest))
       (λ rest. ap (λ (r : List ReadFrame). pieces (sender calling) (ear_at opened m) r) (append_assoc fs hs rest)
       ∙ counted (hs ++ rest) ∙ ap (λ (ps : List (List ℕ)). took ++ ps) (counted' rest) ∙ sym (append_assoc took more (pieces (sender calling) (ear_at later p) rest)))
       (taken' ∙ ap (λ (ts : List (List ℕ)). ts ++ more) taken ∙ append_assoc m.line.taken took more)
@@ -41,7 +41,7 @@ module _ (opened calling : Bool) (m : Noted) (fs : List ReadFrame) (g : List (Li
       Left why (took ++ more) r
       (λ rest. (
         (heard' rest).0,
-        ap (λ (q : List ReadFrame). (hears (sender calling) (ear_at opened m) q).texts) (append_assoc fs hs rest)
+        ap (λ (q : List ReadFrame). (hearing_of_frames (sender calling) (ear_at opened m) q).texts) (append_assoc fs hs rest)
             ∙ ap (λ (t : Hearing). t.texts) (heard (hs ++ rest)) ∙ ap (λ (ts : List (List ℕ)). g ++ ts) (heard' rest).1 ∙ sym (append_assoc g h (heard' rest).0),
       ))
       (λ rest. (
@@ -62,7 +62,7 @@ module _ (opened calling : Bool) (m : Noted) (fs : List ReadFrame) (g : List (Li
       (Left why took (q.released ∙ r)
       (λ rest. (
         (heard (hs ++ rest)).0,
-        ap (λ (z : List ReadFrame). (hears (sender calling) (ear_at opened m) z).texts) (append_assoc fs hs rest) ∙ (heard (hs ++ rest)).1,
+        ap (λ (z : List ReadFrame). (hearing_of_frames (sender calling) (ear_at opened m) z).texts) (append_assoc fs hs rest) ∙ (heard (hs ++ rest)).1,
       ))
       (λ rest. (
         (counted (hs ++ rest)).0,

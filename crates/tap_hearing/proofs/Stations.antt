@@ -13,8 +13,8 @@ use Rattle.hdlc_frames.specs.declared.controls.Control.TheVariants as control
 use Rattle.hdlc_station_model.specs.declared.phase.Phase.{Phase}
 use Rattle.hdlc_station_model.specs.declared.phase.Phase.TheVariants.{Idle, Setting, Up, Down}
 use Rattle.hdlc_station_model.specs.Stations.{Station}
-use Rattle.hdlc_station_model.specs.Sending.{releases, refuses_frame}
-use Rattle.hdlc_station_model.specs.Receiving.{strays, is_some_octets, errs, acknowledges, acknowledging, named, accepts, rejects, takes, marks_busy, repeats_rejected, agrees, comes_up, sets_up_again, hears_control, hears_frame, hears}
+use Rattle.hdlc_station_model.specs.Sending.{station_down_for_cause, refuses_frame}
+use Rattle.hdlc_station_model.specs.Receiving.{strays, is_some_octets, errs, acknowledges, acknowledging, number_shown_as, accepts, rejects, takes, marks_busy, repeats_rejected, agrees, comes_up, sets_up_again, hears_control, hears_frame, hears}
 use Rattle.hdlc_station_model.specs.Receiving as station
 use Rattle.tap_model.specs.Hearing.{ReadFrame}
 use Rattle.tap_hearing.proofs.Noting.{Tuned, tuned}
@@ -88,15 +88,15 @@ Heard opened calling address s c information =
     (hears_control address (Some (c, information)) (shape opened calling s))
 
 -- it is released as the peer disconnected
-gone : (w : Weight) (s t : Station) → tuned t ≡ tuned s → Does w s (releases PeerDisconnected t)
+gone : (w : Weight) (s t : Station) → tuned t ≡ tuned s → Does w s (station_down_for_cause PeerDisconnected t)
 gone w s t e =
-    leaves w s (releases PeerDisconnected t) (
+    leaves w s (station_down_for_cause PeerDisconnected t) (
       release_of PeerDisconnected,
       ap (λ (v : Tuned). record v { phase = Down; deed = record { up = false; payload = None; more = []; released = Some (release_of PeerDisconnected) } }) e,
     )
 
-gone_unless : (information : List ℕ) (w : Weight) (s t : Station) → tuned t ≡ tuned s → Does w s (if is_some_octets information then refuses_frame s else releases PeerDisconnected t)
-gone_unless information w s t e = unless_some information w s (releases PeerDisconnected t) (gone w s t e)
+gone_unless : (information : List ℕ) (w : Weight) (s t : Station) → tuned t ≡ tuned s → Does w s (if is_some_octets information then refuses_frame s else station_down_for_cause PeerDisconnected t)
+gone_unless information w s t e = unless_some information w s (station_down_for_cause PeerDisconnected t) (gone w s t e)
 
 same_both : (information : List ℕ) (s : Station) → Does Nothing s (if is_some_octets information then strays s else strays s)
 same_both information s = either (is_some_octets information) Nothing s (strays s) (strays s) (inl refl) (inl refl)
@@ -107,20 +107,20 @@ stray_unless information s = unless_some information Nothing s (strays s) (inl r
 ready : (information : List ℕ) (s : Station) (nr : ℕ) (busy : Bool) → Does Nothing s (if is_some_octets information then refuses_frame s else station.by_number nr (marks_busy busy) s)
 ready information s nr busy =
     unless_some information Nothing s (station.by_number nr (marks_busy busy) s)
-    (by_number Nothing s (named s.extended s.acked (s.sent - s.acked) nr) (marks_busy busy) (λ n. inl refl))
+    (by_number Nothing s (number_shown_as s.extended s.acked (s.sent - s.acked) nr) (marks_busy busy) (λ n. inl refl))
 
 rejected : (information : List ℕ) (s : Station) (nr : ℕ)
     → Does Nothing s (if is_some_octets information then refuses_frame s else station.by_number nr (λ t. repeats_rejected (marks_busy false t)) s)
 rejected information s nr =
     unless_some information Nothing s (station.by_number nr (λ t. repeats_rejected (marks_busy false t)) s)
-    (by_number Nothing s (named s.extended s.acked (s.sent - s.acked) nr) (λ t. repeats_rejected (marks_busy false t))
+    (by_number Nothing s (number_shown_as s.extended s.acked (s.sent - s.acked) nr) (λ t. repeats_rejected (marks_busy false t))
     (λ n. either (nat_lt n s.sent) Nothing s _ _ (inl refl) (inl refl)))
 
 counted : (calling : Bool) (s : Station) (ns nr : ℕ) (payload : List ℕ)
     → Does (if length s.taken % 8 == ns then Counts payload else Nothing) (shape true calling s) (station.by_number nr (takes ns payload) (shape true calling s))
 counted calling s ns nr payload =
     let t : Station = shape true calling s in
-    by_number (if length s.taken % 8 == ns then Counts payload else Nothing) t (named false s.acked (s.sent - s.acked) nr) (takes ns payload)
+    by_number (if length s.taken % 8 == ns then Counts payload else Nothing) t (number_shown_as false s.acked (s.sent - s.acked) nr) (takes ns payload)
     (λ n. taken t n payload (length s.taken % 8 == ns))
 
 -- ---- a calling station that waits for the agreement

@@ -14,7 +14,7 @@ use Rattle.hdlc_station_model.specs.Stations.{Station, is_down, sees}
 use Rattle.hdlc_station_model.specs.Sending.{sends_waiting}
 use Rattle.hdlc_station_model.specs.Receiving.{strays, hears_control, hears_frame, hears}
 use Rattle.hdlc_station_model.specs.Calls.{receives}
-use Rattle.tap_model.specs.Hearing.{read_as, read_frame, address_of, Sort, Carries, SetsUp, Agrees, Disconnects, Leaves, Passes, sort_of, is_end, has_number}
+use Rattle.tap_model.specs.Hearing.{read_as, read_frame, address_of_side, Sort, Carries, SetsUp, Agrees, Disconnects, Leaves, Passes, sort_of, is_end, has_number}
 use Rattle.tap_hearing.proofs.Noting.{tuned, waiting_tuned}
 use Rattle.tap_hearing.proofs.Sorting.{Weight, Nothing, Opens, Counts, EndsIt, weight_if, weight_in, IsOne}
 use Rattle.tap_hearing.proofs.Stations.{sender, phase_at, shape, Does, refused, read_at, IsBasic, setting_3, setting_1, calling_3, calling_1, idle_1, idle_3, called_1, called_3}
@@ -75,7 +75,7 @@ basic_of (octet ∷ information) = mapped (control_at octet) information (basic_
 
 module _ (address : ℕ) (not_3 : (address == 3) ≡ false) (not_1 : (address == 1) ≡ false) where
   up_other : (side : Side) (sort : Sort) (n : ℕ) (i : List ℕ)
-      → (if is_end side sort address then EndsIt else if (address == address_of (other side)) && has_number n sort then Counts i else Nothing) ≡ Nothing
+      → (if is_end side sort address then EndsIt else if (address == address_of_side (other side)) && has_number n sort then Counts i else Nothing) ≡ Nothing
   up_other E (Carries ns) n i = rw not_1 refl
   up_other E SetsUp n i = rw not_1 refl
   up_other E Agrees n i = rw not_1 refl

@@ -1,5 +1,6 @@
 -- The audit of a link that keeps its order knows the session keys under which either end accepted messages.
 use Rattle.std.proofs.Common.{◌≡◌, ◌∙◌, ◌≤◌, ℕ, true, false, List, [], ◌∷◌, ◌++◌, length, drop, Option, Result, Ok, refl, sym, ap, subst, arith, append_assoc, append-nil}
+use Rattle.hdlc_station_model.specs.Lines.{IsPrefix}
 use Rattle.std.specs.Option.{option_to_list}
 use Rattle.std.proofs.lemmas.List.{take-append-drop}
 use Rattle.er_base.specs.declared.side.Side.{Side}
@@ -7,7 +8,7 @@ use Rattle.er_base.specs.declared.side.Side.TheVariants.{E, R}
 use Rattle.t70_header.specs.Blocks.{last_block}
 use Rattle.t70_header.specs.Joining as joining
 use Rattle.x224_tpdu.specs.declared.fault.TpFault.{TpFault}
-use Rattle.x224_tpdu.specs.Spelling.{Pdu, connection_request, connection_confirm, disconnect_request}
+use Rattle.x224_tpdu.specs.Spelling.{TransportPdu, connection_request, connection_confirm, disconnect_request}
 use Rattle.x224_tpdu.specs.Function.{reading}
 use Rattle.sapdu.specs.Spelling.{Au1, Au2, read_of}
 use Rattle.sapdu.specs.Spelling as sapdu
@@ -15,11 +16,11 @@ use Rattle.safety_automaton.specs.Safety.{Connection, Phase}
 use Rattle.er_end_model.specs.Steps.{Finds}
 use Rattle.er_end_model.specs.Ends.{Opening, End}
 use Rattle.tap_model.specs.Hearing.{payloads, tpdu_before, tpdus_from, pdu_before, pdus_in, Hearing, texts_from, heard_of, heard, items}
-use Rattle.tap_model.specs.Given.{IsPrefix, IsHeard}
-use Rattle.tap_model.specs.Verdicts.{number_of, first_number}
+use Rattle.tap_model.specs.Given.{HasHeardStreamTexts}
+use Rattle.tap_model.specs.Verdicts.{random_number_in_item, first_number}
 use Rattle.er_end_pair_laws.specs.Openings as pair
 use Rattle.tap_laws.specs.Progress.{GotAll, GotsNone, GotsOne, GotsAll, Stage, Begins, Waits, Speaks, Gone}
-use Rattle.er_end_pair_laws.specs.Greetings.{IsCall, IsAnswer, Confirms, Parts, StartsWith}
+use Rattle.er_end_pair_laws.specs.Greetings.{IsCallBlock, IsAnswerBlock, Confirms, Parts, StartsWith}
 use Rattle.tap_laws.proofs.Finding.{IsFront}
 
 -- ---- lists that begin
@@ -44,7 +45,7 @@ pub then_front : (xs ys zs : List (List ℕ)) → IsFront xs ys → IsFront ys z
 then_front xs ys zs f g = (f.0 ++ g.0, g.1 ∙ ap (λ (z : List (List ℕ)). z ++ g.0) f.1 ∙ append_assoc xs f.0 g.0)
 
 -- the number that a first item tells
-pub head_number : (of_pdu : sapdu.Pdu → Option ℕ) (x : List ℕ) (xs : List (List ℕ)) → HasHead x xs → first_number of_pdu xs ≡ number_of of_pdu (read_of x)
+pub head_number : (of_pdu : sapdu.SafetyPdu → Option ℕ) (x : List ℕ) (xs : List (List ℕ)) → HasHead x xs → first_number of_pdu xs ≡ random_number_in_item of_pdu (read_of x)
 head_number of_pdu x xs h = ap (λ (z : List (List ℕ)). first_number of_pdu z) h.1
 
 -- ---- what was given to an end that sent or accepted
@@ -65,12 +66,12 @@ all_head finds o c front g a n is = front_head n.first front g (n.second ∷ n.t
 
 module _ (wrapped : joining.WrappedIsJoined) where
   -- of a block that holds a whole TPDU
-  first_heard : (tpdu : List ℕ) (pdu : Pdu) (rest : List (List ℕ)) → length tpdu ≤ 1024 → reading tpdu ≡ Ok pdu
+  first_heard : (tpdu : List ℕ) (pdu : TransportPdu) (rest : List (List ℕ)) → length tpdu ≤ 1024 → reading tpdu ≡ Ok pdu
       → heard_of (last_block tpdu ∷ rest) ≡ texts_from 0 [] (pdu ∷ pdus_in (tpdus_from [] rest))
   unfolding heard_of tpdus_from pdus_in
   first_heard tpdu pdu rest short read =
-      ap (λ (j : List ℕ × joining.Answer). texts_from 0 [] (pdus_in (tpdu_before j.1 (tpdus_from j.0 rest)))) (wrapped tpdu short)
-      ∙ ap (λ (r : Result Pdu TpFault). texts_from 0 [] (pdu_before r (pdus_in (tpdus_from [] rest)))) read
+      ap (λ (j : List ℕ × joining.BlockJoiningResult). texts_from 0 [] (pdus_in (tpdu_before j.1 (tpdus_from j.0 rest)))) (wrapped tpdu short)
+      ∙ ap (λ (r : Result TransportPdu TpFault). texts_from 0 [] (pdu_before r (pdus_in (tpdus_from [] rest)))) read
 
   call_heard : (tpdu user : List ℕ) (credit dst src size : ℕ) (rest : List (List ℕ)) → length tpdu ≤ 1024 → reading tpdu ≡ Ok (connection_request credit dst src size user)
       → HasHead user (heard_of (last_block tpdu ∷ rest)).texts
@@ -96,7 +97,7 @@ module _ (wrapped : joining.WrappedIsJoined) where
   heard_is side stream = refl
 
   -- where a text was given a payload was taken, and it is the first that counts
-  first_taken : (side : Side) (stream : List ℕ) (given : List (List ℕ)) (z : End) (x : List ℕ) → IsHeard side stream given z → HasHead x given
+  first_taken : (side : Side) (stream : List ℕ) (given : List (List ℕ)) (z : End) (x : List ℕ) → HasHeardStreamTexts side stream given z → HasHead x given
       → (payload : List ℕ) × HasHead payload z.core.line.taken × HasHead payload (payloads side stream)
   first_taken side stream given z x h head = by z.core.line.taken refl
     where
@@ -118,16 +119,16 @@ module _ (wrapped : joining.WrappedIsJoined) where
       → (rest : List (List ℕ)) × ((heard side stream).texts ≡ (heard_of (payload ∷ rest)).texts)
   texts_at side stream payload h = (h.0, ap (λ (t : Hearing). t.texts) (heard_is side stream) ∙ ap (λ (l : List (List ℕ)). (heard_of l).texts) h.1)
 
-  pub given_head : (side : Side) (stream : List ℕ) (given : List (List ℕ)) (z : End) (x : List ℕ) → IsHeard side stream given z → HasHead x given → HasHead x (heard side stream).texts
+  pub given_head : (side : Side) (stream : List ℕ) (given : List (List ℕ)) (z : End) (x : List ℕ) → HasHeardStreamTexts side stream given z → HasHead x given → HasHead x (heard side stream).texts
   given_head side stream given z x h head = front_head x given (heard side stream).texts head (prefix_front given (heard side stream).texts h.given)
 
-  module _ (s : pair.Opening) where
+  module _ (s : pair.EndLinkOpening) where
     -- an AU1 that the radio block centre was given is the engine's
-    pub call_is : (stream : List ℕ) (given : List (List ℕ)) (z : End) (x : List ℕ) → IsHeard E stream given z → StartsWith (IsCall s) z.core.line.taken → HasHead x given
+    pub call_is : (stream : List ℕ) (given : List (List ℕ)) (z : End) (x : List ℕ) → HasHeardStreamTexts E stream given z → StartsWith (IsCallBlock s) z.core.line.taken → HasHead x given
         → read_of x ≡ Ok (Au1 s.engine 1 s.rb, false)
     call_is stream given z x h starts head =
         let f = first_taken E stream given z x h head in
-        let c : IsCall s f.0 = starts_at (IsCall s) f.0 z.core.line.taken starts f.1 in
+        let c : IsCallBlock s f.0 = starts_at (IsCallBlock s) f.0 z.core.line.taken starts f.1 in
         let t = texts_at E stream f.0 f.2 in
         let u : HasHead c.user (heard_of (last_block c.tpdu ∷ t.0)).texts = call_heard c.tpdu c.user c.credit c.dst c.src c.size t.0 c.short c.read in
         let texts : (heard E stream).texts ≡ (heard_of (last_block c.tpdu ∷ t.0)).texts = t.1 ∙ ap (λ (p : List ℕ). (heard_of (p ∷ t.0)).texts) c.block in
@@ -135,14 +136,14 @@ module _ (wrapped : joining.WrappedIsJoined) where
         ap read_of same ∙ c.text
 
     -- an AU2 that the engine was given is the radio block centre's
-    pub answer_is : (stream : List ℕ) (given : List (List ℕ)) (z : End) (x : List ℕ) → IsHeard R stream given z → StartsWith (IsAnswer s) z.core.line.taken → HasHead x given
+    pub answer_is : (stream : List ℕ) (given : List (List ℕ)) (z : End) (x : List ℕ) → HasHeardStreamTexts R stream given z → StartsWith (IsAnswerBlock s) z.core.line.taken → HasHead x given
         → (mac : ℕ) × (read_of x ≡ Ok (Au2 s.rbc 1 s.ra mac, true))
     answer_is stream given z x h starts head =
         let f = first_taken R stream given z x h head in
         let t = texts_at R stream f.0 f.2 in
-        by f.0 t.0 t.1 (starts_at (IsAnswer s) f.0 z.core.line.taken starts f.1)
+        by f.0 t.0 t.1 (starts_at (IsAnswerBlock s) f.0 z.core.line.taken starts f.1)
       where
-        by : (payload : List ℕ) (rest : List (List ℕ)) → (heard R stream).texts ≡ (heard_of (payload ∷ rest)).texts → IsAnswer s payload
+        by : (payload : List ℕ) (rest : List (List ℕ)) → (heard R stream).texts ≡ (heard_of (payload ∷ rest)).texts → IsAnswerBlock s payload
             → (mac : ℕ) × (read_of x ≡ Ok (Au2 s.rbc 1 s.ra mac, true))
         by payload rest e (Confirms tpdu user credit dst src size mac block short read text) =
             let u : HasHead user (heard_of (last_block tpdu ∷ rest)).texts = confirm_heard tpdu user credit dst src size rest short read in

@@ -1,5 +1,6 @@
 -- What an audit finds good of all that an end accepted, where it knows the session keys of that end.
 use Rattle.std.proofs.Common.{◌≡◌, ◌∙◌, ℕ, ◌+◌, Bool, List, [], ◌∷◌, ◌++◌, length, drop, Option, Some, None, refl, sym, ap, ap₂, subst, arith, append_assoc, append-nil}
+use Rattle.hdlc_station_model.specs.Lines.{IsPrefix}
 use Rattle.std.specs.Option.{option_to_list}
 use Rattle.std.proofs.Math.Seq.{take-append_seam}
 use Rattle.std.proofs.lemmas.List.{take-append-drop}
@@ -10,9 +11,9 @@ use Rattle.safety_automaton.specs.Rules.{IsOpen}
 use Rattle.er_end_model.specs.Steps.{Finds}
 use Rattle.er_end_model.specs.Ends.{Opening, Call, Answer, End}
 use Rattle.tap_model.specs.Hearing.{heard, items}
-use Rattle.tap_model.specs.Given.{sender_to, IsPrefix, IsHeard}
-use Rattle.tap_model.specs.Verdicts.{Session, Known, side_flag, receiver_of, judged_from, good_texts}
-use Rattle.tap_laws.specs.Progress.{number_of, flag_to, AreMessages, GotAll, Got, GotsNone, GotsOne, GotsAll, Stage, Begins, Waits, Speaks, Gone, Progresses}
+use Rattle.tap_model.specs.Given.{sender_to, HasHeardStreamTexts}
+use Rattle.tap_model.specs.Verdicts.{SafetySession, Known, side_flag, receiver_of, judged_from, good_texts}
+use Rattle.tap_laws.specs.Progress.{etcs_number_of_end, flag_to, AreMessages, GotAll, Got, GotsNone, GotsOne, GotsAll, Stage, Begins, Waits, Speaks, Gone, Progresses}
 use Rattle.tap_laws.proofs.Judging.{none_judged, first_judged, second_judged, messages_good}
 
 -- these first
@@ -23,7 +24,7 @@ IsFront xs ys = (rest : List (List ℕ)) × (ys ≡ xs ++ rest)
 abbrev pub Agreed : Known → Finds → Opening → (given accepted : List (List ℕ)) → Type 0
 Agreed known finds o given accepted =
     (c : Connection) (front : List (List ℕ)) → IsFront front given → GotAll finds o c front accepted → (accepted ≡ [] → ⊥)
-    → (k : Session) × (known.session ≡ Some k) × (k.keys ≡ c.session)
+    → (k : SafetySession) × (known.session ≡ Some k) × (k.keys ≡ c.session)
 
 flags_same : (o : Opening) → flag_to o ≡ side_flag (sender_to o)
 flags_same (Call settings me peer kmac rb now) = refl
@@ -36,7 +37,7 @@ no_texts session flag me (text ∷ texts) h = absurd h
 not_empty : (x : List ℕ) (xs : List (List ℕ)) → x ∷ xs ≡ [] → ⊥
 not_empty x xs e = cc
 
-module _ (known : Known) (finds : Finds) (o : Opening) (receiver : receiver_of known (sender_to o) ≡ number_of o) where
+module _ (known : Known) (finds : Finds) (o : Opening) (receiver : receiver_of known (sender_to o) ≡ etcs_number_of_end o) where
   abbrev side : Side
   side = sender_to o
 
@@ -46,15 +47,15 @@ module _ (known : Known) (finds : Finds) (o : Opening) (receiver : receiver_of k
   -- ---- all that was given up to the last message that was accepted
 
   -- with the session
-  session_good : (c : Connection) (k : Session) → known.session ≡ Some k → k.keys ≡ c.session → (front accepted more : List (List ℕ)) → (got : GotAll finds o c front accepted)
+  session_good : (c : Connection) (k : SafetySession) → known.session ≡ Some k → k.keys ≡ c.session → (front accepted more : List (List ℕ)) → (got : GotAll finds o c front accepted)
       → good (front ++ more) ≡ accepted ++ good_texts (judged_from known side (2 + length got.texts) more)
   session_good c k known_is keys front accepted more got =
-      let e : known ≡ record known { session = Some k } = ap (λ (s : Option Session). record known { session = s }) known_is in
+      let e : known ≡ record known { session = Some k } = ap (λ (s : Option SafetySession). record known { session = s }) known_is in
       let texts : List (List ℕ) = got.texts in
       let m : AreMessages k.keys (side_flag side) (receiver_of known side) texts accepted =
       subst (λ (n : ℕ). AreMessages k.keys (side_flag side) n texts accepted) (sym receiver)
-      (subst (λ (f : Bool). AreMessages k.keys f (number_of o) texts accepted) (flags_same o)
-      (subst (λ (s : TripleKey). AreMessages s (flag_to o) (number_of o) texts accepted) (sym keys) got.messages)) in
+      (subst (λ (f : Bool). AreMessages k.keys f (etcs_number_of_end o) texts accepted) (flags_same o)
+      (subst (λ (s : TripleKey). AreMessages s (flag_to o) (etcs_number_of_end o) texts accepted) (sym keys) got.messages)) in
       ap (λ (z : List (List ℕ)). good (z ++ more)) got.given_is
       ∙ first_judged known side got.first (got.second ∷ (texts ++ more))
       ∙ second_judged known side got.second (texts ++ more)
@@ -72,7 +73,7 @@ module _ (known : Known) (finds : Finds) (o : Opening) (receiver : receiver_of k
   all_good : (c : Connection) (front accepted : List (List ℕ)) → Agreed known finds o front accepted → GotAll finds o c front accepted → good (front ++ []) ≡ accepted
   all_good c front [] agreed got =
       ap (λ (z : List (List ℕ)). good (z ++ [])) got.given_is
-      ∙ ap (λ (z : List (List ℕ)). good (got.first ∷ got.second ∷ (z ++ []))) (no_texts c.session (flag_to o) (number_of o) got.texts got.messages)
+      ∙ ap (λ (z : List (List ℕ)). good (got.first ∷ got.second ∷ (z ++ []))) (no_texts c.session (flag_to o) (etcs_number_of_end o) got.texts got.messages)
       ∙ first_judged known side got.first (got.second ∷ [])
       ∙ second_judged known side got.second []
       ∙ none_judged known side 2
@@ -118,7 +119,7 @@ module _ (known : Known) (finds : Finds) (o : Opening) (receiver : receiver_of k
     pub prefix : IsPrefix z.core.upper.accepted (good (items (heard side stream)))
     pub all : z.core.released ≡ None → z.core.upper.accepted ≡ good (items (heard side stream))
 
-  pub finds_end : (stream : List ℕ) (given : List (List ℕ)) (z : End) → IsHeard side stream given z → Progresses finds o given z.core
+  pub finds_end : (stream : List ℕ) (given : List (List ℕ)) (z : End) → HasHeardStreamTexts side stream given z → Progresses finds o given z.core
       → (z.core.released ≡ None → IsOpen z.core.safe.safety.phase) → Agreed known finds o given z.core.upper.accepted → FindsEnd stream z
   finds_end stream given z h p live agreed =
       let a : List (List ℕ) = z.core.upper.accepted in

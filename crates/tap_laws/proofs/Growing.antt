@@ -1,5 +1,6 @@
 -- What an event adds to what an end accepted and sent.
 use Rattle.std.proofs.Common.{◌≡◌, ◌∙◌, ℕ, zero, suc, ◌-◌, Bool, true, false, ◌&&◌, List, [], ◌∷◌, ◌++◌, length, Option, Some, None, Ok, Err, refl, sym, ap, subst, append-nil}
+use Rattle.hdlc_station_model.specs.Receiving.{is_some_octets}
 use Rattle.std.specs.Prelude.{◌==◌, is_some, if◌then◌else◌}
 use Rattle.std.specs.Option.{option_to_list}
 use Rattle.er_base.specs.declared.release.Release.{Release}
@@ -10,14 +11,14 @@ use Rattle.hdlc_frames.specs.Framing.{Verdict}
 use Rattle.hdlc_station_model.specs.Calls as station
 use Rattle.t70_header.specs.Joining as joining
 use Rattle.x224_class2.specs.Refusals.{protocol_error}
-use Rattle.x224_class2.specs.Tpdus.{Given, Dr, Dc}
-use Rattle.x224_class2.specs.Transport.{Deed, Nothing, Called, Confirmed, Message, Disconnected, reception}
+use Rattle.x224_class2.specs.Tpdus.{GivenTpdu, Dr, Dc}
+use Rattle.x224_class2.specs.Transport.{ReceptionDeed, Nothing, Called, Confirmed, Message, Disconnected, reception}
 use Rattle.x224_class2.specs.Transport as transport
 use Rattle.sapdu.specs.Spelling.{di_in}
 use Rattle.safety_automaton.specs.Keys.{no_keys}
 use Rattle.safety_automaton.specs.Reports.{KeptSafe, Report, ToldAnswered, ToldConnected, ToldAccepted, ToldReleased, ToldIgnored, report_of}
-use Rattle.safety_automaton.specs.Safety.{Safety, SafetyOutcome, ConnectRequest, Received, DataRequest, DisconnectRequest, sent_by, peer_flag, step}
-use Rattle.er_end_model.specs.Steps.{Finds, new_event, new_event_at, hand_tpdu_if_may, send_dr, answer_dr, on_safety_release, why_of, normal_disconnect, with_safety_step, is_some_octets, hand_text, skip_message, Carrier, InCr, InCc, InDt, hand_answer, keep_message, on_safety_report, on_text, on_transport_deed, on_joined_block, is_ready, connect_with_text, on_link_up, on_link_told, hand_next_tpdu, has_next_tpdu, hand_waiting_tpdus, most_offers, send_owed_answer, conclude_event, step_start, step_frame, on_send, step_take, step_release, is_spent, di_of, on_expiry, step_tick, step_break}
+use Rattle.safety_automaton.specs.Safety.{Safety, SafetyOutcome, ConnectRequest, Received, DataRequest, DisconnectRequest, octets_sent_in_outcome, peer_flag, step}
+use Rattle.er_end_model.specs.Steps.{Finds, new_event, new_event_at, hand_tpdu_if_may, send_dr, answer_dr, on_safety_release, why_of, normal_disconnect, with_safety_step, hand_text, skip_message, Carrier, InCr, InCc, InDt, hand_answer, keep_message, on_safety_report, on_text, on_transport_deed, on_joined_block, is_ready, connect_with_text, on_link_up, on_link_told, hand_next_tpdu, has_next_tpdu, hand_waiting_tpdus, most_offers, send_owed_answer, conclude_event, step_start, step_frame, on_send, step_take, step_release, is_spent, di_of, on_expiry, step_tick, step_break}
 use Rattle.er_end_model.specs.Layers.{Core, model}
 use Rattle.er_end_model.specs.Hearing.{station_behind}
 
@@ -42,7 +43,7 @@ offers_lists (suc n) x = lists_if (has_next_tpdu model x) (hand_waiting_tpdus mo
 pub concludes_lists : (x : Core) → lists (conclude_event model x) ≡ lists x
 concludes_lists x = lists_if (is_some x.released) x _ (lists x) refl (offers_lists most_offers x)
 
-gives_lists : (g : Given) (x : Core) → lists (hand_tpdu_if_may model g x) ≡ lists x
+gives_lists : (g : GivenTpdu) (x : Core) → lists (hand_tpdu_if_may model g x) ≡ lists x
 gives_lists g x = lists_if (model.may_send x.line) _ x (lists x) refl refl
 
 departs_lists : (why : Release) (reason : ℕ) (user : List ℕ) (x : Core) → lists (send_dr model why reason user x) ≡ lists x
@@ -95,9 +96,9 @@ module _ (a t : List (List ℕ)) where
   text_grows : (finds : Finds) (by : Carrier) (text : List ℕ) (x : Core) → lists x ≡ old → Grows a t (lists (on_text model finds by text x))
   text_grows finds by text x e =
       let s : Safety × SafetyOutcome = step (finds x.moment) x.safe.safety (Received text) in
-      acts_grow by (report_of s.1) (sent_by s.1) (with_safety_step model (Received text) s x) e
+      acts_grow by (report_of s.1) (octets_sent_in_outcome s.1) (with_safety_step model (Received text) s x) e
 
-  deed_grows : (finds : Finds) (d : Deed) (x : Core) → lists x ≡ old → Grows a t (lists (on_transport_deed model finds d x))
+  deed_grows : (finds : Finds) (d : ReceptionDeed) (x : Core) → lists x ≡ old → Grows a t (lists (on_transport_deed model finds d x))
   deed_grows finds Nothing x e = same _ e
   deed_grows finds (Called user) x e = text_grows finds InCr user x e
   deed_grows finds (Confirmed user) x e = text_grows finds InCc user x e
@@ -105,7 +106,7 @@ module _ (a t : List (List ℕ)) where
   deed_grows finds (Disconnected user) x e = same _ (cut_off_lists (why_of (di_in user (peer_flag x.safe.safety))) x ∙ e)
   deed_grows finds (transport.Refused sub reason) x e = same _ (departs_lists (by_this_end 2 sub) reason [] x ∙ e)
 
-  block_grows : (finds : Finds) (answer : joining.Answer) (x : Core) → lists x ≡ old → Grows a t (lists (on_joined_block model finds answer x))
+  block_grows : (finds : Finds) (answer : joining.BlockJoiningResult) (x : Core) → lists x ≡ old → Grows a t (lists (on_joined_block model finds answer x))
   block_grows finds (Ok None) x e = same _ e
   block_grows finds (Ok (Some tpdu)) x e =
       deed_grows finds (model.deed x.upper tpdu) (record x { upper = model.hears x.upper tpdu }) e
@@ -115,13 +116,13 @@ module _ (a t : List (List ℕ)) where
   up_lists x =
       let s : Safety × SafetyOutcome = step no_keys x.safe.safety ConnectRequest in
       let z : Core = with_safety_step model ConnectRequest s x in
-      lists_if (model.may_connect x.upper && is_ready x.safe.safety.phase) (connect_with_text model (sent_by s.1) z) x (lists x)
-      (lists_if (is_some_octets (sent_by s.1)) _ z (lists x) refl refl) refl
+      lists_if (model.may_connect x.upper && is_ready x.safe.safety.phase) (connect_with_text model (octets_sent_in_outcome s.1) z) x (lists x)
+      (lists_if (is_some_octets (octets_sent_in_outcome s.1)) _ z (lists x) refl refl) refl
 
   link_grows : (finds : Finds) (payload : Option (List ℕ)) (up : Bool) (released : Option Release) (x : Core) → lists x ≡ old
       → Grows a t (lists (on_link_told model finds payload up released x))
   link_grows finds (Some payload) up released x e =
-      let joined = joining.step x.joined payload in block_grows finds joined.1 (record x { joined = joined.0 }) e
+      let joined = joining.block_step x.joined payload in block_grows finds joined.1 (record x { joined = joined.0 }) e
   link_grows finds None true released x e = same _ (up_lists x ∙ e)
   link_grows finds None false (Some why) x e = same _ e
   link_grows finds None false None x e = same _ e
@@ -164,8 +165,8 @@ module _ (now : ℕ) (x : Core) where
   leaves_grow sub =
       let s : Safety × SafetyOutcome = step no_keys x.safe.safety (DisconnectRequest sub) in
       let z : Core = with_safety_step model (DisconnectRequest sub) s b in
-      let y : Core = send_dr model (release_of (User sub)) normal_disconnect (sent_by s.1) z in
-      quiet (step_release model now sub x) (lists_if (is_some x.released) b y (lists b) refl (departs_lists (release_of (User sub)) normal_disconnect (sent_by s.1) z))
+      let y : Core = send_dr model (release_of (User sub)) normal_disconnect (octets_sent_in_outcome s.1) z in
+      quiet (step_release model now sub x) (lists_if (is_some x.released) b y (lists b) refl (departs_lists (release_of (User sub)) normal_disconnect (octets_sent_in_outcome s.1) z))
 
   time_lists : (given_up : Option Release) (z : Core) → lists (on_expiry model given_up z) ≡ lists z
   time_lists (Some why) z = refl
@@ -187,7 +188,7 @@ module _ (now : ℕ) (x : Core) where
       let s : Safety × SafetyOutcome = step no_keys x.safe.safety (DataRequest user) in
       let y : Core = with_safety_step model (DataRequest user) s b in
       let z : Core = record y { upper = model.sends y.upper user } in
-      same x.upper.accepted (x.upper.sent ++ user ∷ []) (lists (on_send model user b)) (concludes_lists (hand_text model (sent_by s.1) z) ∙ says_lists (sent_by s.1) z)
+      same x.upper.accepted (x.upper.sent ++ user ∷ []) (lists (on_send model user b)) (concludes_lists (hand_text model (octets_sent_in_outcome s.1) z) ∙ says_lists (octets_sent_in_outcome s.1) z)
 
   -- its safety side took the step of the request, and nothing else
   safe_offers : (n : ℕ) (z : Core) → (hand_waiting_tpdus model n z).safe ≡ z.safe
@@ -215,6 +216,6 @@ module _ (now : ℕ) (x : Core) where
       let s : Safety × SafetyOutcome = step no_keys x.safe.safety (DataRequest user) in
       let y : Core = with_safety_step model (DataRequest user) s b in
       let z : Core = record y { upper = model.sends y.upper user } in
-      let w : Core = hand_text model (sent_by s.1) z in
-      let e : (conclude_event model w).safe ≡ z.safe = safe_unless w.released (send_owed_answer model (hand_waiting_tpdus model most_offers w)) w (safe_offers most_offers w) ∙ safe_says (sent_by s.1) z in
+      let w : Core = hand_text model (octets_sent_in_outcome s.1) z in
+      let e : (conclude_event model w).safe ≡ z.safe = safe_unless w.released (send_owed_answer model (hand_waiting_tpdus model most_offers w)) w (safe_offers most_offers w) ∙ safe_says (octets_sent_in_outcome s.1) z in
       ap (λ (k : KeptSafe). k.safety) e

@@ -10,7 +10,7 @@ use Rattle.sapdu.specs.Sealed.{sealed_text}
 use Rattle.safety_automaton.specs.Safety.{same_flag, message_text}
 use Rattle.tap_model.specs.declared.audit_verdict.AuditVerdict.{AuditVerdict}
 use Rattle.tap_model.specs.declared.audit_verdict.AuditVerdict.TheVariants.{Good, Malformed, Flag, Unexpected, Feature, Identity, NoKey, Mac}
-use Rattle.tap_model.specs.Verdicts.{Session, Known, Read, unless, side_flag, receiver_of, first_of, verdict_on, judged_from, user_read, good_user, good_texts}
+use Rattle.tap_model.specs.Verdicts.{SafetySession, Known, Read, verdict_where_broken, side_flag, receiver_of, first_verdict_of, audit_verdict_on_item, judged_from, user_read, good_user, good_texts}
 use Rattle.tap_laws.specs.Progress.{AreMessages}
 
 -- ---- the first two items are no good DTs
@@ -25,12 +25,12 @@ no_user read Identity e = refl
 no_user read NoKey e = refl
 no_user read Mac e = refl
 
-not_expected : (read : Read) (b : Bool) (more : List (Option AuditVerdict)) → good_user read (first_of (unless b Flag ∷ unless false Unexpected ∷ more)) ≡ []
+not_expected : (read : Read) (b : Bool) (more : List (Option AuditVerdict)) → good_user read (first_verdict_of (verdict_where_broken b Flag ∷ verdict_where_broken false Unexpected ∷ more)) ≡ []
 not_expected read true more = refl
 not_expected read false more = refl
 
-early : (known : Known) (side : Side) (place : ℕ) → nat_le 2 place ≡ false → (read : Read) → good_user read (verdict_on known side place read) ≡ []
-unfolding verdict_on
+early : (known : Known) (side : Side) (place : ℕ) → nat_le 2 place ≡ false → (read : Read) → good_user read (audit_verdict_on_item known side place read) ≡ []
+unfolding audit_verdict_on_item
 early known side place e (Err fault) = refl
 early known side place e (Ok (Au1 id feature rb, flag)) = no_user (Ok (Au1 id feature rb, flag)) _ refl
 early known side place e (Ok (Au2 id feature ra mac, flag)) = no_user (Ok (Au2 id feature ra mac, flag)) _ refl
@@ -42,7 +42,7 @@ early known side place e (Ok (Di reason sub, flag)) = no_user (Ok (Di reason sub
 
 -- one item, and those behind it
 judged_more : (known : Known) (side : Side) (place : ℕ) (item : List ℕ) (rest : List (List ℕ))
-    → good_texts (judged_from known side place (item ∷ rest)) ≡ good_user (read_of item) (verdict_on known side place (read_of item)) ++ good_texts (judged_from known side (place + 1) rest)
+    → good_texts (judged_from known side place (item ∷ rest)) ≡ good_user (read_of item) (audit_verdict_on_item known side place (read_of item)) ++ good_texts (judged_from known side (place + 1) rest)
 unfolding judged_from good_texts
 judged_more known side place item rest = refl
 
@@ -70,16 +70,16 @@ unfolding message_text
 sealed_is user mac flag me ra rb = refl
 
 tests_pass : (a b c : Bool) → a ≡ true → b ≡ true → c ≡ true
-    → first_of (unless a Flag ∷ unless b Unexpected ∷ None ∷ None ∷ None ∷ unless c Mac ∷ []) ≡ Good
+    → first_verdict_of (verdict_where_broken a Flag ∷ verdict_where_broken b Unexpected ∷ None ∷ None ∷ None ∷ verdict_where_broken c Mac ∷ []) ≡ Good
 tests_pass a b c x y z = rw (x, y, z) refl
 
-module _ (known : Known) (s : Session) where
+module _ (known : Known) (s : SafetySession) where
   abbrev with_session : Known
   with_session = record known { session = Some s }
 
   good_dt : (side : Side) (place : ℕ) (user : List ℕ) (mac : ℕ) → nat_le 2 place ≡ true → mac ≡ mac_of s.keys (message_text (side_flag side) (receiver_of known side) user)
-      → verdict_on with_session side place (Ok (Dt user mac, side_flag side)) ≡ Good
-  unfolding verdict_on
+      → audit_verdict_on_item with_session side place (Ok (Dt user mac, side_flag side)) ≡ Good
+  unfolding audit_verdict_on_item
   good_dt E place user mac late e =
       tests_pass (same_flag false false) (nat_le 2 place) (mac == mac_of s.keys (sealed_text (Dt user mac) false known.rbc s.ra s.rb)) refl late
       (eq-eqb mac (mac_of s.keys (sealed_text (Dt user mac) false known.rbc s.ra s.rb)) (e ∙ ap (λ (t : List ℕ). mac_of s.keys t) (sym (sealed_is user mac false known.rbc s.ra s.rb))))
@@ -87,14 +87,14 @@ module _ (known : Known) (s : Session) where
       tests_pass (same_flag true true) (nat_le 2 place) (mac == mac_of s.keys (sealed_text (Dt user mac) true known.engine s.ra s.rb)) refl late
       (eq-eqb mac (mac_of s.keys (sealed_text (Dt user mac) true known.engine s.ra s.rb)) (e ∙ ap (λ (t : List ℕ). mac_of s.keys t) (sym (sealed_is user mac true known.engine s.ra s.rb))))
 
-module _ (known : Known) (s : Session) (side : Side) where
+module _ (known : Known) (s : SafetySession) (side : Side) where
   good_one : (place : ℕ) (text user : List ℕ) → nat_le 2 place ≡ true
       → read_of text ≡ Ok (Dt user (mac_of s.keys (message_text (side_flag side) (receiver_of known side) user)), side_flag side)
-      → good_user (read_of text) (verdict_on (with_session known s) side place (read_of text)) ≡ user ∷ []
+      → good_user (read_of text) (audit_verdict_on_item (with_session known s) side place (read_of text)) ≡ user ∷ []
   good_one place text user late e =
       let mac : ℕ = mac_of s.keys (message_text (side_flag side) (receiver_of known side) user) in
       let r : Read = Ok (Dt user mac, side_flag side) in
-      ap (λ (read : Read). good_user read (verdict_on (with_session known s) side place read)) e ∙ ap (λ (v : AuditVerdict). good_user r v) (good_dt known s side place user mac late refl)
+      ap (λ (read : Read). good_user read (audit_verdict_on_item (with_session known s) side place read)) e ∙ ap (λ (v : AuditVerdict). good_user r v) (good_dt known s side place user mac late refl)
 
   -- behind the first two places
   pub messages_good : (place : ℕ) (texts users rest : List (List ℕ)) → 2 ≤ place → AreMessages s.keys (side_flag side) (receiver_of known side) texts users

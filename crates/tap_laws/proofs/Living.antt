@@ -1,5 +1,6 @@
 -- The safety side of an end that isn't released isn't released either.
 use Rattle.std.proofs.Common.{◌≡◌, ◌∙◌, ℕ, zero, suc, ◌-◌, Bool, true, false, not, ◌&&◌, List, [], ◌∷◌, length, Option, Some, None, Ok, Err, refl, sym, ap, subst}
+use Rattle.hdlc_station_model.specs.Receiving.{is_some_octets}
 use Rattle.std.specs.Prelude.{◌==◌, is_some, if◌then◌else◌}
 use Rattle.er_base.specs.declared.release.Release.{Release}
 use Rattle.er_base.specs.declared.cause.Cause.{Cause}
@@ -11,20 +12,20 @@ use Rattle.hdlc_station_model.specs.Calls as station
 use Rattle.hdlc_station_model.specs.Events.{news}
 use Rattle.t70_header.specs.Joining as joining
 use Rattle.x224_class2.specs.Refusals.{protocol_error}
-use Rattle.x224_class2.specs.Transport.{Deed, Nothing, Called, Confirmed, Message, Disconnected}
+use Rattle.x224_class2.specs.Transport.{ReceptionDeed, Nothing, Called, Confirmed, Message, Disconnected}
 use Rattle.x224_class2.specs.Transport as transport
 use Rattle.sapdu.specs.Messages.{is_message}
 use Rattle.sapdu.specs.Spelling.{di_in}
 use Rattle.safety_automaton.specs.Keys.{no_keys}
 use Rattle.safety_automaton.specs.Reports.{report_of}
-use Rattle.safety_automaton.specs.Safety.{Safety, Phase, Ready, WaitAu1, WaitAu2, WaitAu3, WaitAr, Connected, Released, ConnectRequest, Received, DataRequest, DisconnectRequest, SafetyOutcome, SentAu1, SentAu2, SentAu3, SentAr, ReceivedAr, AcceptedDt, SentDt, Refused, ReleasedLocally, ReleasedByPeer, NothingDone, connects, sends, sends_dt, sent_by, peer_flag, step}
+use Rattle.safety_automaton.specs.Safety.{Safety, Phase, Ready, WaitAu1, WaitAu2, WaitAu3, WaitAr, Connected, Released, ConnectRequest, Received, DataRequest, DisconnectRequest, SafetyOutcome, SentAu1, SentAu2, SentAu3, SentAr, ReceivedAr, AcceptedDt, SentDt, Refused, ReleasedLocally, ReleasedByPeer, NothingDone, connects, sends, sends_dt, octets_sent_in_outcome, peer_flag, step}
 use Rattle.safety_automaton.specs.Rules.{IsOpen, StepsOnly, IsStep, AtReceived, AtDisconnect, AtConnect}
 use Rattle.er_end_model.specs.Outcomes.{SendRefusal}
-use Rattle.er_end_model.specs.Steps.{Finds, new_event, new_event_at, with_release, send_dr, end_after_di, answer_dr, on_safety_release, why_of, normal_disconnect, with_safety_step, is_some_octets, hand_text, skip_message, Carrier, InCr, InCc, InDt, hand_answer, keep_message, on_safety_report, on_text, on_transport_deed, on_joined_block, is_ready, on_link_up, on_link_told, hand_next_tpdu, has_next_tpdu, hand_waiting_tpdus, most_offers, send_owed_answer, conclude_event, step_start, step_frame, refusal_of, on_send, step_send_unless, step_take, step_release, is_spent, di_of, on_expiry, step_tick, step_break}
+use Rattle.er_end_model.specs.Steps.{Finds, new_event, new_event_at, with_release, send_dr, end_after_di, answer_dr, on_safety_release, why_of, normal_disconnect, with_safety_step, hand_text, skip_message, Carrier, InCr, InCc, InDt, hand_answer, keep_message, on_safety_report, on_text, on_transport_deed, on_joined_block, is_ready, on_link_up, on_link_told, hand_next_tpdu, has_next_tpdu, hand_waiting_tpdus, most_offers, send_owed_answer, conclude_event, step_start, step_frame, refusal_of, on_send, step_send_unless, step_take, step_release, is_spent, di_of, on_expiry, step_tick, step_break}
 use Rattle.er_end_model.specs.Steps as end_steps
 use Rattle.er_end_model.specs.Layers.{Core, model}
 use Rattle.er_end_model.specs.Hearing.{station_behind}
-use Rattle.er_end_model.specs.Ends.{Opening, Call, Answer, Event, Start, Come, Send, Take, Leave, Tick, Ended, Fault, Stalled, End, Moment, opened, hears_each, run}
+use Rattle.er_end_model.specs.Ends.{Opening, Call, Answer, Event, Start, Come, Send, Take, Leave, Tick, Ended, Fault, Stalled, End, Moment, opened, hears_each, end_run}
 use Rattle.er_end_model.specs.Ends as end
 use Rattle.tap_laws.specs.Progress.{LiveSides}
 
@@ -119,10 +120,10 @@ module _ (steps : StepsOnly) where
     abbrev after : SafetyOutcome → Core
     after o = with_safety_step model (Received text) (next, o) x
 
-    answered : (by : Carrier) (o : SafetyOutcome) → IsOpen next.phase → Fine (hand_answer model by (sent_by o) (after o))
-    answered by o h = fine_as (after o) (hand_answer model by (sent_by o) (after o)) (answers_state by (sent_by o) (after o)) (λ live. h)
+    answered : (by : Carrier) (o : SafetyOutcome) → IsOpen next.phase → Fine (hand_answer model by (octets_sent_in_outcome o) (after o))
+    answered by o h = fine_as (after o) (hand_answer model by (octets_sent_in_outcome o) (after o)) (answers_state by (octets_sent_in_outcome o) (after o)) (λ live. h)
 
-    acts_fine : (by : Carrier) (o : SafetyOutcome) → IsStep key_of s (Received text) next o → Fine (on_safety_report model by (report_of o) (sent_by o) (after o))
+    acts_fine : (by : Carrier) (o : SafetyOutcome) → IsStep key_of s (Received text) next o → Fine (on_safety_report model by (report_of o) (octets_sent_in_outcome o) (after o))
     acts_fine by (SentAu1 octets) row = λ live. open_at next _ (ap (λ (n : Safety). n.phase) row.next_is) tt
     acts_fine by (SentAu2 session sealed octets) row = answered by (SentAu2 session sealed octets) (open_at next _ (ap (λ (n : Safety). n.phase) row.next_is) tt)
     acts_fine by (SentAu3 session verified sealed octets) row =
@@ -148,7 +149,7 @@ module _ (steps : StepsOnly) where
       let a : Safety × SafetyOutcome = step (finds x.moment) x.safe.safety (Received text) in
       acts_fine (finds x.moment) text x x.safe.safety a.0 h by a.1 (steps (finds x.moment) x.safe.safety (Received text))
 
-  deed_fine : (finds : Finds) (d : Deed) (x : Core) → IsOpen x.safe.safety.phase → Fine (on_transport_deed model finds d x)
+  deed_fine : (finds : Finds) (d : ReceptionDeed) (x : Core) → IsOpen x.safe.safety.phase → Fine (on_transport_deed model finds d x)
   deed_fine finds Nothing x h = λ live. h
   deed_fine finds (Called user) x h = text_fine finds InCr user x h
   deed_fine finds (Confirmed user) x h = text_fine finds InCc user x h
@@ -157,7 +158,7 @@ module _ (steps : StepsOnly) where
       let why : Release = why_of (di_in user (peer_flag x.safe.safety)) in gone_fine (answer_dr model why x) why refl
   deed_fine finds (transport.Refused sub reason) x h = departs_fine (by_this_end 2 sub) reason [] x
 
-  block_fine : (finds : Finds) (answer : joining.Answer) (x : Core) → IsOpen x.safe.safety.phase → Fine (on_joined_block model finds answer x)
+  block_fine : (finds : Finds) (answer : joining.BlockJoiningResult) (x : Core) → IsOpen x.safe.safety.phase → Fine (on_joined_block model finds answer x)
   block_fine finds (Ok None) x h = λ live. h
   block_fine finds (Ok (Some tpdu)) x h = deed_fine finds (model.deed x.upper tpdu) (record x { upper = model.hears x.upper tpdu }) h
   block_fine finds (Err fault) x h = departs_fine (release_of BlockRefused) protocol_error [] x
@@ -167,13 +168,13 @@ module _ (steps : StepsOnly) where
       let a : Safety × SafetyOutcome = step no_keys x.safe.safety ConnectRequest in
       let z : Core = with_safety_step model ConnectRequest a x in
       let fine : Fine z = λ live. connect_open x.safe.safety x.safe.safety.phase h in
-      fine_if (model.may_connect x.upper && is_ready x.safe.safety.phase) (end_steps.connect_with_text model (sent_by a.1) z) x
-      (fine_if (is_some_octets (sent_by a.1)) _ z fine fine) (λ live. h)
+      fine_if (model.may_connect x.upper && is_ready x.safe.safety.phase) (end_steps.connect_with_text model (octets_sent_in_outcome a.1) z) x
+      (fine_if (is_some_octets (octets_sent_in_outcome a.1)) _ z fine fine) (λ live. h)
 
   link_fine : (finds : Finds) (payload : Option (List ℕ)) (up : Bool) (released : Option Release) (x : Core) → IsOpen x.safe.safety.phase
       → Fine (on_link_told model finds payload up released x)
   link_fine finds (Some payload) up released x h =
-      let joined = joining.step x.joined payload in block_fine finds joined.1 (record x { joined = joined.0 }) h
+      let joined = joining.block_step x.joined payload in block_fine finds joined.1 (record x { joined = joined.0 }) h
   link_fine finds None true released x h = up_fine x h
   link_fine finds None false (Some why) x h = gone_fine (with_release why x) why refl
   link_fine finds None false None x h = λ live. h
@@ -210,7 +211,7 @@ module _ (steps : StepsOnly) where
     leaves_fine : (sub : ℕ) → Fine (step_release model now sub x)
     leaves_fine sub =
         let a : Safety × SafetyOutcome = step no_keys x.safe.safety (DisconnectRequest sub) in
-        unless_gone x.released b _ refl (λ live. departs_fine (release_of (User sub)) normal_disconnect (sent_by a.1) (with_safety_step model (DisconnectRequest sub) a b))
+        unless_gone x.released b _ refl (λ live. departs_fine (release_of (User sub)) normal_disconnect (octets_sent_in_outcome a.1) (with_safety_step model (DisconnectRequest sub) a b))
 
     time_fine : (given_up : Option Release) (z : Core) → Fine z → Fine (on_expiry model given_up z)
     time_fine (Some why) z f = gone_fine (with_release why z) why refl
@@ -232,15 +233,15 @@ module _ (steps : StepsOnly) where
         let a : Safety × SafetyOutcome = step no_keys x.safe.safety (DataRequest user) in
         let y : Core = with_safety_step model (DataRequest user) a b in
         let z : Core = record y { upper = model.sends y.upper user } in
-        concluded (hand_text model (sent_by a.1) z)
-        (fine_as z (hand_text model (sent_by a.1) z) (says_state (sent_by a.1) z)
+        concluded (hand_text model (octets_sent_in_outcome a.1) z)
+        (fine_as z (hand_text model (octets_sent_in_outcome a.1) z) (says_state (octets_sent_in_outcome a.1) z)
         (λ live. subst (λ (s : Safety). IsOpen s.phase) (sym (send_open x.safe.safety x.safe.safety.phase user)) (h live)))
 
   each_fine : (finds : Finds) (now : ℕ) (vs : List Verdict) (x : Core) → Fine x → Fine (hears_each finds now vs x)
   each_fine finds now [] x h = h
   each_fine finds now (v ∷ vs) x h = each_fine finds now vs (step_frame model finds now v x) (comes_fine now x h finds v)
 
-  event_fine : (now : ℕ) (event : Event) (m : End) → Fine m.core → Fine (end.step now event m).0.core
+  event_fine : (now : ℕ) (event : Event) (m : End) → Fine m.core → Fine (end.step_event now event m).0.core
   event_fine now Start m h = starts_fine now m.core h
   event_fine now (Come finds octets) m h = each_fine finds now (news m.stream octets) (new_event_at model now m.core) h
   event_fine now (Send user) m h = sends_fine now m.core h user (refusal_of model user m.core)
@@ -251,9 +252,9 @@ module _ (steps : StepsOnly) where
   event_fine now Fault m h = breaks_fine now m.core h LineFailed
   event_fine now Stalled m h = breaks_fine now m.core h LineStalled
 
-  run_fine : (events : List Moment) (m : End) → Fine m.core → Fine (run events m).core
+  run_fine : (events : List Moment) (m : End) → Fine m.core → Fine (end_run events m).core
   run_fine [] m h = h
-  run_fine (e ∷ events) m h = run_fine events (end.step e.now e.event m).0 (event_fine e.now e.event m h)
+  run_fine (e ∷ events) m h = run_fine events (end.step_event e.now e.event m).0 (event_fine e.now e.event m h)
 
   pub live_sides : LiveSides
   live_sides (Call settings me peer kmac rb now) events = run_fine events (opened (Call settings me peer kmac rb now)) (λ live. tt)

@@ -3,20 +3,21 @@ use Rattle.std.proofs.Common.{◌≡◌, ◌∙◌, ℕ, true, false, List, [], 
 use Rattle.er_base.specs.declared.side.Side.{Side}
 use Rattle.er_base.specs.declared.side.Side.TheVariants.{E, R}
 use Rattle.des_block.specs.declared.triple_key.TripleKey.{TripleKey}
+use Rattle.hdlc_station_model.specs.Lines.{IsPrefix}
 use Rattle.session_keys.specs.Session.{session_of}
 use Rattle.t70_header.specs.Joining.{WrappedIsJoined}
-use Rattle.sapdu.specs.Spelling.{Pdu, Au1, Au2, Au3, Ar, Dt, Di, read_of}
+use Rattle.sapdu.specs.Spelling.{SafetyPdu, Au1, Au2, Au3, Ar, Dt, Di, read_of}
 use Rattle.safety_automaton.specs.Rules.{IsOpen}
-use Rattle.er_end_model.specs.Ends.{End, Moment, opened, run}
+use Rattle.er_end_model.specs.Ends.{End, Moment, opened, end_run}
 use Rattle.er_end_model.specs.Ends as end
 use Rattle.er_end_model.specs.Origins.{StreamIsWhole}
-use Rattle.er_end_pair_laws.specs.Openings.{Opening, Agree}
-use Rattle.er_end_pair_laws.specs.Steps.{LinkStep, AllFit}
-use Rattle.er_end_pair_laws.specs.Laws.{after, Prefix}
+use Rattle.er_end_pair_laws.specs.Openings.{EndLinkOpening, Agree}
+use Rattle.er_end_pair_laws.specs.Steps.{EndLinkStep, AllFit}
+use Rattle.er_end_pair_laws.specs.Laws.{end_link_after, Prefix}
 use Rattle.er_end_pair_laws.specs.Greetings.{Greets}
 use Rattle.tap_model.specs.Hearing.{heard, items}
-use Rattle.tap_model.specs.Given.{received, octets_of, IsPrefix, IsHeard, GivenIsHeard}
-use Rattle.tap_model.specs.Verdicts.{Read, rb_in, ra_in, number_of, first_number, session_with}
+use Rattle.tap_model.specs.Given.{received, octets_of_moments, HasHeardStreamTexts, GivenIsHeard}
+use Rattle.tap_model.specs.Verdicts.{Read, rb_in, ra_in, random_number_in_item, first_number, session_with}
 use Rattle.tap_laws.specs.Progress.{FirstAu1, FirstAu2, Progresses, SidesProgress, LiveSides}
 use Rattle.tap_laws.specs.Runs.{calling_of, called_of, started_at, AreRuns, EndsAreRuns}
 use Rattle.tap_laws.specs.Pairs.{known_to, FindsAccepted, PairsAudited}
@@ -39,7 +40,7 @@ none_before [] ys h e = refl
 none_before (x ∷ xs) ys h e = let f = prefix_front (x ∷ xs) ys h in absurd (let z : x ∷ (xs ++ f.0) ≡ [] = sym f.1 ∙ e in cc)
 
 -- the number that an AU1 tells
-abbrev teller : Pdu → ℕ
+abbrev teller : SafetyPdu → ℕ
 teller (Au1 id feature rb) = id
 teller (Au2 id feature ra mac) = 0
 teller (Au3 mac) = 0
@@ -52,27 +53,27 @@ teller_in (Err fault) = 0
 teller_in (Ok read) = teller read.0
 
 -- the KMAC that is found for the engine is the engine's
-own_kmac : (s : Opening) → Agree s → (now id : ℕ) (kmac : TripleKey) → id ≡ s.engine → s.finder now id s.rbc ≡ Some kmac → kmac ≡ s.kmac
+own_kmac : (s : EndLinkOpening) → Agree s → (now id : ℕ) (kmac : TripleKey) → id ≡ s.engine → s.finder now id s.rbc ≡ Some kmac → kmac ≡ s.kmac
 own_kmac s agree now id kmac same found =
     let z : Some kmac ≡ Some s.kmac = sym found ∙ ap (λ (n : ℕ). s.finder now n s.rbc) same ∙ agree now in cc
 
 -- what is known of an end by itself: the texts that it was given
-record Known_end (s : Opening) (o : end.Opening) (side : Side) (z : End) : Type 0 where
+record Known_end (s : EndLinkOpening) (o : end.Opening) (side : Side) (z : End) : Type 0 where
   given : List (List ℕ)
-  hears : IsHeard side z.stream given z
+  hears : HasHeardStreamTexts side z.stream given z
   progress : Progresses s.finder o given z.core
   is_live : z.core.released ≡ None → IsOpen z.core.safe.safety.phase
 
-module _ (low : Lower) (s : Opening) (basic : s.settings.modulo ≡ 8) where
+module _ (low : Lower) (s : EndLinkOpening) (basic : s.settings.modulo ≡ 8) where
   known_r : (e r : End) → AreRuns s e r → Known_end s (called_of s) E r
   known_r e r a =
-      let m : End = run a.events_r (opened (called_of s)) in
+      let m : End = end_run a.events_r (opened (called_of s)) in
       let g : List (List ℕ) = received a.events_r (opened (called_of s)) in
-      let h : IsHeard E (octets_of a.events_r) g m = low.heard_is (called_of s) a.events_r basic tt in
-      let t : m.stream ≡ octets_of a.events_r = low.streams a.events_r (opened (called_of s)) in
+      let h : HasHeardStreamTexts E (octets_of_moments a.events_r) g m = low.heard_is (called_of s) a.events_r basic tt in
+      let t : m.stream ≡ octets_of_moments a.events_r = low.streams a.events_r (opened (called_of s)) in
       subst (λ (z : End). Known_end s (called_of s) E z) (sym a.r_is) (record {
         given = g;
-        hears = subst (λ (os : List ℕ). IsHeard E os g m) (sym t) h;
+        hears = subst (λ (os : List ℕ). HasHeardStreamTexts E os g m) (sym t) h;
         progress = low.sides (called_of s) s.finder a.events_r a.r_looks;
         is_live = low.live (called_of s) a.events_r;
       })
@@ -80,23 +81,23 @@ module _ (low : Lower) (s : Opening) (basic : s.settings.modulo ≡ 8) where
   known_e : (e r : End) → AreRuns s e r → Known_end s (calling_of s) R e
   known_e e r a =
       let events : List Moment = started_at s ∷ a.events_e in
-      let m : End = run events (opened (calling_of s)) in
+      let m : End = end_run events (opened (calling_of s)) in
       let g : List (List ℕ) = received events (opened (calling_of s)) in
-      let h : IsHeard R (octets_of events) g m = low.heard_is (calling_of s) events basic refl in
-      let t : m.stream ≡ octets_of events = low.streams events (opened (calling_of s)) in
+      let h : HasHeardStreamTexts R (octets_of_moments events) g m = low.heard_is (calling_of s) events basic refl in
+      let t : m.stream ≡ octets_of_moments events = low.streams events (opened (calling_of s)) in
       subst (λ (z : End). Known_end s (calling_of s) R z) (sym a.e_is) (record {
         given = g;
-        hears = subst (λ (os : List ℕ). IsHeard R os g m) (sym t) h;
+        hears = subst (λ (os : List ℕ). HasHeardStreamTexts R os g m) (sym t) h;
         progress = low.sides (calling_of s) s.finder events a.e_looks;
         is_live = low.live (calling_of s) events;
       })
 
-  module _ (steps : List LinkStep) (fit : AllFit steps) (agree : Agree s) (kept : (after s steps).order_kept ≡ true) where
+  module _ (steps : List EndLinkStep) (fit : AllFit steps) (agree : Agree s) (kept : (end_link_after s steps).order_kept ≡ true) where
     abbrev e : End
-    e = (after s steps).e
+    e = (end_link_after s steps).e
 
     abbrev r : End
-    r = (after s steps).r
+    r = (end_link_after s steps).r
 
     ke : Known_end s (calling_of s) R e
     ke = known_e e r (low.runs s steps)
@@ -104,16 +105,16 @@ module _ (low : Lower) (s : Opening) (basic : s.settings.modulo ≡ 8) where
     kr : Known_end s (called_of s) E r
     kr = known_r e r (low.runs s steps)
 
-    item_head : (side : Side) (z : End) (given : List (List ℕ)) (x : List ℕ) → IsHeard side z.stream given z → HasHead x given → HasHead x (items (heard side z.stream))
+    item_head : (side : Side) (z : End) (given : List (List ℕ)) (x : List ℕ) → HasHeardStreamTexts side z.stream given z → HasHead x given → HasHead x (items (heard side z.stream))
     item_head side z given x h head =
         front_head x (heard side z.stream).texts (items (heard side z.stream)) (given_head low.wrapped side z.stream given z x h head) (items_front (heard side z.stream))
 
     -- the numbers that the audit takes
     rb_is : (x : List ℕ) (id rb : ℕ) → HasHead x kr.given → read_of x ≡ Ok (Au1 id 1 rb, false) → first_number rb_in (items (heard E r.stream)) ≡ Some rb
-    rb_is x id rb head read = head_number rb_in x (items (heard E r.stream)) (item_head E r kr.given x kr.hears head) ∙ ap (λ (z : Read). number_of rb_in z) read
+    rb_is x id rb head read = head_number rb_in x (items (heard E r.stream)) (item_head E r kr.given x kr.hears head) ∙ ap (λ (z : Read). random_number_in_item rb_in z) read
 
     ra_is : (x : List ℕ) (id ra mac : ℕ) → HasHead x ke.given → read_of x ≡ Ok (Au2 id 1 ra mac, true) → first_number ra_in (items (heard R e.stream)) ≡ Some ra
-    ra_is x id ra mac head read = head_number ra_in x (items (heard R e.stream)) (item_head R e ke.given x ke.hears head) ∙ ap (λ (z : Read). number_of ra_in z) read
+    ra_is x id ra mac head read = head_number ra_in x (items (heard R e.stream)) (item_head R e ke.given x ke.hears head) ∙ ap (λ (z : Read). random_number_in_item ra_in z) read
 
     session_is : (ra rb : ℕ) → first_number ra_in (items (heard R e.stream)) ≡ Some ra → first_number rb_in (items (heard E r.stream)) ≡ Some rb
         → (known_to s e r).session ≡ Some (record { ra = ra; rb = rb; keys = session_of s.kmac ra rb })

@@ -18,10 +18,10 @@ use Rattle.safety_automaton.specs.Laws.{StaysItself}
 use Rattle.er_end_model.specs.Outcomes.{SendRefusal}
 use Rattle.er_end_model.specs.Steps.{Finds, new_event_at, step_frame, step_start, refusal_at, refusal_of, on_send, step_send_unless, step_take, step_release, step_tick, step_break, is_connected}
 use Rattle.er_end_model.specs.Layers.{Spoken, Core, model}
-use Rattle.er_end_model.specs.Laws.{IsStep, IsSane, SpeaksOnce, EventsSpeakOnce}
-use Rattle.er_end_model.specs.Ends.{Opening, Call, Answer, Event, Start, Come, Send, Take, Leave, Tick, Ended, Fault, Stalled, End, Moment, opened, hears_each, step, run}
+use Rattle.er_end_model.specs.Laws.{ShowsSafetyStep, IsSane, SpeaksOnce, EventsSpeakOnce}
+use Rattle.er_end_model.specs.Ends.{Opening, Call, Answer, Event, Start, Come, Send, Take, Leave, Tick, Ended, Fault, Stalled, End, Moment, opened, hears_each, step_event, end_run}
 use Rattle.tap_model.specs.Given.{received_in, received_of, received_by, received_of_each, received_unless, received_at, received}
-use Rattle.tap_laws.specs.Progress.{number_of, role_of, IsFound, LooksUp, AllLookUp, GotNone, Stage, Begins, Speaks, Progresses, SidesProgress}
+use Rattle.tap_laws.specs.Progress.{etcs_number_of_end, role_of_opened_end, IsKmacFound, LooksUp, AllLookUp, GotNone, Stage, Begins, Speaks, Progresses, SidesProgress}
 use Rattle.tap_laws.proofs.Stages.{level, stays, speaks_of, step_stage}
 use Rattle.tap_laws.proofs.Growing.{lists, Grows, comes_grow, starts_grow, uses_grow, leaves_grow, ticks_grow, breaks_grow, sent_grows, sent_safe}
 
@@ -61,13 +61,13 @@ may_send (Some why) c user waiting e = absurd cc
 may_send None true user waiting e = refl
 may_send None false user waiting e = absurd cc
 
-no_key : (finds : Finds) (engine rbc : ℕ) (kmac : TripleKey) → no_keys engine rbc ≡ Some kmac → IsFound finds engine rbc kmac
+no_key : (finds : Finds) (engine rbc : ℕ) (kmac : TripleKey) → no_keys engine rbc ≡ Some kmac → IsKmacFound finds engine rbc kmac
 no_key finds engine rbc kmac e = absurd cc
 
 module _ (steps : StepsOnly) (itself : StaysItself) (once : EventsSpeakOnce) (finds : Finds) (o : Opening) where
   -- ---- one step of the safety side at most
 
-  module _ (key_of : ℕ → ℕ → Option TripleKey) (keyed : (engine rbc : ℕ) (kmac : TripleKey) → key_of engine rbc ≡ Some kmac → IsFound finds engine rbc kmac)
+  module _ (key_of : ℕ → ℕ → Option TripleKey) (keyed : (engine rbc : ℕ) (kmac : TripleKey) → key_of engine rbc ≡ Some kmac → IsKmacFound finds engine rbc kmac)
       (given : List (List ℕ)) (x y : Core) (p : Progresses finds o given x) where
     abbrev s : Safety
     s = x.safe.safety
@@ -75,9 +75,9 @@ module _ (steps : StepsOnly) (itself : StaysItself) (once : EventsSpeakOnce) (fi
     -- the own number and role stay, and it is this far
     abbrev Then : List (List ℕ) → List (List ℕ) → Type 0
     Then more accepted =
-        (y.safe.safety.me ≡ number_of o) × (y.safe.safety.role ≡ role_of o) × Stage finds o y.safe.safety.phase (given ++ more) accepted x.upper.sent
+        (y.safe.safety.me ≡ etcs_number_of_end o) × (y.safe.safety.role ≡ role_of_opened_end o) × Stage finds o y.safe.safety.phase (given ++ more) accepted x.upper.sent
 
-    by_spoke : (spoke : Option Spoken) → IsStep key_of s spoke y → Then (received_of spoke) (x.upper.accepted ++ option_to_list y.upper.news)
+    by_spoke : (spoke : Option Spoken) → ShowsSafetyStep key_of s spoke y → Then (received_of spoke) (x.upper.accepted ++ option_to_list y.upper.news)
     by_spoke None h =
         let e : y.safe.safety ≡ s = ap (λ (k : KeptSafe). k.safety) h.0 in (
           ap (λ (z : Safety). z.me) e ∙ p.me,
@@ -155,10 +155,10 @@ module _ (steps : StepsOnly) (itself : StaysItself) (once : EventsSpeakOnce) (fi
   plain_stands given x y p speaks grows = (follows_so no_keys (no_key finds) given x y p.0 speaks grows, speaks.sane)
 
   event_stands : (now : ℕ) (event : Event) (m : End) (given : List (List ℕ)) → LooksUp finds event → Stands given m.core
-      → Stands (given ++ received_at now event m) (step now event m).0.core
+      → Stands (given ++ received_at now event m) (step_event now event m).0.core
   event_stands now Start m given looks p = plain_stands given m.core (step_start model now m.core) p (once.starts now m.core p.1) (starts_grow now m.core)
   event_stands now (Come own octets) m given looks p =
-      subst (λ (f : Finds). Stands (given ++ received_at now (Come f octets) m) (step now (Come f octets) m).0.core) (sym looks)
+      subst (λ (f : Finds). Stands (given ++ received_at now (Come f octets) m) (step_event now (Come f octets) m).0.core) (sym looks)
       (each_stands now (news m.stream octets) given (new_event_at model now m.core) (record { me = p.0.me; role = p.0.role; stage = p.0.stage }, p.1))
   event_stands now (Send user) m given looks p = send_stands now user given m.core (refusal_of model user m.core) refl p
   event_stands now Take m given looks p = plain_stands given m.core (step_take model now m.core) p (once.uses now m.core p.1) (uses_grow now m.core)
@@ -168,11 +168,11 @@ module _ (steps : StepsOnly) (itself : StaysItself) (once : EventsSpeakOnce) (fi
   event_stands now Fault m given looks p = plain_stands given m.core (step_break model LineFailed m.core) p (once.breaks LineFailed m.core p.1) (breaks_grow now m.core LineFailed)
   event_stands now Stalled m given looks p = plain_stands given m.core (step_break model LineStalled m.core) p (once.breaks LineStalled m.core p.1) (breaks_grow now m.core LineStalled)
 
-  run_stands : (events : List Moment) (m : End) (given : List (List ℕ)) → AllLookUp finds events → Stands given m.core → Stands (given ++ received events m) (run events m).core
+  run_stands : (events : List Moment) (m : End) (given : List (List ℕ)) → AllLookUp finds events → Stands given m.core → Stands (given ++ received events m) (end_run events m).core
   run_stands [] m given looks p = nothing_given given m.core p
   run_stands (e ∷ events) m given looks p =
-      let n : End = (step e.now e.event m).0 in
-      subst (λ (g : List (List ℕ)). Stands g (run events n).core) (append_assoc given (received_at e.now e.event m) (received events n))
+      let n : End = (step_event e.now e.event m).0 in
+      subst (λ (g : List (List ℕ)). Stands g (end_run events n).core) (append_assoc given (received_at e.now e.event m) (received events n))
       (run_stands events n (given ++ received_at e.now e.event m) looks.1 (event_stands e.now e.event m given looks.0 p))
 
 none_got : GotNone [] [] []

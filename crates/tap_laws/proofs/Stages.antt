@@ -5,15 +5,15 @@ use Rattle.er_base.specs.declared.release.Release.{Release}
 use Rattle.des_block.specs.declared.triple_key.TripleKey.{TripleKey}
 use Rattle.cbc_mac.specs.Mac.{mac_of}
 use Rattle.session_keys.specs.Session.{session_of}
-use Rattle.sapdu.specs.Spelling.{Pdu, Au1, Au2, Dt, read_of}
+use Rattle.sapdu.specs.Spelling.{SafetyPdu, Au1, Au2, Dt, read_of}
 use Rattle.safety_automaton.specs.declared.role.Role.{Role}
 use Rattle.safety_automaton.specs.Safety.{Safety, Connection, Phase, Ready, WaitAu1, WaitAu2, WaitAu3, WaitAr, Connected, Released, SafetyEvent, Received, SafetyOutcome, SentAu1, SentAu2, SentAu3, SentAr, ReceivedAr, AcceptedDt, SentDt, Refused, ReleasedLocally, ReleasedByPeer, NothingDone, flag_of, other_role, peer_flag, message_text}
 use Rattle.safety_automaton.specs.Rules.{IsReceived, IsStep, AtReceived, AtDisconnect, AtConnect}
-use Rattle.er_end_model.specs.Laws.{accepted_by}
+use Rattle.er_end_model.specs.Laws.{accepted_safety_message}
 use Rattle.er_end_model.specs.Steps.{Finds}
 use Rattle.er_end_model.specs.Ends.{Opening, Call, Answer}
 use Rattle.tap_model.specs.Given.{received_in}
-use Rattle.tap_laws.specs.Progress.{number_of, role_of, flag_to, IsFound, IsFirst, AreMessages, GotNone, GotOne, GotAll, Got, GotsNone, GotsOne, GotsAll, IsBeginning, IsWaiting, Stage, Begins, Waits, Speaks, Gone}
+use Rattle.tap_laws.specs.Progress.{etcs_number_of_end, role_of_opened_end, flag_to, IsKmacFound, IsFirstSetUpText, AreMessages, GotNone, GotOne, GotAll, Got, GotsNone, GotsOne, GotsAll, IsBeginningPhase, WaitsForSecondText, Stage, Begins, Waits, Speaks, Gone}
 
 -- one more message
 one_more : (session : TripleKey) (flag : Bool) (me : ℕ) (text user : List ℕ) (texts users : List (List ℕ))
@@ -62,12 +62,12 @@ level (Released release session) = 3
 level_as : (phase other : Phase) → phase ≡ other → level phase ≡ level other
 level_as phase other e = ap level e
 
-begins_level : (o : Opening) (phase : Phase) → IsBeginning o phase → level phase ≡ 0
+begins_level : (o : Opening) (phase : Phase) → IsBeginningPhase o phase → level phase ≡ 0
 begins_level (Call settings own peer kmac rb now) phase (inl e) = ap level e
 begins_level (Call settings own peer kmac rb now) phase (inr e) = ap level e
 begins_level (Answer settings own ra now) phase e = ap level e
 
-waits_level : (o : Opening) (c : Connection) (phase : Phase) → IsWaiting o c phase → level phase ≡ 1
+waits_level : (o : Opening) (c : Connection) (phase : Phase) → WaitsForSecondText o c phase → level phase ≡ 1
 waits_level (Call settings own peer kmac rb now) c phase e = ap level e
 waits_level (Answer settings own ra now) c phase e = ap level e
 
@@ -75,13 +75,13 @@ not_both : (p : Phase) (m n : ℕ) → level p ≡ m → level p ≡ n → (m �
 not_both p m n a b differ = differ (sym a ∙ b)
 
 module _ (finds : Finds) (o : Opening) (phase : Phase) (g a t : List (List ℕ)) where
-  begins_of : level phase ≡ 0 → Stage finds o phase g a t → IsBeginning o phase × GotNone g a t
+  begins_of : level phase ≡ 0 → Stage finds o phase g a t → IsBeginningPhase o phase × GotNone g a t
   begins_of l (Begins b n) = (b, n)
   begins_of l (Waits c w n) = absurd (let z = sym l ∙ waits_level o c phase w in omega (arith, z))
   begins_of l (Speaks c e n) = absurd (let z = sym l ∙ ap level e in omega (arith, z))
   begins_of l (Gone release session e front rest is got) = absurd (let z = sym l ∙ ap level e in omega (arith, z))
 
-  waits_of : level phase ≡ 1 → Stage finds o phase g a t → (c : Connection) × IsWaiting o c phase × GotOne finds o c g a t
+  waits_of : level phase ≡ 1 → Stage finds o phase g a t → (c : Connection) × WaitsForSecondText o c phase × GotOne finds o c g a t
   waits_of l (Begins b n) = absurd (let z = sym l ∙ begins_level o phase b in omega (arith, z))
   waits_of l (Waits c w n) = (c, w, n)
   waits_of l (Speaks c e n) = absurd (let z = sym l ∙ ap level e in omega (arith, z))
@@ -96,9 +96,9 @@ module _ (finds : Finds) (o : Opening) (phase : Phase) (g a t : List (List ℕ))
 -- ---- what the texts say
 
 -- an AU1 at a side that waits for it
-au1_came : (finds : Finds) (o : Opening) (phase : Phase) (c : Connection) (kmac : TripleKey) (octets : List ℕ) (me : ℕ) (flag : Bool) → me ≡ number_of o → flag ≡ flag_to o
-    → phase ≡ WaitAu1 c.ra → read_of octets ≡ Ok (Au1 c.peer 1 c.rb, flag) → IsFound finds c.peer me kmac → c.session ≡ session_of kmac c.ra c.rb → IsBeginning o phase
-    → IsFirst finds o c octets × ((next : Phase) → next ≡ WaitAu3 c → IsWaiting o c next)
+au1_came : (finds : Finds) (o : Opening) (phase : Phase) (c : Connection) (kmac : TripleKey) (octets : List ℕ) (me : ℕ) (flag : Bool) → me ≡ etcs_number_of_end o → flag ≡ flag_to o
+    → phase ≡ WaitAu1 c.ra → read_of octets ≡ Ok (Au1 c.peer 1 c.rb, flag) → IsKmacFound finds c.peer me kmac → c.session ≡ session_of kmac c.ra c.rb → IsBeginningPhase o phase
+    → IsFirstSetUpText finds o c octets × ((next : Phase) → next ≡ WaitAu3 c → WaitsForSecondText o c next)
 au1_came finds (Call settings own peer key rb now) phase c kmac octets me flag m f p r found keys (inl b) = absurd (let z = sym b ∙ p in cc)
 au1_came finds (Call settings own peer key rb now) phase c kmac octets me flag m f p r found keys (inr b) = absurd (let z = sym b ∙ p in cc)
 au1_came finds (Answer settings own ra now) phase c kmac octets me flag m f p r found keys b = (
@@ -106,7 +106,7 @@ au1_came finds (Answer settings own ra now) phase c kmac octets me flag m f p r 
     kmac = kmac;
     read = r ∙ ap (λ (z : Bool). Ok (Au1 c.peer 1 c.rb, z)) f;
     own = let z = sym p ∙ b in cc;
-    found = subst (λ (n : ℕ). IsFound finds c.peer n kmac) m found;
+    found = subst (λ (n : ℕ). IsKmacFound finds c.peer n kmac) m found;
     keys = keys;
   },
   λ next e. e,
@@ -114,8 +114,8 @@ au1_came finds (Answer settings own ra now) phase c kmac octets me flag m f p r 
 
 -- an AU2 at a side that waits for it
 au2_came : (finds : Finds) (o : Opening) (phase : Phase) (c : Connection) (kmac : TripleKey) (octets : List ℕ) (mac : ℕ) (flag : Bool) → flag ≡ flag_to o
-    → phase ≡ WaitAu2 c.peer kmac c.rb → read_of octets ≡ Ok (Au2 c.peer 1 c.ra mac, flag) → c.session ≡ session_of kmac c.ra c.rb → IsBeginning o phase
-    → IsFirst finds o c octets × ((next : Phase) → next ≡ WaitAr c → IsWaiting o c next)
+    → phase ≡ WaitAu2 c.peer kmac c.rb → read_of octets ≡ Ok (Au2 c.peer 1 c.ra mac, flag) → c.session ≡ session_of kmac c.ra c.rb → IsBeginningPhase o phase
+    → IsFirstSetUpText finds o c octets × ((next : Phase) → next ≡ WaitAr c → WaitsForSecondText o c next)
 au2_came finds (Call settings own peer key rb now) phase c kmac octets mac flag f p r keys (inl b) = absurd (let z = sym b ∙ p in cc)
 au2_came finds (Call settings own peer key rb now) phase c kmac octets mac flag f p r keys (inr b) =
     let z : WaitAu2 c.peer kmac c.rb ≡ WaitAu2 peer key rb = sym p ∙ b in
@@ -131,15 +131,15 @@ au2_came finds (Call settings own peer key rb now) phase c kmac octets mac flag 
     )
 au2_came finds (Answer settings own ra now) phase c kmac octets mac flag f p r keys b = absurd (let z = sym b ∙ p in cc)
 
-waited_au3 : (o : Opening) (c d : Connection) (phase : Phase) → phase ≡ WaitAu3 d → IsWaiting o c phase → d ≡ c
+waited_au3 : (o : Opening) (c d : Connection) (phase : Phase) → phase ≡ WaitAu3 d → WaitsForSecondText o c phase → d ≡ c
 waited_au3 (Call settings own peer kmac rb now) c d phase p w = absurd (let z = sym p ∙ w in cc)
 waited_au3 (Answer settings own ra now) c d phase p w = let z = sym p ∙ w in cc
 
-waited_ar : (o : Opening) (c d : Connection) (phase : Phase) → phase ≡ WaitAr d → IsWaiting o c phase → d ≡ c
+waited_ar : (o : Opening) (c d : Connection) (phase : Phase) → phase ≡ WaitAr d → WaitsForSecondText o c phase → d ≡ c
 waited_ar (Call settings own peer kmac rb now) c d phase p w = let z = sym p ∙ w in cc
 waited_ar (Answer settings own ra now) c d phase p w = absurd (let z = sym p ∙ w in cc)
 
-still_begins : (o : Opening) (phase next : Phase) (peer rb : ℕ) (kmac : TripleKey) → phase ≡ Ready peer kmac rb → next ≡ WaitAu2 peer kmac rb → IsBeginning o phase → IsBeginning o next
+still_begins : (o : Opening) (phase next : Phase) (peer rb : ℕ) (kmac : TripleKey) → phase ≡ Ready peer kmac rb → next ≡ WaitAu2 peer kmac rb → IsBeginningPhase o phase → IsBeginningPhase o next
 still_begins (Call settings own called key own_rb now) phase next peer rb kmac p n (inl b) =
     let z : Ready peer kmac rb ≡ Ready called key own_rb = sym p ∙ b in
     let e : WaitAu2 peer kmac rb ≡ WaitAu2 called key own_rb = cc in inr (n ∙ e)
@@ -148,19 +148,19 @@ still_begins (Answer settings own ra now) phase next peer rb kmac p n b = absurd
 
 -- ---- a step
 
-module _ (key_of : ℕ → ℕ → Option TripleKey) (finds : Finds) (keyed : (engine rbc : ℕ) (kmac : TripleKey) → key_of engine rbc ≡ Some kmac → IsFound finds engine rbc kmac)
-    (o : Opening) (s : Safety) (me : s.me ≡ number_of o) (role : s.role ≡ role_of o) (event : SafetyEvent) (next : Safety) (g a t : List (List ℕ)) where
+module _ (key_of : ℕ → ℕ → Option TripleKey) (finds : Finds) (keyed : (engine rbc : ℕ) (kmac : TripleKey) → key_of engine rbc ≡ Some kmac → IsKmacFound finds engine rbc kmac)
+    (o : Opening) (s : Safety) (me : s.me ≡ etcs_number_of_end o) (role : s.role ≡ role_of_opened_end o) (event : SafetyEvent) (next : Safety) (g a t : List (List ℕ)) where
   abbrev Before : Type 0
   Before = Stage finds o s.phase g a t
 
   abbrev After : SafetyOutcome → Type 0
-  After outcome = Stage finds o next.phase (g ++ received_in event) (a ++ option_to_list (accepted_by outcome)) t
+  After outcome = Stage finds o next.phase (g ++ received_in event) (a ++ option_to_list (accepted_safety_message outcome)) t
 
   flag_is : peer_flag s ≡ flag_to o
   flag_is = ap (λ (r : Role). flag_of (other_role r)) role
 
   -- what came with an event that is octets
-  came : (pdu : Pdu) (r : IsReceived s event pdu) (before : List (List ℕ)) → g ≡ before → g ++ received_in event ≡ before ++ r.octets ∷ []
+  came : (pdu : SafetyPdu) (r : IsReceived s event pdu) (before : List (List ℕ)) → g ≡ before → g ++ received_in event ≡ before ++ r.octets ∷ []
   came pdu r before e = ap₂ (λ (x y : List (List ℕ)). x ++ y) e (ap received_in r.event_is)
 
   nothing_came : (given : List (List ℕ)) → received_in event ≡ [] → g ≡ given → g ++ received_in event ≡ given
@@ -176,7 +176,7 @@ module _ (key_of : ℕ → ℕ → Option TripleKey) (finds : Finds) (keyed : (e
       (stays finds o g a t s.phase next.phase (ap (λ (n : Safety). n.phase) same) before)
 
   -- the first text came
-  first_came : (c : Connection) (octets : List ℕ) → event ≡ Received octets → IsFirst finds o c octets → IsWaiting o c next.phase → GotNone g a t
+  first_came : (c : Connection) (octets : List ℕ) → event ≡ Received octets → IsFirstSetUpText finds o c octets → WaitsForSecondText o c next.phase → GotNone g a t
       → Stage finds o next.phase (g ++ received_in event) (a ++ []) t
   first_came c octets e is waits none =
       Waits c waits (record {
@@ -197,7 +197,7 @@ module _ (key_of : ℕ → ℕ → Option TripleKey) (finds : Finds) (keyed : (e
         texts = [];
         is_first = one.is_first;
         given_is = ap₂ (λ (x y : List (List ℕ)). x ++ y) one.given_is (ap received_in e);
-        messages = subst (λ (z : List (List ℕ)). AreMessages c.session (flag_to o) (number_of o) [] z) (sym (none_more [] one.accepted_is)) tt;
+        messages = subst (λ (z : List (List ℕ)). AreMessages c.session (flag_to o) (etcs_number_of_end o) [] z) (sym (none_more [] one.accepted_is)) tt;
       })
 
   phase_of : (next : Safety) (phase : Phase) → next ≡ record s { phase = phase } → next.phase ≡ phase
@@ -213,7 +213,7 @@ module _ (key_of : ℕ → ℕ → Option TripleKey) (finds : Finds) (keyed : (e
       let got : GotAll finds o c g a = b.2 in
       let z : Connected peer session ≡ Connected c.peer c.session = sym connected ∙ b.1 in
       let keys : session ≡ c.session = cc in
-      let seal : mac_of session verified ≡ mac_of c.session (message_text (flag_to o) (number_of o) user) =
+      let seal : mac_of session verified ≡ mac_of c.session (message_text (flag_to o) (etcs_number_of_end o) user) =
       ap₂ (λ (k : TripleKey) (x : List ℕ). mac_of k x) keys (text ∙ ap₂ (λ (f : Bool) (n : ℕ). message_text f n user) flag_is me) in
       Speaks c (ap (λ (n : Safety). n.phase) same ∙ b.1) (record {
         first = got.first;
@@ -222,7 +222,7 @@ module _ (key_of : ℕ → ℕ → Option TripleKey) (finds : Finds) (keyed : (e
         is_first = got.is_first;
         given_is = ap₂ (λ (x y : List (List ℕ)). x ++ y) got.given_is (ap received_in e);
         messages =
-            one_more c.session (flag_to o) (number_of o) octets user got.texts a
+            one_more c.session (flag_to o) (etcs_number_of_end o) octets user got.texts a
             (read ∙ ap₂ (λ (m : ℕ) (f : Bool). Ok (Dt user m, f)) seal flag_is) got.messages;
       })
 

@@ -1,5 +1,6 @@
 -- An audit of a tapped link of a world that keeps its order finds good what its ends accepted.
 use Rattle.std.proofs.Common.{◌≡◌, ◌∙◌, ℕ, Bool, true, false, not, List, Option, Some, refl, sym, ap, subst}
+use Rattle.hdlc_station_model.specs.Lines.{IsPrefix}
 use Rattle.std.specs.Prelude.{◌==◌}
 use Rattle.std.proofs.lemmas.Bool.{eq-eqb}
 use Rattle.er_base.specs.declared.side.Side.{Side}
@@ -7,18 +8,17 @@ use Rattle.er_base.specs.declared.side.Side.TheVariants.{E, R}
 use Rattle.des_block.specs.declared.triple_key.TripleKey.{TripleKey}
 use Rattle.er_settings.specs.Values.{Settings}
 use Rattle.er_tap.specs.declared.tap_line.TapLine.{TapLine}
-use Rattle.safety_automaton.specs.Keys.{Entry, key_at}
+use Rattle.safety_automaton.specs.Keys.{KmacEntry, key_at}
 use Rattle.safety_pair_laws.specs.Openings.{OfKeys, key_for}
-use Rattle.er_end_pair_laws.specs.Openings.{Opening, Agree}
-use Rattle.er_end_pair_laws.specs.Links.{Link as Pair}
-use Rattle.er_end_pair_laws.specs.Laws.{after}
+use Rattle.er_end_pair_laws.specs.Openings.{EndLinkOpening, Agree}
+use Rattle.er_end_pair_laws.specs.Links.{EndLink as Pair}
+use Rattle.er_end_pair_laws.specs.Laws.{end_link_after}
 use Rattle.drill_model.specs.Outcomes.{Occurrence}
 use Rattle.drill_model.specs.Links.{Link, OfStacks}
 use Rattle.drill_model.specs.Worlds.{history_on, world_run}
 use Rattle.drill_model.specs.Kinds.{accepted_by, IsOrderKeeping}
 use Rattle.drill_laws.specs.Stacks.{IsPair, StacksRun}
 use Rattle.tap_model.specs.Hearing.{heard, items}
-use Rattle.tap_model.specs.Given.{IsPrefix}
 use Rattle.tap_model.specs.Lines.{TapOpening, stream_of}
 use Rattle.tap_model.specs.Verdicts.{known_of, Judged, judged_from, good_texts}
 use Rattle.tap_model.specs.Texts.{judged_at}
@@ -55,12 +55,12 @@ not_false false e = absurd cc
 -- ---- a link
 
 module _ (audited : PairsAudited) (settings : Settings) (basic : settings.modulo ≡ 8) (l : Link) (history : List Occurrence) (p : IsPair settings l history)
-    (keeping : IsOrderKeeping l.opening history) (keys : List Entry) (lines : List TapLine) (m : ℕ) (t : IsTapped keys lines m l history) where
-  abbrev s : Opening
+    (keeping : IsOrderKeeping l.opening history) (keys : List KmacEntry) (lines : List TapLine) (m : ℕ) (t : IsTapped keys lines m l history) where
+  abbrev s : EndLinkOpening
   s = p.s
 
   abbrev ends : Pair
-  ends = after p.s p.steps
+  ends = end_link_after p.s p.steps
 
   numbers : OfStacks s.engine s.rbc s.kmac p.kr s.ra s.rb ≡ OfStacks t.engine t.rbc t.kmac (Some t.kmac) t.ra t.rb
   numbers = sym p.opening_is ∙ t.link_is

@@ -12,26 +12,26 @@ use Rattle.safety_automaton.specs.Safety.{Connection, Phase, Ready, WaitAu1, Wai
 use Rattle.safety_automaton.specs.Rules.{IsOpen}
 use Rattle.er_end_model.specs.Steps.{Finds}
 use Rattle.er_end_model.specs.Layers.{Core}
-use Rattle.er_end_model.specs.Ends.{Opening, Call, Answer, Event, Start, Come, Send, Take, Leave, Tick, Ended, Fault, Stalled, Moment, opened, run}
+use Rattle.er_end_model.specs.Ends.{Opening, Call, Answer, Event, Start, Come, Send, Take, Leave, Tick, Ended, Fault, Stalled, Moment, opened, end_run}
 use Rattle.tap_model.specs.Given.{received}
 
 -- ---- an opening
 
-abbrev pub number_of : Opening → ℕ
-number_of (Call settings me peer kmac rb now) = me
-number_of (Answer settings me ra now) = me
+abbrev pub etcs_number_of_end : Opening → ℕ
+etcs_number_of_end (Call settings me peer kmac rb now) = me
+etcs_number_of_end (Answer settings me ra now) = me
 
-abbrev pub role_of : Opening → Role
-role_of (Call settings me peer kmac rb now) = Initiator
-role_of (Answer settings me ra now) = Responder
+abbrev pub role_of_opened_end : Opening → Role
+role_of_opened_end (Call settings me peer kmac rb now) = Initiator
+role_of_opened_end (Answer settings me ra now) = Responder
 
 -- the flag of what comes to it
 abbrev pub flag_to : Opening → Bool
-flag_to o = flag_of (other_role (role_of o))
+flag_to o = flag_of (other_role (role_of_opened_end o))
 
 -- a KMAC is found, at some moment
-abbrev pub IsFound : Finds → (engine rbc : ℕ) → TripleKey → Type 0
-IsFound finds engine rbc kmac = (now : ℕ) × (finds now engine rbc ≡ Some kmac)
+abbrev pub IsKmacFound : Finds → (engine rbc : ℕ) → TripleKey → Type 0
+IsKmacFound finds engine rbc kmac = (now : ℕ) × (finds now engine rbc ≡ Some kmac)
 
 -- KMACs are looked up in this way alone
 abbrev pub LooksUp : Finds → Event → Type 0
@@ -56,7 +56,7 @@ pub record FirstAu1 (finds : Finds) (me ra : ℕ) (c : Connection) (first : List
   pub kmac : TripleKey
   pub read : read_of first ≡ Ok (Au1 c.peer 1 c.rb, false)
   pub own : c.ra ≡ ra
-  pub found : IsFound finds c.peer me kmac
+  pub found : IsKmacFound finds c.peer me kmac
   pub keys : c.session ≡ session_of kmac c.ra c.rb
 
 -- an AU2 that told them, to an initiator that called this peer with this KMAC and this random number
@@ -67,9 +67,9 @@ pub record FirstAu2 (peer : ℕ) (kmac : TripleKey) (rb : ℕ) (c : Connection) 
   pub own : c.rb ≡ rb
   pub keys : c.session ≡ session_of kmac c.ra c.rb
 
-abbrev pub IsFirst : Finds → Opening → Connection → List ℕ → Type 0
-IsFirst finds (Call settings me peer kmac rb now) c first = FirstAu2 peer kmac rb c first
-IsFirst finds (Answer settings me ra now) c first = FirstAu1 finds me ra c first
+abbrev pub IsFirstSetUpText : Finds → Opening → Connection → List ℕ → Type 0
+IsFirstSetUpText finds (Call settings me peer kmac rb now) c first = FirstAu2 peer kmac rb c first
+IsFirstSetUpText finds (Answer settings me ra now) c first = FirstAu1 finds me ra c first
 
 -- each text is a DT with this flag, whose MAC is that of its sealed text to this number under these keys, and these are their user octets
 abbrev pub AreMessages : TripleKey → (flag : Bool) → (me : ℕ) → (texts users : List (List ℕ)) → Type 0
@@ -90,7 +90,7 @@ pub record GotNone (given accepted sent : List (List ℕ)) : Type 0 where
 -- the first text was given, and nothing accepted or sent
 pub record GotOne (finds : Finds) (o : Opening) (c : Connection) (given accepted sent : List (List ℕ)) : Type 0 where
   pub first : List ℕ
-  pub is_first : IsFirst finds o c first
+  pub is_first : IsFirstSetUpText finds o c first
   pub given_is : given ≡ first ∷ []
   pub accepted_is : accepted ≡ []
   pub sent_is : sent ≡ []
@@ -100,9 +100,9 @@ pub record GotAll (finds : Finds) (o : Opening) (c : Connection) (given accepted
   pub first : List ℕ
   pub second : List ℕ
   pub texts : List (List ℕ)
-  pub is_first : IsFirst finds o c first
+  pub is_first : IsFirstSetUpText finds o c first
   pub given_is : given ≡ first ∷ second ∷ texts
-  pub messages : AreMessages c.session (flag_to o) (number_of o) texts accepted
+  pub messages : AreMessages c.session (flag_to o) (etcs_number_of_end o) texts accepted
 
 pub data Got (finds : Finds) (o : Opening) (given accepted sent : List (List ℕ)) : Type 0 where
   GotsNone : GotNone given accepted sent → Got finds o given accepted sent
@@ -110,36 +110,36 @@ pub data Got (finds : Finds) (o : Opening) (given accepted sent : List (List ℕ
   GotsAll : (c : Connection) → GotAll finds o c given accepted → Got finds o given accepted sent
 
 -- a side that waits for its first text, or is yet to call
-abbrev pub IsBeginning : Opening → Phase → Type 0
-IsBeginning (Call settings me peer kmac rb now) phase = (phase ≡ Ready peer kmac rb) ⊎ (phase ≡ WaitAu2 peer kmac rb)
-IsBeginning (Answer settings me ra now) phase = phase ≡ WaitAu1 ra
+abbrev pub IsBeginningPhase : Opening → Phase → Type 0
+IsBeginningPhase (Call settings me peer kmac rb now) phase = (phase ≡ Ready peer kmac rb) ⊎ (phase ≡ WaitAu2 peer kmac rb)
+IsBeginningPhase (Answer settings me ra now) phase = phase ≡ WaitAu1 ra
 
 -- one that waits for its second
-abbrev pub IsWaiting : Opening → Connection → Phase → Type 0
-IsWaiting (Call settings me peer kmac rb now) c phase = phase ≡ WaitAr c
-IsWaiting (Answer settings me ra now) c phase = phase ≡ WaitAu3 c
+abbrev pub WaitsForSecondText : Opening → Connection → Phase → Type 0
+WaitsForSecondText (Call settings me peer kmac rb now) c phase = phase ≡ WaitAr c
+WaitsForSecondText (Answer settings me ra now) c phase = phase ≡ WaitAu3 c
 
 -- by its phase; behind a release by how far it was
 pub data Stage (finds : Finds) (o : Opening) (phase : Phase) (given accepted sent : List (List ℕ)) : Type 0 where
-  Begins : IsBeginning o phase → GotNone given accepted sent → Stage finds o phase given accepted sent
-  Waits : (c : Connection) → IsWaiting o c phase → GotOne finds o c given accepted sent → Stage finds o phase given accepted sent
+  Begins : IsBeginningPhase o phase → GotNone given accepted sent → Stage finds o phase given accepted sent
+  Waits : (c : Connection) → WaitsForSecondText o c phase → GotOne finds o c given accepted sent → Stage finds o phase given accepted sent
   Speaks : (c : Connection) → phase ≡ Connected c.peer c.session → GotAll finds o c given accepted → Stage finds o phase given accepted sent
   Gone : (release : Release) (session : Option TripleKey) → phase ≡ Released release session → (front rest : List (List ℕ)) → given ≡ front ++ rest
       → Got finds o front accepted sent → Stage finds o phase given accepted sent
 
 -- how far a side is, which was given these texts
 pub record Progresses (finds : Finds) (o : Opening) (given : List (List ℕ)) (x : Core) : Type 0 where
-  pub me : x.safe.safety.me ≡ number_of o
-  pub role : x.safe.safety.role ≡ role_of o
+  pub me : x.safe.safety.me ≡ etcs_number_of_end o
+  pub role : x.safe.safety.role ≡ role_of_opened_end o
   pub stage : Stage finds o x.safe.safety.phase given x.upper.accepted x.upper.sent
 
 -- every end behind all events, where KMACs are looked up in one way
 abbrev pub SidesProgress : Type 0
 SidesProgress =
     (opening : Opening) (finds : Finds) (events : List Moment) → AllLookUp finds events
-    → Progresses finds opening (received events (opened opening)) (run events (opened opening)).core
+    → Progresses finds opening (received events (opened opening)) (end_run events (opened opening)).core
 
 -- and the safety side of an end that isn't released isn't released either
 abbrev pub LiveSides : Type 0
 LiveSides =
-    (opening : Opening) (events : List Moment) → (run events (opened opening)).core.released ≡ None → IsOpen (run events (opened opening)).core.safe.safety.phase
+    (opening : Opening) (events : List Moment) → (end_run events (opened opening)).core.released ≡ None → IsOpen (end_run events (opened opening)).core.safe.safety.phase

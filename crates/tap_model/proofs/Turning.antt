@@ -5,15 +5,15 @@ use Rattle.er_base.specs.declared.side.Side.{Side}
 use Rattle.hdlc_frames.specs.Framing.{frames_of}
 use Rattle.t70_header.specs.Joining as joining
 use Rattle.x224_tpdu.specs.declared.fault.TpFault.{TpFault}
-use Rattle.x224_tpdu.specs.Spelling.{Pdu, connection_request, connection_confirm, disconnect_request, disconnect_confirm, data_tpdu, acknowledgement, tpdu_error}
+use Rattle.x224_tpdu.specs.Spelling.{TransportPdu, connection_request, connection_confirm, disconnect_request, disconnect_confirm, data_tpdu, acknowledgement, tpdu_error}
 use Rattle.x224_tpdu.specs.Function.{reading}
 use Rattle.sapdu.specs.Messages.{most_octets}
-use Rattle.tap_model.specs.Hearing.{ReadFrame, frames_read, opens, behind_opening, ends, before_end, is_next, in_sequence, pdu_before, tpdu_before, tpdus_from, pdus_in, Hearing, silence, with_text, texts_from, heard_of, payloads, heard}
-use Rattle.tap_model.specs.Ears.{Ear, new_ear, hears_of, hears, GoesOn, Says, Ends, turn_at_pdu, turn_at_block, turn_at_piece, turn, behind_turn, HearingTurns}
+use Rattle.tap_model.specs.Hearing.{ReadFrame, frames_read, is_link_opening, behind_opening, ends, before_end, is_next, in_sequence, pdu_before, tpdu_before, tpdus_from, pdus_in, Hearing, silence, with_text, texts_from, heard_of, payloads, heard}
+use Rattle.tap_model.specs.Ears.{Ear, new_ear, hears_of, hearing_of_frames, GoesOn, Says, Ends, turn_at_pdu, turn_at_block, turn_at_piece, turn_of_tap_frame, behind_turn, HearingTurns}
 
 module _ (side : Side) (fs : List ReadFrame) where
   abbrev later : Ear → Hearing
-  later next = hears side next fs
+  later next = hearing_of_frames side next fs
 
   -- the pieces that count behind so many
   abbrev pieces : ℕ → List (List ℕ)
@@ -34,14 +34,14 @@ module _ (side : Side) (fs : List ReadFrame) where
         else if b then Ends
         else if last then Says (begun ++ user) (record ear { dts = dts + 1; begun = [] })
         else GoesOn (record ear { dts = dts + 1; begun = begun ++ user })) later
-    unfolding hears
+    unfolding hearing_of_frames
     data_turns user false b last = refl
     data_turns user true true last = refl
     data_turns user true false true = refl
     data_turns user true false false = refl
 
-    pdu_turns : (read : Result Pdu TpFault) → texts_from dts begun (pdu_before read (pdus_in (tpdus_from held (pieces n)))) ≡ behind_turn (turn_at_pdu ear read) later
-    unfolding hears texts_from
+    pdu_turns : (read : Result TransportPdu TpFault) → texts_from dts begun (pdu_before read (pdus_in (tpdus_from held (pieces n)))) ≡ behind_turn (turn_at_pdu ear read) later
+    unfolding hearing_of_frames texts_from
     pdu_turns (Ok (connection_request credit dst src size user)) = refl
     pdu_turns (Ok (connection_confirm credit dst src size user)) = refl
     pdu_turns (Ok (disconnect_request dst src reason user)) = refl
@@ -51,8 +51,8 @@ module _ (side : Side) (fs : List ReadFrame) where
     pdu_turns (Ok (tpdu_error dst cause)) = refl
     pdu_turns (Err fault) = refl
 
-    block_turns : (answer : joining.Answer) → texts_from dts begun (pdus_in (tpdu_before answer (tpdus_from held (pieces n)))) ≡ behind_turn (turn_at_block ear answer) later
-    unfolding hears texts_from pdus_in
+    block_turns : (answer : joining.BlockJoiningResult) → texts_from dts begun (pdus_in (tpdu_before answer (tpdus_from held (pieces n)))) ≡ behind_turn (turn_at_block ear answer) later
+    unfolding hearing_of_frames texts_from pdus_in
     block_turns (Ok None) = refl
     block_turns (Ok (Some tpdu)) = pdu_turns (reading tpdu)
     block_turns (Err fault) = refl
@@ -61,36 +61,36 @@ module _ (side : Side) (fs : List ReadFrame) where
       → hears_of (ear n held dts begun) (piece ∷ pieces (n + 1)) ≡ behind_turn (turn_at_piece (ear n held dts begun) piece) later
   unfolding tpdus_from
   piece_turns n held dts begun piece =
-      let joined = joining.step held piece in block_turns (n + 1) joined.0 dts begun joined.1
+      let joined = joining.block_step held piece in block_turns (n + 1) joined.0 dts begun joined.1
 
   module _ (f : ReadFrame) (n : ℕ) (held : List ℕ) (dts : ℕ) (begun : List ℕ) where
     abbrev here : Ear
     here = ear n held dts begun
 
     -- whether it ends the link, and whether it counts
-    open_turns : (e b : Bool) → ends side f ≡ e → is_next side n f ≡ b → hears side here (f ∷ fs) ≡ behind_turn (turn side here f) later
-    unfolding hears turn before_end in_sequence tpdus_from pdus_in texts_from
+    open_turns : (e b : Bool) → ends side f ≡ e → is_next side n f ≡ b → hearing_of_frames side here (f ∷ fs) ≡ behind_turn (turn_of_tap_frame side here f) later
+    unfolding hearing_of_frames turn_of_tap_frame before_end in_sequence tpdus_from pdus_in texts_from
     open_turns true b is next = rw is refl
     open_turns false true is next = rw (is, next) (piece_turns n held dts begun f.information)
     open_turns false false is next = rw (is, next) refl
 
-    closed_turns : (o : Bool) → opens side f ≡ o → hears side (record here { opened = false }) (f ∷ fs) ≡ behind_turn (turn side (record here { opened = false }) f) later
-    unfolding hears turn behind_opening heard_of
+    closed_turns : (o : Bool) → is_link_opening side f ≡ o → hearing_of_frames side (record here { opened = false }) (f ∷ fs) ≡ behind_turn (turn_of_tap_frame side (record here { opened = false }) f) later
+    unfolding hearing_of_frames turn_of_tap_frame behind_opening heard_of
     closed_turns true is = rw is refl
     closed_turns false is = rw is refl
 
-    turns : (opened : Bool) → hears side (record here { opened = opened }) (f ∷ fs) ≡ behind_turn (turn side (record here { opened = opened }) f) later
+    turns : (opened : Bool) → hearing_of_frames side (record here { opened = opened }) (f ∷ fs) ≡ behind_turn (turn_of_tap_frame side (record here { opened = opened }) f) later
     turns true = open_turns (ends side f) (is_next side n f) refl refl
-    turns false = closed_turns (opens side f) refl
+    turns false = closed_turns (is_link_opening side f) refl
 
 rests : (side : Side) (n : ℕ) (held : List ℕ) (dts : ℕ) (begun : List ℕ) (opened : Bool)
-    → hears side (record { opened = opened; count = n; held = held; dts = dts; begun = begun }) [] ≡ silence
-unfolding hears behind_opening before_end in_sequence heard_of tpdus_from pdus_in texts_from
+    → hearing_of_frames side (record { opened = opened; count = n; held = held; dts = dts; begun = begun }) [] ≡ silence
+unfolding hearing_of_frames behind_opening before_end in_sequence heard_of tpdus_from pdus_in texts_from
 rests side n held dts begun true = refl
 rests side n held dts begun false = refl
 
-begins : (side : Side) (stream : List ℕ) → hears side new_ear (frames_read (frames_of stream)) ≡ heard side stream
-unfolding hears heard payloads
+begins : (side : Side) (stream : List ℕ) → hearing_of_frames side new_ear (frames_read (frames_of stream)) ≡ heard side stream
+unfolding hearing_of_frames heard payloads
 begins side stream = refl
 
 pub hearing_turns : HearingTurns

@@ -1,4 +1,5 @@
 -- The octets that the safety side of an end was given, over its events (this profile); and that they are what is heard of the other side.
+use Rattle.hdlc_station_model.specs.Lines.{IsPrefix}
 use Rattle.std.specs.Prelude.{ℕ, ◌≡◌, ◌≤◌, List, [], ◌∷◌, ◌++◌, length, take, Option, Some, None}
 use Rattle.std.specs.List.{flat_map}
 use Rattle.er_base.specs.declared.side.Side.{Side}
@@ -10,8 +11,8 @@ use Rattle.safety_automaton.specs.Safety.{SafetyEvent, ConnectRequest, Received,
 use Rattle.er_end_model.specs.Outcomes.{SendRefusal}
 use Rattle.er_end_model.specs.Steps.{Finds, new_event_at, step_frame, refusal_of}
 use Rattle.er_end_model.specs.Layers.{Spoken, Core, model}
-use Rattle.er_end_model.specs.Ends.{Opening, Call, Answer, Event, Start, Come, Send, Take, Leave, Tick, Ended, Fault, Stalled, End, Moment, opened, step, run}
-use Rattle.er_end_model.specs.Origins.{octets_in}
+use Rattle.er_end_model.specs.Ends.{Opening, Call, Answer, Event, Start, Come, Send, Take, Leave, Tick, Ended, Fault, Stalled, End, Moment, opened, step_event, end_run}
+use Rattle.er_end_model.specs.Origins.{octets_brought_by_event}
 use Rattle.tap_model.specs.Hearing.{heard, payloads}
 
 -- the octets that came, where the safety side was given some
@@ -42,46 +43,43 @@ received_unless None x = received_by x
 
 -- in one event
 abbrev pub received_at : (now : ℕ) → Event → End → List (List ℕ)
-received_at now Start m = received_by (step now Start m).0.core
+received_at now Start m = received_by (step_event now Start m).0.core
 received_at now (Come finds octets) m = received_of_each finds now (news m.stream octets) (new_event_at model now m.core)
-received_at now (Send user) m = received_unless (refusal_of model user m.core) (step now (Send user) m).0.core
-received_at now Take m = received_by (step now Take m).0.core
-received_at now (Leave sub) m = received_by (step now (Leave sub) m).0.core
-received_at now Tick m = received_by (step now Tick m).0.core
-received_at now Ended m = received_by (step now Ended m).0.core
-received_at now Fault m = received_by (step now Fault m).0.core
-received_at now Stalled m = received_by (step now Stalled m).0.core
+received_at now (Send user) m = received_unless (refusal_of model user m.core) (step_event now (Send user) m).0.core
+received_at now Take m = received_by (step_event now Take m).0.core
+received_at now (Leave sub) m = received_by (step_event now (Leave sub) m).0.core
+received_at now Tick m = received_by (step_event now Tick m).0.core
+received_at now Ended m = received_by (step_event now Ended m).0.core
+received_at now Fault m = received_by (step_event now Fault m).0.core
+received_at now Stalled m = received_by (step_event now Stalled m).0.core
 
 -- in several
 abbrev pub received : List Moment → End → List (List ℕ)
 received [] m = []
-received (e ∷ events) m = received_at e.now e.event m ++ received events (step e.now e.event m).0
+received (e ∷ events) m = received_at e.now e.event m ++ received events (step_event e.now e.event m).0
 
 -- the octets that came from the line, joined
-abbrev pub octets_of : List Moment → List ℕ
-octets_of events = flat_map (λ e. octets_in e.event) events
+abbrev pub octets_of_moments : List Moment → List ℕ
+octets_of_moments events = flat_map (λ e. octets_brought_by_event e.event) events
 
 -- the side that sends to an end
 abbrev pub sender_to : Opening → Side
 sender_to (Call settings me peer kmac rb now) = R
 sender_to (Answer settings me ra now) = E
 
-abbrev pub settings_of : Opening → Settings
-settings_of (Call settings me peer kmac rb now) = settings
-settings_of (Answer settings me ra now) = settings
+abbrev pub settings_of_opening : Opening → Settings
+settings_of_opening (Call settings me peer kmac rb now) = settings
+settings_of_opening (Answer settings me ra now) = settings
 
 -- an end that calls is started before anything else
-abbrev pub IsBegun : Opening → List Moment → Type 0
-IsBegun (Call settings me peer kmac rb now) [] = Unit {0}
-IsBegun (Call settings me peer kmac rb now) (e ∷ events) = e.event ≡ Start
-IsBegun (Answer settings me ra now) events = Unit {0}
+abbrev pub IsCallerStartedFirst : Opening → List Moment → Type 0
+IsCallerStartedFirst (Call settings me peer kmac rb now) [] = Unit {0}
+IsCallerStartedFirst (Call settings me peer kmac rb now) (e ∷ events) = e.event ≡ Start
+IsCallerStartedFirst (Answer settings me ra now) events = Unit {0}
 
 -- ---- what was given is what is heard
 
-abbrev pub IsPrefix : List (List ℕ) → List (List ℕ) → Type 0
-IsPrefix xs ys = xs ≡ take (length xs) ys
-
-pub record IsHeard (side : Side) (stream : List ℕ) (came : List (List ℕ)) (m : End) : Type 0 where
+pub record HasHeardStreamTexts (side : Side) (stream : List ℕ) (came : List (List ℕ)) (m : End) : Type 0 where
   pub given : IsPrefix came (heard side stream).texts
   -- while it isn't released it was given all; a DR releases, so there is no last item from one
   pub all : m.core.released ≡ None → (came ≡ (heard side stream).texts) × ((heard side stream).parting ≡ None)
@@ -92,5 +90,5 @@ pub record IsHeard (side : Side) (stream : List ℕ) (came : List (List ℕ)) (m
 -- of every end at modulo 8 that is started first where it calls, behind all events
 abbrev pub GivenIsHeard : Type 0
 GivenIsHeard =
-    (opening : Opening) (events : List Moment) → (settings_of opening).modulo ≡ 8 → IsBegun opening events
-    → IsHeard (sender_to opening) (octets_of events) (received events (opened opening)) (run events (opened opening))
+    (opening : Opening) (events : List Moment) → (settings_of_opening opening).modulo ≡ 8 → IsCallerStartedFirst opening events
+    → HasHeardStreamTexts (sender_to opening) (octets_of_moments events) (received events (opened opening)) (end_run events (opened opening))

@@ -12,7 +12,7 @@ use Rattle.hdlc_frames.specs.ControlOctets.{control_of}
 use Rattle.hdlc_frames.specs.Framing.{Verdict, Frame, BadFcs, TooShort, TooLong, Aborted, frames_of}
 use Rattle.t70_header.specs.Joining as joining
 use Rattle.x224_tpdu.specs.declared.fault.TpFault.{TpFault}
-use Rattle.x224_tpdu.specs.Spelling.{Pdu, connection_request, connection_confirm, disconnect_request, disconnect_confirm, data_tpdu, acknowledgement, tpdu_error}
+use Rattle.x224_tpdu.specs.Spelling.{TransportPdu, connection_request, connection_confirm, disconnect_request, disconnect_confirm, data_tpdu, acknowledgement, tpdu_error}
 use Rattle.x224_tpdu.specs.Function.{reading}
 use Rattle.sapdu.specs.Messages.{most_octets}
 
@@ -40,9 +40,9 @@ unfoldable pub frames_read : List Verdict → List ReadFrame
 frames_read verdicts = flat_map read_frame verdicts
 
 -- the address of each end (ISO/IEC 13239): 03 of the one that calls, 01 of the other
-abbrev pub address_of : Side → ℕ
-address_of E = 0x03
-address_of R = 0x01
+abbrev pub address_of_side : Side → ℕ
+address_of_side E = 0x03
+address_of_side R = 0x01
 
 -- what a control is to what is heard
 pub data Sort : Type 0 where
@@ -89,13 +89,13 @@ is_opening R Leaves information = false
 is_opening R Passes information = false
 
 -- both bear the address of the radio block centre's side
-abbrev pub opens : Side → ReadFrame → Bool
-opens side f = (f.address == address_of R) && is_opening side (sort_of f.control) f.information
+abbrev pub is_link_opening : Side → ReadFrame → Bool
+is_link_opening side f = (f.address == address_of_side R) && is_opening side (sort_of f.control) f.information
 
 -- where none opens the link, nothing is left
 unfoldable pub behind_opening : Side → List ReadFrame → List ReadFrame
 behind_opening side [] = []
-behind_opening side (f ∷ fs) = if opens side f then fs else behind_opening side fs
+behind_opening side (f ∷ fs) = if is_link_opening side f then fs else behind_opening side fs
 
 -- ---- step 6: the end of the link
 
@@ -104,8 +104,8 @@ abbrev pub is_end : Side → Sort → (address : ℕ) → Bool
 is_end side (Carries ns) address = false
 is_end side SetsUp address = false
 is_end side Agrees address = false
-is_end side Disconnects address = address == address_of (other side)
-is_end side Leaves address = address == address_of side
+is_end side Disconnects address = address == address_of_side (other side)
+is_end side Leaves address = address == address_of_side side
 is_end side Passes address = false
 
 abbrev pub ends : Side → ReadFrame → Bool
@@ -128,7 +128,7 @@ has_number count Passes = false
 
 -- an I frame to the receiver that has the next number
 abbrev pub is_next : Side → (count : ℕ) → ReadFrame → Bool
-is_next side count f = (f.address == address_of (other side)) && has_number count (sort_of f.control)
+is_next side count f = (f.address == address_of_side (other side)) && has_number count (sort_of f.control)
 
 unfoldable pub in_sequence : Side → (count : ℕ) → List ReadFrame → List (List ℕ)
 in_sequence side count [] = []
@@ -141,7 +141,7 @@ payloads side stream = in_sequence side 0 (before_end side (behind_opening side 
 
 -- ---- step 3: blocks, and TPDUs
 
-abbrev pub tpdu_before : joining.Answer → List (List ℕ) → List (List ℕ)
+abbrev pub tpdu_before : joining.BlockJoiningResult → List (List ℕ) → List (List ℕ)
 tpdu_before (Ok None) rest = rest
 tpdu_before (Ok (Some tpdu)) rest = tpdu ∷ rest
 tpdu_before (Err fault) rest = []
@@ -149,14 +149,14 @@ tpdu_before (Err fault) rest = []
 -- those that are joined behind the octets that are held, up to the first block that is faulty
 unfoldable pub tpdus_from : (held : List ℕ) → List (List ℕ) → List (List ℕ)
 tpdus_from held [] = []
-tpdus_from held (block ∷ blocks) = let joined = joining.step held block in tpdu_before joined.1 (tpdus_from joined.0 blocks)
+tpdus_from held (block ∷ blocks) = let joined = joining.block_step held block in tpdu_before joined.1 (tpdus_from joined.0 blocks)
 
-abbrev pub pdu_before : Result Pdu TpFault → List Pdu → List Pdu
+abbrev pub pdu_before : Result TransportPdu TpFault → List TransportPdu → List TransportPdu
 pdu_before (Ok pdu) rest = pdu ∷ rest
 pdu_before (Err fault) rest = []
 
 -- what they are read as, up to the first that is faulty
-unfoldable pub pdus_in : List (List ℕ) → List Pdu
+unfoldable pub pdus_in : List (List ℕ) → List TransportPdu
 pdus_in [] = []
 pdus_in (tpdu ∷ tpdus) = pdu_before (reading tpdu) (pdus_in tpdus)
 
@@ -174,7 +174,7 @@ abbrev pub with_text : List ℕ → Hearing → Hearing
 with_text text h = record { texts = text ∷ h.texts; parting = h.parting }
 
 -- where so many DTs came, and a message was begun with these octets: a DT out of number, a message above 1,032 octets, a DC and an ER end them
-unfoldable pub texts_from : (dts : ℕ) → (begun : List ℕ) → List Pdu → Hearing
+unfoldable pub texts_from : (dts : ℕ) → (begun : List ℕ) → List TransportPdu → Hearing
 texts_from dts begun [] = silence
 texts_from dts begun (connection_request credit dst src size user ∷ pdus) = with_text user (texts_from dts begun pdus)
 texts_from dts begun (connection_confirm credit dst src size user ∷ pdus) = with_text user (texts_from dts begun pdus)

@@ -23,9 +23,9 @@ abbrev pub fault_at : (opened : List ℕ) → (line : ℕ) → TapStep → Optio
 fault_at opened line (step.Link n engine rbc at) = if has n opened then Some (TwiceAt line n) else None
 fault_at opened line (step.Octets n side text) = if has n opened then None else Some (NoLinkAt line n)
 
-abbrev pub opened_by : TapStep → List ℕ → List ℕ
-opened_by (step.Link n engine rbc at) opened = n ∷ opened
-opened_by (step.Octets n side text) opened = opened
+abbrev pub links_opened_behind : TapStep → List ℕ → List ℕ
+links_opened_behind (step.Link n engine rbc at) opened = n ∷ opened
+links_opened_behind (step.Octets n side text) opened = opened
 
 abbrev pub or_else : Option TapFault → Option TapFault → Option TapFault
 or_else None later = later
@@ -34,10 +34,10 @@ or_else (Some fault) later = Some fault
 -- the first fault behind lines that opened these links
 unfoldable pub fault_from : (opened : List ℕ) → List TapLine → Option TapFault
 fault_from opened [] = None
-fault_from opened (x ∷ rest) = or_else (fault_at opened x.line x.step) (fault_from (opened_by x.step opened) rest)
+fault_from opened (x ∷ rest) = or_else (fault_at opened x.line x.step) (fault_from (links_opened_behind x.step opened) rest)
 
-abbrev pub fault_of : List TapLine → Option TapFault
-fault_of lines = fault_from [] lines
+abbrev pub fault_of_tap_lines : List TapLine → Option TapFault
+fault_of_tap_lines lines = fault_from [] lines
 
 -- ---- what the lines say of a link
 
@@ -56,9 +56,9 @@ first_opening None later = later
 first_opening (Some opening) later = Some opening
 
 -- by the first line that opens it
-unfoldable pub opening_of : ℕ → List TapLine → Option TapOpening
-opening_of n [] = None
-opening_of n (x ∷ rest) = first_opening (opens_link n x.step) (opening_of n rest)
+unfoldable pub tap_opening_of_link : ℕ → List TapLine → Option TapOpening
+tap_opening_of_link n [] = None
+tap_opening_of_link n (x ∷ rest) = first_opening (opens_link n x.step) (tap_opening_of_link n rest)
 
 abbrev pub is_side : Side → Side → Bool
 is_side E E = true

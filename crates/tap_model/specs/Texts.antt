@@ -7,27 +7,27 @@ use Rattle.er_base.specs.Hexadecimal.{hex_of}
 use Rattle.er_base.specs.LineTexts.{lines_text}
 use Rattle.er_base.specs.Sides.{side_word}
 use Rattle.er_tap.specs.declared.tap_line.TapLine.{TapLine}
-use Rattle.sapdu.specs.Spelling.{Pdu, Au1, Au2, Au3, Ar, Dt, Di}
+use Rattle.sapdu.specs.Spelling.{SafetyPdu, Au1, Au2, Au3, Ar, Dt, Di}
 use Rattle.er_end_model.specs.Steps.{Finds}
 use Rattle.tap_model.specs.VerdictWords.{verdict_word}
 use Rattle.tap_model.specs.Hearing.{heard, items}
 use Rattle.tap_model.specs.Verdicts.{Known, Read, known_of, Judged, judged_from, user_read}
-use Rattle.tap_model.specs.Lines.{TapOpening, opening_of, stream_of}
+use Rattle.tap_model.specs.Lines.{TapOpening, tap_opening_of_link, stream_of}
 
 -- ---- a line
 
-abbrev pub kind_of : Pdu → List ℕ
-kind_of (Au1 id feature rb) = codes "au1"
-kind_of (Au2 id feature ra mac) = codes "au2"
-kind_of (Au3 mac) = codes "au3"
-kind_of (Ar mac) = codes "ar"
-kind_of (Dt user mac) = codes "dt"
-kind_of (Di reason sub) = codes "di"
+abbrev pub sapdu_kind_word : SafetyPdu → List ℕ
+sapdu_kind_word (Au1 id feature rb) = codes "au1"
+sapdu_kind_word (Au2 id feature ra mac) = codes "au2"
+sapdu_kind_word (Au3 mac) = codes "au3"
+sapdu_kind_word (Ar mac) = codes "ar"
+sapdu_kind_word (Dt user mac) = codes "dt"
+sapdu_kind_word (Di reason sub) = codes "di"
 
 -- of what can't be read, a dash
 abbrev pub kind_word : Read → List ℕ
 kind_word (Err fault) = codes "-"
-kind_word (Ok read) = kind_of read.0
+kind_word (Ok read) = sapdu_kind_word read.0
 
 -- the words of an item: link, side, kind, verdict; a dt has its user octets behind, whatever the verdict
 abbrev pub item_words : ℕ → Side → Judged → List (List ℕ)
@@ -56,7 +56,7 @@ link_text finds lines n (Some o) = side_text n E (judged_at finds n o lines E) +
 -- those from number n on, so many
 unfoldable pub links_text : Finds → List TapLine → (n count : ℕ) → List ℕ
 links_text finds lines n zero = []
-links_text finds lines n (suc count) = link_text finds lines n (opening_of n lines) ++ links_text finds lines (n + 1) count
+links_text finds lines n (suc count) = link_text finds lines n (tap_opening_of_link n lines) ++ links_text finds lines (n + 1) count
 
 abbrev pub audit_text : Finds → List TapLine → List ℕ
 audit_text finds lines = links_text finds lines 1 64

@@ -5,7 +5,7 @@ ghost use Rattle.er_end_model.specs.Outcomes.{Taken as TakenText, NothingToTake,
 ghost use Rattle.er_end_model.specs.Steps.{if_connected, if_accepted, if_released, if_octets, outcomes_of};
 ghost use Rattle.er_end.specs.KeptLayers.{KCore, kept};
 ghost use Rattle.er_end.specs.Shown.{Shows, refusal_view};
-ghost use Rattle.er_end.specs.Given.{if_refused, taking_told, deeds_told, outcomes_in};
+ghost use Rattle.er_end.specs.Given.{if_refused, taking_told, outcomes_of_deeds, outcomes_in};
 ghost use Rattle.trace_model.specs.Printed.{outcomes_text};
 
 use er_base::{NoMemory, Release};
@@ -55,7 +55,7 @@ pub fn tell_octets(conn: u64, octets: &[u8], out: &mut Vec<u8>) -> Result<(), No
 
 // What is told of any event.
 fn tell_deeds(conn: u64, deeds: &Deeds<'_>, out: &mut Vec<u8>) -> Result<(), NoMemory>
-    ensures { OnOk result (out.new.items ≡ out.old.items ++ outcomes_text conn (deeds_told deeds.now)) }
+    ensures { OnOk result (out.new.items ≡ out.old.items ++ outcomes_text conn (outcomes_of_deeds deeds.now)) }
 {
     tell_connected(conn, deeds.connected, out)?;
     tell_accepted(conn, &deeds.accepted, out)?;

@@ -33,10 +33,10 @@ role_of Stalled = Belongs
 role_of (Full count) = Declines
 role_of (Unserved count) = Declines
 
-abbrev pub opens : Role → Bool
-opens Opens = true
-opens Declines = false
-opens Belongs = false
+abbrev pub is_opening_role : Role → Bool
+is_opening_role Opens = true
+is_opening_role Declines = false
+is_opening_role Belongs = false
 
 abbrev pub names : Role → Bool
 names Opens = true
@@ -49,7 +49,7 @@ is_named conn before = list_any (λ e. names (role_of e.event) && (e.conn == con
 
 -- a call or an answer opened it
 unfoldable pub is_opened : ℕ → List Entry → Bool
-is_opened conn before = list_any (λ e. opens (role_of e.event) && (e.conn == conn)) before
+is_opened conn before = list_any (λ e. is_opening_role (role_of e.event) && (e.conn == conn)) before
 
 -- the greatest moment
 unfoldable pub last_moment : List Entry → ℕ
@@ -62,13 +62,13 @@ is_live None = false
 is_live (Some m) = not (is_some m.core.released && (model.untaken m.core.upper == 0))
 
 -- the connections that were opened, in their order
-unfoldable pub opened_in : List Entry → List ℕ
-opened_in [] = []
-opened_in (entry ∷ entries) = if opens (role_of entry.event) then entry.conn ∷ opened_in entries else opened_in entries
+unfoldable pub connections_opened_in_trace : List Entry → List ℕ
+connections_opened_in_trace [] = []
+connections_opened_in_trace (entry ∷ entries) = if is_opening_role (role_of entry.event) then entry.conn ∷ connections_opened_in_trace entries else connections_opened_in_trace entries
 
 -- how many of their ends are live
 unfoldable pub live_count : Settings → Finds → List Entry → ℕ
-live_count settings finds before = length (filter (λ conn. is_live (end_at settings finds conn before)) (opened_in before))
+live_count settings finds before = length (filter (λ conn. is_live (end_at settings finds conn before)) (connections_opened_in_trace before))
 
 -- so many ends may be live at once
 abbrev pub most_live : ℕ
@@ -108,7 +108,7 @@ role_check settings finds before e Declines = if is_named e.conn before then Som
 role_check settings finds before e Belongs = if is_opened e.conn before then None else Some (NoConn e.line e.conn)
 
 -- 1: its moment isn't below an earlier one; then the others
-unfoldable pub fault_of : Settings → Finds → List Entry → Entry → Option ReplayFault
-fault_of settings finds before e =
+unfoldable pub fault_of_trace_event : Settings → Finds → List Entry → Entry → Option ReplayFault
+fault_of_trace_event settings finds before e =
     if nat_lt e.moment (last_moment before) then Some (MomentBack e.line (last_moment before) e.moment)
     else role_check settings finds before e (role_of e.event)

@@ -8,22 +8,22 @@ use Rattle.er_trace.specs.declared.event.Event.{Event}
 use Rattle.er_trace.specs.declared.event.Event.TheVariants.{Call, Answer, Octets, Send, Take, Release, Tick, Ended, Fault, Stalled, Full, Unserved}
 use Rattle.er_end_model.specs.Outcomes.{Outcome}
 use Rattle.er_end_model.specs.Steps.{Finds}
-use Rattle.er_end_model.specs.Ends.{End, opened, step}
+use Rattle.er_end_model.specs.Ends.{End, opened, step_event}
 use Rattle.er_end_model.specs.Ends as at_end
 
 -- one more event of an end that was opened: the end behind it, and its outcomes
 abbrev pub goes_on : ℕ → at_end.Event → Option End → Option End × List Outcome
 goes_on now event None = (None, [])
-goes_on now event (Some m) = let r = step now event m in (Some r.0, r.1)
+goes_on now event (Some m) = let r = step_event now event m in (Some r.0, r.1)
 
 -- a call: the opening with the KMAC of its pair, where there is one, and the start
-abbrev pub called : Settings → (now engine rbc rb : ℕ) → Option TripleKey → Option End → Option End × List Outcome
-called settings now engine rbc rb None m = (m, [])
-called settings now engine rbc rb (Some kmac) m = goes_on now at_end.Start (Some (opened (at_end.Call settings engine rbc kmac rb now)))
+abbrev pub end_behind_call : Settings → (now engine rbc rb : ℕ) → Option TripleKey → Option End → Option End × List Outcome
+end_behind_call settings now engine rbc rb None m = (m, [])
+end_behind_call settings now engine rbc rb (Some kmac) m = goes_on now at_end.Start (Some (opened (at_end.Call settings engine rbc kmac rb now)))
 
 -- an event at its moment, by settings and by how KMACs are looked up
 abbrev pub happens : Settings → Finds → ℕ → Event → Option End → Option End × List Outcome
-happens settings finds now (Call engine rbc rb) m = called settings now engine rbc rb (finds now engine rbc) m
+happens settings finds now (Call engine rbc rb) m = end_behind_call settings now engine rbc rb (finds now engine rbc) m
 happens settings finds now (Answer rbc ra) m = (Some (opened (at_end.Answer settings rbc ra now)), [])
 happens settings finds now (Octets octets) m = goes_on now (at_end.Come finds octets) m
 happens settings finds now (Send text) m = goes_on now (at_end.Send text) m

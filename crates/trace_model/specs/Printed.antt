@@ -10,24 +10,24 @@ use Rattle.er_end_model.specs.Steps.{Finds}
 use Rattle.trace_model.specs.Connections.{happens, end_at}
 
 -- an outcome as a trace tells it
-abbrev pub refused : SendRefusal → trace.Outcome
+abbrev pub refused : SendRefusal → trace.TraceOutcome
 refused (RefusedReleased release) = trace.RefusedReleased release
 refused RefusedNotConnected = trace.RefusedNotConnected
 refused (RefusedLength octets) = trace.RefusedLength octets
 refused (RefusedFull waiting) = trace.RefusedFull waiting
 
-abbrev pub told : Outcome → trace.Outcome
-told (ConnectedTo peer) = trace.Connected peer
-told (Accepted message) = trace.Accepted message
-told (Taken message) = trace.Taken message
-told NothingToTake = trace.Empty
-told (Refused refusal) = refused refusal
-told (WasReleased release) = trace.Released release
-told (Octets octets) = trace.Octets octets
+abbrev pub trace_outcome_of : Outcome → trace.TraceOutcome
+trace_outcome_of (ConnectedTo peer) = trace.Connected peer
+trace_outcome_of (Accepted message) = trace.Accepted message
+trace_outcome_of (Taken message) = trace.Taken message
+trace_outcome_of NothingToTake = trace.Empty
+trace_outcome_of (Refused refusal) = refused refusal
+trace_outcome_of (WasReleased release) = trace.Released release
+trace_outcome_of (Octets octets) = trace.Octets octets
 
 -- the lines of outcomes at a connection
 unfoldable pub outcomes_text : (conn : ℕ) → List Outcome → List ℕ
-outcomes_text conn outcomes = lines_text (map (λ o. outcome_words conn (told o)) outcomes)
+outcomes_text conn outcomes = lines_text (map (λ o. outcome_words conn (trace_outcome_of o)) outcomes)
 
 -- the outcomes of an event, behind those before it
 abbrev pub outcomes_at : Settings → Finds → List Entry → Entry → List Outcome
@@ -46,5 +46,5 @@ entries_text settings finds before (entry ∷ entries) =
     entry_text settings finds before entry ++ entries_text settings finds (before ++ entry ∷ []) entries
 
 -- the whole text
-abbrev pub printed : Settings → Finds → List Entry → List ℕ
-printed settings finds entries = line_text (header_words settings) ++ entries_text settings finds [] entries
+abbrev pub text_of_trace : Settings → Finds → List Entry → List ℕ
+text_of_trace settings finds entries = line_text (header_words settings) ++ entries_text settings finds [] entries

@@ -8,10 +8,10 @@ use Rattle.er_end_model.specs.Outcomes.{Outcome, SendRefusal}
 use Rattle.er_end_model.specs.Steps.{Finds, new_event, new_event_at, on_start, on_release, on_tick, on_take, on_break, step_break, on_send, refusal_of, step_send_unless, outcomes_of, if_taken}
 use Rattle.er_end_model.specs.Layers.{Core, model}
 use Rattle.hdlc_station_model.specs.Events.{news}
-use Rattle.er_end_model.specs.Ends.{End, Event, Start, Come, Send, Take, Leave, Tick, Ended, Fault, Stalled, hears_each, told_of_each, step, with_core, if_refused}
-use Rattle.er_end.specs.KeptEnds.{KEnd, happens, tells}
+use Rattle.er_end_model.specs.Ends.{End, Event, Start, Come, Send, Take, Leave, Tick, Ended, Fault, Stalled, hears_each, told_of_each, step_event, with_core, refusal_or_outcomes}
+use Rattle.er_end.specs.KeptEnds.{KEnd, kept_end_behind_event, tells}
 use Rattle.er_end.specs.Standing.{StepsAlike, event_of}
-use Rattle.trace_replay.specs.Places.{AlikeFrom, Follows}
+use Rattle.trace_replay.specs.Places.{AlikeFrom, StandsForAlikeEnd}
 
 pub alike_same : (now : ℕ) (m n : End) → m ≡ n → AlikeFrom now m n
 alike_same now m n p = record {
@@ -70,7 +70,7 @@ breaks_alike last now cause m n a le = (
 -- a send, by why it is refused, where it is
 sends_alike : (last now : ℕ) (user : List ℕ) (m n : End) (r : Option SendRefusal) → AlikeFrom last m n → last ≤ now
     → AlikeFrom now (with_core m (step_send_unless model r now user m.core)) (with_core n (step_send_unless model r now user n.core))
-    × (if_refused r (outcomes_of model (step_send_unless model r now user m.core)) ≡ if_refused r (outcomes_of model (step_send_unless model r now user n.core)))
+    × (refusal_or_outcomes r (outcomes_of model (step_send_unless model r now user m.core)) ≡ refusal_or_outcomes r (outcomes_of model (step_send_unless model r now user n.core)))
 sends_alike last now user m n (Some refusal) a le = (alike_later last now m n le a, refl)
 sends_alike last now user m n None a le =
     let p = a.begun now le in (
@@ -82,10 +82,10 @@ refusal_alike : (last : ℕ) (user : List ℕ) (m n : End) → AlikeFrom last m 
 refusal_alike last user m n a = ap (λ (x : Core). refusal_of model user x) (a.begun last (let p : last ≤ last = omega arith in p))
 
 abbrev sent_unless : ℕ → List ℕ → Option SendRefusal → End → End × List Outcome
-sent_unless now user r n = let x = step_send_unless model r now user n.core in (with_core n x, if_refused r (outcomes_of model x))
+sent_unless now user r n = let x = step_send_unless model r now user n.core in (with_core n x, refusal_or_outcomes r (outcomes_of model x))
 
 pub alike_step : (last now : ℕ) (event : Event) (m n : End) → AlikeFrom last m n → last ≤ now
-    → AlikeFrom now (step now event m).0 (step now event n).0 × ((step now event m).1 ≡ (step now event n).1)
+    → AlikeFrom now (step_event now event m).0 (step_event now event n).0 × ((step_event now event m).1 ≡ (step_event now event n).1)
 alike_step last now Start m n a le =
     let p = a.begun now le in (
       led_alike now m n (new_event_at model now m.core) (new_event_at model now n.core) (λ x. on_start model x) a.stream p,
@@ -94,7 +94,7 @@ alike_step last now Start m n a le =
 alike_step last now (Come finds octets) m n a le =
     let p = a.begun now le in
     let q : news m.stream octets ≡ news n.stream octets = ap (λ (s : List ℕ). news s octets) a.stream in (
-      alike_same now (step now (Come finds octets) m).0 (step now (Come finds octets) n).0
+      alike_same now (step_event now (Come finds octets) m).0 (step_event now (Come finds octets) n).0
           (ap₂ (λ (s : List ℕ) (x : Core). let e : End = record { stream = s ++ octets; core = hears_each finds now (news s octets) x } in e) a.stream p),
       ap₂ (λ (s : List ℕ) (x : Core). told_of_each finds now (news s octets) x) a.stream p,
     )
@@ -123,12 +123,12 @@ alike_step last now Fault m n a le = breaks_alike last now LineFailed m n a le
 alike_step last now Stalled m n a le = breaks_alike last now LineStalled m n a le
 
 -- a call of what is kept
-pub follows_step : StepsAlike → (last now : ℕ) (event : Event) (k : KEnd) (m : End) → Follows last k m → last ≤ now
-    → Follows now (happens now event k) (step now (event_of k event) m).0 × (tells now event k ≡ (step now (event_of k event) m).1)
+pub follows_step : StepsAlike → (last now : ℕ) (event : Event) (k : KEnd) (m : End) → StandsForAlikeEnd last k m → last ≤ now
+    → StandsForAlikeEnd now (kept_end_behind_event now event k) (step_event now (event_of k event) m).0 × (tells now event k ≡ (step_event now (event_of k event) m).1)
 follows_step law last now event k m f le =
     let s = law now event k f.exact f.stands in
     let a = alike_step last now (event_of k event) f.exact m f.alike le in
-    (record { exact = (step now (event_of k event) f.exact).0; stands = s.0; alike = a.0 }, s.1 ∙ a.1)
+    (record { exact = (step_event now (event_of k event) f.exact).0; stands = s.0; alike = a.0 }, s.1 ∙ a.1)
 
-pub follows_later : (last now : ℕ) (k : KEnd) (m : End) → last ≤ now → Follows last k m → Follows now k m
+pub follows_later : (last now : ℕ) (k : KEnd) (m : End) → last ≤ now → StandsForAlikeEnd last k m → StandsForAlikeEnd now k m
 follows_later last now k m le f = record { exact = f.exact; stands = f.stands; alike = alike_later last now f.exact m le f.alike }

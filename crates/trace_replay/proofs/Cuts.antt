@@ -10,20 +10,20 @@ use Rattle.er_end_model.specs.Outcomes.{Outcome}
 use Rattle.er_end_model.specs.Steps.{Finds, new_event_at, step_frame, on_frame, outcomes_of}
 use Rattle.er_end_model.specs.Layers.{Core, model}
 use Rattle.hdlc_station_model.specs.Events.{news}
-use Rattle.er_end_model.specs.Ends.{Come, End, hears_each, told_of_each, step}
-use Rattle.er_end.specs.KeptEnds.{KEnd, happens, tells, used_of}
+use Rattle.er_end_model.specs.Ends.{Come, End, hears_each, told_of_each, step_event}
+use Rattle.er_end.specs.KeptEnds.{KEnd, kept_end_behind_event, tells, used_of}
 use Rattle.er_end.specs.Standing.{StepsAlike}
-use Rattle.trace_model.specs.Printed.{told, outcomes_text}
-use Rattle.trace_replay.specs.Places.{AlikeFrom, Follows}
-use Rattle.trace_replay.specs.Takings.{Heard}
+use Rattle.trace_model.specs.Printed.{trace_outcome_of, outcomes_text}
+use Rattle.trace_replay.specs.Places.{AlikeFrom, StandsForAlikeEnd}
+use Rattle.trace_replay.specs.Takings.{GivesOctetsToEnd}
 use Rattle.trace_replay.proofs.Alike.{alike_later, follows_step}
 
 pub text_parts : (conn : ℕ) (a b : List Outcome) → outcomes_text conn (a ++ b) ≡ outcomes_text conn a ++ outcomes_text conn b
 unfolding outcomes_text
 text_parts conn [] b = refl
 text_parts conn (o ∷ a) b =
-    ap (λ (t : List ℕ). line_text (outcome_words conn (told o)) ++ t) (text_parts conn a b)
-    ∙ sym (append_assoc (line_text (outcome_words conn (told o))) (outcomes_text conn a) (outcomes_text conn b))
+    ap (λ (t : List ℕ). line_text (outcome_words conn (trace_outcome_of o)) ++ t) (text_parts conn a b)
+    ∙ sym (append_assoc (line_text (outcome_words conn (trace_outcome_of o))) (outcomes_text conn a) (outcomes_text conn b))
 
 -- a moment that comes again, or a later one
 max_later : (a b c : ℕ) → b ≤ c → max (max a b) c ≡ max a c
@@ -60,7 +60,7 @@ heard_parts finds now (v ∷ vs) us x = heard_parts finds now vs us (step_frame 
 module _ (stands : KeptStandsForStream) where
   grows : (stream octets : List ℕ) → frames_of (stream ++ octets) ≡ frames_of stream ++ news stream octets
   grows stream octets =
-      let more : List Verdict = frames_of (deframing.stream_of (deframing.kept_of stream) ++ octets) in
+      let more : List Verdict = frames_of (deframing.stream_behind_kept (deframing.kept_of stream) ++ octets) in
       let e : frames_of (stream ++ octets) ≡ frames_of stream ++ more = (stands stream octets).1.0 in
       e ∙ ap (λ (fs : List Verdict). frames_of stream ++ fs) (sym (ap (λ (fs : List Verdict). drop (length (frames_of stream)) fs) e ∙ drop-append_seam (frames_of stream) more))
 
@@ -78,8 +78,8 @@ module _ (stands : KeptStandsForStream) where
 
   -- octets in two events at one moment are like those in one
   cut_step : (finds : Finds) (now : ℕ) (first rest : List ℕ) (m : End)
-      → AlikeFrom now (step now (Come finds rest) (step now (Come finds first) m).0).0 (step now (Come finds (first ++ rest)) m).0
-      × ((step now (Come finds (first ++ rest)) m).1 ≡ (step now (Come finds first) m).1 ++ (step now (Come finds rest) (step now (Come finds first) m).0).1)
+      → AlikeFrom now (step_event now (Come finds rest) (step_event now (Come finds first) m).0).0 (step_event now (Come finds (first ++ rest)) m).0
+      × ((step_event now (Come finds (first ++ rest)) m).1 ≡ (step_event now (Come finds first) m).1 ++ (step_event now (Come finds rest) (step_event now (Come finds first) m).0).1)
   cut_step finds now first rest m =
       let x : Core = new_event_at model now m.core in
       let vs : List Verdict = news m.stream first in
@@ -98,7 +98,7 @@ module _ (stands : KeptStandsForStream) where
 
   -- nothing was given yet
   none_step : (finds : Finds) (now : ℕ) (m : End)
-      → AlikeFrom now m (step now (Come finds []) m).0 × ((step now (Come finds []) m).1 ≡ [])
+      → AlikeFrom now m (step_event now (Come finds []) m).0 × ((step_event now (Come finds []) m).1 ≡ [])
   none_step finds now m = (
     record {
       stream = sym (append-nil m.stream);
@@ -112,46 +112,46 @@ module _ (stands : KeptStandsForStream) where
   alike_then : (now : ℕ) (a b c : End) → AlikeFrom now a b → AlikeFrom now b c → AlikeFrom now a c
   alike_then now a b c p q = record { stream = p.stream ∙ q.stream; begun = λ at le. p.begun at le ∙ q.begun at le }
 
-  pub follows_alike : (last now : ℕ) (k : KEnd) (m n : End) → Follows last k m → last ≤ now → AlikeFrom now m n → Follows now k n
+  pub follows_alike : (last now : ℕ) (k : KEnd) (m n : End) → StandsForAlikeEnd last k m → last ≤ now → AlikeFrom now m n → StandsForAlikeEnd now k n
   follows_alike last now k m n f le a =
       record { exact = f.exact; stands = f.stands; alike = alike_then now f.exact m n (alike_later last now f.exact m le f.alike) a }
 
   -- at the beginning
-  pub heard_none : (last now conn : ℕ) (finds : Finds) (m : End) (k : KEnd) (out : List ℕ) → Follows last k m → last ≤ now → Heard now conn finds [] m k out out
+  pub heard_none : (last now conn : ℕ) (finds : Finds) (m : End) (k : KEnd) (out : List ℕ) → StandsForAlikeEnd last k m → last ≤ now → GivesOctetsToEnd now conn finds [] m k out out
   unfolding outcomes_text
   heard_none last now conn finds m k out f le =
       let s = none_step finds now m in
-      record { follows = follows_alike last now k m (step now (Come finds []) m).0 f le s.0; text = sym (append-nil out) ∙ ap (λ (os : List Outcome). out ++ outcomes_text conn os) (sym s.1) }
+      record { follows = follows_alike last now k m (step_event now (Come finds []) m).0 f le s.0; text = sym (append-nil out) ∙ ap (λ (os : List Outcome). out ++ outcomes_text conn os) (sym s.1) }
 
   -- one piece more
   pub heard_more : StepsAlike → (now conn : ℕ) (finds : Finds) (octets : List ℕ) (m : End) (k k' : KEnd) (out mid new : List ℕ) (done more : ℕ)
-      → Heard now conn finds (take done octets) m k out mid
+      → GivesOctetsToEnd now conn finds (take done octets) m k out mid
       → more ≡ used_of k (drop done octets) → done + more ≤ length octets
-      → k' ≡ happens now (Come finds (drop done octets)) k
+      → k' ≡ kept_end_behind_event now (Come finds (drop done octets)) k
       → new ≡ mid ++ outcomes_text conn (tells now (Come finds (drop done octets)) k)
-      → Heard now conn finds (take (done + more) octets) m k' out new
+      → GivesOctetsToEnd now conn finds (take (done + more) octets) m k' out new
   heard_more law now conn finds octets m k k' out mid new done more heard used within state text =
       let first = take done octets in
       let piece = take more (drop done octets) in
-      let n = (step now (Come finds first) m).0 in
+      let n = (step_event now (Come finds first) m).0 in
       let s = follows_step law now now (Come finds (drop done octets)) k n heard.follows (let p : now ≤ now = omega arith in p) in
       let same : take (used_of k (drop done octets)) (drop done octets) ≡ piece = ap (λ (i : ℕ). take i (drop done octets)) (sym used) in
       let cut = cut_step finds now first piece m in
       let whole : take (done + more) octets ≡ first ++ piece = take-add done more octets in
-      let at_piece : Follows now (happens now (Come finds (drop done octets)) k) (step now (Come finds piece) n).0 =
-      subst (λ (os : List ℕ). Follows now (happens now (Come finds (drop done octets)) k) (step now (Come finds os) n).0) same s.0 in
-      let told_piece : tells now (Come finds (drop done octets)) k ≡ (step now (Come finds piece) n).1 =
-      s.1 ∙ ap (λ (os : List ℕ). (step now (Come finds os) n).1) same in
-      let joined : Heard now conn finds (first ++ piece) m k' out new = record {
+      let at_piece : StandsForAlikeEnd now (kept_end_behind_event now (Come finds (drop done octets)) k) (step_event now (Come finds piece) n).0 =
+      subst (λ (os : List ℕ). StandsForAlikeEnd now (kept_end_behind_event now (Come finds (drop done octets)) k) (step_event now (Come finds os) n).0) same s.0 in
+      let told_piece : tells now (Come finds (drop done octets)) k ≡ (step_event now (Come finds piece) n).1 =
+      s.1 ∙ ap (λ (os : List ℕ). (step_event now (Come finds os) n).1) same in
+      let joined : GivesOctetsToEnd now conn finds (first ++ piece) m k' out new = record {
         follows =
-            subst (λ (z : KEnd). Follows now z (step now (Come finds (first ++ piece)) m).0) (sym state)
-            (follows_alike now now (happens now (Come finds (drop done octets)) k) (step now (Come finds piece) n).0 (step now (Come finds (first ++ piece)) m).0 at_piece (let p : now ≤ now = omega arith in p) cut.0);
+            subst (λ (z : KEnd). StandsForAlikeEnd now z (step_event now (Come finds (first ++ piece)) m).0) (sym state)
+            (follows_alike now now (kept_end_behind_event now (Come finds (drop done octets)) k) (step_event now (Come finds piece) n).0 (step_event now (Come finds (first ++ piece)) m).0 at_piece (let p : now ≤ now = omega arith in p) cut.0);
         text =
             text ∙ ap (λ (t : List ℕ). t ++ outcomes_text conn (tells now (Come finds (drop done octets)) k)) heard.text
-            ∙ append_assoc out (outcomes_text conn (step now (Come finds first) m).1) (outcomes_text conn (tells now (Come finds (drop done octets)) k))
+            ∙ append_assoc out (outcomes_text conn (step_event now (Come finds first) m).1) (outcomes_text conn (tells now (Come finds (drop done octets)) k))
             ∙ ap (λ (t : List ℕ). out ++ t)
-            (ap (λ (os : List Outcome). outcomes_text conn (step now (Come finds first) m).1 ++ outcomes_text conn os) told_piece
-            ∙ sym (text_parts conn (step now (Come finds first) m).1 (step now (Come finds piece) n).1)
+            (ap (λ (os : List Outcome). outcomes_text conn (step_event now (Come finds first) m).1 ++ outcomes_text conn os) told_piece
+            ∙ sym (text_parts conn (step_event now (Come finds first) m).1 (step_event now (Come finds piece) n).1)
             ∙ ap (λ (os : List Outcome). outcomes_text conn os) (sym cut.1));
       } in
-      subst (λ (os : List ℕ). Heard now conn finds os m k' out new) (sym whole) joined
+      subst (λ (os : List ℕ). GivesOctetsToEnd now conn finds os m k' out new) (sym whole) joined

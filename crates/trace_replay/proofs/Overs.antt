@@ -11,7 +11,7 @@ use Rattle.er_end_model.specs.Layers.{Core, model}
 use Rattle.hdlc_station_model.specs.Events.{news}
 use Rattle.er_end_model.specs.Ends.{End, hears_each, told_of_each}
 use Rattle.trace_model.specs.Connections.{happens}
-use Rattle.trace_model.specs.Checks.{role_of, opens}
+use Rattle.trace_model.specs.Checks.{role_of, is_opening_role}
 use Rattle.trace_replay.specs.Places.{IsOver}
 use Rattle.trace_replay.specs.Takings.{told_over}
 
@@ -35,7 +35,7 @@ uses_is now x e = rw e refl
 none_left : (x : Core) → model.untaken x.upper ≡ 0 → model.oldest x.upper ≡ None
 none_left x e = slice_get_past x.upper.accepted x.upper.used (let p : length x.upper.accepted - x.upper.used ≡ 0 = e in omega (arith, p))
 
-pub over_step : (settings : Settings) (finds : Finds) (now : ℕ) (why : Release) (e : Event) (m : End) → opens (role_of e) ≡ false
+pub over_step : (settings : Settings) (finds : Finds) (now : ℕ) (why : Release) (e : Event) (m : End) → is_opening_role (role_of e) ≡ false
     → IsOver why (Some m) → IsOver why (happens settings finds now e (Some m)).0 × ((happens settings finds now e (Some m)).1 ≡ told_over why e)
 over_step settings finds now why (event.Call engine rbc rb) m b o = absurd (let u : ⊥ = cc in u)
 over_step settings finds now why (event.Answer rbc ra) m b o = absurd (let u : ⊥ = cc in u)

@@ -13,35 +13,35 @@ use Rattle.er_settings.specs.Values.{Settings}
 use Rattle.er_trace.specs.declared.entry.Entry.{Entry}
 use Rattle.link_trait.specs.Outside.{Grew, GrewPart, Rose}
 use Rattle.er_end_model.specs.Steps.{Finds}
-use Rattle.er_end_model.specs.Ends.{End, Come, step}
+use Rattle.er_end_model.specs.Ends.{End, Come, step_event}
 use Rattle.er_end.specs.declared.event.Event.{Event as EndEvent}
 use Rattle.er_end.specs.KeptEnds.{KEnd}
-use Rattle.er_end.specs.Given.{given}
+use Rattle.er_end.specs.Given.{model_event_of}
 use Rattle.trace_model.specs.declared.replay_fault.ReplayFault.{ReplayFault}
 use Rattle.trace_model.specs.declared.replay_fault.ReplayFault.TheVariants.{NoConn, ConnTwice, MomentBack, NoKey, Many, Sink, NoMemory}
 use Rattle.trace_model.specs.Connections.{goes_on, happens}
-use Rattle.trace_model.specs.Checks.{role_of, role_check, fault_of}
+use Rattle.trace_model.specs.Checks.{role_of, role_check, fault_of_trace_event}
 use Rattle.trace_model.specs.Printed.{outcomes_text, entry_text}
 use Rattle.trace_replay.specs.declared.connections.Connections.{Connections}
-use Rattle.trace_replay.specs.Places.{FollowsEnd, Holds, Follows}
+use Rattle.trace_replay.specs.Places.{FollowsEnd, HoldsOfAllConnections, StandsForAlikeEnd}
 
 -- an event of a trace is this one of its end
 abbrev pub IsOfEnd : Event → EndEvent → Type 0
-IsOfEnd e on = (settings : Settings) (finds : Finds) (now : ℕ) (m : Option End) → happens settings finds now e m ≡ goes_on now (given finds on) m
+IsOfEnd e on = (settings : Settings) (finds : Finds) (now : ℕ) (m : Option End) → happens settings finds now e m ≡ goes_on now (model_event_of finds on) m
 
 -- it is none of an end
 abbrev pub IsOfNoEnd : Event → Type 0
 IsOfNoEnd e = (settings : Settings) (finds : Finds) (now : ℕ) (m : Option End) → happens settings finds now e m ≡ (m, [])
 
 -- an event was given to the end of a connection, and the lines of its outcomes were made
-pub record Gives (settings : Settings) (finds : Finds) (e : Entry) (m : Option End) (k : KEnd) (out new : List ℕ) : Type 0 where
+pub record GivesEventToEnd (settings : Settings) (finds : Finds) (e : Entry) (m : Option End) (k : KEnd) (out new : List ℕ) : Type 0 where
   pub follows : FollowsEnd e.moment k (happens settings finds e.moment e.event m).0
   pub text : new ≡ out ++ outcomes_text e.conn (happens settings finds e.moment e.event m).1
 
 -- octets were given to an end, frame by frame
-pub record Heard (now conn : ℕ) (finds : Finds) (octets : List ℕ) (m : End) (k : KEnd) (out new : List ℕ) : Type 0 where
-  pub follows : Follows now k (step now (Come finds octets) m).0
-  pub text : new ≡ out ++ outcomes_text conn (step now (Come finds octets) m).1
+pub record GivesOctetsToEnd (now conn : ℕ) (finds : Finds) (octets : List ℕ) (m : End) (k : KEnd) (out new : List ℕ) : Type 0 where
+  pub follows : StandsForAlikeEnd now k (step_event now (Come finds octets) m).0
+  pub text : new ≡ out ++ outcomes_text conn (step_event now (Come finds octets) m).1
 
 -- what comes of an event at an end that is over
 abbrev pub told_over : Release → Event → List Outcome
@@ -67,8 +67,8 @@ pub record GivesLive (finds : Finds) (e : Entry) (old new : Connections) (out no
   pub others : (c : ℕ) → (e.conn == c) ≡ false → get nat_cmp new.live c ≡ get nat_cmp old.live c
   pub over : new.over ≡ old.over
   pub count : btree_map_len new.live ≡ btree_map_len old.live
-  pub gives : (settings : Settings) (last : ℕ) (m : End) → Follows last before m → last ≤ e.moment
-      → Gives settings finds e (Some m) behind (out ++ line_text (entry_words e.moment e.conn e.event)) now
+  pub gives : (settings : Settings) (last : ℕ) (m : End) → StandsForAlikeEnd last before m → last ≤ e.moment
+      → GivesEventToEnd settings finds e (Some m) behind (out ++ line_text (entry_words e.moment e.conn e.event)) now
 
 -- where there is one
 abbrev pub GivesIfLive : Finds → Entry → Connections → Connections → List ℕ → List ℕ → Result Bool Want → Type 0
@@ -80,42 +80,42 @@ GivesIfLive finds e old new out now (Err want) = Unit {0}
 pub record Taken (settings : Settings) (finds : Finds) (before : List Entry) (e : Entry) (new : Connections) (out now : List ℕ) : Type 0 where
   pub allowed : role_check settings finds before e (role_of e.event) ≡ None
   pub text : now ≡ out ++ entry_text settings finds before e
-  pub holds : Holds settings finds (before ++ e ∷ []) new
+  pub holds : HoldsOfAllConnections settings finds (before ++ e ∷ []) new
 
 -- it was taken, or it isn't for this fault
-abbrev pub Takes : {T : Type 0} → Settings → Finds → List Entry → Entry → Connections → List ℕ → List ℕ → Result T ReplayFault → Type 0
-Takes s f before e new out now (Ok done) = Taken s f before e new out now
-Takes s f before e new out now (Err (NoConn line conn)) = role_check s f before e (role_of e.event) ≡ Some (NoConn line conn)
-Takes s f before e new out now (Err (ConnTwice line conn)) = role_check s f before e (role_of e.event) ≡ Some (ConnTwice line conn)
-Takes s f before e new out now (Err (MomentBack line was moment)) = ⊥
-Takes s f before e new out now (Err (NoKey line engine rbc)) = role_check s f before e (role_of e.event) ≡ Some (NoKey line engine rbc)
-Takes s f before e new out now (Err (Many line live)) = role_check s f before e (role_of e.event) ≡ Some (Many line live)
-Takes s f before e new out now (Err Sink) = ⊥
-Takes s f before e new out now (Err (NoMemory want)) = Unit {0}
+abbrev pub TakesTraceEvent : {T : Type 0} → Settings → Finds → List Entry → Entry → Connections → List ℕ → List ℕ → Result T ReplayFault → Type 0
+TakesTraceEvent s f before e new out now (Ok done) = Taken s f before e new out now
+TakesTraceEvent s f before e new out now (Err (NoConn line conn)) = role_check s f before e (role_of e.event) ≡ Some (NoConn line conn)
+TakesTraceEvent s f before e new out now (Err (ConnTwice line conn)) = role_check s f before e (role_of e.event) ≡ Some (ConnTwice line conn)
+TakesTraceEvent s f before e new out now (Err (MomentBack line was moment)) = ⊥
+TakesTraceEvent s f before e new out now (Err (NoKey line engine rbc)) = role_check s f before e (role_of e.event) ≡ Some (NoKey line engine rbc)
+TakesTraceEvent s f before e new out now (Err (Many line live)) = role_check s f before e (role_of e.event) ≡ Some (Many line live)
+TakesTraceEvent s f before e new out now (Err Sink) = ⊥
+TakesTraceEvent s f before e new out now (Err (NoMemory want)) = Unit {0}
 
 -- an event was replayed: its lines were written
-pub record Replayed (settings : Settings) (finds : Finds) (before : List Entry) (e : Entry) (new : Connections) (a b : Option (List ℕ)) : Type 0 where
-  pub taken : fault_of settings finds before e ≡ None
+pub record HasReplayedTraceEvent (settings : Settings) (finds : Finds) (before : List Entry) (e : Entry) (new : Connections) (a b : Option (List ℕ)) : Type 0 where
+  pub taken : fault_of_trace_event settings finds before e ≡ None
   pub written : Grew a b (entry_text settings finds before e)
-  pub holds : Holds settings finds (before ++ e ∷ []) new
+  pub holds : HoldsOfAllConnections settings finds (before ++ e ∷ []) new
 
 -- it wasn't taken, and nothing was written
-pub record Refuses (settings : Settings) (finds : Finds) (before : List Entry) (e : Entry) (fault : ReplayFault) (a b : Option (List ℕ)) : Type 0 where
-  pub refused : fault_of settings finds before e ≡ Some fault
+pub record RefusesTraceEvent (settings : Settings) (finds : Finds) (before : List Entry) (e : Entry) (fault : ReplayFault) (a b : Option (List ℕ)) : Type 0 where
+  pub refused : fault_of_trace_event settings finds before e ≡ Some fault
   pub written : Grew a b []
 
 -- a write failed
 pub record Fails (settings : Settings) (finds : Finds) (before : List Entry) (e : Entry) (a b : Option (List ℕ)) (c d : ℕ) : Type 0 where
-  pub taken : fault_of settings finds before e ≡ None
+  pub taken : fault_of_trace_event settings finds before e ≡ None
   pub written : GrewPart a b (entry_text settings finds before e)
   pub rose : Rose c d
 
 abbrev pub ReplaysOne : Settings → Finds → List Entry → Entry → Connections → Option (List ℕ) → Option (List ℕ) → ℕ → ℕ → Result (Unit {0}) ReplayFault → Type 0
-ReplaysOne s f before e new a b c d (Ok done) = Replayed s f before e new a b
-ReplaysOne s f before e new a b c d (Err (NoConn line conn)) = Refuses s f before e (NoConn line conn) a b
-ReplaysOne s f before e new a b c d (Err (ConnTwice line conn)) = Refuses s f before e (ConnTwice line conn) a b
-ReplaysOne s f before e new a b c d (Err (MomentBack line was moment)) = Refuses s f before e (MomentBack line was moment) a b
-ReplaysOne s f before e new a b c d (Err (NoKey line engine rbc)) = Refuses s f before e (NoKey line engine rbc) a b
-ReplaysOne s f before e new a b c d (Err (Many line live)) = Refuses s f before e (Many line live) a b
+ReplaysOne s f before e new a b c d (Ok done) = HasReplayedTraceEvent s f before e new a b
+ReplaysOne s f before e new a b c d (Err (NoConn line conn)) = RefusesTraceEvent s f before e (NoConn line conn) a b
+ReplaysOne s f before e new a b c d (Err (ConnTwice line conn)) = RefusesTraceEvent s f before e (ConnTwice line conn) a b
+ReplaysOne s f before e new a b c d (Err (MomentBack line was moment)) = RefusesTraceEvent s f before e (MomentBack line was moment) a b
+ReplaysOne s f before e new a b c d (Err (NoKey line engine rbc)) = RefusesTraceEvent s f before e (NoKey line engine rbc) a b
+ReplaysOne s f before e new a b c d (Err (Many line live)) = RefusesTraceEvent s f before e (Many line live) a b
 ReplaysOne s f before e new a b c d (Err Sink) = Fails s f before e a b c d
 ReplaysOne s f before e new a b c d (Err (NoMemory want)) = Grew a b []

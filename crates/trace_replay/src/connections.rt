@@ -7,14 +7,14 @@ ghost use Rattle.er_settings.specs.Ranges.{AllAllowed};
 ghost use Rattle.safety_automaton.specs.Keys.{key_at};
 ghost use Rattle.er_trace.specs.declared.entry.Entry.{Entry as TraceEntry};
 ghost use Rattle.er_trace.specs.declared.event.Event.TheVariants as event;
-ghost use Rattle.er_trace.specs.Texts.{IsReadable};
+ghost use Rattle.er_trace.specs.Texts.{IsReadableEntry};
 ghost use Rattle.er_settings.specs.Values.{Settings as TraceSettings};
 ghost use Rattle.er_end_model.specs.Steps.{Finds};
 ghost use Rattle.er_end.specs.KeptEnds.{KEnd};
 ghost use Rattle.trace_model.specs.declared.replay_fault.ReplayFault.TheVariants as fault;
 ghost use Rattle.trace_model.specs.Checks.{role_of, Declines, Belongs, many_check, last_moment};
-ghost use Rattle.trace_replay.specs.Places.{Places, place, place_for, Declined, is_absent, over_of, why_in, Holds};
-ghost use Rattle.trace_replay.specs.Takings.{GivesIfLive, Takes};
+ghost use Rattle.trace_replay.specs.Places.{Places, place_of_connection, place_for, Declined, is_absent, over_of, why_in, HoldsOfAllConnections};
+ghost use Rattle.trace_replay.specs.Takings.{GivesIfLive, TakesTraceEvent};
 
 use crate::gives::{give, give_start, tell_over};
 use crate::timed::Timed;
@@ -82,8 +82,8 @@ impl Connections {
     #[tactic(auto, using(crate::proofs::Changes::absent_if, crate::proofs::Changes::there_live, crate::proofs::Changes::there_over))]
     fn check_new(&self, entry: &Entry) -> Result<(), ReplayFault>
         ensures { MatchResult result
-            (λ _. is_absent (place self.now entry.now.conn) ≡ true)
-            (λ f. (f ≡ fault.ConnTwice entry.now.line entry.now.conn) × (is_absent (place self.now entry.now.conn) ≡ false)) }
+            (λ _. is_absent (place_of_connection self.now entry.now.conn) ≡ true)
+            (λ f. (f ≡ fault.ConnTwice entry.now.line entry.now.conn) × (is_absent (place_of_connection self.now entry.now.conn) ≡ false)) }
     {
         if self.live.contains_key(&entry.conn) {
             return Err(ReplayFault::ConnTwice {
@@ -133,7 +133,7 @@ impl Connections {
 
     // Keeps the end of a connection that nothing named before.
     fn open(&mut self, conn: u64, end: End) -> Result<(), NoMemory>
-        ensures { is_absent (place self.old conn) ≡ true → OnOk result (Places self.old self.new conn (place_for end)) }
+        ensures { is_absent (place_of_connection self.old conn) ≡ true → OnOk result (Places self.old self.new conn (place_for end)) }
     {
         self.live.insert(conn, end)?;
         self.settle(conn)
@@ -141,7 +141,7 @@ impl Connections {
 
     // Keeps that no end is opened for a connection that nothing named before.
     fn shut(&mut self, conn: u64) -> Result<(), NoMemory>
-        ensures { is_absent (place self.old conn) ≡ true → OnOk result (Places self.old self.new conn Declined) }
+        ensures { is_absent (place_of_connection self.old conn) ≡ true → OnOk result (Places self.old self.new conn Declined) }
     {
         self.over.insert(conn, None)?;
         Ok(())
@@ -167,8 +167,8 @@ impl Connections {
         out: &mut Vec<u8>,
     ) -> Result<(), ReplayFault>
         requires { timed.now.entry.now.event ≡ event.Call call.now.engine call.now.rbc call.now.rb }
-        ensures { (before : List TraceEntry) → Holds settings.now (key_at (K.entries keys.now)) before self.old → last_moment before ≤ timed.now.entry.now.moment
-            → Takes settings.now (key_at (K.entries keys.now)) before timed.now.entry.now self.new out.old.items out.new.items result }
+        ensures { (before : List TraceEntry) → HoldsOfAllConnections settings.now (key_at (K.entries keys.now)) before self.old → last_moment before ≤ timed.now.entry.now.moment
+            → TakesTraceEvent settings.now (key_at (K.entries keys.now)) before timed.now.entry.now self.new out.old.items out.new.items result }
     {
         er_end::laws::standing();
         see_settings(settings);
@@ -208,8 +208,8 @@ impl Connections {
         out: &mut Vec<u8>,
     ) -> Result<(), ReplayFault>
         requires { timed.now.entry.now.event ≡ event.Answer rbc ra }
-        ensures { (finds : Finds) (before : List TraceEntry) → Holds settings.now finds before self.old → last_moment before ≤ timed.now.entry.now.moment
-            → Takes settings.now finds before timed.now.entry.now self.new out.old.items out.new.items result }
+        ensures { (finds : Finds) (before : List TraceEntry) → HoldsOfAllConnections settings.now finds before self.old → last_moment before ≤ timed.now.entry.now.moment
+            → TakesTraceEvent settings.now finds before timed.now.entry.now self.new out.old.items out.new.items result }
     {
         er_end::laws::standing();
         see_settings(settings);
@@ -225,8 +225,8 @@ impl Connections {
     // A connection for which no end is opened.
     fn decline(&mut self, entry: &Entry, out: &mut Vec<u8>) -> Result<(), ReplayFault>
         requires event { role_of entry.now.event ≡ Declines }
-        ensures { (settings : TraceSettings) (finds : Finds) (before : List TraceEntry) → Holds settings finds before self.old → last_moment before ≤ entry.now.moment
-            → Takes settings finds before entry.now self.new out.old.items out.new.items result }
+        ensures { (settings : TraceSettings) (finds : Finds) (before : List TraceEntry) → HoldsOfAllConnections settings finds before self.old → last_moment before ≤ entry.now.moment
+            → TakesTraceEvent settings finds before entry.now self.new out.old.items out.new.items result }
     {
         self.check_new(entry)?;
         print_entry(entry, out)?;
@@ -261,8 +261,8 @@ impl Connections {
         out: &mut Vec<u8>,
     ) -> Result<(), ReplayFault>
         requires { role_of timed.now.entry.now.event ≡ Belongs }
-        ensures { (settings : TraceSettings) (before : List TraceEntry) → Holds settings (key_at (K.entries keys.now)) before self.old → last_moment before ≤ timed.now.entry.now.moment
-            → Takes settings (key_at (K.entries keys.now)) before timed.now.entry.now self.new out.old.items out.new.items result }
+        ensures { (settings : TraceSettings) (before : List TraceEntry) → HoldsOfAllConnections settings (key_at (K.entries keys.now)) before self.old → last_moment before ≤ timed.now.entry.now.moment
+            → TakesTraceEvent settings (key_at (K.entries keys.now)) before timed.now.entry.now self.new out.old.items out.new.items result }
     {
         er_end::laws::standing();
         let entry = timed.entry;
@@ -289,9 +289,9 @@ impl Connections {
         entry: &Entry,
         out: &mut Vec<u8>,
     ) -> Result<(), ReplayFault>
-        requires { IsReadable entry.now }
-        ensures { (before : List TraceEntry) → Holds settings.now (key_at (K.entries keys.now)) before self.old → last_moment before ≤ entry.now.moment
-            → Takes settings.now (key_at (K.entries keys.now)) before entry.now self.new out.old.items out.new.items result }
+        requires { IsReadableEntry entry.now }
+        ensures { (before : List TraceEntry) → HoldsOfAllConnections settings.now (key_at (K.entries keys.now)) before self.old → last_moment before ≤ entry.now.moment
+            → TakesTraceEvent settings.now (key_at (K.entries keys.now)) before entry.now self.new out.old.items out.new.items result }
     {
         let timed = Timed { entry };
         match &entry.event {

@@ -4,12 +4,12 @@ ghost use Rattle.std.specs.Prelude.{ℕ, ◌≡◌, ◌≤◌, ◌++◌, length,
 ghost use Rattle.er_settings.specs.Values.{Settings as TraceSettings};
 ghost use Rattle.safety_automaton.specs.Keys.{key_at};
 ghost use Rattle.er_end_model.specs.Ends as of;
-ghost use Rattle.er_end.specs.KeptEnds.{happens, tells};
-ghost use Rattle.er_end.specs.Given.{given, used_by};
-ghost use Rattle.trace_model.specs.Checks.{role_of, opens};
+ghost use Rattle.er_end.specs.KeptEnds.{kept_end_behind_event, tells};
+ghost use Rattle.er_end.specs.Given.{model_event_of, used_by};
+ghost use Rattle.trace_model.specs.Checks.{role_of, is_opening_role};
 ghost use Rattle.trace_model.specs.Printed.{outcomes_text};
-ghost use Rattle.trace_replay.specs.Places.{Follows};
-ghost use Rattle.trace_replay.specs.Takings.{IsOfEnd, IsOfNoEnd, Gives, Heard, told_over};
+ghost use Rattle.trace_replay.specs.Places.{StandsForAlikeEnd};
+ghost use Rattle.trace_replay.specs.Takings.{IsOfEnd, IsOfNoEnd, GivesEventToEnd, GivesOctetsToEnd, told_over};
 
 use crate::timed::Timed;
 use er_base::{Moment, NoMemory, Release};
@@ -35,8 +35,8 @@ fn give_event<K: KeyFinder>(
     event: &EndEvent<'_>,
     out: &mut Vec<u8>,
 ) -> Result<usize, NoMemory>
-    ensures end { OnOk result (end.new ≡ happens now (given (key_at (K.entries keys.now)) event.now) end.old) }
-    ensures text { OnOk result (out.new.items ≡ out.old.items ++ outcomes_text conn (tells now (given (key_at (K.entries keys.now)) event.now) end.old)) }
+    ensures end { OnOk result (end.new ≡ kept_end_behind_event now (model_event_of (key_at (K.entries keys.now)) event.now) end.old) }
+    ensures text { OnOk result (out.new.items ≡ out.old.items ++ outcomes_text conn (tells now (model_event_of (key_at (K.entries keys.now)) event.now) end.old)) }
     ensures used { IfOk result (λ used. used ≡ used_by end.old event.now) }
 {
     let effects = end.apply(keys, now.get(), event);
@@ -53,8 +53,8 @@ fn give_octets<K: KeyFinder>(
     octets: &[u8],
     out: &mut Vec<u8>,
 ) -> Result<(), NoMemory>
-    ensures { (last : ℕ) (m : of.End) → Follows last end.old m → last ≤ now
-        → OnOk result (Heard now conn (key_at (K.entries keys.now)) octets.now m end.new out.old.items out.new.items) }
+    ensures { (last : ℕ) (m : of.End) → StandsForAlikeEnd last end.old m → last ≤ now
+        → OnOk result (GivesOctetsToEnd now conn (key_at (K.entries keys.now)) octets.now m end.new out.old.items out.new.items) }
 {
     er_end::laws::standing();
     er_end::laws::used_octets();
@@ -69,7 +69,7 @@ fn give_octets<K: KeyFinder>(
 
 // An event of a trace, which isn't an opening, as one of its end. None where it is none of an end.
 fn at_end(event: &Event) -> Option<EndEvent<'_>>
-    requires { opens (role_of event.now) ≡ false }
+    requires { is_opening_role (role_of event.now) ≡ false }
     ensures { MatchOption result (IsOfNoEnd event.now) (λ on. IsOfEnd event.now on) }
 {
     match event {
@@ -93,7 +93,7 @@ pub fn give_start<K: KeyFinder>(
     conn: u64,
     out: &mut Vec<u8>,
 ) -> Result<(), NoMemory>
-    ensures end { OnOk result (end.new ≡ happens now of.Start end.old) }
+    ensures end { OnOk result (end.new ≡ kept_end_behind_event now of.Start end.old) }
     ensures text { OnOk result (out.new.items ≡ out.old.items ++ outcomes_text conn (tells now of.Start end.old)) }
 {
     give_event(end, keys, now, conn, &EndEvent::Start, out)?;
@@ -107,9 +107,9 @@ pub fn give<K: KeyFinder>(
     timed: &Timed<'_>,
     out: &mut Vec<u8>,
 ) -> Result<(), NoMemory>
-    requires { opens (role_of timed.now.entry.now.event) ≡ false }
-    ensures { (settings : TraceSettings) (last : ℕ) (m : of.End) → Follows last end.old m → last ≤ timed.now.entry.now.moment
-        → OnOk result (Gives settings (key_at (K.entries keys.now)) timed.now.entry.now (Some m) end.new out.old.items out.new.items) }
+    requires { is_opening_role (role_of timed.now.entry.now.event) ≡ false }
+    ensures { (settings : TraceSettings) (last : ℕ) (m : of.End) → StandsForAlikeEnd last end.old m → last ≤ timed.now.entry.now.moment
+        → OnOk result (GivesEventToEnd settings (key_at (K.entries keys.now)) timed.now.entry.now (Some m) end.new out.old.items out.new.items) }
 {
     er_end::laws::standing();
     let (now, conn) = (timed.moment(), timed.entry.conn);

@@ -5,10 +5,10 @@ ghost use Rattle.er_base.specs.LineTexts.{line_text};
 ghost use Rattle.safety_automaton.specs.Keys.{key_at};
 ghost use Rattle.link_trait.specs.Outside.{Grew, GrewPart, Rose};
 ghost use Rattle.er_trace.specs.declared.entry.Entry.{Entry as TraceEntry};
-ghost use Rattle.er_trace.specs.Texts.{CanBeRead, IsReadable, header_words};
+ghost use Rattle.er_trace.specs.Texts.{CanBeRead, IsReadableEntry, header_words};
 ghost use Rattle.trace_model.specs.Checks.{last_moment};
 ghost use Rattle.trace_model.specs.Replays.{Replays};
-ghost use Rattle.trace_replay.specs.Places.{Holds};
+ghost use Rattle.trace_replay.specs.Places.{HoldsOfAllConnections};
 ghost use Rattle.trace_replay.specs.Takings.{ReplaysOne};
 
 use crate::connections::Connections;
@@ -43,8 +43,8 @@ fn replay_entry<K: KeyFinder, S: Sink>(
     line: &mut Vec<u8>,
     sink: &mut S,
 ) -> Result<(), ReplayFault>
-    requires { IsReadable entry.now }
-    ensures replays { (before : List TraceEntry) → last ≡ last_moment before → Holds settings.now (key_at (K.entries keys.now)) before connections.old
+    requires { IsReadableEntry entry.now }
+    ensures replays { (before : List TraceEntry) → last ≡ last_moment before → HoldsOfAllConnections settings.now (key_at (K.entries keys.now)) before connections.old
         → ReplaysOne settings.now (key_at (K.entries keys.now)) before entry.now connections.new (S.state sink.old).held (S.state sink.new).held (S.state sink.old).faults (S.state sink.new).faults result }
     ensures later { (S.state sink.old).faults ≤ (S.state sink.new).faults }
 {

@@ -5,12 +5,12 @@ use Rattle.er_base.specs.Causes.{release_of}
 use Rattle.er_base.specs.declared.cause.Cause.{Cause}
 use Rattle.er_base.specs.declared.cause.Cause.TheVariants as cause
 use Rattle.x224_tpdu.specs.declared.fault.TpFault.{TpFault}
-use Rattle.x224_tpdu.specs.Spelling.{Pdu, connection_request, connection_confirm, disconnect_request, disconnect_confirm, data_tpdu, acknowledgement, tpdu_error}
+use Rattle.x224_tpdu.specs.Spelling.{TransportPdu, connection_request, connection_confirm, disconnect_request, disconnect_confirm, data_tpdu, acknowledgement, tpdu_error}
 use Rattle.x224_tpdu.specs.Function.{reading}
 use Rattle.x224_class2.specs.Segments.{text_so_far}
 use Rattle.x224_class2.specs.Refusals.{dr_reason, protocol_error, tpdu_refused, message_too_long}
-use Rattle.x224_class2.specs.Transport.{Transport, Deed, Nothing, Message, Refused, is_new, is_calling, is_open, is_over, refusal, is_expected, on_data, number_named, on_named, on_acknowledgement, on_reading, reception}
-use Rattle.x224_class2.specs.Causes.{IsExpectedAt, HasReferences, BreaksRule, AtStage, ByReference, BySize, ByNumber, AtEdge, ByLength, ByNoName, ByEdge, IsRefused, OfFault, OfRule, MakesTooLong, CauseMet, CauseRefuses, RefusesOnly}
+use Rattle.x224_class2.specs.Transport.{Transport, ReceptionDeed, Nothing, Message, Refused, is_new, is_calling, is_open, is_over, refusal_of_tpdu, is_expected, on_data, number_named, on_named, on_acknowledgement, on_reading, reception}
+use Rattle.x224_class2.specs.Causes.{IsExpectedAt, HasReferences, BreaksRule, AtStage, ByReference, BySize, ByNumber, AtEdge, ByLength, ByNoName, ByEdge, IsRefusedTpdu, OfFault, OfRule, MakesTooLong, CauseMet, CauseRefuses, RefusesOnly}
 use Rattle.x224_class2.specs.declared.stage.Stage.{Stage}
 use Rattle.x224_class2.specs.declared.stage.Stage.TheVariants as stages
 
@@ -95,16 +95,16 @@ one_named n more shown k (Some m) (i, is, most, same, first) h e least =
 
 -- ---- where a cause is met
 
-at_reading : (t : Transport) (octets : List ℕ) (answer : Result Pdu TpFault) → t.stage ≢ stages.Over → reading octets ≡ answer
+at_reading : (t : Transport) (octets : List ℕ) (answer : Result TransportPdu TpFault) → t.stage ≢ stages.Over → reading octets ≡ answer
     → reception t octets ≡ on_reading t answer
 at_reading t octets answer live e = rw (not_over t.stage live, e) refl
 
-either_way : (b : Bool) (x : Transport × Deed) → (if b then x else x) ≡ x
+either_way : (b : Bool) (x : Transport × ReceptionDeed) → (if b then x else x) ≡ x
 either_way true x = refl
 either_way false x = refl
 
-abbrev by_rule : Transport → Transport × Deed
-by_rule t = refusal t tpdu_refused protocol_error
+abbrev by_rule : Transport → Transport × ReceptionDeed
+by_rule t = refusal_of_tpdu t tpdu_refused protocol_error
 
 data_refused : (t : Transport) (dst : ℕ) (last : Bool) (number : ℕ) (user : List ℕ) → (is_expected t dst number user ≡ true → ⊥)
     → on_data t dst last number user ≡ by_rule t
@@ -139,7 +139,7 @@ is_new_of : (s : Stage) → s ≡ stages.New → is_new s ≡ true
 is_new_of s e = rw e refl
 
 -- a test that refuses fails
-unexpected : (t : Transport) (p : Pdu) → (IsExpectedAt t p → ⊥) → on_reading t (Ok p) ≡ by_rule t
+unexpected : (t : Transport) (p : TransportPdu) → (IsExpectedAt t p → ⊥) → on_reading t (Ok p) ≡ by_rule t
 unexpected t (connection_request credit dst src size user) h =
     let e = false_from_ne_true (not t.is_caller && is_new t.stage && eqb dst 0 && eqb src 1) (λ e.
     let both = and_parts _ _ (and_parts _ _ (and_parts _ _ e).0).0 in
@@ -160,7 +160,7 @@ unexpected t (acknowledgement credit dst number) h =
     rw e refl
 unexpected t (tpdu_error dst cause) h = refl
 
-other_reference : (t : Transport) (p : Pdu) → (HasReferences p → ⊥) → on_reading t (Ok p) ≡ by_rule t
+other_reference : (t : Transport) (p : TransportPdu) → (HasReferences p → ⊥) → on_reading t (Ok p) ≡ by_rule t
 other_reference t (connection_request credit dst src size user) h =
     let e = false_from_ne_true (not t.is_caller && is_new t.stage && eqb dst 0 && eqb src 1) (λ e.
     let both = and_parts _ _ e in
@@ -220,13 +220,13 @@ breaks t octets live (ByNoName credit dst number read none) =
 breaks t octets live (ByEdge credit dst number more read most named least lower) =
     at_reading t octets _ live read ∙ lowered t credit dst number more most named least lower
 
-refused : (t : Transport) (octets : List ℕ) (reason : ℕ) → t.stage ≢ stages.Over → IsRefused t octets reason
-    → reception t octets ≡ refusal t tpdu_refused reason
-refused t octets reason live (OfFault fault read is) = at_reading t octets _ live read ∙ ap (refusal t tpdu_refused) (sym is)
-refused t octets reason live (OfRule met is) = breaks t octets live met ∙ ap (refusal t tpdu_refused) (sym is)
+refused : (t : Transport) (octets : List ℕ) (reason : ℕ) → t.stage ≢ stages.Over → IsRefusedTpdu t octets reason
+    → reception t octets ≡ refusal_of_tpdu t tpdu_refused reason
+refused t octets reason live (OfFault fault read is) = at_reading t octets _ live read ∙ ap (refusal_of_tpdu t tpdu_refused) (sym is)
+refused t octets reason live (OfRule met is) = breaks t octets live met ∙ ap (refusal_of_tpdu t tpdu_refused) (sym is)
 
 too_long : (t : Transport) (octets : List ℕ) → t.stage ≢ stages.Over → MakesTooLong t octets
-    → reception t octets ≡ refusal t message_too_long protocol_error
+    → reception t octets ≡ refusal_of_tpdu t message_too_long protocol_error
 too_long t octets live m =
     let number = length t.contents % 128 in
     let expected : is_expected t 1 number m.user ≡ true = and_from _ _ (and_from _ _ (and_from _ _ (and_from _ _ (open_of t.stage m.made) refl) (eq-eqb number number refl)) (lt-ltb _ _ m.granted)) (le-leb _ _ m.fits) in
@@ -244,7 +244,7 @@ cause_refuses t octets cause.LineFailed reason live met = absurd met
 cause_refuses t octets cause.LineStalled reason live met = absurd met
 cause_refuses t octets cause.DisconnectWithoutDi reason live met = absurd met
 cause_refuses t octets cause.TpduRefused reason live met = refused t octets reason live met
-cause_refuses t octets cause.MessageTooLong reason live met = too_long t octets live met.0 ∙ ap (refusal t message_too_long) (sym met.1)
+cause_refuses t octets cause.MessageTooLong reason live met = too_long t octets live met.0 ∙ ap (refusal_of_tpdu t message_too_long) (sym met.1)
 cause_refuses t octets cause.BlockRefused reason live met = absurd met
 cause_refuses t octets cause.NoKey reason live met = absurd met
 cause_refuses t octets cause.Au2MacWrong reason live met = absurd met
@@ -272,7 +272,7 @@ found_rule t octets sub reason met e =
     (cause.TpduRefused, OfRule met r, s)
 
 -- a test that refuses where it fails
-by_test : (t : Transport) (octets : List ℕ) (sub reason : ℕ) (b : Bool) (x : Transport × Deed) → (x.1 ≡ Refused sub reason → ⊥)
+by_test : (t : Transport) (octets : List ℕ) (sub reason : ℕ) (b : Bool) (x : Transport × ReceptionDeed) → (x.1 ≡ Refused sub reason → ⊥)
     → (b ≡ false → BreaksRule t octets) → (if b then x else by_rule t).1 ≡ Refused sub reason → Found t octets sub reason
 by_test t octets sub reason true x accepted failed e = absurd (accepted e)
 by_test t octets sub reason false x accepted failed e = found_rule t octets sub reason (failed refl) e
@@ -383,7 +383,7 @@ acknowledgement_found t octets credit dst number sub reason read e =
           | inr g ↦ AtStage _ read (λ h. both_ways _ g (open_of t.stage h))
         ]
 
-found : (t : Transport) (octets : List ℕ) (answer : Result Pdu TpFault) (sub reason : ℕ) → reading octets ≡ answer
+found : (t : Transport) (octets : List ℕ) (answer : Result TransportPdu TpFault) (sub reason : ℕ) → reading octets ≡ answer
     → (on_reading t answer).1 ≡ Refused sub reason → Found t octets sub reason
 found t octets (Ok (connection_request credit dst src size user)) sub reason read e =
     by_test t octets sub reason _ _ (λ h. absurd cc) (request_found t octets credit dst src size user read) e

@@ -4,15 +4,15 @@ use Rattle.std.proofs.lemmas.Bool.{cases_Bool, cases_lt, lt-ltb, le-ltb, ltb-tru
 use Rattle.er_settings.specs.Values.{Settings}
 use Rattle.er_settings.specs.Ranges.{AllAllowed}
 use Rattle.x224_tpdu.specs.declared.fault.TpFault.{TpFault}
-use Rattle.x224_tpdu.specs.Spelling.{Pdu, connection_request, connection_confirm, disconnect_request, disconnect_confirm, data_tpdu, acknowledgement, tpdu_error}
+use Rattle.x224_tpdu.specs.Spelling.{TransportPdu, connection_request, connection_confirm, disconnect_request, disconnect_confirm, data_tpdu, acknowledgement, tpdu_error}
 use Rattle.x224_tpdu.specs.Writing.{IsSize, IsWritable, written_octets}
 use Rattle.x224_tpdu.specs.Function.{reading, IsInRange, ReadingIsInRange}
 use Rattle.x224_class2.specs.Segments.{Segment, segments_of, messages_behind, messages_in, text_so_far}
-use Rattle.x224_class2.specs.Tpdus.{Given, Cr, Cc, Dt, Ak, pdu_given}
+use Rattle.x224_class2.specs.Tpdus.{GivenTpdu, Cr, Cc, Dt, Ak, pdu_given}
 use Rattle.x224_class2.specs.Refusals.{dr_reason, protocol_error, tpdu_refused, message_too_long}
-use Rattle.x224_class2.specs.Transport.{Transport, Deed, Nothing, Disconnected, Refused, is_new, is_calling, is_called, is_open, is_over, side_made, after_connect, after_accept, after_hand, after_taken, waiting_count, untaken_count, refusal, on_request, on_confirm, on_disconnect, is_expected, on_data, on_acknowledgement, on_reading, reception, Turn, Rest, Opening, Acknowledgement, Data, turn_among, ack_of, turn_of, tpdu_at, state_behind, with_given, next_tpdu, after_next}
-use Rattle.x224_class2.specs.Kept.{Kept, distance, kept_made, kept_after_connect, kept_after_accept, kept_after_hand, kept_after_taken, kept_over, kept_on_request, kept_on_confirm, kept_on_disconnect, kept_is_expected, kept_with_data, kept_on_data, kept_on_acknowledgement, kept_on_reading, kept_reception, first_or, is_nonempty, kept_ack, kept_turn, next_segment, waiting_behind, kept_tpdu_at, kept_behind, kept_next_tpdu, kept_after_next, octets_next}
-use Rattle.x224_class2.specs.Standing.{last_numbers, segments_of_all, kept_of, CanWrite, HasNoneEarly, IsSound, Stands}
+use Rattle.x224_class2.specs.Transport.{Transport, ReceptionDeed, Nothing, Disconnected, Refused, is_new, is_calling, is_called, is_open, is_over, side_made, after_connect, after_accept, after_hand, after_taken, waiting_count, untaken_count, refusal_of_tpdu, on_request, on_confirm, on_disconnect, is_expected, on_data, on_acknowledgement, on_reading, reception, TpduTurn, Rest, Opening, Acknowledgement, Data, turn_among, ack_of, turn_of, tpdu_at, state_behind, with_given, next_tpdu, after_next}
+use Rattle.x224_class2.specs.Kept.{KeptTransport, distance, kept_made, kept_after_connect, kept_after_accept, kept_after_hand, kept_after_taken, kept_over, kept_on_request, kept_on_confirm, kept_on_disconnect, kept_is_expected, kept_with_data, kept_on_data, kept_on_acknowledgement, kept_on_reading, kept_reception, first_or, is_nonempty, kept_ack, kept_turn, next_segment, waiting_behind, kept_tpdu_at, kept_behind, kept_next_tpdu, kept_after_next, octets_next}
+use Rattle.x224_class2.specs.Standing.{last_numbers, segments_of_all, kept_of, CanWrite, HasNoneEarly, IsSound, StandsForTransport}
 use Rattle.x224_class2.specs.declared.stage.Stage.{Stage}
 use Rattle.x224_class2.specs.declared.stage.Stage.TheVariants as stages
 use Rattle.x224_class2.proofs.Allowed.{credit_most, size_named, size_most}
@@ -37,7 +37,7 @@ least_size n h =
       | inr (inr (inr (inr (inr (inr e))))) ↦ omega (arith, e)
     ]
 
-pub made_stands : (is_caller : Bool) (settings : Settings) → AllAllowed settings → Stands (kept_made is_caller settings) (side_made is_caller settings)
+pub made_stands : (is_caller : Bool) (settings : Settings) → AllAllowed settings → StandsForTransport (kept_made is_caller settings) (side_made is_caller settings)
 made_stands is_caller settings h =
     let named : IsSize settings.size = size_named settings.modulo settings.size h.size in
     record {
@@ -76,9 +76,9 @@ none_when_calling stages.Over ss e h = absurd cc
 with_user : (t : Transport) (user : List ℕ) → length user ≤ 32 → IsSound t → CanWrite t.size (Some user) t.segments
 with_user t user short s = record { is_size = s.can_write.is_size; most = s.can_write.most; user = short; carried = s.can_write.carried }
 
-pub connect_stands : (k : Kept) (t : Transport) (user : List ℕ) → Stands k t → is_new t.stage ≡ true → length user ≤ 32 → Stands (kept_after_connect k user) (after_connect t user)
+pub connect_stands : (k : KeptTransport) (t : Transport) (user : List ℕ) → StandsForTransport k t → is_new t.stage ≡ true → length user ≤ 32 → StandsForTransport (kept_after_connect k user) (after_connect t user)
 connect_stands k t user s new short = record {
-  is = ap (λ (j : Kept). kept_after_connect j user) s.is;
+  is = ap (λ (j : KeptTransport). kept_after_connect j user) s.is;
   sound = record {
     credit = s.sound.credit;
     size = s.sound.size;
@@ -95,9 +95,9 @@ connect_stands k t user s new short = record {
   };
 }
 
-pub accept_stands : (k : Kept) (t : Transport) (user : List ℕ) → Stands k t → is_called t.stage ≡ true → length user ≤ 32 → Stands (kept_after_accept k user) (after_accept t user)
+pub accept_stands : (k : KeptTransport) (t : Transport) (user : List ℕ) → StandsForTransport k t → is_called t.stage ≡ true → length user ≤ 32 → StandsForTransport (kept_after_accept k user) (after_accept t user)
 accept_stands k t user s called short = record {
-  is = ap (λ (j : Kept). kept_after_accept j user) s.is;
+  is = ap (λ (j : KeptTransport). kept_after_accept j user) s.is;
   sound = record {
     credit = s.sound.credit;
     size = s.sound.size;
@@ -129,11 +129,11 @@ waiting_push : (t : Transport) (m : List ℕ) → IsSound t → messages_in (dro
 waiting_push t m s =
     rw (drop-append_within t.given t.segments (segments_of t.size m) s.given, messages-append [] (drop t.given t.segments) (segments_of t.size m), text_of_waits t.size (drop t.given t.segments) s.waits, messages_of_segments t.size m) refl
 
-pub hand_stands : (k : Kept) (t : Transport) (message : List ℕ) → Stands k t → is_open t.stage ≡ true → 0 < length message → Stands (kept_after_hand k message) (after_hand t message)
+pub hand_stands : (k : KeptTransport) (t : Transport) (message : List ℕ) → StandsForTransport k t → is_open t.stage ≡ true → 0 < length message → StandsForTransport (kept_after_hand k message) (after_hand t message)
 hand_stands k t m s is_made some =
     let pushed = waiting_push t m s.sound in
     record {
-      is = ap (λ (j : Kept). kept_after_hand j m) s.is ∙ ap (λ (w : List (List ℕ)). record (kept_of t) { waiting = w }) (sym pushed);
+      is = ap (λ (j : KeptTransport). kept_after_hand j m) s.is ∙ ap (λ (w : List (List ℕ)). record (kept_of t) { waiting = w }) (sym pushed);
       sound = record {
         credit = s.sound.credit;
         size = s.sound.size;
@@ -162,9 +162,9 @@ map_behind zero (x ∷ ns) = refl
 map_behind (suc n) [] = ap (λ (ns : List ℕ). map seven_bits ns) (sym (drop_nil {A = ℕ} (suc n + 1)))
 map_behind (suc n) (x ∷ ns) = let e : suc n + 1 ≡ suc (n + 1) = omega arith in rw e (map_behind n ns)
 
-pub taken_stands : (k : Kept) (t : Transport) → Stands k t → 0 < untaken_count t → Stands (kept_after_taken k) (after_taken t)
+pub taken_stands : (k : KeptTransport) (t : Transport) → StandsForTransport k t → 0 < untaken_count t → StandsForTransport (kept_after_taken k) (after_taken t)
 taken_stands k t s some = record {
-  is = ap (λ (j : Kept). kept_after_taken j) s.is ∙ ap (λ (ns : List ℕ). record (kept_of t) { lasts = ns }) (map_behind t.taken (last_numbers 0 t.contents));
+  is = ap (λ (j : KeptTransport). kept_after_taken j) s.is ∙ ap (λ (ns : List ℕ). record (kept_of t) { lasts = ns }) (map_behind t.taken (last_numbers 0 t.contents));
   sound = record {
     credit = s.sound.credit;
     size = s.sound.size;
@@ -189,16 +189,16 @@ length_map (n ∷ ns) = ap (λ (m : ℕ). suc m) (length_map ns)
 length_untaken : (t : Transport) → length (map seven_bits (drop t.taken (last_numbers 0 t.contents))) ≡ untaken_count t
 length_untaken t = length_map (drop t.taken (last_numbers 0 t.contents)) ∙ length-drop t.taken (last_numbers 0 t.contents) ∙ ap (λ (n : ℕ). n - t.taken) (length_lasts 0 [] t.contents)
 
-pub counts_stand : (k : Kept) (t : Transport) → Stands k t → (length k.lasts ≡ untaken_count t) × (length k.waiting ≡ waiting_count t)
-counts_stand k t s = (ap (λ (j : Kept). length j.lasts) s.is ∙ length_untaken t, ap (λ (j : Kept). length j.waiting) s.is)
+pub counts_stand : (k : KeptTransport) (t : Transport) → StandsForTransport k t → (length k.lasts ≡ untaken_count t) × (length k.waiting ≡ waiting_count t)
+counts_stand k t s = (ap (λ (j : KeptTransport). length j.lasts) s.is ∙ length_untaken t, ap (λ (j : KeptTransport). length j.waiting) s.is)
 
 -- a reception: what is kept stands, and the deed is the same
-record Agrees (x : Kept × Deed) (y : Transport × Deed) : Type 0 where
-  state : Stands x.0 y.0
+record Agrees (x : KeptTransport × ReceptionDeed) (y : Transport × ReceptionDeed) : Type 0 where
+  state : StandsForTransport x.0 y.0
   deed : x.1 ≡ y.1
 
 -- two tests that are one
-agrees_if : (c d : Bool) (x x' : Kept × Deed) (y y' : Transport × Deed) → c ≡ d → (d ≡ true → Agrees x y) → (d ≡ false → Agrees x' y') → Agrees (if c then x else x') (if d then y else y')
+agrees_if : (c d : Bool) (x x' : KeptTransport × ReceptionDeed) (y y' : Transport × ReceptionDeed) → c ≡ d → (d ≡ true → Agrees x y) → (d ≡ false → Agrees x' y') → Agrees (if c then x else x') (if d then y else y')
 agrees_if c true x x' y y' e h g = rw e (h refl)
 agrees_if c false x x' y y' e h g = rw e (g refl)
 
@@ -218,7 +218,7 @@ sound_over t s = record {
   can_write = s.can_write;
 }
 
-ends : (t : Transport) (deed : Deed) → IsSound t → Agrees (kept_over (kept_of t), deed) (record t { stage = stages.Over }, deed)
+ends : (t : Transport) (deed : ReceptionDeed) → IsSound t → Agrees (kept_over (kept_of t), deed) (record t { stage = stages.Over }, deed)
 ends t deed s = record { state = record { is = refl; sound = sound_over t s }; deed = refl }
 
 -- a CR or CC comes: no message was handed yet
@@ -270,7 +270,7 @@ request_agrees t credit dst src size user s c z =
     (λ e. record { state = comes (and_parts _ _ (and_parts _ _ (and_parts _ _ e).0).0).1; deed = refl })
     (λ e. ends t (Refused tpdu_refused protocol_error) s)
   where
-    comes : is_new t.stage ≡ true → Stands (record (kept_of t) { stage = stages.Called; size = min (min size 1024) t.size; edge = credit }) (record t { stage = stages.Called; size = min (min size 1024) t.size; edge = credit })
+    comes : is_new t.stage ≡ true → StandsForTransport (record (kept_of t) { stage = stages.Called; size = min (min size 1024) t.size; edge = credit }) (record t { stage = stages.Called; size = min (min size 1024) t.size; edge = credit })
     comes new =
         let none : t.segments ≡ [] = none_when_new t.stage t.segments new s.early in
         let shown : credit ≡ credit % 128 = omega arith in
@@ -285,7 +285,7 @@ confirm_agrees t credit dst src size user s c z =
     (λ e. record { state = comes (and_parts _ _ (and_parts _ _ (and_parts _ _ e).0).0).0 (leb-true _ _ (and_parts _ _ e).1); deed = refl })
     (λ e. ends t (Refused tpdu_refused protocol_error) s)
   where
-    comes : is_calling t.stage ≡ true → size ≤ t.size → Stands (record (kept_of t) { stage = stages.Open; size = size; edge = credit }) (record t { stage = stages.Open; size = size; edge = credit })
+    comes : is_calling t.stage ≡ true → size ≤ t.size → StandsForTransport (record (kept_of t) { stage = stages.Open; size = size; edge = credit }) (record t { stage = stages.Open; size = size; edge = credit })
     comes calling fits =
         let none : t.segments ≡ [] = none_when_calling t.stage t.segments calling s.early in
         let shown : credit ≡ credit % 128 = omega arith in
@@ -358,7 +358,7 @@ map_push (m ∷ ns) n = ap (λ (xs : List ℕ). seven_bits m ∷ xs) (map_push n
 next_number : (t : Transport) (s : Segment) → (length t.contents % 128 + 1) % 128 ≡ length (t.contents ++ s ∷ []) % 128
 next_number t s = let e : length (t.contents ++ s ∷ []) ≡ length t.contents + 1 = length-append t.contents (s ∷ []) in rw e (omega arith)
 
-kept_three : (k : Kept) (r r' : ℕ) (l l' : List ℕ) (x x' : List ℕ) → r ≡ r' → l ≡ l' → x ≡ x' → record k { received = r; lasts = l; text = x } ≡ record k { received = r'; lasts = l'; text = x' }
+kept_three : (k : KeptTransport) (r r' : ℕ) (l l' : List ℕ) (x x' : List ℕ) → r ≡ r' → l ≡ l' → x ≡ x' → record k { received = r; lasts = l; text = x } ≡ record k { received = r'; lasts = l'; text = x' }
 kept_three k r r' l l' x x' p q o = cc
 
 data_kept : (t : Transport) (last : Bool) (user : List ℕ) → IsSound t → kept_with_data (kept_of t) last user ≡ kept_of (with_content t last user)
@@ -390,7 +390,7 @@ abbrev acknowledged : Transport → (n credit : ℕ) → Transport
 acknowledged t n credit = record t { acked = n; edge = n + credit }
 
 -- an AK is accepted or refused by three tests
-agrees_by : (a b d : Bool) (x x' : Kept × Deed) (y : Transport × Deed) → (a ≡ true → b ≡ true → d ≡ true → Agrees x y) → (a ≡ false → Agrees x' y) → (a ≡ true → b ≡ false → Agrees x' y) → (a ≡ true → b ≡ true → d ≡ false → Agrees x' y) → Agrees (if a && b && d then x else x') y
+agrees_by : (a b d : Bool) (x x' : KeptTransport × ReceptionDeed) (y : Transport × ReceptionDeed) → (a ≡ true → b ≡ true → d ≡ true → Agrees x y) → (a ≡ false → Agrees x' y) → (a ≡ true → b ≡ false → Agrees x' y) → (a ≡ true → b ≡ true → d ≡ false → Agrees x' y) → Agrees (if a && b && d then x else x') y
 agrees_by true true true x x' y all none_a none_b none_d = all refl refl refl
 agrees_by true true false x x' y all none_a none_b none_d = none_d refl refl refl
 agrees_by true false d x x' y all none_a none_b none_d = none_b refl refl
@@ -403,9 +403,9 @@ acknowledgement_agrees t credit dst number s c n =
     let below : u < 128 = distance_below (t.acked % 128) number in
     let ahead : distance (t.acked % 128) (t.given % 128) ≡ t.given - t.acked = distance_is t.acked t.given s.acked (omega (arith, s.edge_least, s.edge_most)) in
     let room : distance (t.acked % 128) (t.edge % 128) ≡ t.edge - t.acked = distance_is t.acked t.edge (omega (arith, s.acked, s.edge_least)) (omega (arith, s.edge_most)) in
-    let P : Transport × Deed → Type 0 = λ y. Agrees (kept_over (kept_of t), Refused tpdu_refused protocol_error) y in
-    let Q : Transport × Deed → Type 0 = λ y. Agrees (record (kept_of t) { acked = number; edge = (number + credit) % 128 }, Nothing) y in
-    let over : P (refusal t tpdu_refused protocol_error) = ends t (Refused tpdu_refused protocol_error) s in
+    let P : Transport × ReceptionDeed → Type 0 = λ y. Agrees (kept_over (kept_of t), Refused tpdu_refused protocol_error) y in
+    let Q : Transport × ReceptionDeed → Type 0 = λ y. Agrees (record (kept_of t) { acked = number; edge = (number + credit) % 128 }, Nothing) y in
+    let over : P (refusal_of_tpdu t tpdu_refused protocol_error) = ends t (Refused tpdu_refused protocol_error) s in
     agrees_by (is_open t.stage && eqb dst 1) (nat_le u (distance (t.acked % 128) (t.given % 128))) (nat_le (distance (t.acked % 128) (t.edge % 128)) (u + credit)) _ _ (on_acknowledgement t credit dst number)
     (λ a b d.
     let up : u ≤ t.given - t.acked = leb-true _ _ (rw ahead at b) in
@@ -413,16 +413,16 @@ acknowledgement_agrees t credit dst number s c n =
     let keeps : nat_lt ((t.acked + u) + credit) t.edge ≡ false = le-ltb _ _ (omega (arith, high)) in
     let e : on_acknowledgement t credit dst number ≡ (acknowledged t (t.acked + u) credit, Nothing) = rw (a, named_some u t.acked (t.given - t.acked) number back up below, keeps) refl in
     subst Q (sym e) (accepted t (t.acked + u) credit number s c back (omega (arith, up, s.acked)) (omega (arith, high, s.edge_least))))
-    (λ a. let e : on_acknowledgement t credit dst number ≡ refusal t tpdu_refused protocol_error = rw a refl in subst P (sym e) over)
+    (λ a. let e : on_acknowledgement t credit dst number ≡ refusal_of_tpdu t tpdu_refused protocol_error = rw a refl in subst P (sym e) over)
     (λ a b.
     let up : t.given - t.acked < u = leb-false _ _ (rw ahead at b) in
-    let e : on_acknowledgement t credit dst number ≡ refusal t tpdu_refused protocol_error = rw (a, named_none u t.acked (t.given - t.acked) number back up below) refl in
+    let e : on_acknowledgement t credit dst number ≡ refusal_of_tpdu t tpdu_refused protocol_error = rw (a, named_none u t.acked (t.given - t.acked) number back up below) refl in
     subst P (sym e) over)
     (λ a b d.
     let up : u ≤ t.given - t.acked = leb-true _ _ (rw ahead at b) in
     let low : u + credit < t.edge - t.acked = leb-false _ _ (rw room at d) in
     let lowers : nat_lt ((t.acked + u) + credit) t.edge ≡ true = lt-ltb _ _ (omega (arith, low)) in
-    let e : on_acknowledgement t credit dst number ≡ refusal t tpdu_refused protocol_error = rw (a, named_some u t.acked (t.given - t.acked) number back up below, lowers) refl in
+    let e : on_acknowledgement t credit dst number ≡ refusal_of_tpdu t tpdu_refused protocol_error = rw (a, named_some u t.acked (t.given - t.acked) number back up below, lowers) refl in
     subst P (sym e) over)
   where
     accepted : (t : Transport) (n credit number : ℕ) → IsSound t → credit < 16 → n % 128 ≡ number → n ≤ t.given → t.given ≤ n + credit → Agrees (record (kept_of t) { acked = number; edge = (number + credit) % 128 }, Nothing) (acknowledged t n credit, Nothing)
@@ -450,11 +450,11 @@ acknowledgement_agrees t credit dst number s c n =
         }
 
 -- what was read comes
-abbrev InRange : Result Pdu TpFault → Type 0
+abbrev InRange : Result TransportPdu TpFault → Type 0
 InRange (Ok p) = IsInRange p
 InRange (Err fault) = Unit {0}
 
-reading_agrees : (t : Transport) (answer : Result Pdu TpFault) → IsSound t → InRange answer → Agrees (kept_on_reading (kept_of t) answer) (on_reading t answer)
+reading_agrees : (t : Transport) (answer : Result TransportPdu TpFault) → IsSound t → InRange answer → Agrees (kept_on_reading (kept_of t) answer) (on_reading t answer)
 reading_agrees t (Ok (connection_request credit dst src size user)) s r = request_agrees t credit dst src size user s r.0.0 r.0.1
 reading_agrees t (Ok (connection_confirm credit dst src size user)) s r = confirm_agrees t credit dst src size user s r.0.0 r.0.1
 reading_agrees t (Ok (disconnect_request dst src reason user)) s r = disconnect_agrees t dst src user s
@@ -464,16 +464,16 @@ reading_agrees t (Ok (acknowledgement credit dst number)) s r = acknowledgement_
 reading_agrees t (Ok (tpdu_error dst cause)) s r = ends t (Refused tpdu_refused protocol_error) s
 reading_agrees t (Err fault) s r = ends t (Refused tpdu_refused (dr_reason fault)) s
 
-answer_in_range : ReadingIsInRange → (octets : List ℕ) (answer : Result Pdu TpFault) → reading octets ≡ answer → InRange answer
+answer_in_range : ReadingIsInRange → (octets : List ℕ) (answer : Result TransportPdu TpFault) → reading octets ≡ answer → InRange answer
 answer_in_range law octets (Ok p) e = law octets p e
 answer_in_range law octets (Err fault) e = tt
 
-pub reception_stands : ReadingIsInRange → (k : Kept) (t : Transport) (octets : List ℕ) → Stands k t → Stands (kept_reception k octets).0 (reception t octets).0 × ((kept_reception k octets).1 ≡ (reception t octets).1)
+pub reception_stands : ReadingIsInRange → (k : KeptTransport) (t : Transport) (octets : List ℕ) → StandsForTransport k t → StandsForTransport (kept_reception k octets).0 (reception t octets).0 × ((kept_reception k octets).1 ≡ (reception t octets).1)
 reception_stands law k t octets s =
     let both : Agrees (kept_reception (kept_of t) octets) (reception t octets) = agrees_if _ (is_over t.stage) _ _ _ _ refl
     (λ e. record { state = record { is = refl; sound = s.sound }; deed = refl })
     (λ e. reading_agrees t (reading octets) s.sound (answer_in_range law octets (reading octets) refl)) in
-    let all : Agrees (kept_reception k octets) (reception t octets) = subst (λ (j : Kept). Agrees (kept_reception j octets) (reception t octets)) (sym s.is) both in
+    let all : Agrees (kept_reception k octets) (reception t octets) = subst (λ (j : KeptTransport). Agrees (kept_reception j octets) (reception t octets)) (sym s.is) both in
     (all.state, all.deed)
 
 -- the next TPDU
@@ -529,8 +529,8 @@ turn_same t s =
     rw (owed, some, edge_test t s) refl
 
 -- behind a turn
-record NextAgrees (k : Kept) (t : Transport) (a b : Option Given) : Type 0 where
-  state : Stands k t
+record NextAgrees (k : KeptTransport) (t : Transport) (a b : Option GivenTpdu) : Type 0 where
+  state : StandsForTransport k t
   octets : octets_next a ≡ octets_next b
   some : is_some a ≡ is_some b
 
@@ -642,25 +642,25 @@ behind_data t s h =
       some = refl;
     }
   where
-    kept_two : (k : Kept) (g g' : ℕ) (w w' : List (List ℕ)) → g ≡ g' → w ≡ w' → record k { given = g; waiting = w } ≡ record k { given = g'; waiting = w' }
+    kept_two : (k : KeptTransport) (g g' : ℕ) (w w' : List (List ℕ)) → g ≡ g' → w ≡ w' → record k { given = g; waiting = w } ≡ record k { given = g'; waiting = w' }
     kept_two k g g' w w' p q = cc
 
     same_data : (n n' : ℕ) (x y : Segment) → n ≡ n' → x ≡ y → written_octets (data_tpdu 1 x.0 n x.1) ≡ written_octets (data_tpdu 1 y.0 n' y.1)
     same_data n n' x y p q = rw (p, q) refl
 
-behind_turn : (t : Transport) (turn : Turn) → IsSound t → turn_of t ≡ turn → NextAgrees (kept_behind (kept_of t) turn) (with_given (state_behind t turn) (tpdu_at t turn)) (kept_tpdu_at (kept_of t) turn) (tpdu_at t turn)
+behind_turn : (t : Transport) (turn : TpduTurn) → IsSound t → turn_of t ≡ turn → NextAgrees (kept_behind (kept_of t) turn) (with_given (state_behind t turn) (tpdu_at t turn)) (kept_tpdu_at (kept_of t) turn) (tpdu_at t turn)
 behind_turn t Rest s e = behind_rest t s
 behind_turn t (Opening user) s e = behind_opening t user s
 behind_turn t Acknowledgement s e = behind_acknowledgement t s
 behind_turn t Data s e = behind_data t s (data_turn t e)
 
-pub next_stands : (k : Kept) (t : Transport) → Stands k t → Stands (kept_after_next k) (after_next t) × (octets_next (kept_next_tpdu k) ≡ octets_next (next_tpdu t)) × (is_some (kept_next_tpdu k) ≡ is_some (next_tpdu t))
+pub next_stands : (k : KeptTransport) (t : Transport) → StandsForTransport k t → StandsForTransport (kept_after_next k) (after_next t) × (octets_next (kept_next_tpdu k) ≡ octets_next (next_tpdu t)) × (is_some (kept_next_tpdu k) ≡ is_some (next_tpdu t))
 next_stands k t s =
     let turned : NextAgrees (kept_behind (kept_of t) (turn_of t)) (after_next t) (kept_tpdu_at (kept_of t) (turn_of t)) (next_tpdu t) = behind_turn t (turn_of t) s.sound refl in
     let by_kept : NextAgrees (kept_after_next (kept_of t)) (after_next t) (kept_next_tpdu (kept_of t)) (next_tpdu t) =
-    subst (λ (turn : Turn). NextAgrees (kept_behind (kept_of t) turn) (after_next t) (kept_tpdu_at (kept_of t) turn) (next_tpdu t)) (sym (turn_same t s.sound)) turned in
+    subst (λ (turn : TpduTurn). NextAgrees (kept_behind (kept_of t) turn) (after_next t) (kept_tpdu_at (kept_of t) turn) (next_tpdu t)) (sym (turn_same t s.sound)) turned in
     let all : NextAgrees (kept_after_next k) (after_next t) (kept_next_tpdu k) (next_tpdu t) =
-    subst (λ (j : Kept). NextAgrees (kept_after_next j) (after_next t) (kept_next_tpdu j) (next_tpdu t)) (sym s.is) by_kept in
+    subst (λ (j : KeptTransport). NextAgrees (kept_after_next j) (after_next t) (kept_next_tpdu j) (next_tpdu t)) (sym s.is) by_kept in
     (all.state, all.octets, all.some)
 
 -- what is given can be written
@@ -679,23 +679,23 @@ opening_turn t user e =
           opening_by t.due _ _ user (sym among ∙ e))
     ]
 
-turn_writable : (t : Transport) (turn : Turn) (tpdu : Given) → IsSound t → turn_of t ≡ turn → tpdu_at t turn ≡ Some tpdu → IsWritable (pdu_given tpdu)
+turn_writable : (t : Transport) (turn : TpduTurn) (tpdu : GivenTpdu) → IsSound t → turn_of t ≡ turn → tpdu_at t turn ≡ Some tpdu → IsWritable (pdu_given tpdu)
 turn_writable t Rest tpdu s e f = absurd cc
 turn_writable t (Opening user) tpdu s e f =
     let short : MatchOption (Some user) (Unit {0}) (λ user. length user ≤ 32) = rw (opening_turn t user e) at s.can_write.user in
-    opening t.is_caller (subst (λ (o : Option Given). o ≡ Some tpdu) refl f) short
+    opening t.is_caller (subst (λ (o : Option GivenTpdu). o ≡ Some tpdu) refl f) short
   where
     opening : (c : Bool) → Some (if c then Cr t.credit t.size user else Cc t.credit t.size user) ≡ Some tpdu → length user ≤ 32 → IsWritable (pdu_given tpdu)
-    opening true g short = let same : Cr t.credit t.size user ≡ tpdu = cc in subst (λ (x : Given). IsWritable (pdu_given x)) same (((omega (arith, s.credit), omega arith, omega arith), omega arith, short), s.can_write.is_size, λ h. absurd cc)
-    opening false g short = let same : Cc t.credit t.size user ≡ tpdu = cc in subst (λ (x : Given). IsWritable (pdu_given x)) same (((omega (arith, s.credit), omega arith, omega arith), omega arith, short), s.can_write.is_size, λ h. absurd cc)
+    opening true g short = let same : Cr t.credit t.size user ≡ tpdu = cc in subst (λ (x : GivenTpdu). IsWritable (pdu_given x)) same (((omega (arith, s.credit), omega arith, omega arith), omega arith, short), s.can_write.is_size, λ h. absurd cc)
+    opening false g short = let same : Cc t.credit t.size user ≡ tpdu = cc in subst (λ (x : GivenTpdu). IsWritable (pdu_given x)) same (((omega (arith, s.credit), omega arith, omega arith), omega arith, short), s.can_write.is_size, λ h. absurd cc)
 turn_writable t Acknowledgement tpdu s e f =
     let same : Ak t.credit (ack_of t) ≡ tpdu = cc in
-    subst (λ (x : Given). IsWritable (pdu_given x)) same (((omega (arith, s.credit), omega arith, omega arith), omega arith, omega arith), tt, λ h. absurd cc)
+    subst (λ (x : GivenTpdu). IsWritable (pdu_given x)) same (((omega (arith, s.credit), omega arith, omega arith), omega arith, omega arith), tt, λ h. absurd cc)
 turn_writable t Data tpdu s e f =
     let next : Segment = get_or t.segments t.given (true, []) in
     let within = carried_at (t.size - 5) t.given t.segments (true, []) s.can_write.carried (data_turn t e).0 in
     let same : Dt next.0 t.given next.1 ≡ tpdu = cc in
-    subst (λ (x : Given). IsWritable (pdu_given x)) same (((omega arith, omega arith), omega (arith, within.0), omega (arith, within.1, s.can_write.most)), tt, λ h. absurd cc)
+    subst (λ (x : GivenTpdu). IsWritable (pdu_given x)) same (((omega arith, omega arith), omega (arith, within.0), omega (arith, within.1, s.can_write.most)), tt, λ h. absurd cc)
 
-pub next_is_writable : (k : Kept) (t : Transport) (tpdu : Given) → Stands k t → next_tpdu t ≡ Some tpdu → IsWritable (pdu_given tpdu)
+pub next_is_writable : (k : KeptTransport) (t : Transport) (tpdu : GivenTpdu) → StandsForTransport k t → next_tpdu t ≡ Some tpdu → IsWritable (pdu_given tpdu)
 next_is_writable k t tpdu s e = turn_writable t (turn_of t) tpdu s.sound refl e

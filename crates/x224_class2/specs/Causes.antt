@@ -6,7 +6,7 @@ use Rattle.er_base.specs.declared.cause.Cause.{Cause}
 use Rattle.er_base.specs.declared.cause.Cause.TheVariants as cause
 use Rattle.er_base.specs.Causes.{release_of}
 use Rattle.x224_tpdu.specs.declared.fault.TpFault.{TpFault}
-use Rattle.x224_tpdu.specs.Spelling.{Pdu, connection_request, connection_confirm, disconnect_request, disconnect_confirm, data_tpdu, acknowledgement, tpdu_error}
+use Rattle.x224_tpdu.specs.Spelling.{TransportPdu, connection_request, connection_confirm, disconnect_request, disconnect_confirm, data_tpdu, acknowledgement, tpdu_error}
 use Rattle.x224_tpdu.specs.Function.{reading}
 use Rattle.x224_class2.specs.Segments.{text_so_far}
 use Rattle.x224_class2.specs.Refusals.{dr_reason, protocol_error}
@@ -17,7 +17,7 @@ use Rattle.x224_class2.specs.declared.stage.Stage.TheVariants as stages
 
 -- the TPDUs that are expected at a stage: a CR by a callee that was just made, a CC by a caller that connects, a DR behind the CR, DT
 -- and AK where the connection is made; DC and ER never
-abbrev pub IsExpectedAt : Transport → Pdu → Type 0
+abbrev pub IsExpectedAt : Transport → TransportPdu → Type 0
 IsExpectedAt t (connection_request credit dst src size user) = (t.is_caller ≡ false) × (t.stage ≡ stages.New)
 IsExpectedAt t (connection_confirm credit dst src size user) = t.stage ≡ stages.Calling
 IsExpectedAt t (disconnect_request dst src reason user) = t.stage ≢ stages.New
@@ -27,7 +27,7 @@ IsExpectedAt t (acknowledgement credit dst number) = t.stage ≡ stages.Open
 IsExpectedAt t (tpdu_error dst cause) = ⊥
 
 -- the references of both sides are 0001; the destination of a CR isn't known yet, and is 0000
-abbrev pub HasReferences : Pdu → Type 0
+abbrev pub HasReferences : TransportPdu → Type 0
 HasReferences (connection_request credit dst src size user) = (dst ≡ 0) × (src ≡ 1)
 HasReferences (connection_confirm credit dst src size user) = (dst ≡ 1) × (src ≡ 1)
 HasReferences (disconnect_request dst src reason user) = (dst ≡ 1) × (src ≡ 1)
@@ -41,9 +41,9 @@ HasReferences (tpdu_error dst cause) = dst ≡ 1
 -- what breaks a rule of the procedure
 pub data BreaksRule (t : Transport) (octets : List ℕ) : Type 0 where
   -- a TPDU that isn't expected at this stage
-  AtStage : (pdu : Pdu) → reading octets ≡ Ok pdu → (IsExpectedAt t pdu → ⊥) → BreaksRule t octets
+  AtStage : (pdu : TransportPdu) → reading octets ≡ Ok pdu → (IsExpectedAt t pdu → ⊥) → BreaksRule t octets
   -- a TPDU with another reference
-  ByReference : (pdu : Pdu) → reading octets ≡ Ok pdu → (HasReferences pdu → ⊥) → BreaksRule t octets
+  ByReference : (pdu : TransportPdu) → reading octets ≡ Ok pdu → (HasReferences pdu → ⊥) → BreaksRule t octets
   -- a CC with a larger size than the CR proposed
   BySize : (credit dst src size : ℕ) (user : List ℕ) → reading octets ≡ Ok (connection_confirm credit dst src size user)
       → t.stage ≡ stages.Calling → t.size < size → BreaksRule t octets
@@ -66,9 +66,9 @@ pub data BreaksRule (t : Transport) (octets : List ℕ) : Type 0 where
       → t.acked + more + credit < t.edge → BreaksRule t octets
 
 -- what is met where a TPDU is refused as one that is faulty or may not come here; its fault gives the reason of the DR
-pub data IsRefused (t : Transport) (octets : List ℕ) (reason : ℕ) : Type 0 where
-  OfFault : (fault : TpFault) → reading octets ≡ Err fault → reason ≡ dr_reason fault → IsRefused t octets reason
-  OfRule : BreaksRule t octets → reason ≡ protocol_error → IsRefused t octets reason
+pub data IsRefusedTpdu (t : Transport) (octets : List ℕ) (reason : ℕ) : Type 0 where
+  OfFault : (fault : TpFault) → reading octets ≡ Err fault → reason ≡ dr_reason fault → IsRefusedTpdu t octets reason
+  OfRule : BreaksRule t octets → reason ≡ protocol_error → IsRefusedTpdu t octets reason
 
 -- a DT that breaks no rule, but makes a message longer than 1,032 octets
 pub record MakesTooLong (t : Transport) (octets : List ℕ) : Type 0 where
@@ -91,7 +91,7 @@ CauseMet t octets cause.LineEnded reason = ⊥
 CauseMet t octets cause.LineFailed reason = ⊥
 CauseMet t octets cause.LineStalled reason = ⊥
 CauseMet t octets cause.DisconnectWithoutDi reason = ⊥
-CauseMet t octets cause.TpduRefused reason = IsRefused t octets reason
+CauseMet t octets cause.TpduRefused reason = IsRefusedTpdu t octets reason
 CauseMet t octets cause.MessageTooLong reason = MakesTooLong t octets × (reason ≡ protocol_error)
 CauseMet t octets cause.BlockRefused reason = ⊥
 CauseMet t octets cause.NoKey reason = ⊥

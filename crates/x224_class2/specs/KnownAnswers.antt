@@ -60,8 +60,8 @@ small size = settings_of 8 7 1 size 1000 5 40000
 abbrev connecting : Transport
 connecting = after_connect (side_made true (small 256)) (0x42 ∷ [])
 
-pub known_request : next_tpdu connecting ≡ Some (Cr 1 256 (0x42 ∷ []))
-known_request = refl
+pub known_next_is_request : next_tpdu connecting ≡ Some (Cr 1 256 (0x42 ∷ []))
+known_next_is_request = refl
 
 pub known_request_octets : octets_given (Cr 1 256 (0x42 ∷ [])) ≡ 0x09 ∷ 0xE1 ∷ 0x00 ∷ 0x00 ∷ 0x00 ∷ 0x01 ∷ 0x20 ∷ 0xC0 ∷ 0x01 ∷ 0x08 ∷ 0x42 ∷ []
 known_request_octets = refl

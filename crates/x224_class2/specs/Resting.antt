@@ -6,15 +6,15 @@ use Rattle.x224_class2.specs.declared.transport.Transport.{Transport}
 use Rattle.x224_class2.specs.contracts.transport.Transport.{the_row}
 use Rattle.x224_class2.specs.declared.deed.TransportDeed.{TransportDeed}
 use Rattle.x224_class2.specs.declared.deed.TransportDeed.TheVariants as code
-use Rattle.x224_class2.specs.Transport.{Deed, Nothing, Called, Confirmed, Message, Disconnected, Refused}
-use Rattle.x224_class2.specs.Kept.{Kept}
+use Rattle.x224_class2.specs.Transport.{ReceptionDeed, Nothing, Called, Confirmed, Message, Disconnected, Refused}
+use Rattle.x224_class2.specs.Kept.{KeptTransport}
 
 -- once what was lent is let go, this is kept
-abbrev pub Rests : MutBor Transport → Kept → Fml
-Rests side k = follows_so the_row the_row side.ghost_name none (λ _ _. ⊤) (λ v. v ≡ k)
+abbrev pub LeavesTransportAs : MutBor Transport → KeptTransport → Fml
+LeavesTransportAs side k = follows_so the_row the_row side.ghost_name none (λ _ _. ⊤) (λ v. v ≡ k)
 
 -- the deed with the octets that are lent
-abbrev pub deed_of : TransportDeed → Deed
+abbrev pub deed_of : TransportDeed → ReceptionDeed
 deed_of code.Nothing = Nothing
 deed_of (code.Called user) = Called user.now
 deed_of (code.Confirmed user) = Confirmed user.now

@@ -5,9 +5,9 @@ use Rattle.er_settings.specs.Values.{Settings}
 use Rattle.er_settings.specs.Ranges.{AllAllowed}
 use Rattle.x224_tpdu.specs.Writing.{IsSize, IsWritable}
 use Rattle.x224_class2.specs.Segments.{Segment, segments_of, messages_in, text_so_far, ack_number, AllCarried}
-use Rattle.x224_class2.specs.Tpdus.{Given, pdu_given}
+use Rattle.x224_class2.specs.Tpdus.{GivenTpdu, pdu_given}
 use Rattle.x224_class2.specs.Transport.{Transport, is_called, is_open, is_new, side_made, after_connect, after_accept, after_hand, after_taken, waiting_count, untaken_count, reception, next_tpdu, after_next}
-use Rattle.x224_class2.specs.Kept.{Kept, kept_made, kept_after_connect, kept_after_accept, kept_after_hand, kept_after_taken, kept_reception, kept_next_tpdu, kept_after_next, octets_next}
+use Rattle.x224_class2.specs.Kept.{KeptTransport, kept_made, kept_after_connect, kept_after_accept, kept_after_hand, kept_after_taken, kept_reception, kept_next_tpdu, kept_after_next, octets_next}
 use Rattle.x224_class2.specs.declared.stage.Stage.{Stage}
 use Rattle.x224_class2.specs.declared.stage.Stage.TheVariants as stages
 
@@ -23,7 +23,7 @@ segments_of_all size [] = []
 segments_of_all size (message ∷ messages) = segments_of size message ++ segments_of_all size messages
 
 -- what is kept of a side
-abbrev pub kept_of : Transport → Kept
+abbrev pub kept_of : Transport → KeptTransport
 kept_of t = record {
   is_caller = t.is_caller;
   credit = t.credit;
@@ -71,54 +71,54 @@ pub record IsSound (t : Transport) : Type 0 where
   pub can_write : CanWrite t.size t.due t.segments
 
 -- what is kept stands for a side of the model
-pub record Stands (k : Kept) (t : Transport) : Type 0 where
+pub record StandsForTransport (k : KeptTransport) (t : Transport) : Type 0 where
   pub is : k ≡ kept_of t
   pub sound : IsSound t
 
 -- a call does this step of the model, whichever side of the model what was kept stood for
-abbrev pub Follows : Kept → Kept → (Transport → Transport) → Type 0
-Follows old new step = (t : Transport) → Stands old t → Stands new (step t)
+abbrev pub FollowsTransportStep : KeptTransport → KeptTransport → (Transport → Transport) → Type 0
+FollowsTransportStep old new step = (t : Transport) → StandsForTransport old t → StandsForTransport new (step t)
 
 -- what holds of each side of the model that what is kept stands for
-abbrev pub Shown : Kept → (Transport → Type 0) → Type 0
-Shown k P = (t : Transport) → Stands k t → P t
+abbrev pub Shown : KeptTransport → (Transport → Type 0) → Type 0
+Shown k P = (t : Transport) → StandsForTransport k t → P t
 
 -- a made side
 abbrev pub MadeStands : Type 0
-MadeStands = (is_caller : Bool) (settings : Settings) → AllAllowed settings → Stands (kept_made is_caller settings) (side_made is_caller settings)
+MadeStands = (is_caller : Bool) (settings : Settings) → AllAllowed settings → StandsForTransport (kept_made is_caller settings) (side_made is_caller settings)
 
 -- connect and accept
 abbrev pub ConnectStands : Type 0
-ConnectStands = (k : Kept) (t : Transport) (user : List ℕ) → Stands k t → is_new t.stage ≡ true → length user ≤ 32 → Stands (kept_after_connect k user) (after_connect t user)
+ConnectStands = (k : KeptTransport) (t : Transport) (user : List ℕ) → StandsForTransport k t → is_new t.stage ≡ true → length user ≤ 32 → StandsForTransport (kept_after_connect k user) (after_connect t user)
 
 abbrev pub AcceptStands : Type 0
-AcceptStands = (k : Kept) (t : Transport) (user : List ℕ) → Stands k t → is_called t.stage ≡ true → length user ≤ 32 → Stands (kept_after_accept k user) (after_accept t user)
+AcceptStands = (k : KeptTransport) (t : Transport) (user : List ℕ) → StandsForTransport k t → is_called t.stage ≡ true → length user ≤ 32 → StandsForTransport (kept_after_accept k user) (after_accept t user)
 
 -- hand
 abbrev pub HandStands : Type 0
-HandStands = (k : Kept) (t : Transport) (message : List ℕ) → Stands k t → is_open t.stage ≡ true → 0 < length message → Stands (kept_after_hand k message) (after_hand t message)
+HandStands = (k : KeptTransport) (t : Transport) (message : List ℕ) → StandsForTransport k t → is_open t.stage ≡ true → 0 < length message → StandsForTransport (kept_after_hand k message) (after_hand t message)
 
 -- taken
 abbrev pub TakenStands : Type 0
-TakenStands = (k : Kept) (t : Transport) → Stands k t → 0 < untaken_count t → Stands (kept_after_taken k) (after_taken t)
+TakenStands = (k : KeptTransport) (t : Transport) → StandsForTransport k t → 0 < untaken_count t → StandsForTransport (kept_after_taken k) (after_taken t)
 
 -- receive: what is kept, and the deed
 abbrev pub ReceptionStands : Type 0
 ReceptionStands =
-    (k : Kept) (t : Transport) (octets : List ℕ) → Stands k t
-    → Stands (kept_reception k octets).0 (reception t octets).0 × ((kept_reception k octets).1 ≡ (reception t octets).1)
+    (k : KeptTransport) (t : Transport) (octets : List ℕ) → StandsForTransport k t
+    → StandsForTransport (kept_reception k octets).0 (reception t octets).0 × ((kept_reception k octets).1 ≡ (reception t octets).1)
 
 -- next_tpdu: what is kept, the octets, and whether there are any
 abbrev pub NextStands : Type 0
 NextStands =
-    (k : Kept) (t : Transport) → Stands k t
-    → Stands (kept_after_next k) (after_next t) × (octets_next (kept_next_tpdu k) ≡ octets_next (next_tpdu t))
+    (k : KeptTransport) (t : Transport) → StandsForTransport k t
+    → StandsForTransport (kept_after_next k) (after_next t) × (octets_next (kept_next_tpdu k) ≡ octets_next (next_tpdu t))
     × (is_some (kept_next_tpdu k) ≡ is_some (next_tpdu t))
 
 -- untaken and waiting
 abbrev pub CountsStand : Type 0
-CountsStand = (k : Kept) (t : Transport) → Stands k t → (length k.lasts ≡ untaken_count t) × (length k.waiting ≡ waiting_count t)
+CountsStand = (k : KeptTransport) (t : Transport) → StandsForTransport k t → (length k.lasts ≡ untaken_count t) × (length k.waiting ≡ waiting_count t)
 
 -- what is given can be written, so that it is read back, and has 1,024 octets at most
 abbrev pub NextIsWritable : Type 0
-NextIsWritable = (k : Kept) (t : Transport) (tpdu : Given) → Stands k t → next_tpdu t ≡ Some tpdu → IsWritable (pdu_given tpdu)
+NextIsWritable = (k : KeptTransport) (t : Transport) (tpdu : GivenTpdu) → StandsForTransport k t → next_tpdu t ≡ Some tpdu → IsWritable (pdu_given tpdu)

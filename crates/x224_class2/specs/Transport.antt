@@ -4,10 +4,10 @@
 use Rattle.std.specs.Prelude.{ℕ, ◌+◌, ◌-◌, ◌%◌, ◌==◌, ◌&&◌, not, nat_lt, nat_le, min, if◌then◌else◌, zero, suc, Bool, true, false, List, [], ◌∷◌, ◌++◌, length, slice_index_or, drop, Option, Some, None, Result, Ok, Err}
 use Rattle.er_settings.specs.Values.{Settings}
 use Rattle.x224_tpdu.specs.declared.fault.TpFault.{TpFault}
-use Rattle.x224_tpdu.specs.Spelling.{Pdu, connection_request, connection_confirm, disconnect_request, disconnect_confirm, data_tpdu, acknowledgement, tpdu_error}
+use Rattle.x224_tpdu.specs.Spelling.{TransportPdu, connection_request, connection_confirm, disconnect_request, disconnect_confirm, data_tpdu, acknowledgement, tpdu_error}
 use Rattle.x224_tpdu.specs.Function.{reading}
 use Rattle.x224_class2.specs.Segments.{Segment, segments_of, messages_in, text_so_far, ack_number}
-use Rattle.x224_class2.specs.Tpdus.{Given, Cr, Cc, Dt, Ak}
+use Rattle.x224_class2.specs.Tpdus.{GivenTpdu, Cr, Cc, Dt, Ak}
 use Rattle.x224_class2.specs.Refusals.{dr_reason, protocol_error, tpdu_refused, message_too_long}
 use Rattle.x224_class2.specs.declared.stage.Stage.{Stage}
 use Rattle.x224_class2.specs.declared.stage.Stage.TheVariants as stages
@@ -26,16 +26,16 @@ pub record Transport : Type 0 where
   pub taken : ℕ  -- how many of their messages the user took
   pub newest : ℕ  -- the number of the newest AK given
   pub due : Option (List ℕ)  -- the user data of a CR or CC that is to be given
-  pub gave : List Given  -- the TPDUs given
+  pub gave : List GivenTpdu  -- the TPDUs given
 
 -- what a reception comes to, for the layer above
-pub data Deed : Type 0 where
-  Nothing : Deed
-  Called : (user : List ℕ) → Deed
-  Confirmed : (user : List ℕ) → Deed
-  Message : (octets : List ℕ) → Deed
-  Disconnected : (user : List ℕ) → Deed
-  Refused : (sub dr_reason : ℕ) → Deed
+pub data ReceptionDeed : Type 0 where
+  Nothing : ReceptionDeed
+  Called : (user : List ℕ) → ReceptionDeed
+  Confirmed : (user : List ℕ) → ReceptionDeed
+  Message : (octets : List ℕ) → ReceptionDeed
+  Disconnected : (user : List ℕ) → ReceptionDeed
+  Refused : (sub dr_reason : ℕ) → ReceptionDeed
 
 -- the stages
 abbrev pub is_new : Stage → Bool
@@ -116,28 +116,28 @@ abbrev pub after_taken : Transport → Transport
 after_taken t = record t { taken = t.taken + 1 }
 
 -- a TPDU is refused by this sub-reason, and nothing more comes of the connection
-abbrev pub refusal : Transport → (sub reason : ℕ) → Transport × Deed
-refusal t sub reason = (record t { stage = stages.Over }, Refused sub reason)
+abbrev pub refusal_of_tpdu : Transport → (sub reason : ℕ) → Transport × ReceptionDeed
+refusal_of_tpdu t sub reason = (record t { stage = stages.Over }, Refused sub reason)
 
 -- a CR comes: the callee answers the least of its proposal, 1,024 and the callee's own size
-abbrev pub on_request : Transport → (credit dst src size : ℕ) → List ℕ → Transport × Deed
+abbrev pub on_request : Transport → (credit dst src size : ℕ) → List ℕ → Transport × ReceptionDeed
 on_request t credit dst src size user =
     if not t.is_caller && is_new t.stage && (dst == 0) && (src == 1) then
     (record t { stage = stages.Called; size = min (min size 1024) t.size; edge = credit }, Called user)
-    else refusal t tpdu_refused protocol_error
+    else refusal_of_tpdu t tpdu_refused protocol_error
 
 -- a CC comes: its size is the proposal's at most
-abbrev pub on_confirm : Transport → (credit dst src size : ℕ) → List ℕ → Transport × Deed
+abbrev pub on_confirm : Transport → (credit dst src size : ℕ) → List ℕ → Transport × ReceptionDeed
 on_confirm t credit dst src size user =
     if is_calling t.stage && (dst == 1) && (src == 1) && nat_le size t.size then
     (record t { stage = stages.Open; size = size; edge = credit }, Confirmed user)
-    else refusal t tpdu_refused protocol_error
+    else refusal_of_tpdu t tpdu_refused protocol_error
 
 -- a DR comes: the caller expects it from its CR on, the callee behind the CR
-abbrev pub on_disconnect : Transport → (dst src : ℕ) → List ℕ → Transport × Deed
+abbrev pub on_disconnect : Transport → (dst src : ℕ) → List ℕ → Transport × ReceptionDeed
 on_disconnect t dst src user =
     if not (is_new t.stage) && (dst == 1) && (src == 1) then (record t { stage = stages.Over }, Disconnected user)
-    else refusal t tpdu_refused protocol_error
+    else refusal_of_tpdu t tpdu_refused protocol_error
 
 -- a DT is the expected one, lies below the edge that the newest AK given granted, and has the agreed size
 abbrev pub is_expected : Transport → (dst number : ℕ) → List ℕ → Bool
@@ -146,11 +146,11 @@ is_expected t dst number user =
     && nat_lt (length t.contents) (t.newest + t.credit) && nat_le (length user) (t.size - 5)
 
 -- a DT comes: no message has more than 1,032 octets
-abbrev pub on_data : Transport → (dst : ℕ) → (last : Bool) → (number : ℕ) → List ℕ → Transport × Deed
+abbrev pub on_data : Transport → (dst : ℕ) → (last : Bool) → (number : ℕ) → List ℕ → Transport × ReceptionDeed
 on_data t dst last number user =
     let text = text_so_far t.contents ++ user in
-    if not (is_expected t dst number user) then refusal t tpdu_refused protocol_error
-    else if nat_lt 1032 (length text) then refusal t message_too_long protocol_error
+    if not (is_expected t dst number user) then refusal_of_tpdu t tpdu_refused protocol_error
+    else if nat_lt 1032 (length text) then refusal_of_tpdu t message_too_long protocol_error
     else (record t { contents = t.contents ++ (last, user) ∷ [] }, if last then Message text else Nothing)
 
 -- the first of the numbers n to n + more that is shown as this one
@@ -159,42 +159,42 @@ number_named n zero shown = if n % 128 == shown then Some n else None
 number_named n (suc more) shown = if n % 128 == shown then Some n else number_named (n + 1) more shown
 
 -- an AK that names a number comes: it doesn't lower the edge
-abbrev pub on_named : Transport → (credit : ℕ) → Option ℕ → Transport × Deed
-on_named t credit None = refusal t tpdu_refused protocol_error
+abbrev pub on_named : Transport → (credit : ℕ) → Option ℕ → Transport × ReceptionDeed
+on_named t credit None = refusal_of_tpdu t tpdu_refused protocol_error
 on_named t credit (Some n) =
-    if nat_lt (n + credit) t.edge then refusal t tpdu_refused protocol_error
+    if nat_lt (n + credit) t.edge then refusal_of_tpdu t tpdu_refused protocol_error
     else (record t { acked = n; edge = n + credit }, Nothing)
 
 -- an AK comes: it names a number from the last acknowledged to the next to be given
-abbrev pub on_acknowledgement : Transport → (credit dst number : ℕ) → Transport × Deed
+abbrev pub on_acknowledgement : Transport → (credit dst number : ℕ) → Transport × ReceptionDeed
 on_acknowledgement t credit dst number =
     if is_open t.stage && (dst == 1) then on_named t credit (number_named t.acked (t.given - t.acked) number)
-    else refusal t tpdu_refused protocol_error
+    else refusal_of_tpdu t tpdu_refused protocol_error
 
 -- what was read comes, before the connection is over
-abbrev pub on_reading : Transport → Result Pdu TpFault → Transport × Deed
+abbrev pub on_reading : Transport → Result TransportPdu TpFault → Transport × ReceptionDeed
 on_reading t (Ok (connection_request credit dst src size user)) = on_request t credit dst src size user
 on_reading t (Ok (connection_confirm credit dst src size user)) = on_confirm t credit dst src size user
 on_reading t (Ok (disconnect_request dst src reason user)) = on_disconnect t dst src user
-on_reading t (Ok (disconnect_confirm dst src)) = refusal t tpdu_refused protocol_error
+on_reading t (Ok (disconnect_confirm dst src)) = refusal_of_tpdu t tpdu_refused protocol_error
 on_reading t (Ok (data_tpdu dst last number user)) = on_data t dst last number user
 on_reading t (Ok (acknowledgement credit dst number)) = on_acknowledgement t credit dst number
-on_reading t (Ok (tpdu_error dst cause)) = refusal t tpdu_refused protocol_error
-on_reading t (Err fault) = refusal t tpdu_refused (dr_reason fault)
+on_reading t (Ok (tpdu_error dst cause)) = refusal_of_tpdu t tpdu_refused protocol_error
+on_reading t (Err fault) = refusal_of_tpdu t tpdu_refused (dr_reason fault)
 
 -- the octets of a TPDU come: the state behind them, and what they come to
-abbrev pub reception : Transport → List ℕ → Transport × Deed
+abbrev pub reception : Transport → List ℕ → Transport × ReceptionDeed
 reception t octets = if is_over t.stage then (t, Nothing) else on_reading t (reading octets)
 
 -- what is to be given next
-pub data Turn : Type 0 where
-  Rest : Turn  -- nothing
-  Opening : (user : List ℕ) → Turn  -- the CR or CC that is due
-  Acknowledgement : Turn  -- an owed AK
-  Data : Turn  -- the next segment, which lies below the edge
+pub data TpduTurn : Type 0 where
+  Rest : TpduTurn  -- nothing
+  Opening : (user : List ℕ) → TpduTurn  -- the CR or CC that is due
+  Acknowledgement : TpduTurn  -- an owed AK
+  Data : TpduTurn  -- the next segment, which lies below the edge
 
 -- in this order
-abbrev pub turn_among : Option (List ℕ) → (is_owed is_granted : Bool) → Turn
+abbrev pub turn_among : Option (List ℕ) → (is_owed is_granted : Bool) → TpduTurn
 turn_among (Some user) is_owed is_granted = Opening user
 turn_among None true is_granted = Acknowledgement
 turn_among None false true = Data
@@ -204,32 +204,32 @@ turn_among None false false = Rest
 abbrev pub ack_of : Transport → ℕ
 ack_of t = ack_number t.taken t.contents
 
-abbrev pub turn_of : Transport → Turn
+abbrev pub turn_of : Transport → TpduTurn
 turn_of t =
     if is_over t.stage then Rest
     else turn_among t.due (nat_lt t.newest (ack_of t)) (nat_lt t.given (length t.segments) && nat_lt t.given t.edge)
 
 -- the TPDU of a turn
-abbrev pub tpdu_at : Transport → Turn → Option Given
+abbrev pub tpdu_at : Transport → TpduTurn → Option GivenTpdu
 tpdu_at t Rest = None
 tpdu_at t (Opening user) = Some (if t.is_caller then Cr t.credit t.size user else Cc t.credit t.size user)
 tpdu_at t Acknowledgement = Some (Ak t.credit (ack_of t))
 tpdu_at t Data = let next = slice_index_or t.segments t.given (true, []) in Some (Dt next.0 t.given next.1)
 
 -- the state behind a turn, but for the list of what was given
-abbrev pub state_behind : Transport → Turn → Transport
+abbrev pub state_behind : Transport → TpduTurn → Transport
 state_behind t Rest = t
 state_behind t (Opening user) = record t { due = None }
 state_behind t Acknowledgement = record t { newest = ack_of t }
 state_behind t Data = record t { given = t.given + 1 }
 
 -- a TPDU joins those that were given
-abbrev pub with_given : Transport → Option Given → Transport
+abbrev pub with_given : Transport → Option GivenTpdu → Transport
 with_given t None = t
 with_given t (Some tpdu) = record t { gave = t.gave ++ tpdu ∷ [] }
 
 -- the next TPDU, where there is one
-abbrev pub next_tpdu : Transport → Option Given
+abbrev pub next_tpdu : Transport → Option GivenTpdu
 next_tpdu t = tpdu_at t (turn_of t)
 
 -- it is given

@@ -13,12 +13,12 @@ AreNonempty [] = Unit {0}
 AreNonempty (m ∷ ms) = (0 < length m) × AreNonempty ms
 
 -- of the first message fewer octets were given than it has
-abbrev pub IsBegun : ℕ → List (List ℕ) → Type 0
-IsBegun n [] = n ≡ 0
-IsBegun n (m ∷ ms) = n < length m
+abbrev pub IsFirstMessageBegun : ℕ → List (List ℕ) → Type 0
+IsFirstMessageBegun n [] = n ≡ 0
+IsFirstMessageBegun n (m ∷ ms) = n < length m
 
 -- messages of which n octets of the first were given may wait so
-pub record IsWaiting (n : ℕ) (messages : List (List ℕ)) : Type 0 where
+pub record AreWaitingMessages (n : ℕ) (messages : List (List ℕ)) : Type 0 where
   pub count : length messages ≤ 16
   pub nonempty : AreNonempty messages
-  pub begun : IsBegun n messages
+  pub begun : IsFirstMessageBegun n messages

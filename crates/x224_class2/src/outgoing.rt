@@ -18,13 +18,13 @@ pub struct Outgoing {
 
 impl Model for Outgoing {
     ghost use Rattle.std.specs.Prelude.{ℕ, List, ◌≡◌};
-    ghost use Rattle.x224_class2.specs.Waiting.{left_of, IsWaiting};
+    ghost use Rattle.x224_class2.specs.Waiting.{left_of, AreWaitingMessages};
 
     ghost Value = { List (List ℕ) };
 
     ghost view = { λ o. left_of o.given o.messages.waits };
 
-    ghost invariant = { λ o. IsWaiting o.given o.messages.waits × (o.messages.slots ≡ 16) };
+    ghost invariant = { λ o. AreWaitingMessages o.given o.messages.waits × (o.messages.slots ≡ 16) };
 }
 
 impl Outgoing {

@@ -2,7 +2,7 @@ ghost use Rattle.std.specs.Prelude.{◌≡◌, ◌≢◌, ◌+◌, ◌<◌, ◌�
 ghost use Rattle.std.specs.Borrow.{sem};
 ghost use Rattle.er_base.specs.Stored.{HasRoom, Appends};
 ghost use Rattle.x224_class2.specs.Transport.{is_new, is_called, is_open, is_over, Refused, Data, side_made, after_connect, after_accept, after_hand, after_taken, after_next, reception, next_tpdu, waiting_count, untaken_count};
-ghost use Rattle.x224_class2.specs.Standing.{Stands, Follows, Shown};
+ghost use Rattle.x224_class2.specs.Standing.{StandsForTransport, FollowsTransportStep, Shown};
 ghost use Rattle.x224_class2.specs.Kept.{kept_made, kept_after_connect, kept_after_accept, kept_after_hand, kept_after_taken, kept_reception, kept_after_next, kept_next_tpdu, octets_next, kept_over, may_be_called, kept_called, may_be_confirmed, kept_confirmed, may_be_disconnected, kept_on_data, kept_is_expected, may_acknowledge, kept_acknowledged, kept_ack, kept_behind, kept_tpdu_at, distance, stage_behind, untaken_behind};
 ghost use Rattle.x224_class2.specs.Refusals.{dr_reason};
 ghost use Rattle.x224_class2.specs.Resting.{deed_of};
@@ -62,9 +62,9 @@ pub struct Transport {
 impl Model for Transport {
     ghost use Rattle.std.specs.Prelude.{◌≡◌, ◌≤◌, [], if◌then◌else◌};
     ghost use Rattle.std.specs.Option.{option_map};
-    ghost use Rattle.x224_class2.specs.Kept.{Kept};
+    ghost use Rattle.x224_class2.specs.Kept.{KeptTransport};
 
-    ghost Value = { Kept };
+    ghost Value = { KeptTransport };
 
     ghost view = { λ t. record {
       is_caller = t.is_caller;
@@ -86,12 +86,12 @@ impl Model for Transport {
 }
 
 impl Transport {
-    ghost use Rattle.x224_class2.specs.Resting.{Rests};
+    ghost use Rattle.x224_class2.specs.Resting.{LeavesTransportAs};
 
     /// The side that calls. It proposes the TPDU size of the settings and grants their credit.
     pub fn caller(alloc: Global, settings: &Settings) -> Result<Transport, NoMemory>
         ensures kept { IfOk result (λ made. made ≡ kept_made true settings.now) }
-        ensures stands { IfOk result (λ made. Stands made (side_made true settings.now)) }
+        ensures stands { IfOk result (λ made. StandsForTransport made (side_made true settings.now)) }
     {
         Transport::made(alloc, true, settings)
     }
@@ -100,7 +100,7 @@ impl Transport {
     /// and grants their credit.
     pub fn callee(alloc: Global, settings: &Settings) -> Result<Transport, NoMemory>
         ensures kept { IfOk result (λ made. made ≡ kept_made false settings.now) }
-        ensures stands { IfOk result (λ made. Stands made (side_made false settings.now)) }
+        ensures stands { IfOk result (λ made. StandsForTransport made (side_made false settings.now)) }
     {
         Transport::made(alloc, false, settings)
     }
@@ -108,7 +108,7 @@ impl Transport {
     #[tactic(auto, using(crate::proofs::Allowed::credit_most, crate::proofs::Allowed::size_named, crate::proofs::Allowed::size_most, crate::proofs::Following::made_follows))]
     fn made(alloc: Global, is_caller: bool, settings: &Settings) -> Result<Transport, NoMemory>
         ensures kept { IfOk result (λ made. made ≡ kept_made is_caller settings.now) }
-        ensures stands { IfOk result (λ made. Stands made (side_made is_caller settings.now)) }
+        ensures stands { IfOk result (λ made. StandsForTransport made (side_made is_caller settings.now)) }
     {
         let outgoing = Outgoing::with_slots(alloc)?;
         let text = Room::with_capacity(alloc, LONGEST)?;
@@ -137,7 +137,7 @@ impl Transport {
         requires new { is_new self.old.stage ≡ true }
         requires user { (1 ≤ length user.now) × (length user.now ≤ 32) }
         ensures kept { self.new ≡ kept_after_connect self.old user.now }
-        ensures follows { Follows self.old self.new (λ t. after_connect t user.now) }
+        ensures follows { FollowsTransportStep self.old self.new (λ t. after_connect t user.now) }
     {
         self.due = Some(user_data(user));
         self.stage = Stage::Calling;
@@ -169,7 +169,7 @@ impl Transport {
         requires called { is_called self.old.stage ≡ true }
         requires user { (1 ≤ length user.now) × (length user.now ≤ 32) }
         ensures kept { self.new ≡ kept_after_accept self.old user.now }
-        ensures follows { Follows self.old self.new (λ t. after_accept t user.now) }
+        ensures follows { FollowsTransportStep self.old self.new (λ t. after_accept t user.now) }
     {
         self.due = Some(user_data(user));
         self.stage = Stage::Open;
@@ -184,12 +184,12 @@ impl Transport {
     /// of `MessageTooLong` with 133 for the DT that makes a message longer than 1,032 octets.
     #[tactic(auto, using(crate::proofs::Following::reception_follows, crate::proofs::Following::reception_tells))]
     pub fn receive<'a>(&'a mut self, tpdu: &'a [u8]) -> TransportDeed<'a>
-        ensures* after { sem 𝓛 (Rests self.entry (kept_reception self.old tpdu.now).0) }
+        ensures* after { sem 𝓛 (LeavesTransportAs self.entry (kept_reception self.old tpdu.now).0) }
         ensures deed { deed_of result ≡ (kept_reception self.old tpdu.now).1 }
         ensures role { (kept_reception self.old tpdu.now).0.is_caller ≡ self.old.is_caller }
         ensures stage { (kept_reception self.old tpdu.now).0.stage ≡ stage_behind (deed_of result) self.old.stage }
         ensures untaken { length (kept_reception self.old tpdu.now).0.lasts ≡ untaken_behind (deed_of result) (length self.old.lasts) }
-        ensures follows { Follows self.old (kept_reception self.old tpdu.now).0 (λ t. (reception t tpdu.now).0) }
+        ensures follows { FollowsTransportStep self.old (kept_reception self.old tpdu.now).0 (λ t. (reception t tpdu.now).0) }
         ensures tells { Shown self.old (λ t. deed_of result ≡ (reception t tpdu.now).1) }
     {
         crate::laws::standing();
@@ -199,7 +199,7 @@ impl Transport {
     // A TPDU comes.
     #[tactic(auto, using(crate::proofs::Deeds::role_stays, crate::proofs::Deeds::stage_told, crate::proofs::Deeds::untaken_told))]
     fn tpdu_comes<'a>(&'a mut self, tpdu: &'a [u8]) -> TransportDeed<'a>
-        ensures* after { sem 𝓛 (Rests self.entry (kept_reception self.old tpdu.now).0) }
+        ensures* after { sem 𝓛 (LeavesTransportAs self.entry (kept_reception self.old tpdu.now).0) }
         ensures deed { deed_of result ≡ (kept_reception self.old tpdu.now).1 }
         ensures role { (kept_reception self.old tpdu.now).0.is_caller ≡ self.old.is_caller }
         ensures stage { (kept_reception self.old tpdu.now).0.stage ≡ stage_behind (deed_of result) self.old.stage }
@@ -288,7 +288,7 @@ impl Transport {
         ensures kept { MatchResult result
             (λ _. (length self.old.waiting < 16) × (self.new ≡ kept_after_hand self.old message.now))
             (λ full. (length self.old.waiting ≡ 16) × (full.waiting ≡ 16) × (self.new ≡ self.old)) }
-        ensures handed { IfOk result (λ _. Follows self.old self.new (λ t. after_hand t message.now)) }
+        ensures handed { IfOk result (λ _. FollowsTransportStep self.old self.new (λ t. after_hand t message.now)) }
         ensures not_full { IfOk result (λ _. Shown self.old (λ t. waiting_count t < 16)) }
         ensures full { IfErr result (λ full. Shown self.old (λ t. (waiting_count t ≡ 16) × (full.waiting ≡ 16))) }
     {
@@ -307,7 +307,7 @@ impl Transport {
     pub fn taken(&mut self)
         requires { 0 < length self.old.lasts }
         ensures kept { self.new ≡ kept_after_taken self.old }
-        ensures follows { Follows self.old self.new after_taken }
+        ensures follows { FollowsTransportStep self.old self.new after_taken }
     {
         self.lasts.remove(0);
     }
@@ -322,7 +322,7 @@ impl Transport {
         ensures most { length out.new.items ≤ length out.old.items + 1024 }
         ensures stage { self.new.stage ≡ self.old.stage }
         ensures untaken { self.new.lasts ≡ self.old.lasts }
-        ensures follows { Follows self.old self.new after_next }
+        ensures follows { FollowsTransportStep self.old self.new after_next }
         ensures gives { Shown self.old (λ t. Appends out.old out.new (octets_next (next_tpdu t)) × (result ≡ is_some (next_tpdu t))) }
     {
         self.give_next(out)
@@ -459,7 +459,7 @@ impl Transport {
         number: u8,
         user: &'a [u8],
     ) -> TransportDeed<'a>
-        ensures* after { sem 𝓛 (Rests self.entry (kept_on_data self.old dst last number user.now).0) }
+        ensures* after { sem 𝓛 (LeavesTransportAs self.entry (kept_on_data self.old dst last number user.now).0) }
         ensures deed { deed_of result ≡ (kept_on_data self.old dst last number user.now).1 }
     {
         if !self.is_expected(dst, number, user) {

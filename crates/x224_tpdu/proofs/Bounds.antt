@@ -5,16 +5,16 @@ use Rattle.x224_tpdu.specs.declared.fault.TpFault.{TpFault}
 use Rattle.x224_tpdu.specs.declared.fault.TpFault.TheVariants.{Code, Value, UserData}
 use Rattle.x224_tpdu.specs.declared.kind.Kind.{Kind}
 use Rattle.x224_tpdu.specs.declared.kind.Kind.TheVariants.{Cr, Cc, Dr, Dc, Dt, Ak, Er}
-use Rattle.x224_tpdu.specs.Kinds.{kind_of, least_user, most_user}
+use Rattle.x224_tpdu.specs.Kinds.{kind_of_tpdu_code, least_user, most_user}
 use Rattle.x224_tpdu.specs.Parameters.{parameters_in, size_octet}
-use Rattle.x224_tpdu.specs.Spelling.{Pdu, NamesSize}
+use Rattle.x224_tpdu.specs.Spelling.{TransportPdu, NamesSize}
 use Rattle.x224_tpdu.specs.Faults.{Layout, layout_of, parameter_part, rule_1, rule_2, rule_3, rule_4, rule_5, rule_6, rule_7, rule_8, kind_rules, first_of, size_fault, number_fault, user_fault, first_fault}
 use Rattle.x224_tpdu.specs.Writing.{IsSize}
-use Rattle.x224_tpdu.specs.Function.{size_of, value_by, value_of, fault_or, reading, IsInRange}
+use Rattle.x224_tpdu.specs.Function.{size_of, value_by, tpdu_of_faultless_octets, fault_or, reading, IsInRange}
 use Rattle.x224_tpdu.proofs.RoundTrip.{named_is_size}
 
 -- an answer without a fault
-pub fault_or_ok : (fault : Option TpFault) (value p : Pdu) → fault_or fault value ≡ Ok p → (fault ≡ None) × (value ≡ p)
+pub fault_or_ok : (fault : Option TpFault) (value p : TransportPdu) → fault_or fault value ≡ Ok p → (fault ≡ None) × (value ≡ p)
 fault_or_ok None value p e = (refl, cc)
 fault_or_ok (Some fault) value p e = absurd cc
 
@@ -106,19 +106,19 @@ value_within : (kind : Option Kind) (c : Layout) → is_some kind ≡ true → f
 value_within None c some e = absurd cc
 value_within (Some kind) c some e = kind_within kind c (all_kept kind c e)
 
-pub has_kind : (c : Layout) → rule_3 c ≡ None → is_some (kind_of c.code) ≡ true
+pub has_kind : (c : Layout) → rule_3 c ≡ None → is_some (kind_of_tpdu_code c.code) ≡ true
 has_kind c e =
-    elim (cases_Bool (is_some (kind_of c.code))) [
+    elim (cases_Bool (is_some (kind_of_tpdu_code c.code))) [
       | inl some ↦ some
       | inr f ↦ (let g : rule_3 c ≡ Some (Code c.code) = rw f refl in absurd cc)
     ]
 
-pub reading_is_in_range : (octets : List ℕ) (p : Pdu) → reading octets ≡ Ok p → IsInRange p
+pub reading_is_in_range : (octets : List ℕ) (p : TransportPdu) → reading octets ≡ Ok p → IsInRange p
 unfolding reading
 reading_is_in_range octets p e =
     let c : Layout = layout_of octets in
-    let found = fault_or_ok (first_fault octets) (value_of octets) p e in
-    let a = first_kept (rule_1 octets) (rule_2 c ∷ rule_3 c ∷ kind_rules (kind_of c.code) c) found.0 in
-    let b = first_kept (rule_2 c) (rule_3 c ∷ kind_rules (kind_of c.code) c) a.1 in
-    let d = first_kept (rule_3 c) (kind_rules (kind_of c.code) c) b.1 in
-    subst (λ (q : Pdu). IsInRange q) found.1 (value_within (kind_of c.code) c (has_kind c d.0) d.1)
+    let found = fault_or_ok (first_fault octets) (tpdu_of_faultless_octets octets) p e in
+    let a = first_kept (rule_1 octets) (rule_2 c ∷ rule_3 c ∷ kind_rules (kind_of_tpdu_code c.code) c) found.0 in
+    let b = first_kept (rule_2 c) (rule_3 c ∷ kind_rules (kind_of_tpdu_code c.code) c) a.1 in
+    let d = first_kept (rule_3 c) (kind_rules (kind_of_tpdu_code c.code) c) b.1 in
+    subst (λ (q : TransportPdu). IsInRange q) found.1 (value_within (kind_of_tpdu_code c.code) c (has_kind c d.0) d.1)

@@ -7,12 +7,12 @@ use Rattle.x224_tpdu.specs.declared.fault.TpFault.{TpFault}
 use Rattle.x224_tpdu.specs.declared.fault.TpFault.TheVariants.{Length, Parameter}
 use Rattle.x224_tpdu.specs.declared.kind.Kind.{Kind}
 use Rattle.x224_tpdu.specs.declared.kind.Kind.TheVariants.{Cr, Cc, Dr, Dc, Dt, Ak, Er}
-use Rattle.x224_tpdu.specs.Kinds.{kind_of}
+use Rattle.x224_tpdu.specs.Kinds.{kind_of_tpdu_code}
 use Rattle.x224_tpdu.specs.Parameters.{parameter_octets, parameters_in, first_refused, size_octet}
-use Rattle.x224_tpdu.specs.Spelling.{Pdu, header, Spells}
+use Rattle.x224_tpdu.specs.Spelling.{TransportPdu, header_without_length_indicator, Spells}
 use Rattle.x224_tpdu.specs.Faults.{Layout, layout_of, rule_1, rule_2, rule_3, kind_rules, first_of, part_fault, first_fault}
-use Rattle.x224_tpdu.specs.Parts.{Shows, parameters_of}
-use Rattle.x224_tpdu.specs.Function.{value_in, value_by, value_of, reading}
+use Rattle.x224_tpdu.specs.Parts.{ArePartsOfTpdu, parameters_of}
+use Rattle.x224_tpdu.specs.Function.{value_in, value_by, tpdu_of_faultless_octets, reading}
 use Rattle.x224_tpdu.proofs.Cutting.{parameters_spelled}
 use Rattle.x224_tpdu.proofs.Bounds.{fault_or_ok, first_kept, KeepsAll, all_kept, user_within, size_within, number_within, has_kind}
 
@@ -45,7 +45,7 @@ tested false false false false false true g kind h = let k : Ak ≡ kind = cc in
 tested false false false false false false true kind h = let k : Er ≡ kind = cc in subst (λ (x : Kind). Test x false false false false false false true) k refl
 tested false false false false false false false kind h = absurd cc
 
-coded : (kind : Kind) (code : ℕ) → kind_of code ≡ Some kind → IsCode kind code
+coded : (kind : Kind) (code : ℕ) → kind_of_tpdu_code code ≡ Some kind → IsCode kind code
 coded kind code h = named kind (tested (eqb (code / 16) 0xE) (eqb (code / 16) 0xD) (eqb code 0x80) (eqb code 0xC0) (eqb code 0xF0) (eqb (code / 16) 0x6) (eqb code 0x70) kind h)
   where
     named : (k : Kind) → Test k (eqb (code / 16) 0xE) (eqb (code / 16) 0xD) (eqb code 0x80) (eqb code 0xC0) (eqb code 0xF0) (eqb (code / 16) 0x6) (eqb code 0x70) → IsCode k code
@@ -101,7 +101,7 @@ none_left : (user : List ℕ) → length user ≤ 0 → user ≡ []
 none_left [] h = refl
 none_left (x ∷ user) h = absurd (omega arith)
 
-shows_cr : (found li code : ℕ) (fields user : List ℕ) → AreOctets (li ∷ code ∷ fields ++ user) → li ≡ length fields + 1 → code / 16 ≡ 0xE → KeepsAll Cr (laid found li code fields user) → Shows Cr (laid found li code fields user) (value_in Cr (laid found li code fields user))
+shows_cr : (found li code : ℕ) (fields user : List ℕ) → AreOctets (li ∷ code ∷ fields ++ user) → li ≡ length fields + 1 → code / 16 ≡ 0xE → KeepsAll Cr (laid found li code fields user) → ArePartsOfTpdu Cr (laid found li code fields user) (value_in Cr (laid found li code fields user))
 shows_cr found li code (a ∷ b ∷ d ∷ e ∷ g ∷ part) user o l c k =
     let class : g ≡ 0x20 = eqb-true _ _ (kept_not (eqb g 0x20) _ k.keeps_5) in
     let whole = part_kept Cr part k.keeps_6 in
@@ -120,7 +120,7 @@ shows_cr found li code (a ∷ b ∷ []) user o l c k = absurd (let t = leb-true 
 shows_cr found li code (a ∷ []) user o l c k = absurd (let t = leb-true _ _ (kept_if (nat_le 6 li) _ k.keeps_4) in omega (arith, t))
 shows_cr found li code [] user o l c k = absurd (let t = leb-true _ _ (kept_if (nat_le 6 li) _ k.keeps_4) in omega (arith, t))
 
-shows_cc : (found li code : ℕ) (fields user : List ℕ) → AreOctets (li ∷ code ∷ fields ++ user) → li ≡ length fields + 1 → code / 16 ≡ 0xD → KeepsAll Cc (laid found li code fields user) → Shows Cc (laid found li code fields user) (value_in Cc (laid found li code fields user))
+shows_cc : (found li code : ℕ) (fields user : List ℕ) → AreOctets (li ∷ code ∷ fields ++ user) → li ≡ length fields + 1 → code / 16 ≡ 0xD → KeepsAll Cc (laid found li code fields user) → ArePartsOfTpdu Cc (laid found li code fields user) (value_in Cc (laid found li code fields user))
 shows_cc found li code (a ∷ b ∷ d ∷ e ∷ g ∷ part) user o l c k =
     let class : g ≡ 0x20 = eqb-true _ _ (kept_not (eqb g 0x20) _ k.keeps_5) in
     let whole = part_kept Cc part k.keeps_6 in
@@ -139,7 +139,7 @@ shows_cc found li code (a ∷ b ∷ []) user o l c k = absurd (let t = leb-true 
 shows_cc found li code (a ∷ []) user o l c k = absurd (let t = leb-true _ _ (kept_if (nat_le 6 li) _ k.keeps_4) in omega (arith, t))
 shows_cc found li code [] user o l c k = absurd (let t = leb-true _ _ (kept_if (nat_le 6 li) _ k.keeps_4) in omega (arith, t))
 
-shows_dr : (found li code : ℕ) (fields user : List ℕ) → AreOctets (li ∷ code ∷ fields ++ user) → li ≡ length fields + 1 → code ≡ 0x80 → KeepsAll Dr (laid found li code fields user) → Shows Dr (laid found li code fields user) (value_in Dr (laid found li code fields user))
+shows_dr : (found li code : ℕ) (fields user : List ℕ) → AreOctets (li ∷ code ∷ fields ++ user) → li ≡ length fields + 1 → code ≡ 0x80 → KeepsAll Dr (laid found li code fields user) → ArePartsOfTpdu Dr (laid found li code fields user) (value_in Dr (laid found li code fields user))
 shows_dr found li code (a ∷ b ∷ d ∷ e ∷ g ∷ part) user o l c k =
     let whole = part_kept Dr part k.keeps_6 in
     let bounds = user_within Dr user k.keeps_8 in
@@ -156,7 +156,7 @@ shows_dr found li code (a ∷ b ∷ []) user o l c k = absurd (let t = leb-true 
 shows_dr found li code (a ∷ []) user o l c k = absurd (let t = leb-true _ _ (kept_if (nat_le 6 li) _ k.keeps_4) in omega (arith, t))
 shows_dr found li code [] user o l c k = absurd (let t = leb-true _ _ (kept_if (nat_le 6 li) _ k.keeps_4) in omega (arith, t))
 
-shows_er : (found li code : ℕ) (fields user : List ℕ) → AreOctets (li ∷ code ∷ fields ++ user) → li ≡ length fields + 1 → code ≡ 0x70 → KeepsAll Er (laid found li code fields user) → Shows Er (laid found li code fields user) (value_in Er (laid found li code fields user))
+shows_er : (found li code : ℕ) (fields user : List ℕ) → AreOctets (li ∷ code ∷ fields ++ user) → li ≡ length fields + 1 → code ≡ 0x70 → KeepsAll Er (laid found li code fields user) → ArePartsOfTpdu Er (laid found li code fields user) (value_in Er (laid found li code fields user))
 shows_er found li code (a ∷ b ∷ g ∷ part) user o l c k =
     let whole = part_kept Er part k.keeps_6 in
     let bounds = user_within Er user k.keeps_8 in
@@ -171,7 +171,7 @@ shows_er found li code (a ∷ b ∷ []) user o l c k = absurd (let t = leb-true 
 shows_er found li code (a ∷ []) user o l c k = absurd (let t = leb-true _ _ (kept_if (nat_le 4 li) _ k.keeps_4) in omega (arith, t))
 shows_er found li code [] user o l c k = absurd (let t = leb-true _ _ (kept_if (nat_le 4 li) _ k.keeps_4) in omega (arith, t))
 
-shows_dc : (found li code : ℕ) (fields user : List ℕ) → AreOctets (li ∷ code ∷ fields ++ user) → li ≡ length fields + 1 → code ≡ 0xC0 → KeepsAll Dc (laid found li code fields user) → Shows Dc (laid found li code fields user) (value_in Dc (laid found li code fields user))
+shows_dc : (found li code : ℕ) (fields user : List ℕ) → AreOctets (li ∷ code ∷ fields ++ user) → li ≡ length fields + 1 → code ≡ 0xC0 → KeepsAll Dc (laid found li code fields user) → ArePartsOfTpdu Dc (laid found li code fields user) (value_in Dc (laid found li code fields user))
 shows_dc found li code (a ∷ b ∷ d ∷ e ∷ []) user o l c k =
     let bounds = user_within Dc user k.keeps_8 in
     record {
@@ -194,7 +194,7 @@ eot_octet n h =
       | inr f ↦ (let down = leb-false _ _ f in rw f (omega (arith, down)))
     ]
 
-shows_dt : (found li code : ℕ) (fields user : List ℕ) → AreOctets (li ∷ code ∷ fields ++ user) → li ≡ length fields + 1 → code ≡ 0xF0 → KeepsAll Dt (laid found li code fields user) → Shows Dt (laid found li code fields user) (value_in Dt (laid found li code fields user))
+shows_dt : (found li code : ℕ) (fields user : List ℕ) → AreOctets (li ∷ code ∷ fields ++ user) → li ≡ length fields + 1 → code ≡ 0xF0 → KeepsAll Dt (laid found li code fields user) → ArePartsOfTpdu Dt (laid found li code fields user) (value_in Dt (laid found li code fields user))
 shows_dt found li code (a ∷ b ∷ n ∷ []) user o l c k =
     let bounds = user_within Dt user k.keeps_8 in
     record {
@@ -209,7 +209,7 @@ shows_dt found li code (a ∷ b ∷ []) user o l c k = absurd (let t = eqb-true 
 shows_dt found li code (a ∷ []) user o l c k = absurd (let t = eqb-true _ _ (kept_if (eqb li 4) _ k.keeps_4) in omega (arith, t))
 shows_dt found li code [] user o l c k = absurd (let t = eqb-true _ _ (kept_if (eqb li 4) _ k.keeps_4) in omega (arith, t))
 
-shows_ak : (found li code : ℕ) (fields user : List ℕ) → AreOctets (li ∷ code ∷ fields ++ user) → li ≡ length fields + 1 → code / 16 ≡ 0x6 → KeepsAll Ak (laid found li code fields user) → Shows Ak (laid found li code fields user) (value_in Ak (laid found li code fields user))
+shows_ak : (found li code : ℕ) (fields user : List ℕ) → AreOctets (li ∷ code ∷ fields ++ user) → li ≡ length fields + 1 → code / 16 ≡ 0x6 → KeepsAll Ak (laid found li code fields user) → ArePartsOfTpdu Ak (laid found li code fields user) (value_in Ak (laid found li code fields user))
 shows_ak found li code (a ∷ b ∷ n ∷ []) user o l c k =
     let bounds = user_within Ak user k.keeps_8 in
     let first : code ≡ 0x60 + code % 16 = omega (arith, c) in
@@ -225,7 +225,7 @@ shows_ak found li code (a ∷ b ∷ []) user o l c k = absurd (let t = eqb-true 
 shows_ak found li code (a ∷ []) user o l c k = absurd (let t = eqb-true _ _ (kept_if (eqb li 4) _ k.keeps_4) in omega (arith, t))
 shows_ak found li code [] user o l c k = absurd (let t = eqb-true _ _ (kept_if (eqb li 4) _ k.keeps_4) in omega (arith, t))
 
-shows : (kind : Kind) (found li code : ℕ) (fields user : List ℕ) → AreOctets (li ∷ code ∷ fields ++ user) → li ≡ length fields + 1 → IsCode kind code → KeepsAll kind (laid found li code fields user) → Shows kind (laid found li code fields user) (value_in kind (laid found li code fields user))
+shows : (kind : Kind) (found li code : ℕ) (fields user : List ℕ) → AreOctets (li ∷ code ∷ fields ++ user) → li ≡ length fields + 1 → IsCode kind code → KeepsAll kind (laid found li code fields user) → ArePartsOfTpdu kind (laid found li code fields user) (value_in kind (laid found li code fields user))
 shows Cr found li code fields user o l c k = shows_cr found li code fields user o l c k
 shows Cc found li code fields user o l c k = shows_cc found li code fields user o l c k
 shows Dr found li code fields user o l c k = shows_dr found li code fields user o l c k
@@ -235,16 +235,16 @@ shows Ak found li code fields user o l c k = shows_ak found li code fields user 
 shows Er found li code fields user o l c k = shows_er found li code fields user o l c k
 
 -- what is shown is spelled
-spelled_from : (kind : Kind) (found li code : ℕ) (fields user : List ℕ) (p : Pdu) → li ≡ length fields + 1 → li < 0xFF → Shows kind (laid found li code fields user) p → Spells p (li ∷ code ∷ fields ++ user)
+spelled_from : (kind : Kind) (found li code : ℕ) (fields user : List ℕ) (p : TransportPdu) → li ≡ length fields + 1 → li < 0xFF → ArePartsOfTpdu kind (laid found li code fields user) p → Spells p (li ∷ code ∷ fields ++ user)
 spelled_from kind found li code fields user p l below s =
     let c : Layout = laid found li code fields user in
-    let n : li ≡ length (header p (parameters_of kind c)) = omega (arith, l, ap (λ (xs : List ℕ). length xs) s.header_is) in
+    let n : li ≡ length (header_without_length_indicator p (parameters_of kind c)) = omega (arith, l, ap (λ (xs : List ℕ). length xs) s.header_is) in
     record {
       parameters = parameters_of kind c;
       fits = s.fits;
       may_stand = s.may_stand;
       below_ff = omega (arith, n, below);
-      spelled_so = ap (λ (k : ℕ). k ∷ code ∷ fields ++ user) n ∙ ap (λ (xs : List ℕ). length (header p (parameters_of kind c)) ∷ xs ++ user) s.header_is ∙ ap (λ (xs : List ℕ). length (header p (parameters_of kind c)) ∷ header p (parameters_of kind c) ++ xs) s.user_is;
+      spelled_so = ap (λ (k : ℕ). k ∷ code ∷ fields ++ user) n ∙ ap (λ (xs : List ℕ). length (header_without_length_indicator p (parameters_of kind c)) ∷ xs ++ user) s.header_is ∙ ap (λ (xs : List ℕ). length (header_without_length_indicator p (parameters_of kind c)) ∷ header_without_length_indicator p (parameters_of kind c) ++ xs) s.user_is;
     }
 
 -- octets that keep the first two rules are made of their layout
@@ -283,19 +283,19 @@ laid_whole (li ∷ code ∷ rest) o e f =
       below = omega (arith, octet, not_ff);
     }
 
-by_kind : (kind : Option Kind) (octets : List ℕ) (c : Layout) → AreOctets octets → IsWhole octets c → kind_of c.code ≡ kind → is_some kind ≡ true → first_of (kind_rules kind c) ≡ None → Spells (value_by kind c) octets
+by_kind : (kind : Option Kind) (octets : List ℕ) (c : Layout) → AreOctets octets → IsWhole octets c → kind_of_tpdu_code c.code ≡ kind → is_some kind ≡ true → first_of (kind_rules kind c) ≡ None → Spells (value_by kind c) octets
 by_kind None octets c o w e some r = absurd cc
 by_kind (Some kind) octets c o w e some r =
     let laid_octets : AreOctets (c.li ∷ c.code ∷ c.fields ++ c.user) = subst (λ (os : List ℕ). AreOctets os) w.whole o in
-    let shown : Shows kind c (value_in kind c) = shows kind c.found c.li c.code c.fields c.user laid_octets w.counted (coded kind c.code e) (all_kept kind c r) in
+    let shown : ArePartsOfTpdu kind c (value_in kind c) = shows kind c.found c.li c.code c.fields c.user laid_octets w.counted (coded kind c.code e) (all_kept kind c r) in
     subst (λ (os : List ℕ). Spells (value_in kind c) os) (sym w.whole) (spelled_from kind c.found c.li c.code c.fields c.user (value_in kind c) w.counted w.below shown)
 
-pub reading_spells : (octets : List ℕ) (p : Pdu) → AreOctets octets → reading octets ≡ Ok p → Spells p octets
+pub reading_spells : (octets : List ℕ) (p : TransportPdu) → AreOctets octets → reading octets ≡ Ok p → Spells p octets
 unfolding reading
 reading_spells octets p o e =
     let c : Layout = layout_of octets in
-    let found = fault_or_ok (first_fault octets) (value_of octets) p e in
-    let a = first_kept (rule_1 octets) (rule_2 c ∷ rule_3 c ∷ kind_rules (kind_of c.code) c) found.0 in
-    let b = first_kept (rule_2 c) (rule_3 c ∷ kind_rules (kind_of c.code) c) a.1 in
-    let d = first_kept (rule_3 c) (kind_rules (kind_of c.code) c) b.1 in
-    subst (λ (q : Pdu). Spells q octets) found.1 (by_kind (kind_of c.code) octets c o (laid_whole octets o a.0 b.0) refl (has_kind c d.0) d.1)
+    let found = fault_or_ok (first_fault octets) (tpdu_of_faultless_octets octets) p e in
+    let a = first_kept (rule_1 octets) (rule_2 c ∷ rule_3 c ∷ kind_rules (kind_of_tpdu_code c.code) c) found.0 in
+    let b = first_kept (rule_2 c) (rule_3 c ∷ kind_rules (kind_of_tpdu_code c.code) c) a.1 in
+    let d = first_kept (rule_3 c) (kind_rules (kind_of_tpdu_code c.code) c) b.1 in
+    subst (λ (q : TransportPdu). Spells q octets) found.1 (by_kind (kind_of_tpdu_code c.code) octets c o (laid_whole octets o a.0 b.0) refl (has_kind c d.0) d.1)

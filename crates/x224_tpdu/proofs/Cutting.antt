@@ -5,7 +5,7 @@ use Rattle.std.proofs.Math.Seq.{take-length}
 use Rattle.std.proofs.lemmas.Bool.{lt-ltb, le-ltb, cases_lt}
 use Rattle.x224_tpdu.specs.declared.kind.Kind.{Kind}
 use Rattle.x224_tpdu.specs.Parameters.{Parameter, parameter_octets, parameters_after, parameters_in, first_refused}
-use Rattle.x224_tpdu.specs.Parts.{IsWhole, Begins}
+use Rattle.x224_tpdu.specs.Parts.{HasWholeParameters, BeginsWithParameter}
 
 -- what is past the first octets is what the octets behind them are made of
 after_skipped : (n : ℕ) (xs : List ℕ) → parameters_after n xs ≡ parameters_after 0 (drop n xs)
@@ -64,7 +64,7 @@ rest_of n octets =
     rw (← e) (take-length (drop n octets))
 
 -- octets begin with the parameter that is cut from them
-pub begins : (octets : List ℕ) (size : ℕ) (value after : List ℕ) → 2 ≤ length octets → size ≡ get_or octets 1 0 → size ≤ length (take (length octets - 2) (drop 2 octets)) → value ≡ take size (take (length octets - 2) (drop 2 octets)) → after ≡ drop size (take (length octets - 2) (drop 2 octets)) → Begins octets (get_or octets 0 0) value after
+pub begins : (octets : List ℕ) (size : ℕ) (value after : List ℕ) → 2 ≤ length octets → size ≡ get_or octets 1 0 → size ≤ length (take (length octets - 2) (drop 2 octets)) → value ≡ take size (take (length octets - 2) (drop 2 octets)) → after ≡ drop size (take (length octets - 2) (drop 2 octets)) → BeginsWithParameter octets (get_or octets 0 0) value after
 begins octets size value after two e there v a =
     let rest : take (length octets - 2) (drop 2 octets) ≡ drop 2 octets = rest_of 2 octets in
     let v' : value ≡ take (get_or octets 1 0) (drop 2 octets) = v ∙ rw (rest, e) refl in
@@ -100,7 +100,7 @@ unfolding parameters_in
 parameters_spelled octets = spelled_after 0 octets
 
 -- a part whose parameters may all stand, and with nothing left over, passes
-pub whole_part : (kind : Kind) (part : List ℕ) → first_refused kind false (parameters_in part).0 ≡ None → (parameters_in part).1 ≡ [] → IsWhole kind part
+pub whole_part : (kind : Kind) (part : List ℕ) → first_refused kind false (parameters_in part).0 ≡ None → (parameters_in part).1 ≡ [] → HasWholeParameters kind part
 whole_part kind part none nothing = record {
   none_refused = none;
   spelled_so = sym (parameters_spelled part) ∙ rw nothing (append-nil _);

@@ -5,28 +5,28 @@ use Rattle.x224_tpdu.specs.declared.fault.TpFault.{TpFault}
 use Rattle.x224_tpdu.specs.declared.kind.Kind.TheVariants.{Er}
 use Rattle.x224_tpdu.specs.declared.tpdu.Tpdu.{Tpdu}
 use Rattle.x224_tpdu.specs.Parameters.{size_octet}
-use Rattle.x224_tpdu.specs.Spelling.{Pdu, connection_request, connection_confirm, disconnect_request, disconnect_confirm, data_tpdu, acknowledgement, tpdu_error, pdu_of, kind_in, NamesSize, Spells}
+use Rattle.x224_tpdu.specs.Spelling.{TransportPdu, connection_request, connection_confirm, disconnect_request, disconnect_confirm, data_tpdu, acknowledgement, tpdu_error, pdu_of, kind_in, NamesSize, Spells}
 use Rattle.x224_tpdu.specs.Faults.{first_fault}
 use Rattle.x224_tpdu.specs.Writing.{IsSize, size_code, own_parameters, IsWritable, written_octets}
 use Rattle.x224_tpdu.specs.Reading.{Reads}
-use Rattle.x224_tpdu.specs.Function.{fault_or, value_of, reading, answer_of}
+use Rattle.x224_tpdu.specs.Function.{fault_or, tpdu_of_faultless_octets, reading, answer_of}
 use Rattle.x224_tpdu.proofs.Spelled.{shown}
 
-pub spells_one : (octets : List ℕ) (p q : Pdu) → Spells p octets → Spells q octets → p ≡ q
+pub spells_one : (octets : List ℕ) (p q : TransportPdu) → Spells p octets → Spells q octets → p ≡ q
 spells_one octets p q s t = sym (shown p octets s).value ∙ (shown q octets t).value
 
-pub spelled_has_no_fault : (octets : List ℕ) (p : Pdu) → Spells p octets → first_fault octets ≡ None
+pub spelled_has_no_fault : (octets : List ℕ) (p : TransportPdu) → Spells p octets → first_fault octets ≡ None
 spelled_has_no_fault octets p s = (shown p octets s).no_fault
 
-pub reading_of_spelled : (octets : List ℕ) (p : Pdu) → Spells p octets → reading octets ≡ Ok p
+pub reading_of_spelled : (octets : List ℕ) (p : TransportPdu) → Spells p octets → reading octets ≡ Ok p
 unfolding reading
 reading_of_spelled octets p s =
     let it = shown p octets s in
-    ap (λ (o : Option TpFault). fault_or o (value_of octets)) it.no_fault ∙ ap (λ (q : Pdu). Ok q) it.value
+    ap (λ (o : Option TpFault). fault_or o (tpdu_of_faultless_octets octets)) it.no_fault ∙ ap (λ (q : TransportPdu). Ok q) it.value
 
 pub reading_of_faulty : (octets : List ℕ) (fault : TpFault) → first_fault octets ≡ Some fault → reading octets ≡ Err fault
 unfolding reading
-reading_of_faulty octets fault e = ap (λ (o : Option TpFault). fault_or o (value_of octets)) e
+reading_of_faulty octets fault e = ap (λ (o : Option TpFault). fault_or o (tpdu_of_faultless_octets octets)) e
 
 pub reading_is_reads : (octets : List ℕ) (result : Result Tpdu TpFault) → Reads octets result → reading octets ≡ answer_of result
 reading_is_reads octets (Ok tpdu) r = reading_of_spelled octets (pdu_of tpdu) r
@@ -81,7 +81,7 @@ named_is_size (Some k) n h =
     size_at : (n k j : ℕ) → k ≡ j → n ≡ 2 ^ k → n ≡ 2 ^ j
     size_at n k j e h = h ∙ ap (λ (i : ℕ). 2 ^ i) e
 
-pub written_is_spelled : (p : Pdu) → IsWritable p → Spells p (written_octets p)
+pub written_is_spelled : (p : TransportPdu) → IsWritable p → Spells p (written_octets p)
 written_is_spelled (connection_request credit dst src size user) w = record {
   parameters = own_parameters (connection_request credit dst src size user);
   fits = w.0;
@@ -102,7 +102,7 @@ written_is_spelled (data_tpdu dst last number user) w = record { parameters = []
 written_is_spelled (acknowledgement credit dst number) w = record { parameters = []; fits = w.0; may_stand = (refl, tt); below_ff = omega arith; spelled_so = refl }
 written_is_spelled (tpdu_error dst cause) w = record { parameters = []; fits = w.0; may_stand = (refl, tt); below_ff = omega arith; spelled_so = refl }
 
-pub spelled_is_writable : (octets : List ℕ) (p : Pdu) → Spells p octets → kind_in p ≢ Er → IsWritable p
+pub spelled_is_writable : (octets : List ℕ) (p : TransportPdu) → Spells p octets → kind_in p ≢ Er → IsWritable p
 spelled_is_writable octets (connection_request credit dst src size user) s k = (s.fits, named_is_size (size_octet s.parameters) size s.may_stand.1, k)
 spelled_is_writable octets (connection_confirm credit dst src size user) s k = (s.fits, named_is_size (size_octet s.parameters) size s.may_stand.1, k)
 spelled_is_writable octets (disconnect_request dst src reason user) s k = (s.fits, tt, k)
@@ -111,10 +111,10 @@ spelled_is_writable octets (data_tpdu dst last number user) s k = (s.fits, tt, k
 spelled_is_writable octets (acknowledgement credit dst number) s k = (s.fits, tt, k)
 spelled_is_writable octets (tpdu_error dst cause) s k = (s.fits, tt, k)
 
-pub reading_of_written : (p : Pdu) → IsWritable p → reading (written_octets p) ≡ Ok p
+pub reading_of_written : (p : TransportPdu) → IsWritable p → reading (written_octets p) ≡ Ok p
 reading_of_written p w = reading_of_spelled (written_octets p) p (written_is_spelled p w)
 
-pub written_is_short : (p : Pdu) → IsWritable p → length (written_octets p) ≤ 1024
+pub written_is_short : (p : TransportPdu) → IsWritable p → length (written_octets p) ≤ 1024
 written_is_short (connection_request credit dst src size user) w = omega (arith, w.0.2)
 written_is_short (connection_confirm credit dst src size user) w = omega (arith, w.0.2)
 written_is_short (disconnect_request dst src reason user) w = omega (arith, w.0.2)

@@ -6,11 +6,11 @@ use Rattle.er_base.specs.Octets.{two}
 use Rattle.x224_tpdu.specs.declared.fault.TpFault.{TpFault}
 use Rattle.x224_tpdu.specs.declared.kind.Kind.{Kind}
 use Rattle.x224_tpdu.specs.declared.kind.Kind.TheVariants.{Cr, Cc, Dr, Dc, Dt, Ak, Er}
-use Rattle.x224_tpdu.specs.Kinds.{kind_of, least_user, most_user}
+use Rattle.x224_tpdu.specs.Kinds.{kind_of_tpdu_code, least_user, most_user}
 use Rattle.x224_tpdu.specs.Parameters.{Parameter, parameter_octets, parameters_in, first_refused, size_octet}
-use Rattle.x224_tpdu.specs.Spelling.{Pdu, connection_request, connection_confirm, disconnect_request, disconnect_confirm, data_tpdu, acknowledgement, tpdu_error, NamesSize, spelling, Spells}
+use Rattle.x224_tpdu.specs.Spelling.{TransportPdu, connection_request, connection_confirm, disconnect_request, disconnect_confirm, data_tpdu, acknowledgement, tpdu_error, NamesSize, spelling, Spells}
 use Rattle.x224_tpdu.specs.Faults.{Layout, layout_of, rule_1, rule_2, rule_3, rule_4, rule_5, rule_6, rule_7, rule_8, rules, kind_rules, first_of, part_fault, size_fault, user_fault, first_fault}
-use Rattle.x224_tpdu.specs.Function.{size_of, value_in, value_by, value_of}
+use Rattle.x224_tpdu.specs.Function.{size_of, value_in, value_by, tpdu_of_faultless_octets}
 use Rattle.x224_tpdu.proofs.Cutting.{in_nil, in_whole}
 
 -- parameters are found again in their octets
@@ -41,12 +41,12 @@ skip : (rule : Option TpFault) (behind : List (Option TpFault)) → rule ≡ Non
 skip rule behind kept none = rw kept none
 
 -- octets that keep the rules and show this TPDU
-pub record IsShown (p : Pdu) (octets : List ℕ) : Type 0 where
+pub record IsShown (p : TransportPdu) (octets : List ℕ) : Type 0 where
   pub no_fault : first_fault octets ≡ None
-  pub value : value_of octets ≡ p
+  pub value : tpdu_of_faultless_octets octets ≡ p
 
 -- the parts of a cut that keep the rules of their kind, and show this TPDU
-record Keeps (kind : Kind) (c : Layout) (p : Pdu) : Type 0 where
+record Keeps (kind : Kind) (c : Layout) (p : TransportPdu) : Type 0 where
   keeps_4 : rule_4 kind c ≡ None
   keeps_5 : rule_5 kind c ≡ None
   keeps_6 : rule_6 kind c ≡ None
@@ -54,7 +54,7 @@ record Keeps (kind : Kind) (c : Layout) (p : Pdu) : Type 0 where
   keeps_8 : rule_8 kind c ≡ None
   shows : value_in kind c ≡ p
 
-shown_by : (kind : Kind) (p : Pdu) (code : ℕ) (fields user : List ℕ) → kind_of code ≡ Some kind → length (code ∷ fields) < 255 → Keeps kind (the_cut code fields user) p → IsShown p (length (code ∷ fields) ∷ code ∷ fields ++ user)
+shown_by : (kind : Kind) (p : TransportPdu) (code : ℕ) (fields user : List ℕ) → kind_of_tpdu_code code ≡ Some kind → length (code ∷ fields) < 255 → Keeps kind (the_cut code fields user) p → IsShown p (length (code ∷ fields) ∷ code ∷ fields ++ user)
 shown_by kind p code fields user k short keeps =
     let octets : List ℕ = length (code ∷ fields) ∷ code ∷ fields ++ user in
     let c : Layout = the_cut code fields user in
@@ -68,10 +68,10 @@ shown_by kind p code fields user k short keeps =
     let of_kind : first_of (kind_rules (Some kind) c) ≡ None =
     skip (rule_4 kind c) _ keeps.keeps_4 (skip (rule_5 kind c) _ keeps.keeps_5 (skip (rule_6 kind c) _ keeps.keeps_6
     (skip (rule_7 kind c) _ keeps.keeps_7 (skip (rule_8 kind c) [] keeps.keeps_8 refl)))) in
-    let behind : first_of (kind_rules (kind_of code) c) ≡ None = subst (λ (o : Option Kind). first_of (kind_rules o c) ≡ None) (sym k) of_kind in
+    let behind : first_of (kind_rules (kind_of_tpdu_code code) c) ≡ None = subst (λ (o : Option Kind). first_of (kind_rules o c) ≡ None) (sym k) of_kind in
     record {
       no_fault = ap (λ (d : Layout). first_of (rules octets d)) (cut_cells code fields user) ∙ skip (rule_1 octets) _ keeps_1 (skip (rule_2 c) _ keeps_2 (skip (rule_3 c) _ keeps_3 behind));
-      value = ap (λ (d : Layout). value_by (kind_of d.code) d) (cut_cells code fields user) ∙ ap (λ (o : Option Kind). value_by o c) k ∙ keeps.shows;
+      value = ap (λ (d : Layout). value_by (kind_of_tpdu_code d.code) d) (cut_cells code fields user) ∙ ap (λ (o : Option Kind). value_by o c) k ∙ keeps.shows;
     }
 
 -- parameters that may stand pass
@@ -94,13 +94,13 @@ user_passes kind user l m =
     rw (least, most) refl
 
 -- each kind has its own code
-code_cr : (credit : ℕ) → credit < 16 → kind_of (0xE0 + credit) ≡ Some Cr
+code_cr : (credit : ℕ) → credit < 16 → kind_of_tpdu_code (0xE0 + credit) ≡ Some Cr
 code_cr credit h = let e : (0xE0 + credit) / 16 ≡ 0xE = omega arith in rw e refl
 
-code_cc : (credit : ℕ) → credit < 16 → kind_of (0xD0 + credit) ≡ Some Cc
+code_cc : (credit : ℕ) → credit < 16 → kind_of_tpdu_code (0xD0 + credit) ≡ Some Cc
 code_cc credit h = let e : (0xD0 + credit) / 16 ≡ 0xD = omega arith in rw e refl
 
-code_ak : (credit : ℕ) → credit < 16 → kind_of (0x60 + credit) ≡ Some Ak
+code_ak : (credit : ℕ) → credit < 16 → kind_of_tpdu_code (0x60 + credit) ≡ Some Ak
 code_ak credit h =
     let e : (0x60 + credit) / 16 ≡ 0x6 = omega arith in
     let not_dr : eqb (0x60 + credit) 0x80 ≡ false = ne_eqb _ _ (λ n. absurd (omega arith)) in
@@ -116,10 +116,10 @@ credit_of high credit h = omega arith
 halves : (n : ℕ) → n / 256 * 256 + n % 256 ≡ n
 halves n = omega arith
 
-same_connection : (make : ℕ → ℕ → ℕ → ℕ → Pdu) (a a' b b' d d' e e' : ℕ) → a ≡ a' → b ≡ b' → d ≡ d' → e ≡ e' → make a b d e ≡ make a' b' d' e'
+same_connection : (make : ℕ → ℕ → ℕ → ℕ → TransportPdu) (a a' b b' d d' e e' : ℕ) → a ≡ a' → b ≡ b' → d ≡ d' → e ≡ e' → make a b d e ≡ make a' b' d' e'
 same_connection make a a' b b' d d' e e' p q r s = cc
 
-same_pair : (make : ℕ → ℕ → Pdu) (a a' b b' : ℕ) → a ≡ a' → b ≡ b' → make a b ≡ make a' b'
+same_pair : (make : ℕ → ℕ → TransportPdu) (a a' b b' : ℕ) → a ≡ a' → b ≡ b' → make a b ≡ make a' b'
 same_pair make a a' b b' p q = cc
 
 same_data : (a a' : ℕ) (l l' : Bool) (n n' : ℕ) (user : List ℕ) → a ≡ a' → l ≡ l' → n ≡ n' → data_tpdu a l n user ≡ data_tpdu a' l' n' user
@@ -247,7 +247,7 @@ shown_dt dst last number user octets s =
     }))
 
 -- octets that spell a TPDU have no fault, and show it
-pub shown : (p : Pdu) (octets : List ℕ) → Spells p octets → IsShown p octets
+pub shown : (p : TransportPdu) (octets : List ℕ) → Spells p octets → IsShown p octets
 shown (connection_request credit dst src size user) octets s = shown_cr credit dst src size user octets s
 shown (connection_confirm credit dst src size user) octets s = shown_cc credit dst src size user octets s
 shown (disconnect_request dst src reason user) octets s = shown_dr dst src reason user octets s

@@ -5,7 +5,7 @@ use Rattle.x224_tpdu.specs.declared.fault.TpFault.{TpFault}
 use Rattle.x224_tpdu.specs.declared.fault.TpFault.TheVariants.{Empty, Length, Code, Parameter, Value, Class, UserData}
 use Rattle.x224_tpdu.specs.declared.kind.Kind.{Kind}
 use Rattle.x224_tpdu.specs.declared.kind.Kind.TheVariants.{Cr, Cc, Ak}
-use Rattle.x224_tpdu.specs.Kinds.{kind_of, fixed_length, has_parameters, is_length, least_user, most_user}
+use Rattle.x224_tpdu.specs.Kinds.{kind_of_tpdu_code, fixed_length, has_parameters, is_length, least_user, most_user}
 use Rattle.x224_tpdu.specs.Parameters.{parameters_in, first_refused, size_octet}
 
 -- octets cut behind the header that their first octet, LI, counts
@@ -43,7 +43,7 @@ rule_2 c =
 
 -- rule 3: the second octet is the code of a kind
 abbrev pub rule_3 : Layout → Option TpFault
-rule_3 c = if is_some (kind_of c.code) then None else Some (Code c.code)
+rule_3 c = if is_some (kind_of_tpdu_code c.code) then None else Some (Code c.code)
 
 -- rule 4: LI is one that this kind can have
 abbrev pub rule_4 : Kind → Layout → Option TpFault
@@ -113,7 +113,7 @@ kind_rules None c = []
 
 -- the eight rules in their order
 abbrev pub rules : List ℕ → Layout → List (Option TpFault)
-rules octets c = rule_1 octets ∷ rule_2 c ∷ rule_3 c ∷ kind_rules (kind_of c.code) c
+rules octets c = rule_1 octets ∷ rule_2 c ∷ rule_3 c ∷ kind_rules (kind_of_tpdu_code c.code) c
 
 -- the fault of octets: the first rule that is broken
 abbrev pub first_fault : List ℕ → Option TpFault

@@ -5,8 +5,8 @@ use Rattle.x224_tpdu.specs.declared.kind.Kind.{Kind}
 use Rattle.x224_tpdu.specs.declared.kind.Kind.TheVariants.{Cr, Cc, Dr, Dc, Dt, Ak, Er}
 
 -- the kind that the second octet of a TPDU names; the low half of CR, CC and AK is the credit
-abbrev pub kind_of : ℕ → Option Kind
-kind_of code =
+abbrev pub kind_of_tpdu_code : ℕ → Option Kind
+kind_of_tpdu_code code =
     if code / 16 == 0xE then Some Cr
     else if code / 16 == 0xD then Some Cc
     else if code == 0x80 then Some Dr

@@ -7,9 +7,9 @@ use Rattle.x224_tpdu.specs.declared.kind.Kind.{Kind}
 use Rattle.x224_tpdu.specs.declared.kind.Kind.TheVariants.{Cr, Dc, Dt, Ak}
 use Rattle.x224_tpdu.specs.declared.parts.Parts.{Parts}
 use Rattle.x224_tpdu.specs.declared.tpdu.Tpdu.{Tpdu}
-use Rattle.x224_tpdu.specs.Kinds.{kind_of}
+use Rattle.x224_tpdu.specs.Kinds.{kind_of_tpdu_code}
 use Rattle.x224_tpdu.specs.Parameters.{Parameter, parameters_in, first_refused, size_octet, parameter_octets}
-use Rattle.x224_tpdu.specs.Spelling.{Pdu, pdu_of, kind_in, user_in, Fits, HasParameters, header}
+use Rattle.x224_tpdu.specs.Spelling.{TransportPdu, pdu_of, kind_in, user_in, FitsTpduFields, HasParameters, header_without_length_indicator}
 use Rattle.x224_tpdu.specs.Faults.{Layout, layout_of, rule_1, rule_2, rule_4, rule_5, kind_rules, first_of, parameter_part, part_fault}
 
 -- the parts as the rules speak of them
@@ -43,20 +43,20 @@ parameters_of Ak c = []
 parameters_of kind c = (parameters_in (parameter_part kind c)).0
 
 -- the parts are those of a spelling of this TPDU
-pub record Shows (kind : Kind) (c : Layout) (p : Pdu) : Type 0 where
+pub record ArePartsOfTpdu (kind : Kind) (c : Layout) (p : TransportPdu) : Type 0 where
   pub kind_is : kind_in p ≡ kind
-  pub fits : Fits p
+  pub fits : FitsTpduFields p
   pub may_stand : HasParameters p (parameters_of kind c)
-  pub header_is : c.code ∷ c.fields ≡ header p (parameters_of kind c)
+  pub header_is : c.code ∷ c.fields ≡ header_without_length_indicator p (parameters_of kind c)
   pub user_is : c.user ≡ user_in p
 
 -- parts of this kind that keep the rules 1 to 3 were read
 abbrev pub ReadsKind : Kind → Layout → Result Tpdu TpFault → Type 0
 ReadsKind kind c result =
-    MatchResult result (λ tpdu. Shows kind c (pdu_of tpdu)) (λ fault. first_of (kind_rules (Some kind) c) ≡ Some fault)
+    MatchResult result (λ tpdu. ArePartsOfTpdu kind c (pdu_of tpdu)) (λ fault. first_of (kind_rules (Some kind) c) ≡ Some fault)
 
 -- octets are made of whole parameters that may stand in this kind
-pub record IsWhole (kind : Kind) (part : List ℕ) : Type 0 where
+pub record HasWholeParameters (kind : Kind) (part : List ℕ) : Type 0 where
   pub none_refused : first_refused kind false (parameters_in part).0 ≡ None
   pub spelled_so : part ≡ parameter_octets (parameters_in part).0
   pub passes : part_fault kind part ≡ None
@@ -67,17 +67,17 @@ size_behind true octet rest = octet
 size_behind false octet rest = size_octet rest
 
 -- octets begin with this parameter, and the octets `after` follow it
-pub record Begins (octets : List ℕ) (code : ℕ) (value after : List ℕ) : Type 0 where
+pub record BeginsWithParameter (octets : List ℕ) (code : ℕ) (value after : List ℕ) : Type 0 where
   pub parameters : parameters_in octets ≡ (record { code = code; value = value } ∷ (parameters_in after).0, (parameters_in after).1)
   pub shorter : length after < length octets
 
 -- the code names this kind, and the length indicator counts
 pub record IsOfKind (kind : Kind) (c : Layout) : Type 0 where
-  pub named : kind_of c.code ≡ Some kind
+  pub named : kind_of_tpdu_code c.code ≡ Some kind
   pub counted : IsCounted c
 
 -- the fields of CR or CC of class 2
-pub record IsConnection (c : Layout) (dst src : ℕ) (part : List ℕ) : Type 0 where
+pub record HasConnectionFields (c : Layout) (dst src : ℕ) (part : List ℕ) : Type 0 where
   pub fields_are : c.fields ≡ two dst ++ two src ++ 0x20 ∷ part
   pub dst_fits : dst < 2 ^ 16
   pub src_fits : src < 2 ^ 16

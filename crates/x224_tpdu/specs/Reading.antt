@@ -3,7 +3,7 @@ use Rattle.std.specs.Prelude.{◌≡◌, ◌≢◌, ◌≤◌, ℕ, List, length
 use Rattle.x224_tpdu.specs.declared.tpdu.Tpdu.{Tpdu}
 use Rattle.x224_tpdu.specs.declared.fault.TpFault.{TpFault}
 use Rattle.x224_tpdu.specs.declared.kind.Kind.TheVariants.{Er}
-use Rattle.x224_tpdu.specs.Spelling.{Pdu, pdu_of, kind_in, Spells}
+use Rattle.x224_tpdu.specs.Spelling.{TransportPdu, pdu_of, kind_in, Spells}
 use Rattle.x224_tpdu.specs.Faults.{first_fault}
 use Rattle.x224_tpdu.specs.Writing.{IsWritable, written_octets}
 
@@ -14,20 +14,20 @@ Reads octets (Err fault) = first_fault octets ≡ Some fault
 
 -- octets spell one TPDU at most
 abbrev pub SpellsOne : Type 0
-SpellsOne = (octets : List ℕ) (p q : Pdu) → Spells p octets → Spells q octets → p ≡ q
+SpellsOne = (octets : List ℕ) (p q : TransportPdu) → Spells p octets → Spells q octets → p ≡ q
 
 -- octets that spell a TPDU have no fault
 abbrev pub SpelledHasNoFault : Type 0
-SpelledHasNoFault = (octets : List ℕ) (p : Pdu) → Spells p octets → first_fault octets ≡ None
+SpelledHasNoFault = (octets : List ℕ) (p : TransportPdu) → Spells p octets → first_fault octets ≡ None
 
 -- what is written is a spelling
 abbrev pub WrittenIsSpelled : Type 0
-WrittenIsSpelled = (p : Pdu) → IsWritable p → Spells p (written_octets p)
+WrittenIsSpelled = (p : TransportPdu) → IsWritable p → Spells p (written_octets p)
 
 -- what can be written is what octets can spell, ER aside
 abbrev pub SpelledIsWritable : Type 0
-SpelledIsWritable = (octets : List ℕ) (p : Pdu) → Spells p octets → kind_in p ≢ Er → IsWritable p
+SpelledIsWritable = (octets : List ℕ) (p : TransportPdu) → Spells p octets → kind_in p ≢ Er → IsWritable p
 
 -- what is written has 1,024 octets at most
 abbrev pub WrittenIsShort : Type 0
-WrittenIsShort = (p : Pdu) → IsWritable p → length (written_octets p) ≤ 1024
+WrittenIsShort = (p : TransportPdu) → IsWritable p → length (written_octets p) ≤ 1024

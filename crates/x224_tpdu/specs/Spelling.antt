@@ -11,17 +11,17 @@ use Rattle.x224_tpdu.specs.Kinds.{least_user, most_user}
 use Rattle.x224_tpdu.specs.Parameters.{Parameter, parameter_octets, first_refused, size_octet}
 
 -- a TPDU by its fields, user data last
-pub data Pdu : Type 0 where
-  connection_request : (credit dst src size : ℕ) → List ℕ → Pdu
-  connection_confirm : (credit dst src size : ℕ) → List ℕ → Pdu
-  disconnect_request : (dst src reason : ℕ) → List ℕ → Pdu
-  disconnect_confirm : (dst src : ℕ) → Pdu
-  data_tpdu : (dst : ℕ) → (last : Bool) → (number : ℕ) → List ℕ → Pdu
-  acknowledgement : (credit dst number : ℕ) → Pdu
-  tpdu_error : (dst cause : ℕ) → Pdu
+pub data TransportPdu : Type 0 where
+  connection_request : (credit dst src size : ℕ) → List ℕ → TransportPdu
+  connection_confirm : (credit dst src size : ℕ) → List ℕ → TransportPdu
+  disconnect_request : (dst src reason : ℕ) → List ℕ → TransportPdu
+  disconnect_confirm : (dst src : ℕ) → TransportPdu
+  data_tpdu : (dst : ℕ) → (last : Bool) → (number : ℕ) → List ℕ → TransportPdu
+  acknowledgement : (credit dst number : ℕ) → TransportPdu
+  tpdu_error : (dst cause : ℕ) → TransportPdu
 
 -- the TPDU that a value of the program is
-abbrev pub pdu_of : Tpdu → Pdu
+abbrev pub pdu_of : Tpdu → TransportPdu
 pdu_of (code.Cr credit dst src size user) = connection_request credit dst src size user.now
 pdu_of (code.Cc credit dst src size user) = connection_confirm credit dst src size user.now
 pdu_of (code.Dr dst src reason user) = disconnect_request dst src reason user.now
@@ -31,7 +31,7 @@ pdu_of (code.Ak credit dst number) = acknowledgement credit dst number
 pdu_of (code.Er dst cause) = tpdu_error dst cause
 
 -- the kind of a TPDU
-abbrev pub kind_in : Pdu → Kind
+abbrev pub kind_in : TransportPdu → Kind
 kind_in (connection_request credit dst src size user) = Cr
 kind_in (connection_confirm credit dst src size user) = Cc
 kind_in (disconnect_request dst src reason user) = Dr
@@ -41,7 +41,7 @@ kind_in (acknowledgement credit dst number) = Ak
 kind_in (tpdu_error dst cause) = Er
 
 -- the fixed part of the header, LI left out; in DT the top bit before the number is EOT
-abbrev pub fixed_part : Pdu → List ℕ
+abbrev pub fixed_part : TransportPdu → List ℕ
 fixed_part (connection_request credit dst src size user) =
     (0xE0 + credit) ∷ two dst ++ two src ++ 0x20 ∷ []
 fixed_part (connection_confirm credit dst src size user) =
@@ -54,7 +54,7 @@ fixed_part (acknowledgement credit dst number) = (0x60 + credit) ∷ two dst ++ 
 fixed_part (tpdu_error dst cause) = 0x70 ∷ two dst ++ cause ∷ []
 
 -- the user data
-abbrev pub user_in : Pdu → List ℕ
+abbrev pub user_in : TransportPdu → List ℕ
 user_in (connection_request credit dst src size user) = user
 user_in (connection_confirm credit dst src size user) = user
 user_in (disconnect_request dst src reason user) = user
@@ -62,10 +62,10 @@ user_in (data_tpdu dst last number user) = user
 user_in _ = []
 
 -- each field fits its bits, and the user data its bounds
-abbrev pub Fits : Pdu → Type 0
-Fits p = FitsBits p × (least_user (kind_in p) ≤ length (user_in p)) × (length (user_in p) ≤ most_user (kind_in p))
+abbrev pub FitsTpduFields : TransportPdu → Type 0
+FitsTpduFields p = FitsBits p × (least_user (kind_in p) ≤ length (user_in p)) × (length (user_in p) ≤ most_user (kind_in p))
   where
-    FitsBits : Pdu → Type 0
+    FitsBits : TransportPdu → Type 0
     FitsBits (connection_request credit dst src size user) = (credit < 16) × (dst < 2 ^ 16) × (src < 2 ^ 16)
     FitsBits (connection_confirm credit dst src size user) = (credit < 16) × (dst < 2 ^ 16) × (src < 2 ^ 16)
     FitsBits (disconnect_request dst src reason user) = (dst < 2 ^ 16) × (src < 2 ^ 16) × (reason < 2 ^ 8)
@@ -79,26 +79,26 @@ abbrev pub NamesSize : Option ℕ → ℕ → Type 0
 NamesSize octet size = MatchOption octet (size ≡ 128) (λ k. (7 ≤ k) × (k ≤ 13) × (size ≡ 2 ^ k))
 
 -- these parameters may stand in this TPDU, and name its size where it has one
-abbrev pub HasParameters : Pdu → List Parameter → Type 0
+abbrev pub HasParameters : TransportPdu → List Parameter → Type 0
 HasParameters p ps = (first_refused (kind_in p) false ps ≡ None) × NamesSizeOf p
   where
-    NamesSizeOf : Pdu → Type 0
+    NamesSizeOf : TransportPdu → Type 0
     NamesSizeOf (connection_request credit dst src size user) = NamesSize (size_octet ps) size
     NamesSizeOf (connection_confirm credit dst src size user) = NamesSize (size_octet ps) size
     NamesSizeOf _ = Unit {0}
 
 -- the header without LI
-abbrev pub header : Pdu → List Parameter → List ℕ
-header p ps = fixed_part p ++ parameter_octets ps
+abbrev pub header_without_length_indicator : TransportPdu → List Parameter → List ℕ
+header_without_length_indicator p ps = fixed_part p ++ parameter_octets ps
 
 -- the spelling of a TPDU with these parameters
-abbrev pub spelling : Pdu → List Parameter → List ℕ
-spelling p ps = length (header p ps) ∷ header p ps ++ user_in p
+abbrev pub spelling : TransportPdu → List Parameter → List ℕ
+spelling p ps = length (header_without_length_indicator p ps) ∷ header_without_length_indicator p ps ++ user_in p
 
 -- these octets are a spelling of this TPDU, with some parameters
-pub record Spells (p : Pdu) (octets : List ℕ) : Type 0 where
+pub record Spells (p : TransportPdu) (octets : List ℕ) : Type 0 where
   pub parameters : List Parameter
-  pub fits : Fits p
+  pub fits : FitsTpduFields p
   pub may_stand : HasParameters p parameters
-  pub below_ff : length (header p parameters) < 0xFF
+  pub below_ff : length (header_without_length_indicator p parameters) < 0xFF
   pub spelled_so : octets ≡ spelling p parameters

@@ -2,7 +2,7 @@
 use Rattle.std.specs.Prelude.{ℕ, ◌≡◌, ◌≢◌, ◌==◌, ◌⊎◌, if◌then◌else◌, List, [], ◌∷◌}
 use Rattle.x224_tpdu.specs.declared.kind.Kind.TheVariants.{Er}
 use Rattle.x224_tpdu.specs.Parameters.{Parameter}
-use Rattle.x224_tpdu.specs.Spelling.{Pdu, connection_request, connection_confirm, kind_in, Fits, spelling}
+use Rattle.x224_tpdu.specs.Spelling.{TransportPdu, connection_request, connection_confirm, kind_in, FitsTpduFields, spelling}
 
 -- a TPDU size that C0 can name
 abbrev pub IsSize : ℕ → Type 0
@@ -16,20 +16,20 @@ size_code n =
     else if n == 2048 then 0x0B else if n == 4096 then 0x0C else 0x0D
 
 -- the parameters that are written
-abbrev pub own_parameters : Pdu → List Parameter
+abbrev pub own_parameters : TransportPdu → List Parameter
 own_parameters (connection_request credit dst src size user) = record { code = 0xC0; value = size_code size ∷ [] } ∷ []
 own_parameters (connection_confirm credit dst src size user) = record { code = 0xC0; value = size_code size ∷ [] } ∷ []
 own_parameters _ = []
 
 -- the spelling that is written
-abbrev pub written_octets : Pdu → List ℕ
+abbrev pub written_octets : TransportPdu → List ℕ
 written_octets p = spelling p (own_parameters p)
 
 -- a TPDU that can be read and isn't ER
-abbrev pub IsWritable : Pdu → Type 0
-IsWritable p = Fits p × HasSize p × (kind_in p ≢ Er)
+abbrev pub IsWritable : TransportPdu → Type 0
+IsWritable p = FitsTpduFields p × HasSize p × (kind_in p ≢ Er)
   where
-    HasSize : Pdu → Type 0
+    HasSize : TransportPdu → Type 0
     HasSize (connection_request credit dst src size user) = IsSize size
     HasSize (connection_confirm credit dst src size user) = IsSize size
     HasSize _ = Unit {0}

@@ -1,5 +1,5 @@
 ghost use Rattle.std.specs.Prelude.{◌≡◌, ◌<◌};
-ghost use Rattle.x224_tpdu.specs.Kinds.{kind_of};
+ghost use Rattle.x224_tpdu.specs.Kinds.{kind_of_tpdu_code};
 
 /// The seven kinds of TPDU.
 #[derive(Clone, Copy, Debug, PartialEq, Eq)]
@@ -15,7 +15,7 @@ pub enum Kind {
 
 /// The kind of the TPDU whose second octet this is.
 pub fn kind_named(code: u8) -> Option<Kind>
-    ensures { result ≡ kind_of code }
+    ensures { result ≡ kind_of_tpdu_code code }
 {
     match code {
         0xE0..=0xEF => Some(Kind::Cr),

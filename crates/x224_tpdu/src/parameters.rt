@@ -2,7 +2,7 @@ ghost use Rattle.std.specs.Prelude.{◌≡◌, ℕ, ◌<◌, [], ◌∷◌, leng
 ghost use Rattle.x224_tpdu.specs.Parameters.{parameters_in, may_stand, size_octet};
 ghost use Rattle.x224_tpdu.specs.Spelling.{NamesSize};
 ghost use Rattle.x224_tpdu.specs.Faults.{part_fault, size_fault};
-ghost use Rattle.x224_tpdu.specs.Parts.{IsWhole, Begins};
+ghost use Rattle.x224_tpdu.specs.Parts.{HasWholeParameters, BeginsWithParameter};
 
 use crate::fault::TpFault;
 use crate::kind::Kind;
@@ -14,7 +14,7 @@ pub const SIZE: u8 = 0xC0;
 /// answers the octet of the first TPDU size among them.
 pub fn check_parameters(kind: Kind, part: &[u8]) -> Result<Option<u8>, TpFault>
     ensures { MatchResult result
-        (λ octet. IsWhole kind part.now × (octet ≡ size_octet (parameters_in part.now).0))
+        (λ octet. HasWholeParameters kind part.now × (octet ≡ size_octet (parameters_in part.now).0))
         (λ fault. part_fault kind part.now ≡ Some fault) }
 {
     let mut rest = part;
@@ -59,7 +59,7 @@ pub fn size_named(octet: Option<u8>) -> Result<u16, TpFault>
 fn first_parameter<'a>(part: &'a [u8]) -> Option<(u8, &'a [u8], &'a [u8])>
     ensures { MatchOption result
         (parameters_in part.now ≡ ([], part.now))
-        (λ found. Begins part.now found.0 found.1.now found.2.now) }
+        (λ found. BeginsWithParameter part.now found.0 found.1.now found.2.now) }
 {
     let &[code, size, ref rest @ ..] = part else {
         return None;

@@ -1,11 +1,11 @@
 ghost use Rattle.std.specs.Prelude.{◌≡◌, ◌≤◌, [], ◌∷◌, ◌++◌, length, Some, None, MatchResult, OnOk};
 ghost use Rattle.er_base.specs.Octets.{two};
 ghost use Rattle.x224_tpdu.specs.declared.kind.Kind.TheVariants.{Cr, Cc, Dr, Dc, Dt, Ak, Er};
-ghost use Rattle.x224_tpdu.specs.Kinds.{kind_of, least_user, most_user};
+ghost use Rattle.x224_tpdu.specs.Kinds.{kind_of_tpdu_code, least_user, most_user};
 ghost use Rattle.x224_tpdu.specs.Faults.{rule_4, rule_5, first_of, user_fault};
 ghost use Rattle.x224_tpdu.specs.Reading.{Reads};
 ghost use Rattle.x224_tpdu.specs.Function.{reading, answer_of};
-ghost use Rattle.x224_tpdu.specs.Parts.{layout_in, IsCounted, IsOfKind, IsConnection, ReadsKind, ReadsBy};
+ghost use Rattle.x224_tpdu.specs.Parts.{layout_in, IsCounted, IsOfKind, HasConnectionFields, ReadsKind, ReadsBy};
 
 use crate::fault::TpFault;
 use crate::kind::{Kind, kind_named};
@@ -34,7 +34,7 @@ pub fn read<'a>(octets: &'a [u8]) -> Result<Tpdu<'a>, TpFault>
 
 fn read_parts<'a>(parts: &Parts<'a>) -> Result<Tpdu<'a>, TpFault>
     requires { IsCounted (layout_in parts.now) }
-    ensures { ReadsBy (kind_of parts.now.code) (layout_in parts.now) result }
+    ensures { ReadsBy (kind_of_tpdu_code parts.now.code) (layout_in parts.now) result }
 {
     match kind_named(parts.code) {
         None => Err(TpFault::Code(parts.code)),
@@ -182,7 +182,7 @@ struct ConnectionFields<'a> {
 fn connection<'a>(parts: &Parts<'a>) -> Result<ConnectionFields<'a>, TpFault>
     requires { IsCounted (layout_in parts.now) }
     ensures { MatchResult result
-        (λ found. IsConnection (layout_in parts.now) found.dst found.src found.parameters.now)
+        (λ found. HasConnectionFields (layout_in parts.now) found.dst found.src found.parameters.now)
         (λ fault. first_of (rule_4 Cr (layout_in parts.now) ∷ rule_5 Cr (layout_in parts.now) ∷ []) ≡ Some fault) }
 {
     let &[

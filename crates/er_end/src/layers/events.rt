@@ -3,12 +3,12 @@
 ghost use Rattle.std.specs.Prelude.{◌≡◌, ◌<◌, length, None};
 ghost use Rattle.er_base.specs.Causes.{release_of};
 ghost use Rattle.er_base.specs.declared.cause.Cause.TheVariants.{SetUpTimeSpent};
-ghost use Rattle.hdlc_frames.specs.Shown.{shown};
+ghost use Rattle.hdlc_frames.specs.Shown.{verdict_of_octets_found};
 ghost use Rattle.safety_automaton.specs.Keys.{key_at};
 ghost use Rattle.er_end_model.specs.Steps.{new_event_at, step_start, step_frame, refusal_of, on_send, step_take, step_release, step_tick, on_expiry, send_dr, di_of, normal_disconnect, step_break, deadline};
 ghost use Rattle.er_end.specs.Inboxes.{first_in};
 ghost use Rattle.er_end.specs.KeptLayers.{kept};
-ghost use Rattle.er_end.specs.Shown.{IsRefused};
+ghost use Rattle.er_end.specs.Shown.{ShowsSendRefusal};
 
 use crate::deeds::SendRefused;
 use crate::layers::{Layers, NORMAL_DISCONNECT};
@@ -39,7 +39,7 @@ impl Layers {
         found: &Found,
         room: &mut SapduRoom,
     )
-        ensures { self.new ≡ step_frame kept (key_at (K.entries keys.now)) now (shown found.now) self.old }
+        ensures { self.new ≡ step_frame kept (key_at (K.entries keys.now)) now (verdict_of_octets_found found.now) self.old }
     {
         self.begin_at(now);
         if self.is_released() {
@@ -52,7 +52,7 @@ impl Layers {
 
     /// Why a send is refused, where it is.
     pub(crate) fn refusal(&self, user: &[u8]) -> Option<SendRefused>
-        ensures { IsRefused result (refusal_of kept user.now self.now) }
+        ensures { ShowsSendRefusal result (refusal_of kept user.now self.now) }
     {
         if let Some(why) = self.released {
             return Some(SendRefused::Released(why));

@@ -7,7 +7,7 @@ ghost use Rattle.sapdu.specs.Reading.{view};
 ghost use Rattle.safety_automaton.specs.Keys.{key_at, no_keys};
 ghost use Rattle.safety_automaton.specs.Safety.{Received, step, row, released_by_peer};
 ghost use Rattle.safety_automaton.specs.Rules.{IsOpen};
-ghost use Rattle.safety_automaton.specs.Kept.{Does};
+ghost use Rattle.safety_automaton.specs.Kept.{DoesSafetyStep};
 
 use super::Safe;
 use crate::control_pdu::ControlPdu;
@@ -29,7 +29,7 @@ impl Safe {
         octets: &'o [u8],
     ) -> Reaction<'o>
         requires { IsOpen self.old.safety.phase }
-        ensures { Does (step (key_at (K.entries keys.now) now) self.old.safety (Received octets.now)) self.new result }
+        ensures { DoesSafetyStep (step (key_at (K.entries keys.now) now) self.old.safety (Received octets.now)) self.new result }
     {
         let Ok((pdu, flag)) = sapdu::read(octets) else {
             return self.release_for(Cause::Malformed);
@@ -43,7 +43,7 @@ impl Safe {
     // A readable SaPDU with the peer's flag, at a side that isn't released.
     fn receive_pdu<'o, K: KeyFinder>(&mut self, keys: &K, now: u64, pdu: &SaPdu<'o>) -> Reaction<'o>
         requires { Fits (view pdu.now) }
-        ensures { Does (row (key_at (K.entries keys.now) now) self.old.safety self.old.safety.phase (view pdu.now)) self.new result }
+        ensures { DoesSafetyStep (row (key_at (K.entries keys.now) now) self.old.safety self.old.safety.phase (view pdu.now)) self.new result }
     {
         match *pdu {
             SaPdu::Di { reason, sub } => self.receive_di(reason, sub),
@@ -75,7 +75,7 @@ impl Safe {
 
     // The peer's DI.
     fn receive_di<'o>(&mut self, reason: u8, sub: u8) -> Reaction<'o>
-        ensures { Does (released_by_peer self.old.safety reason sub) self.new result }
+        ensures { DoesSafetyStep (released_by_peer self.old.safety reason sub) self.new result }
     {
         let release = Release::by_peer_di(reason, sub);
         self.set_released(release);
@@ -93,7 +93,7 @@ impl Safe {
         feature: u8,
         rb: u64,
     ) -> Reaction<'o>
-        ensures { Does (row (λ engine rbc. found) self.old.safety self.old.safety.phase (Au1 id feature rb)) self.new result }
+        ensures { DoesSafetyStep (row (λ engine rbc. found) self.old.safety self.old.safety.phase (Au1 id feature rb)) self.new result }
     {
         let Phase::WaitAu1 { ra } = self.phase else {
             return self.release_for(Cause::Unexpected);
@@ -124,7 +124,7 @@ impl Safe {
 
     // AU2.
     fn receive_au2<'o>(&mut self, id: EtcsNumber, feature: u8, ra: u64, mac: u64) -> Reaction<'o>
-        ensures { Does (row no_keys self.old.safety self.old.safety.phase (Au2 id feature ra mac)) self.new result }
+        ensures { DoesSafetyStep (row no_keys self.old.safety self.old.safety.phase (Au2 id feature ra mac)) self.new result }
     {
         let Phase::WaitAu2 { peer, kmac, rb } = &self.phase else {
             return self.release_for(Cause::Unexpected);
@@ -156,7 +156,7 @@ impl Safe {
 
     // AU3.
     fn receive_au3<'o>(&mut self, mac: u64) -> Reaction<'o>
-        ensures { Does (row no_keys self.old.safety self.old.safety.phase (Au3 mac)) self.new result }
+        ensures { DoesSafetyStep (row no_keys self.old.safety self.old.safety.phase (Au3 mac)) self.new result }
     {
         let Phase::Keyed(session) = &self.phase else {
             return self.release_for(Cause::Unexpected);
@@ -182,7 +182,7 @@ impl Safe {
 
     // AR.
     fn receive_ar<'o>(&mut self, mac: u64) -> Reaction<'o>
-        ensures { Does (row no_keys self.old.safety self.old.safety.phase (Ar mac)) self.new result }
+        ensures { DoesSafetyStep (row no_keys self.old.safety self.old.safety.phase (Ar mac)) self.new result }
     {
         let Phase::Keyed(session) = &self.phase else {
             return self.release_for(Cause::Unexpected);
@@ -207,7 +207,7 @@ impl Safe {
     // DT.
     fn receive_dt<'o>(&mut self, user: &'o [u8], mac: u64) -> Reaction<'o>
         requires { IsMessage user.now }
-        ensures { Does (row no_keys self.old.safety self.old.safety.phase (Dt user.now mac)) self.new result }
+        ensures { DoesSafetyStep (row no_keys self.old.safety self.old.safety.phase (Dt user.now mac)) self.new result }
     {
         let Phase::Keyed(session) = &self.phase else {
             return self.release_for(Cause::Unexpected);

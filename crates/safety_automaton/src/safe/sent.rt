@@ -3,9 +3,9 @@
 ghost use Rattle.std.specs.Prelude.{◌≡◌, None, OnOk, OnErr};
 ghost use Rattle.sapdu.specs.Messages.{IsMessage};
 ghost use Rattle.safety_automaton.specs.Keys.{no_keys};
-ghost use Rattle.safety_automaton.specs.Safety.{ConnectRequest, DataRequest, step, sealed_by, sent_by, flag_of};
+ghost use Rattle.safety_automaton.specs.Safety.{ConnectRequest, DataRequest, step, sealed_by, octets_sent_in_outcome, flag_of};
 ghost use Rattle.safety_automaton.specs.Reports.{state_of};
-ghost use Rattle.safety_automaton.specs.Kept.{octets_of, SealsAs};
+ghost use Rattle.safety_automaton.specs.Kept.{octets_of_control_sapdu, SealsAs};
 ghost use Rattle.safety_automaton.specs.declared.safe_state.SafeState.TheVariants as state;
 
 use super::Safe;
@@ -23,7 +23,7 @@ impl Safe {
         ensures safety { self.new.safety ≡ (step no_keys self.old.safety ConnectRequest).0 }
         ensures sealed { self.new.sealed ≡ None }
         ensures verified { self.new.verified ≡ None }
-        ensures sends { octets_of result (flag_of self.new.safety.role) ≡ sent_by (step no_keys self.old.safety ConnectRequest).1 }
+        ensures sends { octets_of_control_sapdu result (flag_of self.new.safety.role) ≡ octets_sent_in_outcome (step no_keys self.old.safety ConnectRequest).1 }
     {
         // the KMAC is moved from one phase to the next, and not copied
         let before = mem::replace(&mut self.phase, Phase::WaitAu1 { ra: 0 });

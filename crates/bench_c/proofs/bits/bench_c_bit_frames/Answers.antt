@@ -2,7 +2,7 @@ use Rattle.std.proofs.Common.{ℕ, ◌+◌, ◌<◌, ◌∙◌, List, take, Opti
 use Rattle.std.specs.Prelude.{option_map}
 use Rattle.hdlc_fcs.specs.FrameCheck.{sent_bits}
 use Rattle.hdlc_bits.specs.Framing.{Verdict, frames_of_bits}
-use Rattle.hdlc_bits.specs.Shown.{shown}
+use Rattle.hdlc_bits.specs.Shown.{verdict_of_bits_found}
 use Rattle.bench_c.proofs.BitFrameCountLaws.{count_on, nothing_yet, few_on, all_read}
 use Rattle.bench_c.proofs.bits.bench_c_bit_frames.Goals as goal
 
@@ -15,7 +15,7 @@ loop-at-preserved c =
     let at : ℕ = c.loop-at.at in
     let end : ℕ = c.min-end.result in
     let used : ℕ = c.feed.result.0 in
-    let found : Option Verdict = option_map shown c.feed.result.1 in
+    let found : Option Verdict = option_map verdict_of_bits_found c.feed.result.1 in
     let inv = c.loop-at.invariant in
     let call = c.feed.ensures in
     let some : at < end = omega (arith, c.min-end.ensures, c.max-size.ensures) in

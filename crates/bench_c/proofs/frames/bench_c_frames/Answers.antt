@@ -1,7 +1,7 @@
 use Rattle.std.proofs.Common.{ℕ, ◌-◌, ◌<◌, ◌≤◌, List, length, take, drop, Option, arith}
 use Rattle.std.specs.Prelude.{option_map}
 use Rattle.hdlc_frames.specs.Framing.{Verdict}
-use Rattle.hdlc_frames.specs.Shown.{shown}
+use Rattle.hdlc_frames.specs.Shown.{verdict_of_octets_found}
 use Rattle.bench_c.proofs.FrameCountLaws.{kept_on, count_on, nothing_yet, part_size, few_on}
 use Rattle.bench_c.proofs.frames.bench_c_frames.Goals as goal
 
@@ -14,7 +14,7 @@ loop-at-preserved c =
     let at : ℕ = c.loop-at.at in
     let end : ℕ = c.min-end.result in
     let used : ℕ = c.feed.result.0 in
-    let found : Option Verdict = option_map shown c.feed.result.1 in
+    let found : Option Verdict = option_map verdict_of_octets_found c.feed.result.1 in
     let inv = c.loop-at.invariant in
     let call = c.feed.ensures in
     let fits : end ≤ length stream = omega (arith, c.min-end.ensures) in

@@ -4,7 +4,7 @@ use Rattle.std.proofs.lemmas.Option.{slice_get_read}
 use Rattle.er_scenario.specs.declared.level.Level.{Level}
 use Rattle.er_scenario.specs.declared.step.Step.{Step}
 use Rattle.drill_model.specs.Steps.{IsOfLevel}
-use Rattle.drill_model.specs.Worlds.{Plan}
+use Rattle.drill_model.specs.Worlds.{DrillPlan}
 use Rattle.er_program.proofs.BulkRuns.{doable_at, did_none, did_more, did_all}
 use Rattle.er_program.proofs.bulk.do_all.Goals as goal
 
@@ -18,7 +18,7 @@ loop-step-init c = did_none _ _ _ refl c.requires.ran c.requires.unspent
 pub do_unseen-requires-clause-level : goal.do_unseen-requires-clause-level
 do_unseen-requires-clause-level c =
     let doable = doable_at _ _ _ _ c.requires.doable (item_at _ _ _ c.loop-step-test.true c.step-item.is) in
-    subst (λ (l : Level). IsOfLevel l c.step-item.result) (sym (ap (λ (p : Plan). p.level) c.loop-step.invariant.plan_is)) doable.of_level
+    subst (λ (l : Level). IsOfLevel l c.step-item.result) (sym (ap (λ (p : DrillPlan). p.level) c.loop-step.invariant.plan_is)) doable.of_level
 
 pub do_unseen-requires-clause-numbers : goal.do_unseen-requires-clause-numbers
 do_unseen-requires-clause-numbers c =

@@ -4,7 +4,7 @@ use Rattle.std.proofs.lemmas.Option.{slice_get_read}
 use Rattle.er_scenario.specs.declared.level.Level.{Level}
 use Rattle.er_scenario.specs.declared.numbered.Numbered.{Numbered}
 use Rattle.drill_model.specs.Steps.{IsOfLevel}
-use Rattle.drill_model.specs.Worlds.{Plan, plan_of}
+use Rattle.drill_model.specs.Worlds.{DrillPlan, plan_of}
 use Rattle.er_program.proofs.DrillSteps.{of_level, etcs_numbers, has_moment, readable_at}
 use Rattle.er_program.proofs.DrillRuns.{went_more, went_sink, went_halt, went_end}
 use Rattle.er_program.proofs.drill.drill.Goals as goal
@@ -17,7 +17,7 @@ pub step_once-requires-clause-level : goal.step_once-requires-clause-level
 step_once-requires-clause-level g c =
     let readable = readable_at c.args.scenario.now.level c.args.scenario.now.steps c.loop-numbered.numbered-index c.numbered-item.result c.requires.steps
     (item_at _ _ _ _ c.as_slice-numbered-items.ensures c.loop-numbered-test.true c.numbered-item.is) in
-    subst (λ (l : Level). IsOfLevel l c.numbered-item.result.step) (sym (ap (λ (p : Plan). p.level) c.loop-numbered.invariant.plan_is))
+    subst (λ (l : Level). IsOfLevel l c.numbered-item.result.step) (sym (ap (λ (p : DrillPlan). p.level) c.loop-numbered.invariant.plan_is))
     (of_level c.args.scenario.now.level c.numbered-item.result.step readable.of_level)
 
 pub step_once-requires-clause-numbers : goal.step_once-requires-clause-numbers

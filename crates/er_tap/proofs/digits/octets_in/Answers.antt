@@ -1,7 +1,7 @@
 -- One block more, and the last one.
 use Rattle.std.proofs.Common.{◌≡◌, ℕ, ◌+◌, ◌-◌, ◌/◌, List, ◌++◌, Some, length, take, replicate, arith, ap, sym, ◌∙◌, append_assoc, take-append-drop, length-append}
 use Rattle.std.proofs.lemmas.Bool.{eqb-false}
-use Rattle.er_tap.specs.Digits.{joined, octets_by, AreValues, AreDigits}
+use Rattle.er_tap.specs.Digits.{octets_of_digit_pairs, octets_by, AreValues, AreDigits}
 use Rattle.er_tap.proofs.Values.{digits_then, digits_before, octets_then, octets_before, spelled}
 use Rattle.er_tap.proofs.digits.octets_in.Goals as goal
 
@@ -24,7 +24,7 @@ loop-block-preserved c =
       octets = λ all.
           ap (λ (l : List ℕ). l ++ octets_by behind) c.in_ok-extend_from_slice.ensures.items
           ∙ append_assoc done c.joined.result (octets_by behind)
-          ∙ ap (λ (l : List ℕ). done ++ (l ++ octets_by behind)) (c.joined.ensures (c.greatest_of-greatest.ensures.other all) ∙ ap joined c.values_of-values.ensures)
+          ∙ ap (λ (l : List ℕ). done ++ (l ++ octets_by behind)) (c.joined.ensures (c.greatest_of-greatest.ensures.other all) ∙ ap octets_of_digit_pairs c.values_of-values.ensures)
           ∙ ap (λ (l : List ℕ). done ++ l) (sym (octets_then block behind (omega (arith, long, left))))
           ∙ ap (λ (l : List ℕ). done ++ octets_by l) whole
           ∙ before.octets (c.greatest_of-greatest.ensures.one all);
@@ -58,7 +58,7 @@ returns-clause-octets c =
     let before = c.loop-block.invariant in
     let some : length digits ≡ 0 → ⊥ = eqb-false _ _ (sym c.is_empty.ensures ∙ c.if-is_empty.false) in
     let last : c.joined-2.result ≡ octets_by (rest ++ zeros) =
-    c.joined-2.ensures (c.greatest_of.ensures.other (all_values c)) ∙ ap joined c.values_of-values-2.ensures ∙ ap octets_by c.filled.ensures in
+    c.joined-2.ensures (c.greatest_of.ensures.other (all_values c)) ∙ ap octets_of_digit_pairs c.values_of-values-2.ensures ∙ ap octets_by c.filled.ensures in
     let octets : c.extend_from_slice-2.new.self.items ≡ octets_by digits =
     c.in_ok-extend_from_slice-2.ensures.items
     ∙ ap (λ (l : List ℕ). done ++ take (length rest / 2) l) last

@@ -4,7 +4,7 @@ use Rattle.hdlc_station_model.specs.Frames.{Ua}
 use Rattle.hdlc_station_model.specs.Stations.{no_deed}
 use Rattle.hdlc_station_model.specs.Sending.{refuses_frame}
 use Rattle.hdlc_station_model.specs.Receiving.{agrees}
-use Rattle.hdlc_balanced.specs.Kept.{Kept}
+use Rattle.hdlc_balanced.specs.Kept.{KeptStation}
 use Rattle.hdlc_station_core.specs.declared.deeds.Reply.TheVariants.{Agreed}
 use Rattle.hdlc_station_core.specs.Following.{stands_yes, stands_no}
 use Rattle.hdlc_station_core.specs.Saying.{saying}
@@ -14,10 +14,10 @@ use Rattle.hdlc_balanced.proofs.hearing.set_up_again.Goals as goal
 pub returns-then-has_begun-clause-hears : goal.returns-then-has_begun-clause-hears
 returns-then-has_begun-clause-hears c = λ information out out' e s before h.
     stands_no _ before _ _ (length s.taken == 0) (agrees c.args.poll (record s { gap = false })) (refuses_frame s)
-    (some_taken s (sym (ap (λ (k : Kept). k.begun) h.is) ∙ sym c.has_begun.ensures ∙ c.if-has_begun.true)) (c.refuse.ensures.hears information out out' e s before h)
+    (some_taken s (sym (ap (λ (k : KeptStation). k.begun) h.is) ∙ sym c.has_begun.ensures ∙ c.if-has_begun.true)) (c.refuse.ensures.hears information out out' e s before h)
 
 pub returns-clause-hears : goal.returns-clause-hears
 returns-clause-hears c = λ information out out' e s before h.
     stands_yes _ before _ _ (length s.taken == 0) (agrees c.args.poll (record s { gap = false })) (refuses_frame s)
-    (none_taken s (sym (ap (λ (k : Kept). k.begun) h.is) ∙ sym c.has_begun.ensures ∙ c.if-has_begun.false))
+    (none_taken s (sym (ap (λ (k : KeptStation). k.begun) h.is) ∙ sym c.has_begun.ensures ∙ c.if-has_begun.false))
     (saying _ before out out' no_deed _ (Ua c.args.poll) (Agreed c.args.poll) refl (c.mark_gap.ensures.follows out s before no_deed h) e)

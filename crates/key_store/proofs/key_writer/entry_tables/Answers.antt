@@ -2,7 +2,7 @@
 use Rattle.std.proofs.Common.{arith, ap, ◌∙◌, map}
 use Rattle.std.proofs.lemmas.List.{take_all}
 use Rattle.toml.specs.View.{items_view}
-use Rattle.key_store.specs.Kept.{entry_of}
+use Rattle.key_store.specs.Kept.{key_entry_of}
 use Rattle.key_store.specs.Written.{entry_items}
 use Rattle.key_store.proofs.Tables.{tables_more, range_left}
 use Rattle.key_store.proofs.key_writer.entry_tables.Goals as goal
@@ -16,4 +16,4 @@ loop-entry-preserved c = record {
 }
 
 pub returns-clause-made : goal.returns-clause-made
-returns-clause-made c = rw (← c.list-all.ensures.list) (c.loop-entry.invariant.said ∙ ap (λ es. entry_items (map entry_of es)) (take_all _ c.list-all.result.now (omega (arith, c.loop-entry-test.false))))
+returns-clause-made c = rw (← c.list-all.ensures.list) (c.loop-entry.invariant.said ∙ ap (λ es. entry_items (map key_entry_of es)) (take_all _ c.list-all.result.now (omega (arith, c.loop-entry-test.false))))

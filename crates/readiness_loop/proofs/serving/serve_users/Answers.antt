@@ -1,6 +1,6 @@
 use Rattle.std.proofs.Common.{map, [], refl, ap}
 use Rattle.std.proofs.lemmas.Result.{err_from_is_err_and}
-use Rattle.readiness_loop.specs.Courses.{plan_of, loop_of, around}
+use Rattle.readiness_loop.specs.Courses.{plan_of_loop, loop_of, around}
 use Rattle.readiness_loop.proofs.Acceptings.{no_seats}
 use Rattle.readiness_loop.proofs.Listening.{header_stops, serve_wanted, start_is, serve_ran_from}
 use Rattle.readiness_loop.proofs.serving.serve_users.Goals as goal
@@ -9,7 +9,7 @@ pub returns-in_err-live-clause-does : goal.returns-in_err-live-clause-does
 returns-in_err-live-clause-does g c =
     let p = err_from_is_err_and c.from_residual.result c.from_residual.ensures.1 in
     rw (p.1, p.2)
-    (serve_wanted (plan_of (g.K.KeyFinder.entries c.args.keys.now) c.args.plan.now)
+    (serve_wanted (plan_of_loop (g.K.KeyFinder.entries c.args.keys.now) c.args.plan.now)
     (around (g.S.Sink.state c.args.sink.now) (g.W.Wires.state c.args.wires.now) (g.C.Clock.state c.args.clock.now))
     (map g.U.SafeUser.mind c.args.users.items) (g.R.Rng.stream c.args.randoms.now) (g.R.Rng.stream c.args.randoms.now) c.args.address.now _)
 
@@ -17,7 +17,7 @@ pub returns-in_err-write_header-clause-does : goal.returns-in_err-write_header-c
 returns-in_err-write_header-clause-does g c =
     let p = err_from_is_err_and c.from_residual-in_err-write_header.result c.from_residual-in_err-write_header.ensures.1 in
     rw (p.1, p.2)
-    (header_stops (plan_of (g.K.KeyFinder.entries c.args.keys.now) c.args.plan.now)
+    (header_stops (plan_of_loop (g.K.KeyFinder.entries c.args.keys.now) c.args.plan.now)
     (around (g.S.Sink.state c.args.sink.now) (g.W.Wires.state c.args.wires.now) (g.C.Clock.state c.args.clock.now))
     (around (g.S.Sink.state c.write_header.new.sink) (g.W.Wires.state c.listen.new.self) (g.C.Clock.state c.args.clock.now))
     (map g.U.SafeUser.mind c.args.users.items) (g.R.Rng.stream c.args.randoms.now) (g.R.Rng.stream c.args.randoms.now) c.args.address.now c.in_err-write_header.field-0.0 c.in-Ok.ensures.told c.listen.ensures.count c.in_err-write_header.ensures.puts.begun c.in_err-write_header.ensures.puts.failed)
@@ -47,7 +47,7 @@ returns-clause-does g c =
       runs = c.standing.ensures.runs;
       dials = c.standing.ensures.dials;
     })
-    (plan_of (g.K.KeyFinder.entries c.args.keys.now) c.args.plan.now)
+    (plan_of_loop (g.K.KeyFinder.entries c.args.keys.now) c.args.plan.now)
     (around (g.S.Sink.state c.args.sink.now) (g.W.Wires.state c.args.wires.now) (g.C.Clock.state c.args.clock.now))
     (around (g.S.Sink.state c.write_header.new.sink) (g.W.Wires.state c.listen.new.self) (g.C.Clock.state c.args.clock.now))
     (around (g.S.Sink.state c.run.new.sink) (g.W.Wires.state c.run.new.wires) (g.C.Clock.state c.run.new.clock))

@@ -1,5 +1,5 @@
 use Rattle.std.proofs.lemmas.Result.{err_from_is_err_and}
-use Rattle.loop_model.specs.Journals.{header}
+use Rattle.loop_model.specs.Journals.{trace_header}
 use Rattle.readiness_loop.proofs.Acceptings.{line_wanted}
 use Rattle.readiness_loop.proofs.Listening.{header_put}
 use Rattle.readiness_loop.proofs.serving.write_header.Goals as goal
@@ -13,4 +13,4 @@ returns-clause-puts g c =
 pub returns-in_err-print_header-clause-puts : goal.returns-in_err-print_header-clause-puts
 returns-in_err-print_header-clause-puts g c =
     let p = err_from_is_err_and c.from_residual.result c.from_residual.ensures.1 in
-    rw (p.1, p.2) (line_wanted (g.S.Sink.state c.args.sink.now) (header c.args.settings.now) _)
+    rw (p.1, p.2) (line_wanted (g.S.Sink.state c.args.sink.now) (trace_header c.args.settings.now) _)

@@ -4,7 +4,7 @@ use Rattle.std.proofs.lemmas.List.{take_all, length-drop}
 use Rattle.safety_automaton.specs.Keys.{key_at}
 use Rattle.er_end.specs.KeptEnds.{KEnd, used_of}
 use Rattle.er_end.specs.Keeping.{Uses}
-use Rattle.trace_replay.specs.Takings.{Heard}
+use Rattle.trace_replay.specs.Takings.{GivesOctetsToEnd}
 use Rattle.trace_replay.proofs.Cuts.{heard_none, heard_more}
 use Rattle.trace_replay.proofs.gives.give_octets.Goals as goal
 
@@ -44,6 +44,6 @@ loop-used-smaller g c =
 
 pub returns : goal.returns
 returns g c = λ last m f le.
-    subst (λ (os : List ℕ). Heard c.args.now c.args.conn (key_at (g.K.KeyFinder.entries c.args.keys.now)) os m c.loop-used.end c.args.out.now.items c.loop-used.out.items)
+    subst (λ (os : List ℕ). GivesOctetsToEnd c.args.now c.args.conn (key_at (g.K.KeyFinder.entries c.args.keys.now)) os m c.loop-used.end c.args.out.now.items c.loop-used.out.items)
     (take_all c.loop-used.used c.args.octets.now (let stops = c.loop-used-test.false in omega (arith, stops)))
     (c.loop-used.invariant.heard last m f le)

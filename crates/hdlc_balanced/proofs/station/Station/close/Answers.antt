@@ -1,13 +1,13 @@
 use Rattle.std.proofs.Common.{subst}
 use Rattle.hdlc_station_model.specs.Calls.{closes}
-use Rattle.hdlc_balanced.specs.Kept.{Kept, Follows}
+use Rattle.hdlc_balanced.specs.Kept.{KeptStation, Follows}
 use Rattle.hdlc_balanced.specs.Alike.{Ranged}
 use Rattle.hdlc_balanced.proofs.Alikes.{does_followed}
 use Rattle.hdlc_balanced.proofs.station.Station.close.Goals as goal
 
 pub returns-clause-follows : goal.returns-clause-follows
 returns-clause-follows c =
-    subst (λ (k : Kept). Follows k c.args.out.now c.close-reply.new.self c.write.new.out (closes)) c.self.view_is
+    subst (λ (k : KeptStation). Follows k c.args.out.now c.close-reply.new.self c.write.new.out (closes)) c.self.view_is
     (c.close-reply.ensures.answers c.args.out.now c.write.new.out c.write.ensures.appends.items)
 
 pub returns-clause-does : goal.returns-clause-does

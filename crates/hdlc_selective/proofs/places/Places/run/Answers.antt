@@ -1,5 +1,5 @@
 use Rattle.std.proofs.Common.{rules, ◌≡◌, ◌+◌, ◌-◌, ◌<◌, ◌≤◌, List, length, drop, ap, sym, ◌∙◌, arith, vec_len, length-drop}
-use Rattle.hdlc_selective.specs.Places.{Place, run_of}
+use Rattle.hdlc_selective.specs.Places.{NumberPlace, run_of}
 use Rattle.hdlc_selective.proofs.Rings.{length-from_head}
 use Rattle.hdlc_selective.proofs.Runs.{run_goes_on, run_ends, run_within}
 use Rattle.hdlc_selective.proofs.places.Places.run.Goals as goal
@@ -10,7 +10,7 @@ loop-i-preserved c =
     let xs = q.places.items in
     let length_xs : length xs ≡ vec_len q.places = search rules in
     let whole = length-from_head q.head xs (omega (arith, length_xs, c.self.invariant)) in
-    let counted = ap (λ (ps : List Place). length ps) c.self.view_is in
+    let counted = ap (λ (ps : List NumberPlace). length ps) c.self.view_is in
     let low : c.loop-i.i < length c.args.self.now = omega (arith, c.loop-i-test.true, c.len-most.ensures, length_xs, whole, counted) in
     let old : length (run_of (drop 1 c.args.self.now)) ≡ (c.loop-i.i - 1) + length (run_of (drop c.loop-i.i c.args.self.now)) = c.loop-i.invariant in
     let more = run_goes_on c.args.self.now c.loop-i.i low (sym c.is_held.ensures ∙ c.if-not-is_held.false) in
@@ -23,7 +23,7 @@ returns-then-not-is_held-clause-value c =
     let xs = q.places.items in
     let length_xs : length xs ≡ vec_len q.places = search rules in
     let whole = length-from_head q.head xs (omega (arith, length_xs, c.self.invariant)) in
-    let counted = ap (λ (ps : List Place). length ps) c.self.view_is in
+    let counted = ap (λ (ps : List NumberPlace). length ps) c.self.view_is in
     let low : c.loop-i.i < length c.args.self.now = omega (arith, c.loop-i-test.true, c.len-most.ensures, length_xs, whole, counted) in
     let old : length (run_of (drop 1 c.args.self.now)) ≡ (c.loop-i.i - 1) + length (run_of (drop c.loop-i.i c.args.self.now)) = c.loop-i.invariant in
     let ends = run_ends c.args.self.now c.loop-i.i low (sym c.is_held.ensures ∙ c.if-not-is_held.true) in
@@ -36,7 +36,7 @@ returns-clause-value c =
     let length_xs : length xs ≡ vec_len q.places = search rules in
     let head : q.head < length xs = omega (arith, length_xs, c.self.invariant) in
     let whole = length-from_head q.head xs head in
-    let counted = ap (λ (ps : List Place). length ps) c.self.view_is in
+    let counted = ap (λ (ps : List NumberPlace). length ps) c.self.view_is in
     let some : 1 ≤ c.len-most.result = omega (arith, head, length_xs, c.len-most.ensures) in
     let last = c.loop-i.auto.i-end some in
     let old : length (run_of (drop 1 c.args.self.now)) ≡ (c.loop-i.i - 1) + length (run_of (drop c.loop-i.i c.args.self.now)) = c.loop-i.invariant in

@@ -1,6 +1,6 @@
 use Rattle.std.proofs.Common.{◌≡◌, ℕ, ◌+◌, ◌<◌, length, ap, sym, ◌∙◌, subst, arith}
 use Rattle.hdlc_station_model.specs.Stations.{Station}
-use Rattle.hdlc_selective.specs.Kept.{Kept, SelectiveStands}
+use Rattle.hdlc_selective.specs.Kept.{KeptStation, SelectiveStands}
 use Rattle.hdlc_selective.specs.Steps.{asks_below}
 use Rattle.hdlc_selective.proofs.Asking.{asks_more}
 use Rattle.hdlc_selective.proofs.Moving.{within_more}
@@ -8,7 +8,7 @@ use Rattle.hdlc_selective.proofs.selective_core.SelectiveCore.ask_below.Goals as
 
 pub ask-requires-clause-within : goal.ask-requires-clause-within
 ask-requires-clause-within c =
-    let window = ap (λ (k : Kept). k.window) c.loop-i.invariant.2 in
+    let window = ap (λ (k : KeptStation). k.window) c.loop-i.invariant.2 in
     omega (arith, c.loop-i-test.true, c.requires.within, c.loop-i.self.whole, c.args.self.now.whole, window)
 
 pub ask-requires-clause-room : goal.ask-requires-clause-room

@@ -3,7 +3,7 @@ use Rattle.std.specs.Prelude.{◌==◌}
 use Rattle.hdlc_station_model.specs.Stations.{no_deed}
 use Rattle.hdlc_station_model.specs.Selective.{held_for, is_found, without_gap, takes_run, holds, says_next, files}
 use Rattle.hdlc_selective.specs.declared.deeds.SelectiveReply.{SelectiveReply}
-use Rattle.hdlc_selective.specs.Replies.{IsWritten}
+use Rattle.hdlc_selective.specs.Replies.{IsReplyWritten}
 use Rattle.hdlc_selective.specs.Steps.{takes_first}
 use Rattle.hdlc_selective.proofs.Moving.{when_so, when_not, filed, held_is, free_is, held_moves, answers_so, says_ready, nothing_says}
 use Rattle.hdlc_selective.proofs.selective_core.SelectiveCore.file.Goals as goal
@@ -38,7 +38,7 @@ returns-clause-hears c = λ out out' after w s before h.
     let n = length s.taken + c.in-Some.up in
     let some : 1 ≤ c.in-Some.up = omega (arith, c.if-up-eq0.false) in
     let low : c.in-Some.up < length c.args.self.now.places = omega (arith, c.in-Some.ensures.near, c.args.self.now.whole) in
-    let asks = subst (λ (r : SelectiveReply). IsWritten c.args.self.now.station c.hold.new.self out r after out') c.answering-2.ensures.reply w in
+    let asks = subst (λ (r : SelectiveReply). IsReplyWritten c.args.self.now.station c.hold.new.self out r after out') c.answering-2.ensures.reply w in
     nothing_says _ _ before _ c.answering-2.result.deed _ c.answering-2.ensures.deed
     (filed _ _ before _ no_deed s c.args.ns c.args.payload.now (Some n) (c.in-Some.ensures.named s h.stands.is h.stands.order h.stands.given)
     (when_not _ _ before _ no_deed (n == length s.taken) (takes_run c.args.payload.now (without_gap (length s.held) (n + 1) s.held) s)

@@ -7,7 +7,7 @@ use Rattle.hdlc_station_model.specs.Receiving.{agrees}
 use Rattle.hdlc_station_model.specs.Selective.{sets_up_selective_again}
 use Rattle.hdlc_station_core.specs.declared.deeds.Reply.TheVariants.{Agreed}
 use Rattle.hdlc_station_core.specs.Saying.{saying}
-use Rattle.hdlc_selective.specs.Kept.{Kept}
+use Rattle.hdlc_selective.specs.Kept.{KeptStation}
 use Rattle.hdlc_selective.proofs.Keeping.{keeps_refuses}
 use Rattle.hdlc_selective.proofs.Moving.{when_so, when_not, row_hears, answers_so, forgotten, none_taken, some_taken}
 use Rattle.hdlc_selective.proofs.selective_core.SelectiveCore.set_up_again.Goals as goal
@@ -15,12 +15,12 @@ use Rattle.hdlc_selective.proofs.selective_core.SelectiveCore.set_up_again.Goals
 pub returns-then-has_begun-clause-hears : goal.returns-then-has_begun-clause-hears
 returns-then-has_begun-clause-hears c = λ out out' after w s before h.
     when_not _ _ before _ _ (length s.taken == 0) (agrees c.args.poll (record s { held = []; asked = [] })) (refuses_frame s)
-    (some_taken s (sym (ap (λ (k : Kept). k.begun) h.stands.is) ∙ sym c.has_begun.ensures ∙ c.if-has_begun.true))
+    (some_taken s (sym (ap (λ (k : KeptStation). k.begun) h.stands.is) ∙ sym c.has_begun.ensures ∙ c.if-has_begun.true))
     (row_hears _ _ _ c.refuse.result c.of.result refuses_frame c.of.ensures.deed c.of.ensures.reply c.refuse.ensures.hears keeps_refuses out out' after w s before h)
 
 pub returns-clause-hears : goal.returns-clause-hears
 returns-clause-hears c =
     answers_so _ _ _ _ _ _ (sets_up_selective_again c.args.poll) c.answering.ensures.deed c.answering.ensures.reply (rw c.drop_first.ensures (λ out out' e s before h.
     when_so _ _ before _ _ (length s.taken == 0) (agrees c.args.poll (record s { held = []; asked = [] })) (refuses_frame s)
-    (none_taken s (sym (ap (λ (k : Kept). k.begun) h.stands.is) ∙ sym c.has_begun.ensures ∙ c.if-has_begun.false))
+    (none_taken s (sym (ap (λ (k : KeptStation). k.begun) h.stands.is) ∙ sym c.has_begun.ensures ∙ c.if-has_begun.false))
     (forgotten _ _ _ before _ _ no_deed c.args.poll s h c.len.ensures.value (λ t g. saying _ before out out' no_deed t (Ua c.args.poll) (Agreed c.args.poll) refl g e))))

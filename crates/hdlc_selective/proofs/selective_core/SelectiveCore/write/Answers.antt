@@ -1,5 +1,5 @@
 use Rattle.std.proofs.Common.{refl, subst}
-use Rattle.hdlc_selective.specs.Kept.{Kept, Moves}
+use Rattle.hdlc_selective.specs.Kept.{KeptStation, Moves}
 use Rattle.hdlc_selective.specs.Steps.{asks_below}
 use Rattle.hdlc_selective.proofs.selective_core.SelectiveCore.write.Goals as goal
 
@@ -13,4 +13,4 @@ pub returns-in-AskBelow-clause-written : goal.returns-in-AskBelow-clause-written
 returns-in-AskBelow-clause-written c =
     let up = c.in-AskBelow.up in
     rw c.in-AskBelow.is
-    (subst (λ (k : Kept). Moves c.args.self.now.station c.args.self.now.places c.args.out.now k c.ask_below.new.self.places c.ask_below.new.out (asks_below up)) c.ask_below.ensures.same c.ask_below.ensures.moves)
+    (subst (λ (k : KeptStation). Moves c.args.self.now.station c.args.self.now.places c.args.out.now k c.ask_below.new.self.places c.ask_below.new.out (asks_below up)) c.ask_below.ensures.same c.ask_below.ensures.moves)

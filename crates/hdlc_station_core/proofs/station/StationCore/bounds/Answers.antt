@@ -1,5 +1,5 @@
 use Rattle.std.proofs.Common.{◌≤◌, ap, arith}
-use Rattle.hdlc_station_core.specs.Kept.{Kept}
+use Rattle.hdlc_station_core.specs.Kept.{KeptStation}
 use Rattle.hdlc_station_core.specs.Saying.{few_frames, frames_within}
 use Rattle.hdlc_station_core.proofs.station.StationCore.bounds.Goals as goal
 
@@ -8,6 +8,6 @@ returns-clause-frames c = few_frames c.args.self.now
 
 pub returns-clause-few : goal.returns-clause-few
 returns-clause-few c = λ reply.
-    let window = ap (λ (k : Kept). k.window) c.self.view_is in
-    let ahead = ap (λ (k : Kept). k.ahead) c.self.view_is in
+    let window = ap (λ (k : KeptStation). k.window) c.self.view_is in
+    let ahead = ap (λ (k : KeptStation). k.ahead) c.self.view_is in
     frames_within c.args.self.now reply (omega (arith, c.self.invariant.some_window)) (omega (arith, c.self.invariant.near))

@@ -1,6 +1,6 @@
 use Rattle.std.proofs.Common.{◌≡◌, ◌+◌, ◌-◌, ◌<◌, ◌++◌, ℕ, length, Some, true, false, ap, sym, ◌∙◌, arith}
 use Rattle.hdlc_station_model.specs.Sending.{can_send, sends_next}
-use Rattle.hdlc_station_core.specs.Kept.{Kept}
+use Rattle.hdlc_station_core.specs.Kept.{KeptStation}
 use Rattle.hdlc_station_core.specs.Replies.{info_texts}
 use Rattle.hdlc_station_core.specs.Following.{stands_no}
 use Rattle.hdlc_station_core.specs.Saying.{silent}
@@ -22,7 +22,7 @@ returns-else-is_none-clause-follows c = λ out out' e s before d h.
 
 pub returns-then-not-can_send-clause-follows : goal.returns-then-not-can_send-clause-follows
 returns-then-not-can_send-clause-follows c = λ out out' e s before d h.
-    let old : Kept = c.args.self.now in
+    let old : KeptStation = c.args.self.now in
     let none : old.ahead - old.ahead ≡ 0 = omega arith in
     stands_no _ before _ d (can_send s) (sends_next s) s (sym (c.can_send.ensures.shown s h.is h.order h.given) ∙ c.if-not-can_send.true)
     (silent _ before out out' d s h (e ∙ ap (λ (n : ℕ). out.items ++ info_texts old old.ahead n) none))

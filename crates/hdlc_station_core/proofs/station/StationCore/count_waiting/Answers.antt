@@ -2,7 +2,7 @@ use Rattle.std.proofs.Common.{◌≡◌, ◌+◌, ◌-◌, ◌++◌, List, ℕ, 
 use Rattle.er_base.specs.Stored.{Stored}
 use Rattle.hdlc_station_model.specs.Stations.{Station}
 use Rattle.hdlc_station_model.specs.Sending.{sends_up_to}
-use Rattle.hdlc_station_core.specs.Kept.{Kept, Stands}
+use Rattle.hdlc_station_core.specs.Kept.{KeptStation, Stands}
 use Rattle.hdlc_station_core.specs.Replies.{info_texts}
 use Rattle.hdlc_station_core.specs.Saying.{infos_append}
 use Rattle.hdlc_station_core.proofs.Sends.{up_to_step}
@@ -10,9 +10,9 @@ use Rattle.hdlc_station_core.proofs.station.StationCore.count_waiting.Goals as g
 
 pub loop-i-preserved : goal.loop-i-preserved
 loop-i-preserved c =
-    let old : Kept = c.args.self.now in
-    let mid : Kept = c.loop-i.self in
-    let new : Kept = c.count_if_can.new.self in
+    let old : KeptStation = c.args.self.now in
+    let mid : KeptStation = c.loop-i.self in
+    let new : KeptStation = c.count_if_can.new.self in
     let i = c.loop-i.invariant in
     let n = c.count_if_can.ensures in
     let sofar = info_texts old old.ahead (mid.ahead - old.ahead) in
@@ -22,13 +22,13 @@ loop-i-preserved c =
     ap (λ (m : ℕ). info_texts old old.ahead m) count
     ∙ infos_append old.calling old.extended old.va old.vr old.ring old.ahead (mid.ahead - old.ahead) (new.ahead - mid.ahead)
     ∙ ap (λ (first : ℕ). sofar ++ info_texts old first (new.ahead - mid.ahead)) place
-    ∙ ap (λ (k : Kept). sofar ++ info_texts k mid.ahead (new.ahead - mid.ahead)) (sym i.1) in (
+    ∙ ap (λ (k : KeptStation). sofar ++ info_texts k mid.ahead (new.ahead - mid.ahead)) (sym i.1) in (
       λ out out' e s before d h.
           let between : Stored = record out { items = out.items ++ sofar } in
           subst (λ (x : Station). Stands new before out' d x) (up_to_step c.loop-i.i s)
           (n.follows between out' (e ∙ ap (λ (os : List ℕ). out.items ++ os) split ∙ sym (append_assoc out.items sofar (info_texts mid mid.ahead (new.ahead - mid.ahead)))) (sends_up_to c.loop-i.i s) before d
           (i.0 out between refl s before d h)),
-      n.same ∙ ap (λ (k : Kept). record k { ahead = new.ahead; owed = new.owed; timer = new.timer }) i.1,
+      n.same ∙ ap (λ (k : KeptStation). record k { ahead = new.ahead; owed = new.owed; timer = new.timer }) i.1,
       n.near,
       omega (arith, i.3, n.grows),
       omega (arith, i.4, n.by_one),

@@ -1,7 +1,7 @@
 use Rattle.std.proofs.Common.{refl, ap, ◌∙◌, ◌++◌}
 use Rattle.hdlc_station_model.specs.Frames.{Ua}
 use Rattle.hdlc_station_model.specs.Stations.{no_deed}
-use Rattle.hdlc_station_core.specs.Kept.{Kept}
+use Rattle.hdlc_station_core.specs.Kept.{KeptStation}
 use Rattle.hdlc_station_core.specs.declared.deeds.Reply.TheVariants.{Agreed}
 use Rattle.hdlc_station_core.specs.Replies.{reply_text}
 use Rattle.hdlc_station_core.specs.Saying.{saying}
@@ -9,5 +9,5 @@ use Rattle.hdlc_station_core.proofs.station.StationCore.disconnect.Goals as goal
 
 pub returns-clause-hears : goal.returns-clause-hears
 returns-clause-hears c = λ information out out' e s before h.
-    let same = ap (λ (k : Kept). out.items ++ reply_text k (Agreed c.args.poll)) c.let_go-release.ensures.same in
+    let same = ap (λ (k : KeptStation). out.items ++ reply_text k (Agreed c.args.poll)) c.let_go-release.ensures.same in
     c.let_go-release.ensures.tells out' _ before (saying _ before out out' no_deed s (Ua c.args.poll) (Agreed c.args.poll) refl h (e ∙ same))

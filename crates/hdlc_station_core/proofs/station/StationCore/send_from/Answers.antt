@@ -1,5 +1,5 @@
 use Rattle.std.proofs.Common.{◌+◌, ◌++◌, List, ℕ, ap, sym, ◌∙◌, append_assoc}
-use Rattle.hdlc_station_core.specs.Kept.{Kept}
+use Rattle.hdlc_station_core.specs.Kept.{KeptStation}
 use Rattle.hdlc_station_core.specs.Replies.{info_text, info_texts}
 use Rattle.hdlc_station_core.specs.Saying.{infos_more}
 use Rattle.hdlc_station_core.proofs.Sends.{within_more}
@@ -7,7 +7,7 @@ use Rattle.hdlc_station_core.proofs.station.StationCore.send_from.Goals as goal
 
 pub loop-i-preserved : goal.loop-i-preserved
 loop-i-preserved c =
-    let k : Kept = c.args.self.now in
+    let k : KeptStation = c.args.self.now in
     let a = c.loop-i.invariant.0 in
     let b = c.send_at.ensures.appends in
     let sofar = info_texts k c.args.first c.loop-i.i in

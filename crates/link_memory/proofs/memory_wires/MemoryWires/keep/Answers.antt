@@ -1,7 +1,7 @@
 use Rattle.std.proofs.Common.{ℕ, [], ◌≡◌, ◌+◌, ◌<◌, ◌≤◌, refl, sym, subst, length}
 use Rattle.std.specs.Vec.{vec_len}
-use Rattle.link_trait.specs.Wires.{given_by, taken_by}
-use Rattle.link_memory.specs.KeptCalls.{call_of, opens}
+use Rattle.link_trait.specs.Wires.{given_by, octets_taken_by_call}
+use Rattle.link_memory.specs.KeptCalls.{call_of, count_of_open_connections}
 use Rattle.link_memory.proofs.KeptLists.{stands_keep, told_keep, fits_room}
 use Rattle.link_memory.proofs.memory_wires.MemoryWires.keep.Goals as goal
 
@@ -11,7 +11,7 @@ invariant_of-self c =
     subst (λ s. (s.places + 1 ≤ s.call_places) × (s.octets + length c.args.octets.now ≤ s.octet_places)) (sym c.self.view_is) (fits_room c.args.self.now 1 (length c.args.octets.now) c.requires.fits) in (
       stands_keep c.self.inside.acts.items c.self.inside.record c.keep.new.self c.self.inside.lines c.self.inside.again c.args.note c.args.octets.now
           c.self.invariant.0 c.keep.ensures room.0 room.1
-          (subst (λ s. (conn : ℕ) → length s.lines < conn → taken_by conn (call_of s.acts c.args.octets.now c.args.note) ≡ []) (sym c.self.view_is) c.requires.taken)
+          (subst (λ s. (conn : ℕ) → length s.lines < conn → octets_taken_by_call conn (call_of s.acts c.args.octets.now c.args.note) ≡ []) (sym c.self.view_is) c.requires.taken)
           (subst (λ s. (conn : ℕ) → length s.lines < conn → given_by conn (call_of s.acts c.args.octets.now c.args.note) ≡ []) (sym c.self.view_is) c.requires.given),
       c.self.invariant.1,
       c.self.invariant.2,
@@ -21,7 +21,7 @@ pub returns : goal.returns
 returns c =
     rw (
       ← c.self.view_is,
-      told_keep c.self.inside.acts.items c.self.inside.record c.keep.new.self c.args.note c.args.octets.now (opens c.self.inside.lines.items) 1 c.self.invariant.0.sound c.keep.ensures,
+      told_keep c.self.inside.acts.items c.self.inside.record c.keep.new.self c.args.note c.args.octets.now (count_of_open_connections c.self.inside.lines.items) 1 c.self.invariant.0.sound c.keep.ensures,
       c.keep.ensures.taken,
       c.keep.ensures.octet_count,
       c.keep.ensures.call_places,

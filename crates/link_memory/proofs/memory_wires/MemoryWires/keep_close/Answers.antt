@@ -1,5 +1,5 @@
 use Rattle.std.proofs.Common.{◌≡◌, [], refl, sym, ap, ◌∙◌, Some}
-use Rattle.link_memory.specs.KeptCalls.{opens}
+use Rattle.link_memory.specs.KeptCalls.{count_of_open_connections}
 use Rattle.link_memory.specs.WiresMemory.{open_at}
 use Rattle.link_memory.proofs.KeptLists.{stands_close, close_fits, told_keep}
 use Rattle.link_memory.proofs.memory_wires.MemoryWires.keep_close.Goals as goal
@@ -25,7 +25,7 @@ returns-in-Some c =
     ap (λ ls. open_at ls c.args.conn) (sym c.deref.ensures.value) ∙ sym c.open_at.ensures ∙ c.in-Some.is in
     rw (
       ← c.self.view_is,
-      told_keep c.self.inside.acts.items c.self.inside.record c.keep.new.self _ [] (opens c.self.inside.lines.items) 0 c.self.invariant.0.sound c.keep.ensures,
+      told_keep c.self.inside.acts.items c.self.inside.record c.keep.new.self _ [] (count_of_open_connections c.self.inside.lines.items) 0 c.self.invariant.0.sound c.keep.ensures,
       c.keep.ensures.taken,
       c.keep.ensures.octet_count,
       c.keep.ensures.call_places,

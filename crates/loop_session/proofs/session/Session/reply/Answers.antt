@@ -1,6 +1,6 @@
 use Rattle.std.proofs.Common.{◌≡◌, ◌<◌, length, slice_index_or, refl, sym, ap, ◌∙◌, arith}
 use Rattle.std.proofs.lemmas.Result.{err_from_is_err_and}
-use Rattle.er_users.specs.Saying.{Spoken}
+use Rattle.er_users.specs.Saying.{SpokenByUser}
 use Rattle.loop_session.proofs.Deals.{reply_none, reply_more, reply_broke, reply_leaves}
 use Rattle.loop_session.proofs.session.Session.reply.Goals as goal
 
@@ -19,7 +19,7 @@ returns-in_err-send-clause-prints g c = λ r.
     rw (p.1, p.2)
     (reply_broke (g.S.Sink.state c.args.sink.now) (g.S.Sink.state c.loop-k.sink) (g.S.Sink.state c.send.new.sink)
     r c.args.moment c.args.self.now c.loop-k.self c.loop-k.k c.args.scratch.now.replies c.text.result.now c.text.result.now _ few
-    (c.text.ensures.text ∙ ap (λ (z : Spoken). slice_index_or z.texts c.loop-k.k c.text.result.now) c.loop-k.invariant.same)
+    (c.text.ensures.text ∙ ap (λ (z : SpokenByUser). slice_index_or z.texts c.loop-k.k c.text.result.now) c.loop-k.invariant.same)
     (c.loop-k.invariant.prints r) (c.in_err-send.ensures.prints r))
 
 pub loop-k-preserved : goal.loop-k-preserved
@@ -29,7 +29,7 @@ loop-k-preserved g c =
       prints = λ r.
           reply_more (g.S.Sink.state c.args.sink.now) (g.S.Sink.state c.loop-k.sink) (g.S.Sink.state c.send.new.sink)
           r c.args.moment c.args.self.now c.loop-k.self c.send.new.self c.loop-k.k c.args.scratch.now.replies.texts c.text.result.now c.text.result.now few
-          (c.text.ensures.text ∙ ap (λ (z : Spoken). slice_index_or z.texts c.loop-k.k c.text.result.now) c.loop-k.invariant.same)
+          (c.text.ensures.text ∙ ap (λ (z : SpokenByUser). slice_index_or z.texts c.loop-k.k c.text.result.now) c.loop-k.invariant.same)
           (c.loop-k.invariant.prints r) (c.in_ok-send.ensures.prints r);
       same = c.loop-k.invariant.same;
       number = c.in_ok-send.ensures.number ∙ c.loop-k.invariant.number;
@@ -41,5 +41,5 @@ returns-in-Some-clause-prints g c = λ r.
     let all : c.loop-k.k ≡ length c.args.scratch.now.replies.texts = omega (arith, c.loop-k-test.false, c.loop-k.auto.k-end, c.len-k-end.ensures.len) in
     reply_leaves (g.S.Sink.state c.args.sink.now) (g.S.Sink.state c.loop-k.sink) (g.S.Sink.state c.leave.new.sink)
     r c.args.moment c.args.self.now c.loop-k.self c.leave.new.self c.loop-k.k c.args.scratch.now.replies c.in-Some.sub c.leave.result all
-    (ap (λ (z : Spoken). z.leave) (sym c.loop-k.invariant.same) ∙ sym c.in-Some.ensures)
+    (ap (λ (z : SpokenByUser). z.leave) (sym c.loop-k.invariant.same) ∙ sym c.in-Some.ensures)
     (c.loop-k.invariant.prints r) (c.leave.ensures.prints r)

@@ -2,7 +2,7 @@ use Rattle.std.proofs.Common.{◌≡◌, ◌<◌, length, refl, ap, ◌∙◌, a
 use Rattle.std.proofs.lemmas.Result.{err_from_is_err_and}
 use Rattle.loop_session.specs.Keeping.{kept_ends}
 use Rattle.er_end.specs.KeptEnds.{KEnd, waiting_in}
-use Rattle.loop_model.specs.Sessions.{Session, Takes, waiting, dealt}
+use Rattle.loop_model.specs.Sessions.{Session, Takes, count_waiting_in_session, dealt}
 use Rattle.loop_session.proofs.Deals.{went_none, went_more, takes_done, takes_broke}
 use Rattle.loop_session.proofs.session.Session.take_all.Goals as goal
 
@@ -11,8 +11,8 @@ loop-init g c = record { went = λ r. went_none (g.S.Sink.state c.args.sink.now)
 
 pub returns-in_err-take-clause-chooses : goal.returns-in_err-take-clause-chooses
 returns-in_err-take-clause-chooses g c = λ r.
-    let same : length (waiting_in c.self.inside.end) ≡ waiting kept_ends c.args.self.now = ap (λ (z : Session KEnd). waiting kept_ends z) c.self.view_is in
-    let few : c.loop.counter < waiting kept_ends c.args.self.now = omega (arith, c.loop-test.true, c.waiting-end.ensures.value, same) in
+    let same : length (waiting_in c.self.inside.end) ≡ count_waiting_in_session kept_ends c.args.self.now = ap (λ (z : Session KEnd). count_waiting_in_session kept_ends z) c.self.view_is in
+    let few : c.loop.counter < count_waiting_in_session kept_ends c.args.self.now = omega (arith, c.loop-test.true, c.waiting-end.ensures.value, same) in
     let p = err_from_is_err_and c.from_residual.result c.from_residual.ensures.1 in
     rw (p.1, p.2)
     (takes_broke (g.S.Sink.state c.args.sink.now) (g.S.Sink.state c.loop.sink) (g.S.Sink.state c.take.new.sink)
@@ -30,6 +30,6 @@ loop-preserved g c = record {
 
 pub returns-clause-chooses : goal.returns-clause-chooses
 returns-clause-chooses g c = λ r.
-    let same : length (waiting_in c.self.inside.end) ≡ waiting kept_ends c.args.self.now = ap (λ (z : Session KEnd). waiting kept_ends z) c.self.view_is in
-    let all : c.loop.counter ≡ waiting kept_ends c.args.self.now = omega (arith, c.loop-test.false, c.loop.auto.counter-end, c.waiting-end.ensures.value, same) in
+    let same : length (waiting_in c.self.inside.end) ≡ count_waiting_in_session kept_ends c.args.self.now = ap (λ (z : Session KEnd). count_waiting_in_session kept_ends z) c.self.view_is in
+    let all : c.loop.counter ≡ count_waiting_in_session kept_ends c.args.self.now = omega (arith, c.loop-test.false, c.loop.auto.counter-end, c.waiting-end.ensures.value, same) in
     takes_done (g.S.Sink.state c.args.sink.now) (g.S.Sink.state c.loop.sink) r c.args.moment c.args.self.now c.loop.self c.loop.counter all (c.loop.invariant.went r)

@@ -1,5 +1,5 @@
 use Rattle.std.proofs.Common.{◌≡◌, false, sym, subst}
-use Rattle.readiness_loop.specs.WakeTimes.{has}
+use Rattle.readiness_loop.specs.WakeTimes.{has_wake_time}
 use Rattle.readiness_loop.proofs.Awaited.{none_known, awaited_joins}
 use Rattle.readiness_loop.proofs.Joining.{add_sessions, add_seated}
 use Rattle.readiness_loop.proofs.book.Book.add.Goals as goal
@@ -18,7 +18,7 @@ returns-clause-seated g c =
 
 pub change-requires : goal.change-requires
 change-requires g c = λ m.
-    subst (λ z. has c.args.self.now.wake_times.pairs m z ≡ false) (sym c.number-number.ensures)
+    subst (λ z. has_wake_time c.args.self.now.wake_times.pairs m z ≡ false) (sym c.number-number.ensures)
     (none_known c.args.session.number c.args.self.now.slots c.args.self.now.places c.args.self.now.wake_times.pairs c.requires.order.seated c.requires.number c.requires.order.awaited m)
 
 pub returns-clause-awaited : goal.returns-clause-awaited

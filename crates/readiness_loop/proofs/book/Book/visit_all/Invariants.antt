@@ -1,7 +1,7 @@
 -- So many sessions were visited.
 use Rattle.loop_session.specs.Keeping.{kept_ends}
 use Rattle.loop_model.specs.Visits.{visited}
-use Rattle.loop_session.specs.Parts.{rules}
+use Rattle.loop_session.specs.Parts.{rules_of_session}
 use Rattle.loop_io.specs.Seeing.{seen}
 use Rattle.loop_io.specs.Visiting.{visit_of, Keep}
 use Rattle.readiness_loop.specs.Books.{AreSeated, AreAwaited, sessions}
@@ -12,7 +12,7 @@ abbrev pub invariant-loop-number : goal.invariant-loop-number
 invariant-loop-number g l = record {
   swept : SweptSome (seen (g.S.Sink.state l.fn.sink) (g.W.Wires.state l.fn.wires))
       (seen (g.S.Sink.state l.sink) (g.W.Wires.state l.wires))
-      (visited kept_ends (rules (g.K.KeyFinder.entries l.keys) l.when.setup) l.when.moment (visit_of l.reason)) l.sequence l.number-index
+      (visited kept_ends (rules_of_session (g.K.KeyFinder.entries l.keys) l.when.setup) l.when.moment (visit_of l.reason)) l.sequence l.number-index
       (sessions l.fn.self.slots l.fn.self.places) (sessions l.self.slots l.self.places);
   seated : AreSeated (g.W.Wires.state l.wires).opened l.self.slots l.self.places.entries;
   awaited : AreAwaited l.self.slots l.self.places l.self.wake_times.pairs;

@@ -1,13 +1,13 @@
 use Rattle.std.proofs.Common.{map, ap, arith}
 use Rattle.std.proofs.lemmas.Result.{err_from_is_err_and}
 use Rattle.loop_model.specs.Loops.{OnEnded, OnClosed}
-use Rattle.readiness_loop.specs.Courses.{plan_of, loop_of, course_of, around, halt_of}
+use Rattle.readiness_loop.specs.Courses.{plan_of_loop, loop_of, course_of, around, halt_of}
 use Rattle.readiness_loop.proofs.Running.{ran_start, run_goes, run_halts, run_stops, ran_all}
 use Rattle.readiness_loop.proofs.live_loop.LiveLoop.run.Goals as goal
 
 pub loop-init : goal.loop-init
 loop-init g c = record {
-  ran = λ asked. ran_start (plan_of (g.K.KeyFinder.entries c.args.keys.now) c.args.plan.now) (around (g.S.Sink.state c.args.sink.now) (g.W.Wires.state c.args.wires.now) (g.C.Clock.state c.args.clock.now)) (loop_of c.args.self.now.book.slots c.args.self.now.book.places (map g.U.SafeUser.mind c.args.self.now.users.items) c.args.self.now.moment (g.R.Rng.stream c.args.randoms.now)) _ asked c.requires.turns;
+  ran = λ asked. ran_start (plan_of_loop (g.K.KeyFinder.entries c.args.keys.now) c.args.plan.now) (around (g.S.Sink.state c.args.sink.now) (g.W.Wires.state c.args.wires.now) (g.C.Clock.state c.args.clock.now)) (loop_of c.args.self.now.book.slots c.args.self.now.book.places (map g.U.SafeUser.mind c.args.self.now.users.items) c.args.self.now.moment (g.R.Rng.stream c.args.randoms.now)) _ asked c.requires.turns;
   order = c.requires.order;
   turns = omega (arith, c.requires.turns);
   sunk = omega arith;
@@ -16,7 +16,7 @@ loop-init g c = record {
 pub loop-preserved : goal.loop-preserved
 loop-preserved g c = record {
   ran = λ asked.
-      run_goes (plan_of (g.K.KeyFinder.entries c.args.keys.now) c.args.plan.now)
+      run_goes (plan_of_loop (g.K.KeyFinder.entries c.args.keys.now) c.args.plan.now)
       (around (g.S.Sink.state c.args.sink.now) (g.W.Wires.state c.args.wires.now) (g.C.Clock.state c.args.clock.now))
       (around (g.S.Sink.state c.loop.sink) (g.W.Wires.state c.loop.wires) (g.C.Clock.state c.loop.clock))
       (around (g.S.Sink.state c.go.new.sink) (g.W.Wires.state c.go.new.wires) (g.C.Clock.state c.go.new.clock))
@@ -30,7 +30,7 @@ loop-preserved g c = record {
 
 pub returns-in-Ended-clause-does : goal.returns-in-Ended-clause-does
 returns-in-Ended-clause-does g c = λ asked.
-    run_halts (plan_of (g.K.KeyFinder.entries c.args.keys.now) c.args.plan.now)
+    run_halts (plan_of_loop (g.K.KeyFinder.entries c.args.keys.now) c.args.plan.now)
     (around (g.S.Sink.state c.args.sink.now) (g.W.Wires.state c.args.wires.now) (g.C.Clock.state c.args.clock.now))
     (around (g.S.Sink.state c.loop.sink) (g.W.Wires.state c.loop.wires) (g.C.Clock.state c.loop.clock))
     (around (g.S.Sink.state c.go.new.sink) (g.W.Wires.state c.go.new.wires) (g.C.Clock.state c.go.new.clock))
@@ -40,7 +40,7 @@ returns-in-Ended-clause-does g c = λ asked.
 
 pub returns-in-Closed-clause-does : goal.returns-in-Closed-clause-does
 returns-in-Closed-clause-does g c = λ asked.
-    run_halts (plan_of (g.K.KeyFinder.entries c.args.keys.now) c.args.plan.now)
+    run_halts (plan_of_loop (g.K.KeyFinder.entries c.args.keys.now) c.args.plan.now)
     (around (g.S.Sink.state c.args.sink.now) (g.W.Wires.state c.args.wires.now) (g.C.Clock.state c.args.clock.now))
     (around (g.S.Sink.state c.loop.sink) (g.W.Wires.state c.loop.wires) (g.C.Clock.state c.loop.clock))
     (around (g.S.Sink.state c.go.new.sink) (g.W.Wires.state c.go.new.wires) (g.C.Clock.state c.go.new.clock))
@@ -52,7 +52,7 @@ pub returns-in_err-go-clause-does : goal.returns-in_err-go-clause-does
 returns-in_err-go-clause-does g c = λ asked.
     let p = err_from_is_err_and c.from_residual.result c.from_residual.ensures.1 in
     rw (p.1, p.2)
-    (run_stops (plan_of (g.K.KeyFinder.entries c.args.keys.now) c.args.plan.now)
+    (run_stops (plan_of_loop (g.K.KeyFinder.entries c.args.keys.now) c.args.plan.now)
     (around (g.S.Sink.state c.args.sink.now) (g.W.Wires.state c.args.wires.now) (g.C.Clock.state c.args.clock.now))
     (around (g.S.Sink.state c.loop.sink) (g.W.Wires.state c.loop.wires) (g.C.Clock.state c.loop.clock))
     (around (g.S.Sink.state c.go.new.sink) (g.W.Wires.state c.go.new.wires) (g.C.Clock.state c.go.new.clock))
@@ -62,7 +62,7 @@ returns-in_err-go-clause-does g c = λ asked.
 
 pub returns-clause-does : goal.returns-clause-does
 returns-clause-does g c = λ asked.
-    ran_all (plan_of (g.K.KeyFinder.entries c.args.keys.now) c.args.plan.now)
+    ran_all (plan_of_loop (g.K.KeyFinder.entries c.args.keys.now) c.args.plan.now)
     (around (g.S.Sink.state c.args.sink.now) (g.W.Wires.state c.args.wires.now) (g.C.Clock.state c.args.clock.now))
     (around (g.S.Sink.state c.loop.sink) (g.W.Wires.state c.loop.wires) (g.C.Clock.state c.loop.clock))
     (course_of (loop_of c.args.self.now.book.slots c.args.self.now.book.places (map g.U.SafeUser.mind c.args.self.now.users.items) c.args.self.now.moment (g.R.Rng.stream c.args.randoms.now)) 0 asked)

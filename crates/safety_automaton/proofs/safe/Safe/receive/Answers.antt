@@ -1,7 +1,7 @@
 use Rattle.std.proofs.Common.{List, ℕ, ◌∙◌, ap, subst}
 use Rattle.er_base.specs.Stored.{Appends}
 use Rattle.safety_automaton.specs.Keys.{key_at}
-use Rattle.safety_automaton.specs.Safety.{Received, step, sent_by}
+use Rattle.safety_automaton.specs.Safety.{Received, step, octets_sent_in_outcome}
 use Rattle.safety_automaton.specs.Reports.{KeptSafe, state_of}
 use Rattle.safety_automaton.proofs.Lengths.{few_appended, few_accepted}
 use Rattle.safety_automaton.proofs.Flags.{not_released}
@@ -13,7 +13,7 @@ returns g c =
     let keys = key_at (g.K.KeyFinder.entries c.args.keys.now) c.args.now in
     let event = Received c.args.octets.now in
     let d = c.receive_octets-sends.ensures in
-    let appends : Appends c.args.out.now c.write_if.new.out (sent_by (step keys s event).1) =
+    let appends : Appends c.args.out.now c.write_if.new.out (octets_sent_in_outcome (step keys s event).1) =
     subst (λ (octets : List ℕ). Appends c.args.out.now c.write_if.new.out octets) d.sends c.write_if.ensures in
     record {
       safety = d.safety;
