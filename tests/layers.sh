@@ -42,7 +42,30 @@ for line in open("crates.txt"):
         if not re.search(rf"\bRattle\.{library}\.|\b{library}::", text):
             print(f"crates.txt: {row.group(1)} lists {library}, which no file of it names")
             status = 1
+    for library in sorted(set(re.findall(r"\bRattle\.(\w+)\.", text)) - set(row.group(2).split()) - {row.group(1)}):
+        if os.path.isdir("crates/" + library):
+            print(f"crates.txt: {row.group(1)} names {library}, which it doesn't list")
+            status = 1
 sys.exit(status)
+PY
+then
+  status=1
+fi
+
+# One word, one meaning: a public name of specs/ stands in one crate, but for those of docs/NAMES.md, each with what it says in each crate.
+if ! python3 - << 'PY'
+import collections, glob, re, sys
+homes, listed = collections.defaultdict(set), {}
+for path in glob.glob("crates/*/specs/**/*.antt", recursive=True):
+    for name in re.findall(r"^(?:abbrev|unfoldable) pub ([^\s:]+)", open(path, encoding="utf-8").read(), re.M):
+        homes[name].add(path.split("/")[1])
+for row in re.finditer(r"^\| `([^`]+)` \| ([^|]+) \| [^|]+ \|$", open("docs/NAMES.md", encoding="utf-8").read(), re.M):
+    listed[row.group(1)] = set(re.findall(r"`(\w+)`", row.group(2)))
+homes = {name: crates for name, crates in homes.items() if len(crates) > 1}
+wrong = [name for name in sorted(homes.keys() | listed.keys()) if homes.get(name) != listed.get(name)]
+for name in wrong:
+    print(f"docs/NAMES.md: {name} stands in {sorted(homes.get(name, []))} and is listed in {sorted(listed.get(name, []))}")
+sys.exit(bool(wrong))
 PY
 then
   status=1

@@ -40,8 +40,6 @@ COMMENT = {".rt": re.compile(r"//.*"), ".antt": re.compile(r"(^|\s)--(\s.*)?$", 
 class Tree:
     def __init__(self):
         listed = subprocess.run(["git", "ls-files", "-z"], capture_output=True, cwd=TOP, check=True).stdout.decode().split("\0")
-        # a packed change is no part of the tree's text
-        listed = [path for path in listed if not path.endswith(".xz")]
         self.files = {path for path in listed if os.path.isfile(os.path.join(TOP, path))}
         self.folders = {"/".join(path.split("/")[:n]) for path in self.files for n in range(1, path.count("/") + 1)}
         self.crates = {path.split("/")[1] for path in self.folders if path.startswith("crates/")}

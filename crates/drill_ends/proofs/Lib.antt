@@ -5,6 +5,7 @@ pub mod EitherCalls
 pub mod StationCalls
 pub mod StationRows
 pub mod StackMoments
+pub mod StackEffects
 pub mod StackTells
 pub mod StackRows
 pub mod StackOctets

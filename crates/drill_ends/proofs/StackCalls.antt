@@ -1,110 +1,168 @@
--- The calls of a stack, as the code makes them: at the moment that it reads, and with what is kept behind them.
-use Rattle.std.proofs.Common.{◌≡◌, ℕ, ◌<◌, ◌≤◌, List, [], ◌∷◌, ◌++◌, length, take, Some, None, sym, subst}
+-- The calls of a stack, as the code makes them: at the moment that it reads, and with all that came of them.
+use Rattle.std.proofs.Common.{◌≡◌, Bor, ℕ, ◌<◌, ◌≤◌, List, [], ◌∷◌, ◌++◌, length, take, Option, Some, None, refl, sym, ap, ◌∙◌, subst, append-nil, arith}
+use Rattle.std.specs.Option.{option_map}
 use Rattle.hdlc_frames.specs.Laws.{KeptStandsForStream, StreamGoesOn}
 use Rattle.safety_automaton.specs.Keys.{KmacEntry, key_at}
-use Rattle.x224_class2.specs.Standing.{CountsStand}
-use Rattle.er_end_model.specs.Outcomes.{SendRefusal}
-use Rattle.drill_model.specs.StackEnds.{stack_start, stack_hear, stack_send, stack_take, stack_release, stack_tick}
-use Rattle.drill_model.specs.Ends.{EndEvent, OfStack}
+use Rattle.er_end_model.specs.Outcomes.{Outcome}
+use Rattle.er_end_model.specs.Steps.{if_taken}
+use Rattle.er_end_model.specs.Ends.{End as Stack, Event, Start, Come, Take, Leave, Tick}
+use Rattle.drill_model.specs.Ends.{EndAtLevel, EndEvent, OfStack, stack_end_step}
 use Rattle.drill_model.specs.Ends as event
 use Rattle.drill_model.specs.StackReports.{CallsReport}
 use Rattle.drill_model.specs.Outcomes.{DrillOutcome}
-use Rattle.er_end_model.specs.Ends.{End as Stack}
-use Rattle.er_end.specs.Inboxes.{first_in}
-use Rattle.er_end.specs.KeptEnds.{KEnd, after_start, used_of, after_octets, refusal_of_send, after_send, after_take, after_release, after_tick, waiting_in}
+use Rattle.er_end.specs.declared.deeds.SendRefused.{SendRefused}
+use Rattle.er_end.specs.declared.event.Effects.{Effects}
+use Rattle.er_end.specs.Shown.{refusal_view}
+use Rattle.er_end.specs.Keeping.{Uses}
+use Rattle.er_end.specs.KeptLayers.{kept}
+use Rattle.er_end.specs.KeptEnds.{KEnd, used_of, kept_end_behind_event, told_by, tells}
 use Rattle.er_end.specs.Standing.{StepsAlike}
+use Rattle.er_end.specs.Given.{outcomes_in}
 use Rattle.drill_ends.specs.declared.told.Told.{Told}
 use Rattle.drill_ends.specs.declared.told.Told.TheVariants as told
 use Rattle.drill_ends.specs.declared.refusal.Refusal.{Refusal}
-use Rattle.drill_ends.specs.declared.stack_call.Call.{Call}
+use Rattle.drill_ends.specs.declared.end_event.EndEvent.{EndEvent as CodeEvent}
+use Rattle.drill_ends.specs.declared.end_event.EndEvent.TheVariants as given
 use Rattle.drill_ends.specs.declared.drill_end.DrillEnd.TheVariants as code
+use Rattle.drill_ends.specs.Events.{event_of}
 use Rattle.drill_ends.specs.KeptEnds.{EndWent}
 use Rattle.drill_ends.specs.Tellings.{AreTold}
 use Rattle.drill_ends.specs.Keys.{AreKeysSteady}
 use Rattle.drill_ends.specs.Refusals.{shown_refusal}
-use Rattle.drill_ends.specs.StackEnds.{IsKeptCall, TellsCall, StackDid, StackDoes, StackReads, StackAnswers, stack_moves}
-use Rattle.drill_ends.proofs.StackRows.{starts_so, sends_so, refuses_so, takes_so, takes_none, releases_so, ticks_so}
+use Rattle.drill_ends.specs.StackEnds.{told_taken, TellsCall, StackDoes, StackReads, StackAnswers, stack_event, octets_of_event, used_at, stack_moves, StackTells}
+use Rattle.drill_ends.proofs.StackEffects.{Parts, parts, of_outcomes, of_take, of_effects, none_taken}
+use Rattle.drill_ends.proofs.StackRows.{Happened, starts_so, sends_so, refuses_so, takes_so, releases_so, ticks_so}
 use Rattle.drill_ends.proofs.StackOctets.{call_reads}
 
 abbrev latest : ℕ
 latest = 1000000000000000
 
-module _ (steps : StepsAlike) (calls : CallsReport) (old new : KEnd) (n now : ℕ) (at : n ≡ now) (low : n ≤ latest) where
-  pub start_does : (call : Call) (before after : List Told) → new ≡ after_start n old → IsKeptCall call (after_start n old).core → TellsCall new call before after
-      → StackDoes old new before after (stack_start now)
-  start_does call before after is c t =
-      subst (λ (m : ℕ). StackDoes old new before after (stack_start m)) at
-      (subst (λ (k : KEnd). StackDoes old k before after (stack_start n)) (sym is)
-      (starts_so steps calls old n call before after low c (subst (λ (k : KEnd). TellsCall k call before after) is t)))
+-- ---- how many octets
 
-  pub release_does : (sub : ℕ) (call : Call) (before after : List Told) → new ≡ after_release n sub old → IsKeptCall call (after_release n sub old).core
-      → TellsCall new call before after → StackDoes old new before after (stack_release now sub)
-  release_does sub call before after is c t =
-      subst (λ (m : ℕ). StackDoes old new before after (stack_release m sub)) at
-      (subst (λ (k : KEnd). StackDoes old k before after (stack_release n sub)) (sym is)
-      (releases_so steps calls old n sub call before after low c (subst (λ (k : KEnd). TellsCall k call before after) is t)))
+most_used : Uses → (k : KEnd) (event : EndEvent) → used_at k event ≤ length (octets_of_event event)
+most_used uses k event.Start = omega arith
+most_used uses k (event.Receive octets) = uses.most k octets
+most_used uses k (event.Send user) = omega arith
+most_used uses k event.Take = omega arith
+most_used uses k (event.Release sub) = omega arith
+most_used uses k event.Tick = omega arith
 
-  pub tick_does : (call : Call) (before after : List Told) → new ≡ after_tick n old → IsKeptCall call (after_tick n old).core → TellsCall new call before after
-      → StackDoes old new before after (stack_tick now)
-  tick_does call before after is c t =
-      subst (λ (m : ℕ). StackDoes old new before after (stack_tick m)) at
-      (subst (λ (k : KEnd). StackDoes old k before after (stack_tick n)) (sym is)
-      (ticks_so steps calls old n call before after low c (subst (λ (k : KEnd). TellsCall k call before after) is t)))
+some_used : Uses → (k : KEnd) (event : EndEvent) → 0 < length (octets_of_event event) → 0 < used_at k event
+some_used uses k event.Start some = absurd (omega (arith, some))
+some_used uses k (event.Receive []) some = absurd (omega (arith, some))
+some_used uses k (event.Receive (octet ∷ octets)) some = omega (arith, uses.one k octet octets)
+some_used uses k (event.Send user) some = absurd (omega (arith, some))
+some_used uses k event.Take some = absurd (omega (arith, some))
+some_used uses k (event.Release sub) some = absurd (omega (arith, some))
+some_used uses k event.Tick some = absurd (omega (arith, some))
 
-  pub send_does : CountsStand → (user : List ℕ) (call : Call) (before after : List Told) → new ≡ after_send n user old → refusal_of_send user old ≡ None
-      → IsKeptCall call (after_send n user old).core → TellsCall new call before after → StackDoes old new before after (stack_send now user)
-  send_does counts user call before after is none c t =
-      subst (λ (m : ℕ). StackDoes old new before after (stack_send m user)) at
-      (subst (λ (k : KEnd). StackDoes old k before after (stack_send n user)) (sym is)
-      (sends_so steps calls counts old n user call before after low none c (subst (λ (k : KEnd). TellsCall k call before after) is t)))
+pub used_within : Uses → (k : KEnd) (event : EndEvent) (used : ℕ) → used ≡ used_at k event → used ≤ length (octets_of_event event)
+used_within uses k event used is = subst (λ (n : ℕ). n ≤ length (octets_of_event event)) (sym is) (most_used uses k event)
 
-  pub send_refused : CountsStand → (user : List ℕ) (why : Refusal) (is_why : SendRefusal) (before after : List Told) → new ≡ after_send n user old
-      → refusal_of_send user old ≡ Some is_why → shown_refusal why ≡ is_why → after ≡ before ++ told.Refused why ∷ []
-      → StackDoes old new before after (stack_send now user)
-  send_refused counts user why is_why before after is some shown grew =
-      subst (λ (m : ℕ). StackDoes old new before after (stack_send m user)) at
-      (subst (λ (k : KEnd). StackDoes old k before after (stack_send n user)) (sym is)
-      (subst (λ (ts : List Told). StackDoes old (after_send n user old) before ts (stack_send n user)) (sym grew)
-      (refuses_so steps calls counts old n user why is_why before some shown)))
+pub used_moves : Uses → (k : KEnd) (event : EndEvent) (used : ℕ) → used ≡ used_at k event → 0 < length (octets_of_event event) → 0 < used
+used_moves uses k event used is some = subst (λ (n : ℕ). 0 < n) (sym is) (some_used uses k event some)
 
-  pub take_does : (text : List ℕ) (call : Call) (before between after : List Told) → new ≡ after_take n old → text ≡ first_in (waiting_in old) → 0 < length (waiting_in old)
-      → call.connected ≡ None → call.accepted ≡ None → call.released ≡ None → call.out ≡ (after_take n old).core.line.out
-      → between ≡ before ++ told.Took text ∷ [] → TellsCall new call between after → StackDoes old new before after (stack_take now)
-  take_does text call before between after is text_is some connected accepted released out grew t =
-      subst (λ (m : ℕ). StackDoes old new before after (stack_take m)) at
-      (subst (λ (k : KEnd). StackDoes old k before after (stack_take n)) (sym is)
-      (takes_so steps calls old n text call before after low text_is some connected accepted released out
-      (subst (λ (ts : List Told). TellsCall (after_take n old) call ts after) grew (subst (λ (k : KEnd). TellsCall k call between after) is t))))
+-- ---- one call
 
-  pub take_nothing : (before after : List Told) → new ≡ after_take n old → length (waiting_in old) ≡ 0 → after ≡ before ++ told.NothingToTake ∷ []
-      → StackDoes old new before after (stack_take now)
-  take_nothing before after is none grew =
-      subst (λ (m : ℕ). StackDoes old new before after (stack_take m)) at
-      (subst (λ (k : KEnd). StackDoes old k before after (stack_take n)) (sym is)
-      (subst (λ (ts : List Told). StackDoes old (after_take n old) before ts (stack_take n)) (sym grew) (takes_none steps calls old n before low none)))
+-- only a send is refused
+none_refused : (e : Effects) (outcomes : List Outcome) (refused : SendRefused) → outcomes_in e ≡ outcomes → (parts outcomes).refused ≡ None → e.refused ≡ Some refused → ⊥
+none_refused e outcomes refused told none some =
+    let refusal : Some (refusal_view refused) ≡ None =
+    sym (ap (option_map refusal_view) some) ∙ ap (λ (p : Parts). p.refused) (sym (of_effects e) ∙ ap parts told) ∙ none in
+    cc
 
-  pub octets_do : StreamGoesOn → KeptStandsForStream → (keys : List KmacEntry) → AreKeysSteady keys → (octets : List ℕ) (used : ℕ) (call : Call) (between after : List Told)
-      → used ≡ used_of old octets → new ≡ after_octets (key_at keys) n octets old → IsKeptCall call (after_octets (key_at keys) n octets old).core → TellsCall new call between after
-      → StackReads keys now old (take used octets) new between after
-  octets_do law kept_law keys steady octets used call between after used_is is c t =
-      subst (λ (m : ℕ). StackReads keys m old (take used octets) new between after) at
-      (call_reads steps calls law keys steady n low kept_law old new octets used call between after used_is is (subst (λ (k : KEnd). IsKeptCall call k.core) (sym is) c) t)
+deeds_refused : (e : Effects) (k : KEnd) (refused : SendRefused) → outcomes_in e ≡ told_by k → e.refused ≡ Some refused → ⊥
+deeds_refused e k refused told some = none_refused e (told_by k) refused told (ap (λ (p : Parts). p.refused) (of_outcomes kept k.core)) some
 
--- what it told of an event, to a list that was empty
-went : (new : KEnd) (after : List Told) (a : Stack × List DrillOutcome) → StackDid new [] after a → EndWent (code.Stack new) after (OfStack a.0, a.1)
-went new after a did = record { stands = did.stands; told = subst (AreTold a.1) (sym did.grew) did.told }
+module _ (steps : StepsAlike) (calls : CallsReport) (goes_on : StreamGoesOn) (kept_law : KeptStandsForStream) (keys : List KmacEntry) (steady : AreKeysSteady keys)
+    (old new : KEnd) (now : ℕ) (low : now ≤ latest) (e : Effects) where
+  abbrev Gave : EndEvent → Type 0
+  Gave event = Happened old new now e (stack_event (key_at keys) event)
+
+  refused_so : (event : EndEvent) → Gave event → (refused : SendRefused) → e.refused ≡ Some refused → (why : Refusal) → shown_refusal why ≡ refusal_view refused
+      → (before : List Told) → StackTells keys now old event e.used new before (before ++ told.Refused why ∷ [])
+  refused_so event.Start h refused some why shown before = absurd (deeds_refused e (kept_end_behind_event now Start old) refused h.told some)
+  refused_so (event.Receive octets) h refused some why shown before = absurd (deeds_refused e (kept_end_behind_event now (Come (key_at keys) octets) old) refused h.told some)
+  refused_so (event.Send user) h refused some why shown before = refuses_so steps calls old new now low e user h refused some why shown before
+  refused_so event.Take h refused some why shown before =
+      let k : KEnd = kept_end_behind_event now Take old in
+      let oldest : Option (List ℕ) = kept.oldest old.core.upper in
+      absurd (none_refused e (if_taken oldest ++ told_by k) refused h.told (ap (λ (p : Parts). p.refused) (of_take kept oldest k.core)) some)
+  refused_so (event.Release sub) h refused some why shown before = absurd (deeds_refused e (kept_end_behind_event now (Leave sub) old) refused h.told some)
+  refused_so event.Tick h refused some why shown before = absurd (deeds_refused e (kept_end_behind_event now Tick old) refused h.told some)
+
+  module _ (before between after : List Told) (grew : between ≡ before ++ told_taken e.taken) (t : TellsCall new e.deeds.connected e.deeds.released between after) where
+    reads_so : (octets : List ℕ) → Gave (event.Receive octets) → StackReads keys now old (take (used_of old octets) octets) new before after
+    reads_so octets h =
+        let k : KEnd = kept_end_behind_event now (Come (key_at keys) octets) old in
+        let is = sym (of_effects e) ∙ ap parts h.told ∙ of_outcomes kept k.core in
+        let none : between ≡ before =
+        grew ∙ ap (λ (ts : List Told). before ++ ts) (none_taken e.taken (ap (λ (p : Parts). p.taken) is)) ∙ append-nil before in
+        call_reads steps calls goes_on keys steady now low kept_law old new octets e.deeds.connected e.deeds.released before after h.is
+        (ap (λ (p : Parts). p.connected) is ∙ sym (ap (λ (x : KEnd). x.core.connected) h.is))
+        (ap (λ (p : Parts). p.released) is ∙ sym (ap (λ (x : KEnd). x.core.leaves) h.is))
+        (subst (λ (ts : List Told). TellsCall new e.deeds.connected e.deeds.released ts after) none t)
+
+    done_so : (event : EndEvent) → Gave event → e.used ≡ used_at old event → e.refused ≡ None → StackTells keys now old event e.used new before after
+    done_so event.Start h used none = starts_so steps calls old new now low e before between after grew t h
+    done_so (event.Receive octets) h used none =
+        subst (λ (n : ℕ). StackReads keys now old (take n octets) new before after) (sym used) (reads_so octets h)
+    done_so (event.Send user) h used none = sends_so steps calls old new now low e before between after grew t user h none
+    done_so event.Take h used none = takes_so steps calls old new now low e before between after grew t h
+    done_so (event.Release sub) h used none = releases_so steps calls old new now low e before between after grew t sub h
+    done_so event.Tick h used none = ticks_so steps calls old new now low e before between after grew t h
+
+-- a send that no refusal stands for wasn't refused
+never_refused : (o : Option SendRefused) → ((refused : SendRefused) → o ≡ Some refused → ⊥) → o ≡ None
+never_refused None none = refl
+never_refused (Some refused) none = absurd (none refused refl)
+
+-- at the moment that the code reads, and of what the code gave
+module _ (steps : StepsAlike) (calls : CallsReport) (goes_on : StreamGoesOn) (kept_law : KeptStandsForStream) (keys : List KmacEntry) (steady : AreKeysSteady keys)
+    (old new : KEnd) (n now : ℕ) (at : n ≡ now) (low : n ≤ latest) (e : Effects) (event : EndEvent) (gave : Event) (gave_is : gave ≡ stack_event (key_at keys) event)
+    (is : new ≡ kept_end_behind_event n gave old) (outs : outcomes_in e ≡ tells n gave old) where
+  happened : Happened old new n e (stack_event (key_at keys) event)
+  happened = subst (Happened old new n e) gave_is (record { is = is; told = outs })
+
+  pub call_refused : (refused : SendRefused) → e.refused ≡ Some refused → (why : Refusal) → shown_refusal why ≡ refusal_view refused → (before after : List Told)
+      → after ≡ before ++ told.Refused why ∷ [] → StackTells keys now old event e.used new before after
+  call_refused refused some why shown before after grew =
+      subst (λ (m : ℕ). StackTells keys m old event e.used new before after) at
+      (subst (λ (ts : List Told). StackTells keys n old event e.used new before ts) (sym grew)
+      (refused_so steps calls goes_on kept_law keys steady old new n low e event happened refused some why shown before))
+
+  pub call_done : (before between after : List Told) → between ≡ before ++ told_taken e.taken → TellsCall new e.deeds.connected e.deeds.released between after
+      → e.used ≡ used_at old event → ((refused : SendRefused) → e.refused ≡ Some refused → ⊥) → StackTells keys now old event e.used new before after
+  call_done before between after grew t used none =
+      subst (λ (m : ℕ). StackTells keys m old event e.used new before after) at
+      (done_so steps calls goes_on kept_law keys steady old new n low e before between after grew t event happened used (never_refused e.refused none))
+
+-- ---- an event
+
+-- one that brings no octets is one call
+pub one_does : (keys : List KmacEntry) (now : ℕ) (old new : KEnd) (used : ℕ) (before after : List Told) (event : CodeEvent)
+    → ((octets : Bor (List ℕ)) → event ≡ given.Receive octets → ⊥) → StackTells keys now old (event_of event) used new before after
+    → StackDoes old new before after (stack_moves keys now (event_of event))
+one_does keys now old new used before after given.Start not t = t
+one_does keys now old new used before after (given.Receive octets) not t = absurd (not octets refl)
+one_does keys now old new used before after (given.Send user) not t = t
+one_does keys now old new used before after given.Take not t = t
+one_does keys now old new used before after (given.Release sub) not t = t
+one_does keys now old new used before after given.Tick not t = t
+
+-- an answer to an event, from what was told to a list that was empty
+ends_so : (keys : List KmacEntry) (now : ℕ) (event : EndEvent) (m : Stack)
+    → (OfStack (stack_moves keys now event m).0, (stack_moves keys now event m).1) ≡ stack_end_step (key_at keys now) now m event
+ends_so keys now event.Start m = refl
+ends_so keys now (event.Receive octets) m = refl
+ends_so keys now (event.Send user) m = refl
+ends_so keys now event.Take m = refl
+ends_so keys now (event.Release sub) m = refl
+ends_so keys now event.Tick m = refl
 
 pub answers_so : (keys : List KmacEntry) (now : ℕ) (old new : KEnd) (before after : List Told) (event : EndEvent) → before ≡ []
     → StackDoes old new before after (stack_moves keys now event) → StackAnswers keys now old event new after
-answers_so keys now old new before after event.Start empty does m h =
-    went new after (stack_start now m) (subst (λ (ts : List Told). StackDid new ts after (stack_start now m)) empty (does m h))
-answers_so keys now old new before after (event.Receive octets) empty does m h =
-    went new after (stack_hear (λ n. key_at keys now) now octets m) (subst (λ (ts : List Told). StackDid new ts after (stack_hear (λ n. key_at keys now) now octets m)) empty (does m h))
-answers_so keys now old new before after (event.Send user) empty does m h =
-    went new after (stack_send now user m) (subst (λ (ts : List Told). StackDid new ts after (stack_send now user m)) empty (does m h))
-answers_so keys now old new before after event.Take empty does m h =
-    went new after (stack_take now m) (subst (λ (ts : List Told). StackDid new ts after (stack_take now m)) empty (does m h))
-answers_so keys now old new before after (event.Release sub) empty does m h =
-    went new after (stack_release now sub m) (subst (λ (ts : List Told). StackDid new ts after (stack_release now sub m)) empty (does m h))
-answers_so keys now old new before after event.Tick empty does m h =
-    went new after (stack_tick now m) (subst (λ (ts : List Told). StackDid new ts after (stack_tick now m)) empty (does m h))
+answers_so keys now old new before after event empty does m h =
+    let did = does m h in
+    subst (λ (a : EndAtLevel × List DrillOutcome). EndWent (code.Stack new) after a) (ends_so keys now event m)
+    (record { stands = did.stands; told = subst (AreTold (stack_moves keys now event m).1) (sym (did.grew ∙ ap (λ (ts : List Told). ts ++ did.list) empty)) did.told })

@@ -1,12 +1,12 @@
 -- Octets that come to an end of level full: call by call, each up to the first frame that closes, as the model has them at once.
-use Rattle.std.proofs.Common.{◌≡◌, ◌⊎◌, inl, inr, ℕ, suc, ◌+◌, ◌<◌, ◌≤◌, Bool, true, false, if◌then◌else◌, List, [], ◌∷◌, ◌++◌, length, take, drop, Option, Some, None, refl, sym, ap, ap₂, ◌∙◌, subst, append-nil, append_assoc, arith}
-use Rattle.std.specs.Prelude.{max, is_some}
+use Rattle.std.proofs.Common.{◌≡◌, ◌⊎◌, inl, inr, ℕ, ◌≤◌, List, [], ◌∷◌, ◌++◌, take, drop, Option, Some, None, refl, sym, ap, ap₂, ◌∙◌, subst, append-nil, append_assoc, arith}
+use Rattle.std.specs.Prelude.{max}
 use Rattle.std.specs.Option.{option_to_list}
 use Rattle.std.proofs.lemmas.List.{take-append-drop}
 use Rattle.er_base.specs.declared.release.Release.{Release}
-use Rattle.hdlc_frames.specs.Framing.{Verdict, frames_of}
+use Rattle.hdlc_frames.specs.Framing.{Verdict}
 use Rattle.hdlc_frames.specs.Deframing as deframing
-use Rattle.hdlc_frames.specs.Deframing.{feeding_of, used_behind, has_verdicts}
+use Rattle.hdlc_frames.specs.Deframing.{feeding_of}
 use Rattle.hdlc_frames.specs.Laws.{KeptStandsForStream, StreamGoesOn}
 use Rattle.safety_automaton.specs.Keys.{KmacEntry, key_at}
 use Rattle.er_end_model.specs.Layers.{Core, model}
@@ -19,11 +19,10 @@ use Rattle.drill_model.specs.StackReports.{ReportsAt, IsOrderly, CallsReport}
 use Rattle.er_end.specs.KeptEnds.{KEnd, used_of, after_octets}
 use Rattle.er_end.specs.Standing.{EndStands, StepsAlike}
 use Rattle.drill_ends.specs.declared.told.Told.{Told}
-use Rattle.drill_ends.specs.declared.stack_call.Call.{Call}
 use Rattle.drill_ends.specs.Keys.{AreKeysSteady}
 use Rattle.drill_ends.specs.Tellings.{AreTold}
 use Rattle.drill_ends.specs.KeptStacks.{StandsStack}
-use Rattle.drill_ends.specs.StackEnds.{IsKeptCall, TellsCall, StackDid, StackHeard, StackReads, StackReading}
+use Rattle.drill_ends.specs.StackEnds.{TellsCall, StackDid, StackHeard, StackReads, StackReading}
 use Rattle.drill_ends.proofs.StationCalls.{told_append}
 use Rattle.drill_ends.proofs.StationRows.{news_more, news_are}
 use Rattle.drill_ends.proofs.StackMoments.{comes_see, comes_alike, later_once, same_begun, begun_twice, begun_late}
@@ -130,42 +129,6 @@ module _ (f g : Finds) (same : (n : ℕ) → n ≤ latest → f n ≡ g n) (now 
 
 -- ---- what a call uses
 
-used_within : (stream octets : List ℕ) → used_behind stream octets ≤ length octets
-unfolding used_behind
-used_within stream [] = omega arith
-used_within stream (x ∷ xs) =
-    within_if (has_verdicts (frames_of (stream ++ x ∷ []))) (used_behind (stream ++ x ∷ []) xs) (length xs) (used_within (stream ++ x ∷ []) xs)
-  where
-    within_if : (b : Bool) (n m : ℕ) → n ≤ m → (if b then 1 else n + 1) ≤ suc m
-    within_if true n m below = omega arith
-    within_if false n m below = omega (arith, below)
-
-used_some : (stream octets : List ℕ) → 0 < length octets → 0 < used_behind stream octets
-unfolding used_behind
-used_some stream [] some = absurd (omega (arith, some))
-used_some stream (x ∷ xs) some = some_if (has_verdicts (frames_of (stream ++ x ∷ []))) (used_behind (stream ++ x ∷ []) xs)
-  where
-    some_if : (b : Bool) (n : ℕ) → 0 < (if b then 1 else n + 1)
-    some_if true n = omega arith
-    some_if false n = omega arith
-
-pub call_within : (k : KEnd) (octets : List ℕ) → used_of k octets ≤ length octets
-unfolding used_of feeding_of
-call_within k octets = within_if (is_some k.core.released) (length octets) (used_behind (deframing.stream_behind_kept k.deframer) octets) (used_within (deframing.stream_behind_kept k.deframer) octets)
-  where
-    within_if : (b : Bool) (n m : ℕ) → m ≤ n → (if b then n else m) ≤ n
-    within_if true n m below = omega arith
-    within_if false n m below = below
-
-pub call_moves : (k : KEnd) (octets : List ℕ) → 0 < length octets → 0 < used_of k octets
-unfolding used_of feeding_of
-call_moves k octets some =
-    some_if (is_some k.core.released) (length octets) (used_behind (deframing.stream_behind_kept k.deframer) octets) some (used_some (deframing.stream_behind_kept k.deframer) octets some)
-  where
-    some_if : (b : Bool) (n m : ℕ) → 0 < n → 0 < m → 0 < (if b then n else m)
-    some_if true n m x y = x
-    some_if false n m x y = y
-
 live_used : (k : KEnd) (octets : List ℕ) → k.core.released ≡ None → used_of k octets ≡ (feeding_of k.deframer octets).used
 unfolding used_of
 live_used k octets live = rw live refl
@@ -208,10 +171,11 @@ module _ (steps : StepsAlike) (calls : CallsReport) (law : StreamGoesOn) (keys :
   abbrev finds : Finds
   finds n = key_at keys now
 
-  reads_once : (old new : KEnd) (from : Stack) (octets : List ℕ) (used : ℕ) (call : Call) (before after : List Told)
-      → EndStands old from → IsOrderly from.core → from.core.moment ≤ latest → used ≡ used_of old octets → new ≡ after_octets (key_at keys) now octets old
-      → IsKeptCall call new.core → TellsCall new call before after → Read finds now from (take used octets) new before after
-  reads_once old new from octets used call before after h orderly most used_is new_is c t =
+  reads_once : (old new : KEnd) (from : Stack) (octets : List ℕ) (connected : Option ℕ) (released : Option Release) (before after : List Told)
+      → EndStands old from → IsOrderly from.core → from.core.moment ≤ latest → new ≡ after_octets (key_at keys) now octets old
+      → connected ≡ new.core.connected → released ≡ new.core.leaves → TellsCall new connected released before after
+      → Read finds now from (take (used_of old octets) octets) new before after
+  reads_once old new from octets connected released before after h orderly most new_is peer why t =
       let piece : List ℕ = take (used_of old octets) octets in
       let ws : List Verdict = news from.stream piece in
       let x : Core = new_event_at model now from.core in
@@ -221,9 +185,10 @@ module _ (steps : StepsAlike) (calls : CallsReport) (law : StreamGoesOn) (keys :
       alike_hears (key_at keys) finds (λ n below. steady n now below low) now low ws x (most_max from.core.moment now (max from.core.moment now) most low refl) in
       let good = few_good calls finds now from.core orderly ws (closes_few law old from octets h) in
       let reports : ReportsAt next.core = subst ReportsAt (sym alike) good.1 in
-      let tells : Tells next.core before after = call_tells new next call before after stands reports c t in
-      subst (λ (n : ℕ). Read finds now from (take n octets) new before after) (sym used_is)
-      (record {
+      let tells : Tells next.core before after =
+      call_tells new next connected released before after stands reports (peer ∙ sym (ap (λ (y : Core). y.connected) stands.core.same))
+      (why ∙ sym (ap (λ (y : Core). y.leaves) stands.core.same)) t in
+      record {
         next = next;
         stands = stands;
         stream = refl;
@@ -233,7 +198,7 @@ module _ (steps : StepsAlike) (calls : CallsReport) (law : StreamGoesOn) (keys :
         list = tells.list;
         grew = tells.grew;
         told = subst (λ (os : List DrillOutcome). AreTold os tells.list) (ap outcomes_told_by_stack alike ∙ sym good.3) tells.told;
-      })
+      }
 
   -- the first call of an event
   reads_first : (old new : KEnd) (m : Stack) (octets : List ℕ) (before after : List Told) (s : StandsStack old m) → Read finds now s.at octets new before after
@@ -286,15 +251,16 @@ module _ (steps : StepsAlike) (calls : CallsReport) (law : StreamGoesOn) (keys :
             (told_append (stack_told finds now vs x) (stack_told finds now ws y) h.list r.list h.told (subst (λ (os : List DrillOutcome). AreTold os r.list) told r.told));
       }
 
-  pub call_reads : KeptStandsForStream → (old new : KEnd) (octets : List ℕ) (used : ℕ) (call : Call) (between after : List Told)
-      → used ≡ used_of old octets → new ≡ after_octets (key_at keys) now octets old → IsKeptCall call new.core → TellsCall new call between after
-      → StackReads keys now old (take used octets) new between after
-  call_reads kept_law old new octets used call between after used_is new_is c t = (
-    λ m s. reads_first old new m (take used octets) between after s
-        (reads_once old new s.at octets used call between after s.stands s.orderly s.moment used_is new_is c t),
-    λ m given before h. reads_more kept_law old new m given (take used octets) before between after h
-        (reads_once old new h.at octets used call between after h.stands h.orderly h.moment_is used_is new_is c t),
-  )
+  pub call_reads : KeptStandsForStream → (old new : KEnd) (octets : List ℕ) (connected : Option ℕ) (released : Option Release) (between after : List Told)
+      → new ≡ after_octets (key_at keys) now octets old → connected ≡ new.core.connected → released ≡ new.core.leaves → TellsCall new connected released between after
+      → StackReads keys now old (take (used_of old octets) octets) new between after
+  call_reads kept_law old new octets connected released between after is peer why t =
+      let piece : List ℕ = take (used_of old octets) octets in (
+        λ m s. reads_first old new m piece between after s
+            (reads_once old new s.at octets connected released between after s.stands s.orderly s.moment is peer why t),
+        λ m given before h. reads_more kept_law old new m given piece before between after h
+            (reads_once old new h.at octets connected released between after h.stands h.orderly h.moment_is is peer why t),
+      )
 
 -- ---- a piece with any number of frames
 

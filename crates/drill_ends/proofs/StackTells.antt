@@ -14,14 +14,14 @@ use Rattle.drill_model.specs.Outcomes.{OfSafety, Frame as FrameOut}
 use Rattle.drill_model.specs.StationEnds.{if_released}
 use Rattle.drill_model.specs.StackEnds.{facts_told, outcomes_told_by_stack}
 use Rattle.drill_model.specs.StackReports.{peer_by, user_by, Reports, ReportsAt}
+use Rattle.er_end.specs.Inboxes.{newest_of}
 use Rattle.er_end.specs.KeptEnds.{KEnd}
-use Rattle.er_end.specs.Standing.{EndStands, over}
+use Rattle.er_end.specs.Standing.{EndStands}
 use Rattle.drill_ends.specs.declared.told.Told.{Told}
-use Rattle.drill_ends.specs.declared.stack_call.Call.{Call}
 use Rattle.drill_ends.specs.Tellings.{AreTold}
 use Rattle.drill_ends.specs.SafeEnds.{checked_text, told_sealed}
 use Rattle.drill_ends.specs.StationEnds.{told_released, told_frames}
-use Rattle.drill_ends.specs.StackEnds.{IsKeptCall, told_checked, told_safety, TellsCall}
+use Rattle.drill_ends.specs.StackEnds.{told_checked, told_safety, TellsCall}
 use Rattle.drill_ends.proofs.StationCalls.{told_append, released_told, frames_told}
 
 -- ---- the step of the safety side
@@ -62,22 +62,19 @@ pub record Tells (x : Core) (before now : List Told) : Type 0 where
   pub grew : now ≡ before ++ list
   pub told : AreTold (outcomes_told_by_stack x) list
 
-pub call_tells : (k : KEnd) (m : Stack) (call : Call) (before now : List Told) → EndStands k m → ReportsAt m.core → IsKeptCall call k.core → TellsCall k call before now
-    → Tells m.core before now
-call_tells k m call before now h r c t =
+pub call_tells : (k : KEnd) (m : Stack) (connected : Option ℕ) (released : Option Release) (before now : List Told) → EndStands k m → ReportsAt m.core
+    → connected ≡ m.core.connected → released ≡ m.core.leaves → TellsCall k connected released before now → Tells m.core before now
+call_tells k m connected released before now h r connected_is released_is t =
     let line : Station = m.core.line in
-    let same : m.core ≡ over k.core m.core.line m.core.upper = h.core.same in
-    let safe : k.core.safe ≡ m.core.safe = sym (ap (λ (x : Core). x.safe) same) in
-    let connected : call.connected ≡ m.core.connected = c.connected ∙ sym (ap (λ (x : Core). x.connected) same) in
-    let news : call.accepted ≡ m.core.upper.news = c.accepted ∙ sym h.core.upper.news in
-    let released : call.released ≡ m.core.leaves = c.released ∙ sym (ap (λ (x : Core). x.leaves) same) in
+    let safe : k.core.safe ≡ m.core.safe = sym (ap (λ (x : Core). x.safe) h.core.same) in
+    let news : newest_of k.core.upper.inbox ≡ m.core.upper.news = sym h.core.upper.news in
     let step : List Told = told_by_step m.core.safe.sealed m.core.safe.verified m.core.connected m.core.upper.news (session_in m.core.safe.safety.phase) in
-    let first : told_safety k call ≡ step = rw (safe, connected, news) refl in
+    let first : told_safety k connected ≡ step = rw (safe, connected_is, news) refl in
     let rest : List Told = told_released m.core.leaves ++ told_frames line.calling line.extended line.said in
     record {
       list = step ++ rest;
-      grew = t line.calling line.extended line.said (c.out ∙ h.core.line.text)
-          ∙ ap (λ (o : Option Release). before ++ (told_safety k call ++ (told_released o ++ told_frames line.calling line.extended line.said))) released
+      grew = t line.calling line.extended line.said h.core.line.text
+          ∙ ap (λ (o : Option Release). before ++ (told_safety k connected ++ (told_released o ++ told_frames line.calling line.extended line.said))) released_is
           ∙ ap (λ (xs : List Told). before ++ (xs ++ rest)) first;
       told = told_append (facts_told m.core.upper.spoke) (if_released m.core.leaves ++ map FrameOut (said_octets line)) step rest
           (facts_are_told m.core.upper.spoke m.core.safe m.core.connected m.core.upper.news r)

@@ -2,7 +2,7 @@
 
 ghost use Rattle.std.specs.Prelude.{IfOk};
 ghost use Rattle.safety_automaton.specs.Keys.{key_at};
-ghost use Rattle.drill_model.specs.Ends.{End as AnyEnd, end_step};
+ghost use Rattle.drill_model.specs.Ends.{EndAtLevel as AnyEnd, end_step};
 ghost use Rattle.drill_ends.specs.Events.{event_of};
 ghost use Rattle.drill_ends.specs.KeptEnds.{StandsEnd, EndWent};
 

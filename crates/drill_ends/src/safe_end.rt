@@ -25,26 +25,9 @@ const SAPDU_OCTETS: usize = 1032;
 
 /// A text that verified, and its session keys.
 #[derive(Drop)]
-pub struct Checked {
+struct Checked {
     key: TripleKey,
     text: Octets,
-}
-
-impl Checked {
-    /// This text, and the session keys under which it verified.
-    pub fn new(key: TripleKey, text: Octets) -> Checked
-        ensures { result ≡ record { key = key; text = text } }
-    {
-        Checked { key, text }
-    }
-
-    /// The session keys and the text.
-    pub fn parts(self) -> (TripleKey, Octets)
-        ensures { result ≡ (self.key, self.text) }
-    {
-        let Checked { key, text } = self;
-        (key, text)
-    }
 }
 
 /// The text that verified in the last call of a side, if one did.

@@ -1,6 +1,5 @@
 -- What a loop does with its sessions, carried to ends of another kind.
 use Rattle.std.proofs.Common.{◌≡◌, ◌∙◌, ℕ, suc, ◌+◌, Bool, true, false, if◌then◌else◌, List, [], ◌∷◌, ◌++◌, length, drop, Option, Some, None, refl, ap, ap₂}
-use Rattle.trace_model.specs.Checks.{most_live}
 use Rattle.std.specs.Prelude.{◌==◌, ◌&&◌, nat_lt}
 use Rattle.rand_core.specs.Stream.{next_u64}
 use Rattle.er_trace.specs.declared.event.Event.TheVariants as event
@@ -13,6 +12,7 @@ use Rattle.loop_model.specs.Ends.{EndOps}
 use Rattle.loop_model.specs.Outs.{Out, next, changed, prints, makes, exactly, first_answer_of}
 use Rattle.loop_model.specs.Sessions.{Rules, Session, Begins}
 use Rattle.loop_model.specs.Visits.{Met, nothing_met, Visit, Tick, Read, Write, Expire, visited, served}
+use Rattle.trace_model.specs.Checks.{most_live}
 use Rattle.loop_model.specs.Loops.{Plan, rules_of, Loop, with_sessions, visit_at, numbers, swept, Sweeps, plain_event, turned_away, next_user, begun, one_less, Caller, Halt, OnClosed, Course, asks, halt_by, halt_behind, Turn, nothing_comes, Dialled, before, until, answering, answered_by, accepted, calling, called_by, called, visited_at, happened, readied, turn, follows, turned_unless, went_unless, went, run, serves, opens, dials_to, dials}
 use Rattle.loop_session.proofs.Carrying.{Carries, carried, all_carried, loop_carried, course_carried, if_carried, next_carried, changed_carried, acts_carried}
 use Rattle.loop_session.proofs.CarriedVisits.{served_same, visited_same, wakes_same}

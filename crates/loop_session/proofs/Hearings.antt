@@ -1,16 +1,12 @@
 -- What a user may have heard and said.
-use Rattle.std.proofs.Common.{◌≡◌, ◌∙◌, ℕ, List, [], ◌∷◌, ◌++◌, ◌+◌, Option, Some, None, refl, ap, sym}
+use Rattle.std.proofs.Common.{◌≡◌, ◌∙◌, ℕ, List, [], ◌+◌, Option, Some, None, refl, ap, sym}
 use Rattle.er_base.specs.declared.release.Release.{Release}
 use Rattle.er_end_model.specs.Outcomes.{SendRefusal}
-use Rattle.er_end_model.specs.Ends as end
-use Rattle.er_end_model.specs.Ends.{refusal_or_outcomes}
-use Rattle.er_end_model.specs.Steps.{if_connected, if_accepted, if_released, if_octets}
 use Rattle.loop_session.specs.Keeping.{kept_ends}
-use Rattle.er_end.specs.KeptLayers.{kept}
-use Rattle.er_end.specs.KeptEnds.{KEnd, refusal_of_send, after_send, told_by, tells}
+use Rattle.er_end.specs.KeptEnds.{KEnd}
 use Rattle.er_users.specs.Saying.{SpokenByUser, nothing}
 use Rattle.er_users.specs.Users.{UserKind, Echo, Tally, Lister, Silent, Callers, Mind, Heard, Refused, Said, said, Hears, Released, noting, tells_more}
-use Rattle.loop_model.specs.Sessions.{Rules, Session, silent_answer, replies, refused_in, refusal_heard, notes, parts, parted}
+use Rattle.loop_model.specs.Sessions.{Rules, Session, silent_answer, replies, notes, parts, parted}
 use Rattle.loop_session.specs.Giving.{HeardSo, events_said_by_user}
 
 pub heard_nothing : (mind : Option Mind) (spoken : SpokenByUser) → spoken ≡ nothing → HeardSo mind None mind spoken
@@ -41,38 +37,6 @@ pub noted_refusal : (mind now : Mind) (text : List ℕ) (why : SendRefusal) → 
     → Some now ≡ notes (Some (Refused text why)) (Some mind)
 noted_refusal mind now text why p =
     ap (λ (a : Said). Some a.mind) (sym p) ∙ ap (λ z. Some z) (refused_by mind.kind mind text why (record { mind = now; texts = []; leave = None }))
-
-refused_in_octets : (octets : List ℕ) → refused_in (if_octets octets) ≡ None
-refused_in_octets [] = refl
-refused_in_octets (octet ∷ octets) = refl
-
-refused_behind : (connected : Option ℕ) (accepted : Option (List ℕ)) (released : Option Release) (octets : List ℕ)
-    → refused_in (if_connected connected ++ if_accepted accepted ++ if_released released ++ if_octets octets) ≡ None
-refused_behind None None None octets = refused_in_octets octets
-refused_behind None None (Some r) octets = refused_in_octets octets
-refused_behind None (Some m) None octets = refused_in_octets octets
-refused_behind None (Some m) (Some r) octets = refused_in_octets octets
-refused_behind (Some p) None None octets = refused_in_octets octets
-refused_behind (Some p) None (Some r) octets = refused_in_octets octets
-refused_behind (Some p) (Some m) None octets = refused_in_octets octets
-refused_behind (Some p) (Some m) (Some r) octets = refused_in_octets octets
-
-notes_nothing : (mind : Option Mind) → notes None mind ≡ mind
-notes_nothing None = refl
-notes_nothing (Some mind) = refl
-
-pub refused_so : (now : ℕ) (text : List ℕ) (k : KEnd) (why : SendRefusal) (before behind : Option Mind) → refusal_of_send text k ≡ Some why
-    → behind ≡ notes (Some (Refused text why)) before → behind ≡ notes (refusal_heard text (refused_in (tells now (end.Send text) k))) before
-refused_so now text k why before behind e p =
-    p ∙ ap (λ (z : Option SendRefusal). notes (refusal_heard text (refused_in (refusal_or_outcomes z (told_by (after_send now text k))))) before) (sym e)
-
-pub sent_so : (now : ℕ) (text : List ℕ) (k : KEnd) (mind : Option Mind) → refusal_of_send text k ≡ None
-    → mind ≡ notes (refusal_heard text (refused_in (tells now (end.Send text) k))) mind
-sent_so now text k mind e =
-    let x = (after_send now text k).core in
-    sym (ap (λ (z : Option SendRefusal). notes (refusal_heard text (refused_in (refusal_or_outcomes z (told_by (after_send now text k))))) mind) e
-    ∙ ap (λ (z : Option SendRefusal). notes (refusal_heard text z) mind) (refused_behind x.connected (kept.news x.upper) x.leaves x.line.out)
-    ∙ notes_nothing mind)
 
 -- ---- a release
 

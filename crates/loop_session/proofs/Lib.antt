@@ -8,5 +8,4 @@ pub mod Grammars
 pub mod Hearings
 pub mod Paired
 pub mod Pourings
-pub mod Takings
 pub mod Written

@@ -1,10 +1,8 @@
 -- The octets of a read, given to an end part by part.
 use Rattle.loop_session.specs.Keeping.{kept_ends}
-use Rattle.std.proofs.Common.{◌≡◌, ◌≤◌, ◌<◌, ℕ, zero, suc, ◌+◌, ◌-◌, ◌==◌, Bool, true, false, ◌||◌, List, [], ◌∷◌, ◌++◌, length, drop, is_some, refl, sym, ◌∙◌, ap, subst, append-nil, inl, inr, arith, eqb-true}
+use Rattle.std.proofs.Common.{◌≡◌, ◌≤◌, ◌<◌, ℕ, zero, suc, ◌+◌, ◌-◌, ◌==◌, true, false, ◌||◌, List, [], ◌∷◌, ◌++◌, length, drop, refl, sym, ◌∙◌, ap, subst, append-nil, inl, inr, arith, eqb-true}
 use Rattle.std.proofs.lemmas.Bool.{cases_Bool}
-use Rattle.hdlc_frames.specs.Framing.{frames_of}
-use Rattle.hdlc_frames.specs.Deframing as deframing
-use Rattle.hdlc_frames.specs.Deframing.{used_behind}
+use Rattle.er_end.specs.Keeping.{Uses}
 use Rattle.er_end.specs.KeptEnds.{KEnd, used_of}
 use Rattle.link_trait.specs.States.{SinkState}
 use Rattle.loop_model.specs.Journals.{text}
@@ -12,40 +10,14 @@ use Rattle.loop_model.specs.Outs.{part_for_each_answer, exactly}
 use Rattle.loop_model.specs.Sessions.{Rules, Session, Hears, Says, nothing_said, handled, poured, pours}
 use Rattle.loop_session.specs.declared.loop_fault.LoopFault.{LoopFault}
 use Rattle.loop_session.specs.Parts.{Breaks, Printed, Chose, BrokeOff, Pouring}
-use Rattle.loop_session.proofs.Written.{printed_nothing}
+use Rattle.loop_session.proofs.Written.{printed_nothing, or_true}
 use Rattle.loop_session.proofs.Deals.{runs_none, runs_on, runs_then, printed_more, breaks_more_of, exactly_more, exactly_next}
 
 -- ---- how many octets an end uses
 
-behind_within : (stream xs : List ℕ) → used_behind stream xs ≤ length xs
-unfolding used_behind
-behind_within stream [] = (let p : 0 ≤ 0 = omega arith in p)
-behind_within stream (x ∷ xs) = elim (cases_Bool (deframing.has_verdicts (frames_of (stream ++ x ∷ [])))) [
-  | inl p ↦ rw p (let q : 1 ≤ length (x ∷ xs) = omega arith in q)
-  | inr p ↦ rw p (let q = behind_within (stream ++ x ∷ []) xs in let z : used_behind (stream ++ x ∷ []) xs + 1 ≤ length (x ∷ xs) = omega (arith, q) in z)
-]
-
-behind_moves : (stream xs : List ℕ) → 0 < length xs → 0 < used_behind stream xs
-unfolding used_behind
-behind_moves stream [] p = p
-behind_moves stream (x ∷ xs) p = elim (cases_Bool (deframing.has_verdicts (frames_of (stream ++ x ∷ [])))) [
-  | inl q ↦ rw q (let z : 0 < 1 = omega arith in z)
-  | inr q ↦ rw q (let z : 0 < used_behind (stream ++ x ∷ []) xs + 1 = omega arith in z)
-]
-
-pub used_within : (k : KEnd) (piece : List ℕ) → used_of k piece ≤ length piece
-unfolding used_of deframing.feeding_of
-used_within k piece = elim (cases_Bool (is_some k.core.released)) [
-  | inl p ↦ rw p (let z : length piece ≤ length piece = omega arith in z)
-  | inr p ↦ rw p (behind_within (deframing.stream_behind_kept k.deframer) piece)
-]
-
-pub used_moves : (k : KEnd) (piece : List ℕ) → 0 < length piece → 0 < used_of k piece
-unfolding used_of deframing.feeding_of
-used_moves k piece some = elim (cases_Bool (is_some k.core.released)) [
-  | inl p ↦ rw p some
-  | inr p ↦ rw p (behind_moves (deframing.stream_behind_kept k.deframer) piece some)
-]
+pub used_moves : Uses → (k : KEnd) (piece : List ℕ) → 0 < length piece → 0 < used_of k piece
+used_moves uses k [] p = absurd (let none : ⊥ = omega (arith, p) in none)
+used_moves uses k (x ∷ xs) p = uses.one k x xs
 
 drop_more : (n k : ℕ) (xs : List ℕ) → drop k (drop n xs) ≡ drop (n + k) xs
 drop_more zero k xs = ap (λ z. drop z xs) (let p : k ≡ 0 + k = omega arith in p)
@@ -98,16 +70,16 @@ length_more : (xs : List Says) (x : Says) → length (xs ++ x ∷ []) ≡ length
 length_more [] x = refl
 length_more (y ∷ xs) x = (let q : length (xs ++ x ∷ []) ≡ length xs + 1 = length_more xs x in omega (arith, q))
 
-pub pouring_more : (r : Rules) (m : ℕ) (octets : List ℕ) (at used : ℕ) (a b c : SinkState) (s t u : Session KEnd)
+pub pouring_more : Uses → (r : Rules) (m : ℕ) (octets : List ℕ) (at used : ℕ) (a b c : SinkState) (s t u : Session KEnd)
     → Pouring r m octets at a b s t → at < length octets → t.broken ≡ false
     → Chose b c u (handled kept_ends r m t (Hears (drop at octets))) → used ≡ used_of t.end (drop at octets)
     → Pouring r m octets (at + used) a c s u
-pouring_more r m octets at used a b c s t u p less whole q is =
+pouring_more uses r m octets at used a b c s t u p less whole q is =
     let rest = drop at octets in
     let long : length rest + at ≡ length octets = drop_length at octets (let z : at ≤ length octets = omega (arith, less) in z) in
     let some : 0 < length rest = omega (arith, long, less) in
-    let within : used_of t.end rest ≤ length rest = used_within t.end rest in
-    let moves : 0 < used_of t.end rest = used_moves t.end rest some in
+    let within : used_of t.end rest ≤ length rest = uses.most t.end rest in
+    let moves : 0 < used_of t.end rest = used_moves uses t.end rest some in
     let there : poured kept_ends r m (t, rest) q.answers ≡ (let o = handled kept_ends r m t (Hears rest) q.answers in ((o.0, drop (used_of t.end rest) rest), o.1)) = pour_is r m t rest q.answers some whole in
     let next : Printed b c (u, drop (at + used) octets) (poured kept_ends r m (t, rest) q.answers) =
     subst (λ z. Printed b c (u, drop (at + used) octets) z) (sym there)
@@ -167,10 +139,6 @@ pouring_done r m octets at a b s t p idle =
 
 pub idle_broken : (rest : List ℕ) (t : Session KEnd) → t.broken ≡ true → ((length rest == 0) || t.broken) ≡ true
 idle_broken rest t p = subst (λ z. ((length rest == 0) || z) ≡ true) (sym p) (or_true (length rest == 0))
-  where
-    or_true : (b : Bool) → (b || true) ≡ true
-    or_true true = refl
-    or_true false = refl
 
 none_left : (n : ℕ) (xs : List ℕ) → length xs ≤ n → drop n xs ≡ []
 none_left zero [] p = refl

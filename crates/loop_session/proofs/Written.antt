@@ -1,26 +1,29 @@
 -- How the lines of events that were written are the text of what a part of the loop prints.
 use Rattle.loop_session.specs.Keeping.{kept_ends}
-use Rattle.std.proofs.Common.{if◌then◌else◌, ◌≡◌, ℕ, ◌≤◌, Bool, true, false, not, ◌||◌, List, [], ◌∷◌, ◌++◌, length, Option, Result, Ok, Err, refl, sym, ◌∙◌, ap, subst, append-nil, append_assoc, inl, inr, arith, eqb-true}
+use Rattle.std.proofs.Common.{if◌then◌else◌, ◌≡◌, ℕ, ◌≤◌, Bool, true, false, not, ◌||◌, List, [], ◌∷◌, ◌++◌, length, Option, option_map, is_some, Result, Ok, Err, OnOk, IfOk, refl, sym, ◌∙◌, ap, subst, append-nil, append_assoc, inl, inr, arith, eqb-true}
 use Rattle.std.proofs.lemmas.Bool.{cases_Bool}
 use Rattle.std.specs.Prelude.{◌==◌}
 use Rattle.er_base.specs.LineTexts.{line_text}
 use Rattle.er_base.specs.declared.no_memory.NoMemory.{NoMemory as Want}
-use Rattle.er_trace.specs.declared.event.Event.{Event}
+use Rattle.er_trace.specs.declared.event.Event.{Event as Line}
 use Rattle.er_trace.specs.Texts.{entry_words}
 use Rattle.trace_model.specs.Printed.{outcomes_text}
-use Rattle.er_end_model.specs.Ends.{Send}
-use Rattle.er_end.specs.KeptEnds.{KEnd, kept_end_behind_event, tells}
+use Rattle.er_end_model.specs.Ends.{Event}
+use Rattle.er_end_model.specs.Outcomes.{Outcome}
+use Rattle.er_end.specs.KeptEnds.{KEnd, after_break, kept_end_behind_event, tells}
+use Rattle.er_end.specs.Shown.{refusal_view}
 use Rattle.er_users.specs.Saying.{SpokenByUser}
-use Rattle.er_users.specs.Users.{Mind, Heard}
+use Rattle.er_users.specs.Users.{Mind}
 use Rattle.link_trait.specs.States.{SinkState}
 use Rattle.link_trait.specs.Outside.{Grew, GrewPart, Rose}
 use Rattle.link_trait.specs.Growth.{grew_nothing, grew_then, part_nothing, part_then, part_more}
 use Rattle.loop_model.specs.Grammar.{IsInGrammar, AreInGrammar}
 use Rattle.loop_model.specs.Journals.{JournalEntry, entry_text, text}
 use Rattle.loop_model.specs.Sessions.{Rules, Session, GivenToSession, Sends, Stalls, event_of, journal_event_of_given, breaks, end_after, outcomes_of_given_event, octets_in, heard_by_user, refused_in, refusal_heard, notes, entry_of, stalled, joined, fed, replied}
+use Rattle.loop_session.specs.declared.gives.Came.{Came}
 use Rattle.loop_session.specs.declared.loop_fault.LoopFault.{LoopFault}
 use Rattle.loop_session.specs.declared.loop_fault.LoopFault.TheVariants.{Wires, Sink, NoMemory}
-use Rattle.loop_session.specs.Giving.{journal_entry_of_event, too_many, joined_to, octets_of_given_event, Gave, HeardSo, peer_heard}
+use Rattle.loop_session.specs.Giving.{journal_entry_of_event, Tells, too_many, joined_to, octets_of_given_event, session_behind_event, Gave, HeardSo}
 use Rattle.loop_session.specs.Parts.{FailedFor, Breaks, Puts, Printed, Prints, Chooses, with_mind}
 
 pub nothing_put : (a : Option (List ℕ)) (f : ℕ) (line : List ℕ) → (length line == 0) ≡ true → Grew a a line × (f ≤ f)
@@ -65,13 +68,6 @@ pub grammar_parts : (xs ys : List JournalEntry) → AreInGrammar xs → AreInGra
 grammar_parts [] ys p q = q
 grammar_parts (x ∷ xs) ys p q = (p.0, grammar_parts xs ys p.1 q)
 
--- one event
-lines_are : (x : JournalEntry) (line before : List ℕ) → before ≡ []
-    → line ≡ (before ++ line_text (entry_words x.moment x.conn x.event)) ++ outcomes_text x.conn x.outcomes → line ≡ entry_text x
-unfolding entry_text
-lines_are x line before p q =
-    q ∙ ap (λ z. (z ++ line_text (entry_words x.moment x.conn x.event)) ++ outcomes_text x.conn x.outcomes) p
-
 one_text : (x : JournalEntry) → entry_text x ≡ text (x ∷ [])
 one_text x = sym (append-nil (entry_text x))
 
@@ -115,36 +111,35 @@ printed_nothing a s = record { state = refl; printed = grew_nothing a.held; late
 
 -- ---- an event given to an end
 
-if_is_or : (b c : Bool) → (if c then true else b) ≡ (b || c)
-if_is_or true true = refl
-if_is_or true false = refl
-if_is_or false true = refl
-if_is_or false false = refl
-
-pub gave_of : (r : Rules) (m : ℕ) (s s0 : Session KEnd) (g : GivenToSession) (now : Session KEnd) (line before : List ℕ) (fits : Bool)
-    → s ≡ s0
-    → now ≡ record s0 { end = now.end; mind = now.mind; output = now.output; broken = now.broken }
-    → now.broken ≡ (if breaks g then true else s0.broken)
-    → now.end ≡ kept_end_behind_event m (event_of r g) s0.end
-    → before ≡ []
-    → line ≡ (before ++ line_text (entry_words m s0.number (journal_event_of_given kept_ends s0.end g))) ++ outcomes_text s0.number (tells m (event_of r g) s0.end)
-    → (fits ≡ not (too_many s0.output (octets_in (tells m (event_of r g) s0.end)))) × (now.output ≡ joined_to s0.output (octets_in (tells m (event_of r g) s0.end)))
-    → IsInGrammar (journal_entry_of_event m s0.number (journal_event_of_given kept_ends s0.end g) (tells m (event_of r g) s0.end))
-    → Gave r m s g now line fits
+pub gave_of : (r : Rules) (m : ℕ) (s s0 : Session KEnd) (g : GivenToSession) (event : Event) (outcomes : List Outcome) (now : Session KEnd) (lines : List ℕ) (res : Result Came Want)
+    → s ≡ s0 → event ≡ event_of r g
+    → now ≡ record s0 { end = now.end; mind = now.mind; output = now.output; broken = now.broken } → now.broken ≡ (s0.broken || breaks g)
+    → now.end ≡ kept_end_behind_event m event s0.end → outcomes ≡ tells m event s0.end
+    → OnOk res (Tells (journal_entry_of_event m s0.number (journal_event_of_given kept_ends s0.end g) outcomes) lines)
+    → IfOk res (λ came. (came.fits ≡ not (too_many s0.output (octets_in outcomes))) × (now.output ≡ joined_to s0.output (octets_in outcomes)))
+    → IfOk res (λ came. option_map refusal_view came.refused ≡ refused_in outcomes)
+    → IfOk res (λ came. Gave r m s g now lines came)
 unfolding end_after outcomes_of_given_event
-gave_of r m s s0 g now line before fits same is broken e p q joins grammar =
-    subst (λ (z : Session KEnd). Gave r m z g now line fits) (sym same)
+gave_of r m s s0 g event outcomes now lines (Err want) same e is broken p q t j f = tt
+gave_of r m s s0 g event outcomes now lines (Ok came) same e is broken p q t j f =
+    let told : outcomes ≡ tells m (event_of r g) s0.end = q ∙ ap (λ z. tells m z s0.end) e in
+    let there : now.end ≡ kept_end_behind_event m (event_of r g) s0.end = p ∙ ap (λ z. kept_end_behind_event m z s0.end) e in
+    let waits : now.output ≡ joined_to s0.output (octets_in (tells m (event_of r g) s0.end)) = j.1 ∙ ap (λ z. joined_to s0.output (octets_in z)) told in
+    subst (λ (z : Session KEnd). Gave r m z g now lines came) (sym same)
     (record {
-      text = lines_are (entry_of kept_ends r m s0 g) line before p q;
-      state =
-          is
-          ∙ ap (λ (z : KEnd). let t : Session KEnd = record s0 { end = z; mind = now.mind; output = now.output; broken = now.broken } in t) e
-          ∙ ap (λ (z : List ℕ). let t : Session KEnd = record s0 { end = kept_end_behind_event m (event_of r g) s0.end; mind = now.mind; output = z; broken = now.broken } in t) joins.1
-          ∙ ap (λ (z : Bool). let t : Session KEnd = record s0 { end = kept_end_behind_event m (event_of r g) s0.end; mind = now.mind; output = joined_to s0.output (octets_in (tells m (event_of r g) s0.end)); broken = z } in t)
-          (broken ∙ if_is_or s0.broken (breaks g));
-      fits = joins.0;
-      in_grammar = grammar;
+      tells = subst (λ z. Tells (journal_entry_of_event m s0.number (journal_event_of_given kept_ends s0.end g) z) lines) told t;
+      state = is ∙ (rw (there, waits, broken) refl);
+      fits = j.0 ∙ ap (λ z. not (too_many s0.output (octets_in z))) told;
+      refused = f ∙ ap refused_in told;
     })
+
+pub heard_as : (r : Rules) (m : ℕ) (s s0 : Session KEnd) (g : GivenToSession) (event : Event) (outcomes : List Outcome) (mind : Option Mind) (spoken : SpokenByUser)
+    → s ≡ s0 → event ≡ event_of r g → outcomes ≡ tells m event s0.end → HeardSo s0.mind (heard_by_user outcomes) mind spoken
+    → HeardSo s.mind (heard_by_user (outcomes_of_given_event kept_ends r m s.end g)) mind spoken
+unfolding outcomes_of_given_event
+heard_as r m s s0 g event outcomes mind spoken same e q heard =
+    subst (λ (z : Session KEnd). HeardSo z.mind (heard_by_user (outcomes_of_given_event kept_ends r m z.end g)) mind spoken) (sym same)
+    (subst (λ z. HeardSo s0.mind (heard_by_user z) mind spoken) (q ∙ ap (λ z. tells m z s0.end) e) heard)
 
 -- an event whose octets fit
 fits_is : (r : Rules) (m : ℕ) (s : Session KEnd) (g : GivenToSession) → too_many s.output (octets_of_given_event r m s g) ≡ false
@@ -172,26 +167,26 @@ not_false : (b : Bool) → false ≡ not b → b ≡ true
 not_false true p = refl
 not_false false p = p
 
-pub tell_breaks : (a b : SinkState) (r : Rules) (m : ℕ) (s now : Session KEnd) (e : GivenToSession) (line : List ℕ) (fits : Bool) (fault : LoopFault)
-    → Gave r m s e now line fits → Breaks a b line fault → Breaks a b (text (with_mind now.mind (fed kept_ends r m s e)).1) fault
+pub tell_breaks : (a b : SinkState) (r : Rules) (m : ℕ) (s now : Session KEnd) (e : GivenToSession) (line : List ℕ) (came : Came) (fault : LoopFault)
+    → Gave r m s e now line came → Breaks a b line fault → Breaks a b (text (with_mind now.mind (fed kept_ends r m s e)).1) fault
 unfolding fed
-tell_breaks a b r m s now e line fits fault gave broke =
+tell_breaks a b r m s now e line came fault gave broke =
     let o = joined kept_ends r m (record s { end = end_after kept_ends r m s.end e; broken = s.broken || breaks e }) (octets_in (outcomes_of_given_event kept_ends r m s.end e)) in
     breaks_more a b (entry_text (entry_of kept_ends r m s e)) (text o.1) fault
-    (breaks_as a b line (entry_text (entry_of kept_ends r m s e)) fault gave.text broke)
+    (breaks_as a b line (entry_text (entry_of kept_ends r m s e)) fault gave.tells.text broke)
 
-pub tell_fits : (a b : SinkState) (r : Rules) (m : ℕ) (s now : Session KEnd) (e : GivenToSession) (line : List ℕ) (fits : Bool)
-    → Gave r m s e now line fits → fits ≡ true → Grew a.held b.held line × (a.faults ≤ b.faults) → Printed a b now (with_mind now.mind (fed kept_ends r m s e))
-tell_fits a b r m s now e line fits gave all grew =
+pub tell_fits : (a b : SinkState) (r : Rules) (m : ℕ) (s now : Session KEnd) (e : GivenToSession) (line : List ℕ) (came : Came)
+    → Gave r m s e now line came → came.fits ≡ true → Grew a.held b.held line × (a.faults ≤ b.faults) → Printed a b now (with_mind now.mind (fed kept_ends r m s e))
+tell_fits a b r m s now e line came gave all grew =
     let few : too_many s.output (octets_of_given_event r m s e) ≡ false = not_true (too_many s.output (octets_of_given_event r m s e)) (sym all ∙ gave.fits) in
     subst (λ (z : Session KEnd × List JournalEntry). Printed a b now (with_mind now.mind z)) (sym (fits_is r m s e few))
     (record {
       state =
           gave.state
           ∙ ap (λ (z : Bool). let t : Session KEnd = record s { end = end_after kept_ends r m s.end e; mind = now.mind; output = (if z then s.output else s.output ++ octets_of_given_event r m s e); broken = s.broken || breaks e } in t) few;
-      printed = subst (λ z. Grew a.held b.held z) (gave.text ∙ one_text (entry_of kept_ends r m s e)) grew.0;
+      printed = subst (λ z. Grew a.held b.held z) (gave.tells.text ∙ one_text (entry_of kept_ends r m s e)) grew.0;
       later = grew.1;
-      in_grammar = (gave.in_grammar, tt);
+      in_grammar = (gave.tells.in_grammar, tt);
     })
 
 prints_behind : (a b c : SinkState) (x : JournalEntry) (new : Session KEnd) (o : Session KEnd × List JournalEntry) (res : Result (Unit {0}) LoopFault)
@@ -204,10 +199,10 @@ prints_behind a b c x new o (Ok done) p q i r = record {
 }
 prints_behind a b c x new o (Err fault) p q i r = breaks_behind a b c (entry_text x) (text o.1) fault p q r
 
-pub tell_stalls : (a b c : SinkState) (r : Rules) (m : ℕ) (s now new : Session KEnd) (e : GivenToSession) (line : List ℕ) (fits : Bool) (res : Result (Unit {0}) LoopFault)
-    → Gave r m s e now line fits → fits ≡ false → Grew a.held b.held line × (a.faults ≤ b.faults) → Prints b c new (stalled kept_ends r m now) res
+pub tell_stalls : (a b c : SinkState) (r : Rules) (m : ℕ) (s now new : Session KEnd) (e : GivenToSession) (line : List ℕ) (came : Came) (res : Result (Unit {0}) LoopFault)
+    → Gave r m s e now line came → came.fits ≡ false → Grew a.held b.held line × (a.faults ≤ b.faults) → Prints b c new (stalled kept_ends r m now) res
     → Prints a c new (with_mind now.mind (fed kept_ends r m s e)) res
-tell_stalls a b c r m s now new e line fits res gave not_all grew rest =
+tell_stalls a b c r m s now new e line came res gave not_all grew rest =
     let many : too_many s.output (octets_of_given_event r m s e) ≡ true = not_false (too_many s.output (octets_of_given_event r m s e)) (sym not_all ∙ gave.fits) in
     let s2 : Session KEnd = record s { end = end_after kept_ends r m s.end e; mind = now.mind; broken = s.broken || breaks e } in
     let there : now ≡ s2 =
@@ -215,28 +210,37 @@ tell_stalls a b c r m s now new e line fits res gave not_all grew rest =
     ∙ ap (λ (z : Bool). let t : Session KEnd = record s { end = end_after kept_ends r m s.end e; mind = now.mind; output = (if z then s.output else s.output ++ octets_of_given_event r m s e); broken = s.broken || breaks e } in t) many in
     subst (λ (z : Session KEnd × List JournalEntry). Prints a c new (with_mind now.mind z) res) (sym (stalls_is r m s e many))
     (prints_behind a b c (entry_of kept_ends r m s e) new (stalled kept_ends r m s2) res
-    (subst (λ z. Grew a.held b.held z) gave.text grew.0) grew.1 gave.in_grammar
+    (subst (λ z. Grew a.held b.held z) gave.tells.text grew.0) grew.1 gave.tells.in_grammar
     (subst (λ (z : Session KEnd). Prints b c new (stalled kept_ends r m z) res) there rest))
 
-pub stall_prints : (a b : SinkState) (r : Rules) (m : ℕ) (s s0 : Session KEnd) (end' : KEnd) (line before : List ℕ) (res : Result (Unit {0}) LoopFault)
-    → s ≡ s0 → end' ≡ kept_end_behind_event m (event_of r Stalls) s0.end → before ≡ []
-    → line ≡ (before ++ line_text (entry_words m s0.number (journal_event_of_given kept_ends s0.end Stalls))) ++ outcomes_text s0.number (tells m (event_of r Stalls) s0.end)
-    → IsInGrammar (journal_entry_of_event m s0.number (journal_event_of_given kept_ends s0.end Stalls) (tells m (event_of r Stalls) s0.end))
-    → Puts a b line res → Prints a b (record s0 { end = end'; broken = true }) (stalled kept_ends r m s) res
-unfolding end_after outcomes_of_given_event
-stall_prints a b r m s s0 end' line before res same e p q grammar puts =
-    subst (λ (z : Session KEnd). Prints a b (record s0 { end = end'; broken = true }) (stalled kept_ends r m z) res) (sym same)
-    (puts_prints res (lines_are (entry_of kept_ends r m s0 Stalls) line before p q ∙ one_text (entry_of kept_ends r m s0 Stalls)) puts)
-  where
-    puts_prints : (res : Result (Unit {0}) LoopFault) → line ≡ text (entry_of kept_ends r m s0 Stalls ∷ []) → Puts a b line res
-        → Prints a b (record s0 { end = end'; broken = true }) (stalled kept_ends r m s0) res
-    puts_prints (Ok done) is p = record {
-      state = ap (λ (z : KEnd). let t : Session KEnd = record s0 { end = z; broken = true } in t) e;
-      printed = subst (λ z. Grew a.held b.held z) is p.0;
-      later = p.1;
-      in_grammar = (grammar, tt);
+-- a line that stalls gives no octets
+stall_is_quiet : (r : Rules) (m : ℕ) (s : Session KEnd) → octets_of_given_event r m s Stalls ≡ []
+unfolding outcomes_of_given_event after_break
+stall_is_quiet r m s = elim (cases_Bool (is_some s.end.core.released)) [ inl p ↦ rw p refl | inr p ↦ rw p refl ]
+
+joined_nothing : (waits : List ℕ) → joined_to waits [] ≡ waits
+joined_nothing waits = elim (cases_Bool (too_many waits [])) [ inl p ↦ rw p refl | inr p ↦ rw p (append-nil waits) ]
+
+pub or_true : (b : Bool) → (b || true) ≡ true
+or_true true = refl
+or_true false = refl
+
+pub stall_prints : (a b : SinkState) (r : Rules) (m : ℕ) (s new : Session KEnd) (line : List ℕ) (came : Came) (res : Result (Unit {0}) LoopFault)
+    → new.mind ≡ s.mind → Gave r m s Stalls new line came → Puts a b line res → Prints a b new (stalled kept_ends r m s) res
+stall_prints a b r m s new line came (Err fault) mind gave puts =
+    breaks_as a b line (text (entry_of kept_ends r m s Stalls ∷ [])) fault (gave.tells.text ∙ one_text (entry_of kept_ends r m s Stalls)) puts
+stall_prints a b r m s new line came (Ok done) mind gave puts =
+    let waits = ap (joined_to s.output) (stall_is_quiet r m s) ∙ joined_nothing s.output in
+    record {
+      state =
+          gave.state
+          ∙ ap (λ (z : Option Mind). session_behind_event r m s Stalls z) mind
+          ∙ ap (λ (z : List ℕ). let t : Session KEnd = record s { end = end_after kept_ends r m s.end Stalls; output = z; broken = s.broken || true } in t) waits
+          ∙ ap (λ (z : Bool). let t : Session KEnd = record s { end = end_after kept_ends r m s.end Stalls; broken = z } in t) (or_true s.broken);
+      printed = subst (λ z. Grew a.held b.held z) (gave.tells.text ∙ one_text (entry_of kept_ends r m s Stalls)) puts.0;
+      later = puts.1;
+      in_grammar = (gave.tells.in_grammar, tt);
     }
-    puts_prints (Err fault) is p = breaks_as a b line (text (entry_of kept_ends r m s0 Stalls ∷ [])) fault is p
 
 -- an event of which no user hears
 pub given_prints : (a b : SinkState) (r : Rules) (m : ℕ) (s : Session KEnd) (mind : Option Mind) (new : Session KEnd) (e : GivenToSession) (res : Result (Unit {0}) LoopFault)
@@ -245,45 +249,30 @@ given_prints a b r m s mind new e res same p =
     subst (λ (z : Session KEnd × List JournalEntry). Prints a b new z res) (ap (λ (z : Option Mind). with_mind z (fed kept_ends r m s e)) same ∙ same_mind r m s e) p
 
 -- a text that the user sends, who hears where it is refused
-pub sent_prints : (a b : SinkState) (r : Rules) (m : ℕ) (s s0 : Session KEnd) (mind : Option Mind) (new : Session KEnd) (said : List ℕ) (res : Result (Unit {0}) LoopFault)
-    → s ≡ s0 → mind ≡ notes (refusal_heard said (refused_in (tells m (Send said) s0.end))) s0.mind
+pub sent_prints : (a b : SinkState) (r : Rules) (m : ℕ) (s now : Session KEnd) (mind : Option Mind) (new : Session KEnd) (said line : List ℕ) (came : Came) (res : Result (Unit {0}) LoopFault)
+    → now.mind ≡ s.mind → mind ≡ notes (refusal_heard said (option_map refusal_view came.refused)) now.mind → Gave r m s (Sends said) now line came
     → Prints a b new (with_mind mind (fed kept_ends r m s (Sends said))) res → Prints a b new (replied kept_ends r m s (Sends said)) res
-unfolding outcomes_of_given_event
-sent_prints a b r m s s0 mind new said res same heard p =
-    let is : mind ≡ notes (refusal_heard said (refused_in (tells m (Send said) s.end))) s.mind =
-    subst (λ (z : Session KEnd). mind ≡ notes (refusal_heard said (refused_in (tells m (Send said) z.end))) z.mind) (sym same) heard in
-    subst (λ (z : Option Mind). Prints a b new (with_mind z (fed kept_ends r m s (Sends said))) res) is p
-
-pub heard_as : (r : Rules) (m : ℕ) (s s0 : Session KEnd) (g : GivenToSession) (mind : Option Mind) (spoken : SpokenByUser) → s ≡ s0
-    → HeardSo s0.mind (heard_by_user (tells m (event_of r g) s0.end)) mind spoken → HeardSo s.mind (heard_by_user (outcomes_of_given_event kept_ends r m s.end g)) mind spoken
-unfolding outcomes_of_given_event
-heard_as r m s s0 g mind spoken same heard = subst (λ (z : Session KEnd). HeardSo z.mind (heard_by_user (outcomes_of_given_event kept_ends r m z.end g)) mind spoken) (sym same) heard
-
-pub told_as : (r : Rules) (m : ℕ) (s s0 : Session KEnd) (g : GivenToSession) (peer : Option ℕ) → s ≡ s0
-    → heard_by_user (tells m (event_of r g) s0.end) ≡ peer_heard peer → heard_by_user (outcomes_of_given_event kept_ends r m s.end g) ≡ peer_heard peer
-unfolding outcomes_of_given_event
-told_as r m s s0 g peer same told = subst (λ (z : Session KEnd). heard_by_user (outcomes_of_given_event kept_ends r m z.end g) ≡ peer_heard peer) (sym same) told
+sent_prints a b r m s now mind new said line came res same heard gave p =
+    subst (λ (z : Option Mind). Prints a b new (with_mind z (fed kept_ends r m s (Sends said))) res)
+    (heard ∙ ap (λ z. notes (refusal_heard said z) now.mind) gave.refused
+    ∙ ap (notes (refusal_heard said (refused_in (outcomes_of_given_event kept_ends r m s.end (Sends said))))) same) p
 
 -- the same lines, by another name
-pub gave_by : (r : Rules) (m : ℕ) (s : Session KEnd) (g : GivenToSession) (now : Session KEnd) (xs ys : List ℕ) (fits : Bool) → ys ≡ xs → Gave r m s g now xs fits → Gave r m s g now ys fits
-gave_by r m s g now xs ys fits p gave = subst (λ z. Gave r m s g now z fits) (sym p) gave
+pub gave_by : (r : Rules) (m : ℕ) (s : Session KEnd) (g : GivenToSession) (now : Session KEnd) (xs ys : List ℕ) (came : Came) → ys ≡ xs → Gave r m s g now xs came → Gave r m s g now ys came
+gave_by r m s g now xs ys came p gave = subst (λ z. Gave r m s g now z came) (sym p) gave
 
 -- the same, though the user has heard of it
-pub gave_mind : (r : Rules) (m : ℕ) (s now now0 : Session KEnd) (g : GivenToSession) (mind : Option Mind) (lines : List ℕ) (fits : Bool) → now ≡ now0
-    → Gave r m s g now lines fits → Gave r m s g (record now0 { mind = mind }) lines fits
-gave_mind r m s now now0 g mind lines fits same gave = record {
-  text = gave.text;
+pub gave_mind : (r : Rules) (m : ℕ) (s now now0 : Session KEnd) (g : GivenToSession) (mind : Option Mind) (lines : List ℕ) (came : Came) → now ≡ now0
+    → Gave r m s g now lines came → Gave r m s g (record now0 { mind = mind }) lines came
+gave_mind r m s now now0 g mind lines came same gave = record {
+  tells = gave.tells;
   state = ap (λ (z : Session KEnd). let t : Session KEnd = record z { mind = mind } in t) (sym same ∙ gave.state);
   fits = gave.fits;
-  in_grammar = gave.in_grammar;
+  refused = gave.refused;
 }
 
-pub heard_so : (mind0 mind1 : Option Mind) (h0 h : Option Heard) (now : Option Mind) (spoken : SpokenByUser) → mind0 ≡ mind1 → h ≡ h0
-    → HeardSo mind0 h0 now spoken → HeardSo mind1 h now spoken
-heard_so mind0 mind1 h0 h now spoken p q heard = subst (λ z. HeardSo mind1 z now spoken) (sym q) (subst (λ z. HeardSo z h0 now spoken) p heard)
-
 -- the line of an event without outcomes
-pub event_line : (m conn : ℕ) (event : Event) (line before : List ℕ) → before ≡ [] → line ≡ before ++ line_text (entry_words m conn event)
+pub event_line : (m conn : ℕ) (event : Line) (line before : List ℕ) → before ≡ [] → line ≡ before ++ line_text (entry_words m conn event)
     → line ≡ text (record { moment = m; conn = conn; event = event; outcomes = [] } ∷ [])
 unfolding entry_text outcomes_text
 event_line m conn event line before p q =

@@ -17,12 +17,13 @@ mod ranges;
 mod replying;
 mod scratch;
 mod session;
+mod session_event;
 mod when;
 
 pub use event_lines::{write_event, write_lines};
-pub use gives::Called;
 pub use join::MOST_OUTPUT;
 pub use loop_fault::LoopFault;
 pub use scratch::Scratch;
 pub use session::Session;
+pub use session_event::Called;
 pub use when::When;

@@ -1,21 +1,24 @@
 //! What follows an event that was given to the end of a session: its lines are written, and what the user said follows as events.
 
-ghost use Rattle.std.specs.Prelude.{◌≡◌, ◌≤◌, length};
+ghost use Rattle.std.specs.Prelude.{◌≡◌, ◌≤◌, length, IfOk};
 ghost use Rattle.loop_model.specs.Outs.{part_for_each_answer};
-ghost use Rattle.loop_model.specs.Sessions.{Rules, Session as LoopSession, GivenToSession, Sends, Leaves, Takes, heard_by_user, outcomes_of_given_event, stalled, fed, replied, dealt, takes_all};
-ghost use Rattle.loop_session.specs.Giving.{Gave, HeardSo, events_said_by_user};
+ghost use Rattle.loop_model.specs.Sessions.{Rules, Session as LoopSession, GivenToSession, Sends, Leaves, stalled, fed, replied, dealt, takes_all};
+ghost use Rattle.loop_session.specs.Giving.{event_given_to_session, HasFewOctets, used_in, IsSameWith, Gave, events_said_by_user};
 ghost use Rattle.loop_session.specs.Parts.{Prints, Chooses, with_mind};
 ghost use Rattle.er_end.specs.KeptEnds.{KEnd};
 ghost use Rattle.loop_session.specs.Keeping.{kept_ends};
 
 use crate::event_lines::write_lines;
-use crate::gives::{give_release, give_send, give_stalled, give_take};
+use crate::gives::Came;
+use crate::hearing::hear_refused;
 use crate::loop_fault::LoopFault;
 use crate::scratch::Scratch;
 use crate::session::Session;
+use crate::session_event::SessionEvent;
 use er_base::Moment;
 use er_users::SafeUser;
 use link_trait::Sink;
+use safety_automaton::{KeyFinder, PairKey};
 
 impl<U: SafeUser> Session<U> {
     // The session stalls.
@@ -29,27 +32,25 @@ impl<U: SafeUser> Session<U> {
         ensures number { self.new.number ≡ self.old.number }
         ensures later { (S.state sink.old).faults ≤ (S.state sink.new).faults }
     {
-        line.clear();
-        give_stalled(&mut self.end, self.number, moment, line)?;
-        self.broken = true;
+        self.give(&SessionEvent::Stalled, moment, line)?;
         write_lines(line.as_slice(), sink)
     }
 
     // The lines of an event are written, and the session stalls where octets didn't fit.
     fn tell<S: Sink>(
         &mut self,
-        fits: bool,
+        came: Came,
         moment: Moment,
         line: &mut Vec<u8>,
         sink: &mut S,
     ) -> Result<(), LoopFault>
-        ensures prints { (r : Rules) (s : LoopSession KEnd) (g : GivenToSession) → Gave r moment s g self.old line.old.items fits
+        ensures prints { (r : Rules) (s : LoopSession KEnd) (g : GivenToSession) → Gave r moment s g self.old line.old.items came
             → Prints (S.state sink.old) (S.state sink.new) self.new (with_mind self.old.mind (fed kept_ends r moment s g)) result }
         ensures number { self.new.number ≡ self.old.number }
         ensures later { (S.state sink.old).faults ≤ (S.state sink.new).faults }
     {
         write_lines(line.as_slice(), sink)?;
-        if fits {
+        if came.fits {
             return Ok(());
         }
         self.stall(moment, line, sink)
@@ -68,17 +69,9 @@ impl<U: SafeUser> Session<U> {
         ensures number { self.new.number ≡ self.old.number }
         ensures later { (S.state sink.old).faults ≤ (S.state sink.new).faults }
     {
-        line.clear();
-        let fits = give_send(
-            &mut self.end,
-            &mut self.user,
-            self.number,
-            moment,
-            text,
-            line,
-            &mut self.output,
-        )?;
-        self.tell(fits, moment, line, sink)
+        let came = self.give(&SessionEvent::Send(text), moment, line)?;
+        hear_refused(&mut self.user, text, &came.refused);
+        self.tell(came, moment, line, sink)
     }
 
     // The user leaves, with this sub-reason.
@@ -93,16 +86,8 @@ impl<U: SafeUser> Session<U> {
         ensures number { self.new.number ≡ self.old.number }
         ensures later { (S.state sink.old).faults ≤ (S.state sink.new).faults }
     {
-        line.clear();
-        let fits = give_release(
-            &mut self.end,
-            self.number,
-            moment,
-            sub,
-            line,
-            &mut self.output,
-        )?;
-        self.tell(fits, moment, line, sink)
+        let came = self.give(&SessionEvent::Release(sub), moment, line)?;
+        self.tell(came, moment, line, sink)
     }
 
     // What the user said follows as events: its texts, then its release.
@@ -126,46 +111,26 @@ impl<U: SafeUser> Session<U> {
         }
     }
 
-    // What follows an event of which the user may have heard: its lines, and the replies.
-    pub(crate) fn answer<S: Sink>(
+    // An event, what the user hears of it, and the replies: how many octets the end used.
+    pub(crate) fn deal<K: KeyFinder, S: Sink>(
         &mut self,
-        fits: bool,
+        event: &SessionEvent<'_>,
+        keys: &K,
         moment: Moment,
         scratch: &mut Scratch,
         sink: &mut S,
-    ) -> Result<(), LoopFault>
-        ensures chooses { (r : Rules) (s : LoopSession KEnd) (g : GivenToSession) → Gave r moment s g self.old scratch.old.line.items fits
-            → HeardSo s.mind (heard_by_user (outcomes_of_given_event kept_ends r moment s.end g)) self.old.mind scratch.old.replies
-            → Chooses (S.state sink.old) (S.state sink.new) self.new (dealt kept_ends r moment s g) result }
+    ) -> Result<usize, LoopFault>
+        requires { HasFewOctets (event_given_to_session event.now) }
+        ensures chooses { (r : Rules) → IsSameWith (K.entries keys.now) r (event_given_to_session event.now)
+            → Chooses (S.state sink.old) (S.state sink.new) self.new (dealt kept_ends r moment self.old (event_given_to_session event.now)) result }
+        ensures used { IfOk result (λ used. used ≡ used_in self.old.end (event_given_to_session event.now)) }
         ensures number { self.new.number ≡ self.old.number }
         ensures later { (S.state sink.old).faults ≤ (S.state sink.new).faults }
     {
-        self.tell(fits, moment, &mut scratch.line, sink)?;
-        self.reply(moment, scratch, sink)
-    }
-
-    // The oldest message that waits is taken, and the user hears it.
-    fn take<S: Sink>(
-        &mut self,
-        moment: Moment,
-        scratch: &mut Scratch,
-        sink: &mut S,
-    ) -> Result<(), LoopFault>
-        ensures chooses { (r : Rules) → Chooses (S.state sink.old) (S.state sink.new) self.new (dealt kept_ends r moment self.old Takes) result }
-        ensures number { self.new.number ≡ self.old.number }
-        ensures later { (S.state sink.old).faults ≤ (S.state sink.new).faults }
-    {
-        scratch.line.clear();
-        let fits = give_take(
-            &mut self.end,
-            &mut self.user,
-            self.number,
-            moment,
-            &mut scratch.replies,
-            &mut scratch.line,
-            &mut self.output,
-        )?;
-        self.answer(fits, moment, scratch, sink)
+        let came = self.give_heard(event, keys, moment, scratch)?;
+        self.tell(came, moment, &mut scratch.line, sink)?;
+        self.reply(moment, scratch, sink)?;
+        Ok(came.used)
     }
 
     // The messages that wait are taken.
@@ -180,7 +145,7 @@ impl<U: SafeUser> Session<U> {
         ensures later { (S.state sink.old).faults ≤ (S.state sink.new).faults }
     {
         for _ in 0..self.end.waiting() {
-            self.take(moment, scratch, sink)?;
+            self.deal(&SessionEvent::Take, &None::<PairKey>, moment, scratch, sink)?;
         }
         Ok(())
     }

@@ -1,7 +1,7 @@
 //! A session, and what is asked of it.
 
 ghost use Rattle.std.specs.Prelude.{◌≡◌, ◌≤◌, drop, length, true};
-ghost use Rattle.er_end_model.specs.Steps.{first_of as first_moment};
+ghost use Rattle.er_end_model.specs.Steps.{earlier_of_moments as first_moment};
 ghost use Rattle.er_end.specs.KeptEnds.{deadline_of};
 ghost use Rattle.loop_model.specs.Sessions.{is_released};
 ghost use Rattle.loop_model.specs.Visits.{wakes};

@@ -4,7 +4,7 @@ use Rattle.std.proofs.Common.{◌≡◌, ℕ, Bool, false, inl, inr, List, [], �
 use Rattle.std.specs.Prelude.{◌==◌}
 use Rattle.std.proofs.lemmas.Bool.{cases_Bool}
 use Rattle.std.proofs.lemmas.Bool.Decides.{nat_tests}
-use Rattle.er_end_model.specs.Steps.{first_of as first_moment}
+use Rattle.er_end_model.specs.Steps.{earlier_of_moments as first_moment}
 use Rattle.er_end.specs.KeptEnds.{KEnd, deadline_of}
 use Rattle.loop_model.specs.Outs.{Out, still}
 use Rattle.loop_model.specs.Sessions.{Rules, Session}

@@ -4,4 +4,4 @@
 
 mod lines;
 
-pub use lines::{tell, tell_effects, tell_empty, tell_octets, tell_refused, tell_taken};
+pub use lines::{tell_effects, tell_empty, tell_refused};

@@ -2,9 +2,8 @@
 
 ghost use Rattle.std.specs.Prelude.{◌≡◌, ◌++◌, [], ◌∷◌, option_map, OnOk};
 ghost use Rattle.er_end_model.specs.Outcomes.{Taken as TakenText, NothingToTake, Refused};
-ghost use Rattle.er_end_model.specs.Steps.{if_connected, if_accepted, if_released, if_octets, outcomes_of};
-ghost use Rattle.er_end.specs.KeptLayers.{KCore, kept};
-ghost use Rattle.er_end.specs.Shown.{Shows, refusal_view};
+ghost use Rattle.er_end_model.specs.Steps.{if_connected, if_accepted, if_released, if_octets};
+ghost use Rattle.er_end.specs.Shown.{refusal_view};
 ghost use Rattle.er_end.specs.Given.{if_refused, taking_told, outcomes_of_deeds, outcomes_in};
 ghost use Rattle.trace_model.specs.Printed.{outcomes_text};
 
@@ -42,9 +41,9 @@ fn tell_released(conn: u64, why: Option<Release>, out: &mut Vec<u8>) -> Result<(
     }
 }
 
-/// The octets that go to the line, where there are any.
+// The octets that go to the line, where there are any.
 #[tactic(auto, unfolding(trace_model::specs::Printed::outcomes_text))]
-pub fn tell_octets(conn: u64, octets: &[u8], out: &mut Vec<u8>) -> Result<(), NoMemory>
+fn tell_octets(conn: u64, octets: &[u8], out: &mut Vec<u8>) -> Result<(), NoMemory>
     ensures { OnOk result (out.new.items ≡ out.old.items ++ outcomes_text conn (if_octets octets.now)) }
 {
     if octets.is_empty() {
@@ -63,16 +62,9 @@ fn tell_deeds(conn: u64, deeds: &Deeds<'_>, out: &mut Vec<u8>) -> Result<(), NoM
     tell_octets(conn, deeds.out, out)
 }
 
-/// What an event came to.
-pub fn tell(conn: u64, deeds: &Deeds<'_>, out: &mut Vec<u8>) -> Result<(), NoMemory>
-    ensures { (x : KCore) → Shows deeds.now x → OnOk result (out.new.items ≡ out.old.items ++ outcomes_text conn (outcomes_of kept x)) }
-{
-    tell_deeds(conn, deeds, out)
-}
-
-/// A message that was taken.
+// A message that was taken.
 #[tactic(auto, unfolding(trace_model::specs::Printed::outcomes_text))]
-pub fn tell_taken(conn: u64, message: &[u8], out: &mut Vec<u8>) -> Result<(), NoMemory>
+fn tell_taken(conn: u64, message: &[u8], out: &mut Vec<u8>) -> Result<(), NoMemory>
     ensures { OnOk result (out.new.items ≡ out.old.items ++ outcomes_text conn (TakenText message.now ∷ [])) }
 {
     print_outcome(conn, &Outcome::Taken(message), out)

@@ -171,7 +171,7 @@ module _ (s : Settings) (f : Finds) (entries : List Entry) where
   unfolding end_behind is_named is_opened connections_opened_in_trace count_of last_moment
   none_held c live over = record {
     keeps = λ conn.
-        subst (λ p. Rattle.trace_replay.specs.Places.Keeps 0 p None false false)
+        subst (λ p. Rattle.trace_replay.specs.Places.KeepsConnection 0 p None false false)
         (sym (place_is c conn None None (ap (λ (l : List (ℕ × KEnd)). Rattle.std.specs.Map.lookup (Rattle.std.specs.BTreeMap.is_at (nat_cmp conn)) l) live)
         (ap (λ (l : List (ℕ × Option Release)). Rattle.std.specs.Map.lookup (Rattle.std.specs.BTreeMap.is_at (nat_cmp conn)) l) over)))
         (refl, refl, refl);

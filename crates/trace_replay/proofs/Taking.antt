@@ -174,7 +174,7 @@ module _ (s : Settings) (f : Finds) (before : List Entry) (e : Entry) where
       let went = follows_step steps e.moment e.moment of.Start k m follows (let p : e.moment ≤ e.moment = omega arith in p) in
       opened_taken shows old new l n.0 n.1 out now h le (ap role_of is) absent places
       (ap (λ (x : Event). happens s f e.moment x None) is
-      ∙ ap (λ (o : Option TripleKey). Rattle.trace_model.specs.Connections.called s e.moment engine rbc rb o None) key)
+      ∙ ap (λ (o : Option TripleKey). Rattle.trace_model.specs.Connections.end_behind_call s e.moment engine rbc rb o None) key)
       (subst (λ (z : KEnd). StandsForAlikeEnd e.moment z n.0) (sym started) went.0)
       (text ∙ ap (λ (t : List ℕ). t ++ outcomes_text e.conn (tells e.moment of.Start k)) head
       ∙ ap (λ (os : List Outcome). (out ++ line_text (entry_words e.moment e.conn e.event)) ++ outcomes_text e.conn os) went.1)

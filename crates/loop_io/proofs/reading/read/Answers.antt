@@ -1,4 +1,4 @@
-use Rattle.std.proofs.Common.{rules_of_session as base, ap}
+use Rattle.std.proofs.Common.{rules as base, ap}
 use Rattle.std.proofs.lemmas.Result.{err_from_is_err_and}
 use Rattle.link_trait.specs.Wires.{reading_of}
 use Rattle.loop_model.specs.Visits.{most_read}

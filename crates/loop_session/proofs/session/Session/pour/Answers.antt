@@ -1,10 +1,10 @@
-use Rattle.std.proofs.Common.{◌≡◌, ◌≤◌, ◌<◌, ◌∙◌, rules_of_session as base, sym, refl, subst, length, drop, List, ℕ, arith}
+use Rattle.std.proofs.Common.{◌≡◌, ◌≤◌, ◌<◌, ◌∙◌, rules as base, sym, refl, subst, length, drop, List, ℕ, arith}
 use Rattle.std.proofs.lemmas.Result.{err_from_is_err_and}
 use Rattle.loop_session.specs.Keeping.{kept_ends}
 use Rattle.er_end.specs.KeptEnds.{used_of}
 use Rattle.loop_model.specs.Sessions.{Hears, handled}
 use Rattle.loop_session.specs.Parts.{rules_of_session, BrokeOff, Chose}
-use Rattle.loop_session.proofs.Pourings.{pouring_none, pouring_more, pouring_broke, pouring_done, idle_broken, idle_end}
+use Rattle.loop_session.proofs.Pourings.{used_moves, pouring_none, pouring_more, pouring_broke, pouring_done, idle_broken, idle_end}
 use Rattle.loop_session.proofs.session.Session.pour.Goals as goal
 
 pub loop-at-init : goal.loop-at-init
@@ -20,19 +20,25 @@ returns-in_err-at-clause-chooses g c =
     let less : c.loop-at.at < length c.args.octets.now = search base in
     let p = err_from_is_err_and c.from_residual.result c.from_residual.ensures.1 in
     rw (p.1, p.2)
-    (pouring_broke (rules_of_session (g.K.KeyFinder.entries c.args.keys.now) c.args.when.now.setup) c.args.when.now.moment c.args.octets.now c.loop-at.at (g.S.Sink.state c.args.sink.now) (g.S.Sink.state c.loop-at.sink) (g.S.Sink.state c.hear.new.sink)
+    (pouring_broke (rules_of_session (g.K.KeyFinder.entries c.args.keys.now) c.args.when.now.setup) c.args.when.now.moment c.args.octets.now c.loop-at.at (g.S.Sink.state c.args.sink.now) (g.S.Sink.state c.loop-at.sink) (g.S.Sink.state c.handle.new.sink)
     c.args.self.now c.loop-at.self c.in_err-at.field-0.0 c.loop-at.invariant.pours less (sym c.is_broken.ensures ∙ c.if-is_broken.false)
-    (subst (λ (z : List ℕ). BrokeOff (g.S.Sink.state c.loop-at.sink) (g.S.Sink.state c.hear.new.sink)
-    (handled kept_ends (rules_of_session (g.K.KeyFinder.entries c.args.keys.now) c.args.when.now.setup) c.args.when.now.moment c.loop-at.self (Hears z)) c.in_err-at.field-0.0) c.behind.ensures.drops c.in_err-at.ensures.chooses))
+    (subst (λ (z : List ℕ). BrokeOff (g.S.Sink.state c.loop-at.sink) (g.S.Sink.state c.handle.new.sink)
+    (handled kept_ends (rules_of_session (g.K.KeyFinder.entries c.args.keys.now) c.args.when.now.setup) c.args.when.now.moment c.loop-at.self (Hears z)) c.in_err-at.field-0.0) c.behind.ensures.drops (c.in_err-at.ensures.chooses (g.K.KeyFinder.entries c.args.keys.now) refl)))
+
+pub overflow_add-at : goal.overflow_add-at
+overflow_add-at g c = omega (arith, c.used_octets.ensures.most c.loop-at.self.end c.behind.result.now, c.in_ok-at.ensures.used)
+
+pub loop-at-smaller : goal.loop-at-smaller
+loop-at-smaller g c = omega (arith, c.used_octets.ensures.most c.loop-at.self.end c.behind.result.now, used_moves c.used_octets.ensures c.loop-at.self.end c.behind.result.now (omega arith), c.in_ok-at.ensures.used)
 
 pub loop-at-preserved : goal.loop-at-preserved
 loop-at-preserved g c =
     let less : c.loop-at.at < length c.args.octets.now = search base in
     let next =
-    pouring_more (rules_of_session (g.K.KeyFinder.entries c.args.keys.now) c.args.when.now.setup) c.args.when.now.moment c.args.octets.now c.loop-at.at c.in_ok-at.field-0 (g.S.Sink.state c.args.sink.now) (g.S.Sink.state c.loop-at.sink) (g.S.Sink.state c.hear.new.sink)
-    c.args.self.now c.loop-at.self c.hear.new.self c.loop-at.invariant.pours less (sym c.is_broken.ensures ∙ c.if-is_broken.false)
-    (subst (λ (z : List ℕ). Chose (g.S.Sink.state c.loop-at.sink) (g.S.Sink.state c.hear.new.sink) c.hear.new.self
-    (handled kept_ends (rules_of_session (g.K.KeyFinder.entries c.args.keys.now) c.args.when.now.setup) c.args.when.now.moment c.loop-at.self (Hears z))) c.behind.ensures.drops c.in_ok-at.ensures.chooses)
+    pouring_more c.used_octets.ensures (rules_of_session (g.K.KeyFinder.entries c.args.keys.now) c.args.when.now.setup) c.args.when.now.moment c.args.octets.now c.loop-at.at c.in_ok-at.field-0 (g.S.Sink.state c.args.sink.now) (g.S.Sink.state c.loop-at.sink) (g.S.Sink.state c.handle.new.sink)
+    c.args.self.now c.loop-at.self c.handle.new.self c.loop-at.invariant.pours less (sym c.is_broken.ensures ∙ c.if-is_broken.false)
+    (subst (λ (z : List ℕ). Chose (g.S.Sink.state c.loop-at.sink) (g.S.Sink.state c.handle.new.sink) c.handle.new.self
+    (handled kept_ends (rules_of_session (g.K.KeyFinder.entries c.args.keys.now) c.args.when.now.setup) c.args.when.now.moment c.loop-at.self (Hears z))) c.behind.ensures.drops (c.in_ok-at.ensures.chooses (g.K.KeyFinder.entries c.args.keys.now) refl))
     (subst (λ (z : List ℕ). c.in_ok-at.field-0 ≡ used_of c.loop-at.self.end z) c.behind.ensures.drops c.in_ok-at.ensures.used) in
     record {
       pours = next;

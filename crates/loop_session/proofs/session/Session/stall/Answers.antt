@@ -1,17 +1,17 @@
-use Rattle.std.proofs.Common.{◌∙◌, sym}
+use Rattle.std.proofs.Common.{refl}
 use Rattle.loop_session.specs.Keeping.{kept_ends}
 use Rattle.std.proofs.lemmas.Result.{err_from_is_err_and}
-use Rattle.loop_model.specs.Sessions.{stalled}
-use Rattle.loop_session.proofs.Written.{stall_prints, prints_wanted}
+use Rattle.loop_model.specs.Sessions.{Stalls, stalled}
+use Rattle.loop_session.proofs.Written.{gave_by, stall_prints, prints_wanted}
 use Rattle.loop_session.proofs.session.Session.stall.Goals as goal
 
 pub returns-clause-prints : goal.returns-clause-prints
 returns-clause-prints g c = λ r.
     stall_prints (g.S.Sink.state c.args.sink.now) (g.S.Sink.state c.write_lines.new.sink)
-    r c.args.moment c.args.self.now _ c.give_stalled.new.end c.as_slice.result.now c.clear.new.self.items c.write_lines.result
-    (sym c.self.view_is) c.in_ok-give_stalled.ensures.end c.clear.ensures.items (c.as_slice.ensures.value ∙ c.in_ok-give_stalled.ensures.text) c.in_ok-give_stalled.ensures.grammar c.write_lines.ensures.puts
+    r c.args.moment c.args.self.now c.give.new.self _ _ c.write_lines.result c.give.ensures.mind
+    (gave_by r c.args.moment c.args.self.now Stalls c.give.new.self _ _ _ c.as_slice.ensures.value (c.in_ok-give.ensures.gave r refl)) c.write_lines.ensures.puts
 
-pub returns-in_err-give_stalled-clause-prints : goal.returns-in_err-give_stalled-clause-prints
-returns-in_err-give_stalled-clause-prints g c = λ r.
+pub returns-in_err-give-clause-prints : goal.returns-in_err-give-clause-prints
+returns-in_err-give-clause-prints g c = λ r.
     let p = err_from_is_err_and c.from_residual.result c.from_residual.ensures.1 in
     prints_wanted (g.S.Sink.state c.args.sink.now) _ (stalled kept_ends r c.args.moment c.args.self.now) c.from_residual.result p.0 _ p.1 p.2

@@ -9,23 +9,23 @@ use Rattle.loop_session.proofs.session.Session.take_all.Goals as goal
 pub loop-init : goal.loop-init
 loop-init g c = record { went = λ r. went_none (g.S.Sink.state c.args.sink.now) (λ t free. dealt kept_ends r c.args.moment t Takes free) c.args.self.now; number = refl; later = omega arith }
 
-pub returns-in_err-take-clause-chooses : goal.returns-in_err-take-clause-chooses
-returns-in_err-take-clause-chooses g c = λ r.
+pub returns-in_err-deal-clause-chooses : goal.returns-in_err-deal-clause-chooses
+returns-in_err-deal-clause-chooses g c = λ r.
     let same : length (waiting_in c.self.inside.end) ≡ count_waiting_in_session kept_ends c.args.self.now = ap (λ (z : Session KEnd). count_waiting_in_session kept_ends z) c.self.view_is in
     let few : c.loop.counter < count_waiting_in_session kept_ends c.args.self.now = omega (arith, c.loop-test.true, c.waiting-end.ensures.value, same) in
     let p = err_from_is_err_and c.from_residual.result c.from_residual.ensures.1 in
     rw (p.1, p.2)
-    (takes_broke (g.S.Sink.state c.args.sink.now) (g.S.Sink.state c.loop.sink) (g.S.Sink.state c.take.new.sink)
+    (takes_broke (g.S.Sink.state c.args.sink.now) (g.S.Sink.state c.loop.sink) (g.S.Sink.state c.deal.new.sink)
     r c.args.moment c.args.self.now c.loop.self c.loop.counter _ few
-    (c.loop.invariant.went r) (c.in_err-take.ensures.chooses r))
+    (c.loop.invariant.went r) (c.in_err-deal.ensures.chooses r refl))
 
 pub loop-preserved : goal.loop-preserved
 loop-preserved g c = record {
   went = λ r.
-      went_more c.loop.counter (g.S.Sink.state c.args.sink.now) (g.S.Sink.state c.loop.sink) (g.S.Sink.state c.take.new.sink)
-      (λ t free. dealt kept_ends r c.args.moment t Takes free) c.args.self.now c.loop.self c.take.new.self (c.loop.invariant.went r) (c.in_ok-take.ensures.chooses r);
-  number = c.in_ok-take.ensures.number ∙ c.loop.invariant.number;
-  later = omega (arith, c.in_ok-take.ensures.later, c.loop.invariant.later);
+      went_more c.loop.counter (g.S.Sink.state c.args.sink.now) (g.S.Sink.state c.loop.sink) (g.S.Sink.state c.deal.new.sink)
+      (λ t free. dealt kept_ends r c.args.moment t Takes free) c.args.self.now c.loop.self c.deal.new.self (c.loop.invariant.went r) (c.in_ok-deal.ensures.chooses r refl);
+  number = c.in_ok-deal.ensures.number ∙ c.loop.invariant.number;
+  later = omega (arith, c.in_ok-deal.ensures.later, c.loop.invariant.later);
 }
 
 pub returns-clause-chooses : goal.returns-clause-chooses

@@ -1,4 +1,4 @@
-use Rattle.std.proofs.Common.{rules_of_session as by_rules, ◌≡◌, ◌∙◌, ap}
+use Rattle.std.proofs.Common.{rules as by_rules, ◌≡◌, ◌∙◌, ap}
 use Rattle.std.proofs.lemmas.Result.{err_from_is_err_and}
 use Rattle.loop_session.specs.Keeping.{kept_ends}
 use Rattle.rand_core.specs.Stream.{next_u64}

@@ -1,0 +1,12 @@
+use Rattle.std.proofs.Common.{◌||◌, [], refl, sym, ap, ◌∙◌}
+use Rattle.er_end.specs.Given.{outcomes_in}
+use Rattle.loop_session.specs.Giving.{event_given_to_session}
+use Rattle.loop_session.proofs.Written.{gave_of}
+use Rattle.loop_session.proofs.session.Session.give.Goals as goal
+
+pub returns-clause-gave : goal.returns-clause-gave
+returns-clause-gave g c = λ r same.
+    gave_of r c.args.moment c.args.self.now _ (event_given_to_session c.args.event.now) _ (outcomes_in c.apply.result) _ _ c.conclude.result
+    (sym c.self.view_is) (c.at_end.ensures.event (record r { keys = [] }) ∙ same) refl
+    (ap (λ z. c.self.inside.broken || z) c.breaks.ensures) (rw c.get.ensures.same at c.apply.follows.holds-at-none) (rw c.get.ensures.same at c.apply.ensures.told)
+    (c.conclude.ensures.tells c.self.inside.end (c.apply.ensures.used ∙ c.at_end.ensures.used c.self.inside.end)) c.conclude.ensures.joins c.conclude.ensures.refused
