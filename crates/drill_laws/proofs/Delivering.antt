@@ -28,7 +28,7 @@ use Rattle.drill_model.specs.Claims as claim
 use Rattle.drill_model.specs.Growth.{FactsGrow, HistoryGrows, HistoryOfOwn, HistoryOfOther}
 use Rattle.er_settings.specs.Ranges.{AllAllowed}
 use Rattle.er_settings.specs.Laws.{AreBounded, AllowedAreBounded}
-use Rattle.hdlc_pair_laws.specs.Laws.{Delivery, DeliveriesBound, FewWait}
+use Rattle.hdlc_pair_laws.specs.Laws.{Delivery, DeliveryBound, DrainEmpties}
 use Rattle.drill_laws.proofs.Tellings.{StationLaws}
 use Rattle.drill_laws.proofs.Wired.{Either, kind_of}
 use Rattle.drill_laws.proofs.Losing.{allowed_of, narrow_of}
@@ -233,7 +233,7 @@ module _ (only : StepsOnly) where
 
 -- ---- worlds
 
-module _ (laws : StationLaws) (stacks : StackLaws) (delivery : Delivery) (deliveries_bound : DeliveriesBound) (few : FewWait) (bounds : AllowedAreBounded) where
+module _ (laws : StationLaws) (stacks : StackLaws) (delivery : Delivery) (deliveries_bound : DeliveryBound) (empties : DrainEmpties) (bounds : AllowedAreBounded) where
   pub delivers_always : StepsOnly → FlowsDeliver → FactsGrow → HistoryGrows → HistoryOfOwn → HistoryOfOther → DeliversAlways
   delivers_always only law facts grow own other plan steps fit n l is settings_fit free =
       let settings : Settings = plan.settings in
@@ -256,5 +256,5 @@ module _ (laws : StationLaws) (stacks : StackLaws) (delivery : Delivery) (delive
         | inr w ↦
             let kind : l.opening ≡ OfStations w.0 = kind_of settings w.0 l history w.1 in
             let bounded : AreBounded settings = bounds settings (allowed_of settings w.0 l kind settings_fit) in
-            wired_delivers laws delivery deliveries_bound few settings w.0 bounded (narrow_of settings w.0 l kind settings_fit bounded) l history w.1 free
+            wired_delivers laws delivery deliveries_bound empties settings w.0 bounded (narrow_of settings w.0 l kind settings_fit bounded) l history w.1 free
       ]

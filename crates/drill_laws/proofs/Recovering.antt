@@ -1,15 +1,15 @@
 -- Each link of a world that is of two stations or of two stacks recovers.
-use Rattle.std.proofs.Common.{◌≡◌, ◌≤◌, ◌⊎◌, Bool, inl, inr, ℕ, max, List, [], ◌∷◌, ◌++◌, refl, sym, subst}
+use Rattle.std.proofs.Common.{◌≡◌, ◌≤◌, ◌⊎◌, Bool, inl, inr, ℕ, List, [], ◌∷◌, ◌++◌, refl, sym, subst}
 use Rattle.std.specs.Prelude.{Option, Some}
 use Rattle.er_settings.specs.Ranges.{AllAllowed}
 use Rattle.er_settings.specs.Laws.{AllowedAreBounded}
 use Rattle.er_scenario.specs.declared.step.Step.{Step}
 use Rattle.er_scenario.specs.declared.step.Step.TheVariants as does
 use Rattle.hdlc_pair_laws.specs.Links.{StationLink as Pair}
-use Rattle.hdlc_pair_laws.specs.Steps.{link_behind_step, station_link_run}
+use Rattle.hdlc_pair_laws.specs.Steps.{station_link_run}
 use Rattle.hdlc_pair_laws.specs.Steps as on_pair
 use Rattle.hdlc_pair_laws.specs.Laws.{StationLinkOpening, after}
-use Rattle.hdlc_pair_laws.specs.Recovery.{Recovery, PassesBound}
+use Rattle.hdlc_pair_laws.specs.Recovery.{Recovery, DrainEmptiesLive}
 use Rattle.er_end_pair_laws.specs.Links.{EndLink as Ends}
 use Rattle.er_end_pair_laws.specs.Steps.{end_link_run as ends_run}
 use Rattle.er_end_pair_laws.specs.Steps as on_ends
@@ -55,7 +55,7 @@ module _ (laws : StationLaws) (bounds : AllowedAreBounded) (facts : FactsGrow) (
       ]
 
   -- of two stations
-  pub drains_always : PassesBound → DrainsAlways
+  pub drains_always : DrainEmptiesLive → DrainsAlways
   drains_always law plan steps n l is fit stations repairable =
       let history : List Occurrence = history_on n (world_run plan steps).1 in
       elim (kind_at plan steps n l is repairable.e_live) [
@@ -85,7 +85,7 @@ module _ (laws : StationLaws) (bounds : AllowedAreBounded) (facts : FactsGrow) (
           let a : Passed p m (came begun) =
           given grow own other runs (Passed p) (passes_kept laws p) (takes_kept laws p) plan before first n l m is are there (record { steps = []; passes = tt; sees = w.sees }) in
           let q : Pair = station_link_run p a.steps in
-          let r : Pair = link_behind_step (on_pair.Tick (max q.moment moment)) q in
+          let r : Pair = on_pair.station_link_step (on_pair.Tick moment) q in
           let c : Passed r k (came all) =
           mended grow own other runs (Passed r) (passes_kept laws r) (takes_kept laws r) facts plan before first moment second n m k there on later at_end
           (tick_kept laws m (came begun) q moment a.sees) in

@@ -1,5 +1,5 @@
 -- Each step of a link of two stacks is steps of its pair of ends, and so is a drain.
-use Rattle.std.proofs.Common.{if◌then◌else◌, ◌≡◌, ℕ, zero, suc, ◌+◌, ◌==◌, nat_lt, max, Bool, true, false, not, ◌&&◌, ◌||◌, List, [], ◌∷◌, ◌++◌, length, map, refl, sym, ap, ap₂, subst, ◌∙◌, append-nil, append_assoc, arith}
+use Rattle.std.proofs.Common.{if◌then◌else◌, ◌≡◌, ℕ, zero, suc, ◌+◌, ◌==◌, nat_lt, max, Bool, true, false, not, ◌&&◌, ◌||◌, List, [], ◌∷◌, ◌++◌, length, map, refl, sym, ap, ap₂, subst, ◌∙◌, append-nil, append_assoc}
 use Rattle.std.specs.Prelude.{Option, Some, None, is_some}
 use Rattle.er_base.specs.declared.side.Side.{Side}
 use Rattle.er_base.specs.declared.side.Side.TheVariants.{E, R}
@@ -24,30 +24,15 @@ use Rattle.drill_model.specs.Links.{Link, OfStacks, waiting_of, with_waiting, li
 use Rattle.drill_model.specs.Links as drill
 use Rattle.drill_model.specs.Worlds.{next_side, overfull_side, Drain, drain, drain_on}
 use Rattle.drill_laws.proofs.Tellings.{Says, says_nothing, says_more}
-use Rattle.drill_laws.proofs.Wiring.{not_or}
+use Rattle.drill_laws.proofs.Wiring.{and_true, and_false, not_or, same_count, full_if, same_waiting, waits_nothing}
 use Rattle.drill_laws.proofs.StackGoing.{as_given, is_late_at}
 use Rattle.drill_laws.proofs.StackWiring.{Numbers, opening_of, key_of, finds_of, Sees, SeesAt, freed, given_sees, lined, lined_sees}
 
 -- ---- small things
 
-and_true : (b : Bool) → b ≡ (b && not false)
-and_true true = refl
-and_true false = refl
-
-and_false : (b : Bool) → false ≡ (b && not true)
-and_false true = refl
-and_false false = refl
-
-same_count : (n : ℕ) → n ≡ n + 0
-same_count n = omega arith
-
 line_at : (k : Numbers) (l : Link) (history : List Occurrence) (p : Pair) (side : Side) → Sees k l history p → frames_from_end p side ≡ waiting_of l side
 line_at k l history p E v = sym v.from_e_is
 line_at k l history p R v = sym v.from_r_is
-
-same_waiting : (l : Link) (side : Side) → with_waiting l side (waiting_of l side) ≡ l
-same_waiting l E = refl
-same_waiting l R = refl
 
 same_line : (p : Pair) (side : Side) (free : Bool) → lined side (frames_from_end p side) p.order_kept free p.passes p ≡ freed free p
 same_line p E free = refl
@@ -116,9 +101,6 @@ pub record IsStacked (settings : Settings) (l : Link) (history : List Occurrence
   pub numbers_fit : FitsOpening (OfKeys k.engine k.rbc k.ke k.kr k.ra k.rb)
   pub fit : AllFit steps
   pub sees : Sees k l history (end_link_run (finds_of k) (paired settings k moment) steps)
-
-waits_nothing : Says (NothingWaits ∷ []) [] [] [] false false 0
-waits_nothing = says_more NothingWaits [] [] [] [] false false 0 (λ side. refl) says_nothing
 
 module _ (only : StepsOnly) (reports : CallsReport) where
   -- ---- the users
@@ -410,11 +392,6 @@ module _ (only : StepsOnly) (reports : CallsReport) where
   idle finds p next full next_is full_is same zero = refl
   idle finds p next full next_is full_is same (suc n) =
       ap (drained finds n) (ap₂ (λ (o : Option Side) (b : Bool). pass_next finds o b p) next_is full_is ∙ same) ∙ idle finds p next full next_is full_is same n
-
-  full_if : (b c : Bool) → (b || c) ≡ is_some (if b then Some E else if c then Some R else None)
-  full_if true c = refl
-  full_if false true = refl
-  full_if false false = refl
 
   full_at : (k : Numbers) (l : Link) (history : List Occurrence) (p : Pair) → Sees k l history p → is_overfull p ≡ is_some (overfull_side l)
   full_at k l history p v =

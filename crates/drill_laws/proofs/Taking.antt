@@ -31,7 +31,6 @@ use Rattle.er_end_model.specs.Steps.{Finds, new_event_at, step_start, step_frame
 use Rattle.er_end_model.specs.Ends.{End as Stack, Event, Start, Come, Send as SendEvent, Take as TakeEvent, Leave, Tick as TickEvent, hears_each, step_event, finds_expired}
 use Rattle.er_end_model.specs.Ends as stacks
 use Rattle.drill_model.specs.Outcomes.{DrillOutcome, OfSafety, Arrived, Frame, UserReleased, Passed, NothingWaits, IsShort, Altered, Occurrence, at_end}
-use Rattle.drill_model.specs.Outcomes as came
 use Rattle.drill_model.specs.StationEnds.{if_up, if_arrived, if_released, if_expired, outcomes_told_by_station, station_and_told, frames_heard, handed_unless}
 use Rattle.drill_model.specs.StationEnds as station
 use Rattle.drill_model.specs.StackEnds.{facts_told, outcomes_told_by_stack, stack_told, told_unless, told_of_take}

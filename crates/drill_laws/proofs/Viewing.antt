@@ -15,7 +15,7 @@ use Rattle.safety_automaton.specs.Safety.{Safety, SafetyEvent, ConnectRequest, R
 use Rattle.safety_pair_laws.specs.Facts.{SideFact, is_side, heard_in}
 use Rattle.safety_pair_laws.specs.Openings.{PairOpening, OfFixed, OfKeys, key_for, safety_of}
 use Rattle.safety_pair_laws.specs.Talks.{answer}
-use Rattle.safety_pair_laws.specs.Deliveries.{sent_of, accepted_of, sapdus_of, Flow, under_way, with_under_way, flow_with_answer, flow_behind_event, delivered, untouched, begun_flow, Flows, Begins, Sends, Delivers, FitsOpening}
+use Rattle.safety_pair_laws.specs.Deliveries.{sent_of, accepted_of, sapdus_of, Flow, under_way, with_under_way, flow_behind_event, delivered, untouched, begun_flow, Flows, Begins, Sends, Delivers, FitsOpening}
 use Rattle.safety_pair_laws.specs.Messages as pair
 use Rattle.drill_model.specs.Outcomes.{DrillOutcome, OfSafety, Handed, Arrived, Passed, Altered, NothingWaits, IsShort, Occurrence, at_end, facts_at, facts_in, frames_in}
 use Rattle.drill_model.specs.Ends.{EndAtLevel, OfSafe, EndEvent, Start, safety_event, outcomes_by, safe_end_step, end_step}

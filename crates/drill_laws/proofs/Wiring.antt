@@ -1,6 +1,6 @@
 -- A link of two stations is a pair of stations: each step of it is steps of the pair, and what came says what the stations were handed and took.
-use Rattle.std.proofs.Common.{if◌then◌else◌, ◌≡◌, ◌⊎◌, inl, inr, ℕ, ◌+◌, nat_lt, nat_le, Bool, true, false, not, ◌&&◌, ◌||◌, List, [], ◌∷◌, ◌++◌, length, map, refl, sym, ap, ap₂, subst, ◌∙◌, append-nil, append_assoc, length-append}
-use Rattle.std.specs.Prelude.{Option, Some, None}
+use Rattle.std.proofs.Common.{if◌then◌else◌, ◌≡◌, ◌⊎◌, inl, inr, ℕ, ◌+◌, nat_lt, nat_le, Bool, true, false, not, ◌&&◌, ◌||◌, List, [], ◌∷◌, ◌++◌, length, map, refl, sym, ap, ap₂, subst, ◌∙◌, append-nil, append_assoc, length-append, arith}
+use Rattle.std.specs.Prelude.{Option, Some, None, is_some}
 use Rattle.std.specs.List.{flat_map, list_any, AllByRecursion}
 use Rattle.std.proofs.lemmas.List.Concat.{flat_map-append}
 use Rattle.std.proofs.lemmas.List.Folds.{list_any-append}
@@ -14,17 +14,16 @@ use Rattle.hdlc_station_model.specs.Sending.{waiting}
 use Rattle.hdlc_station_model.specs.Calls.{hands, finishes}
 use Rattle.hdlc_station_model.specs.Selective.{receives_as}
 use Rattle.hdlc_station_model.specs.Events.{said_octets, news}
-use Rattle.hdlc_pair_laws.specs.Links.{StationLinkOutcome, StationLink as Pair, station_of, frames_from_station, with_frames_from_station, octets_read_by_side, station_link_with_outcomes, did, hears_each, station_link_behind_octets}
-use Rattle.hdlc_pair_laws.specs.Links as pair
-use Rattle.hdlc_pair_laws.specs.Steps.{payload_refusal_at_side, send_unless}
+use Rattle.hdlc_pair_laws.specs.Links.{StationLink as Pair, station_of, did, hears_each, station_link_behind_octets}
+use Rattle.hdlc_pair_laws.specs.Steps.{send}
 use Rattle.safety_pair_laws.specs.Facts.{SideFact, is_side}
-use Rattle.er_end_model.specs.Outcomes.{SendRefusal, RefusedReleased}
-use Rattle.drill_model.specs.Outcomes.{DrillOutcome, Refused, Occurrence, at_end, facts_at, facts_in, frames_in}
-use Rattle.drill_model.specs.StationEnds.{outcomes_told_by_station, station_and_told, frames_heard, payload_refusal_of_station, handed_unless}
+use Rattle.er_end_model.specs.Outcomes.{SendRefusal, RefusedReleased, RefusedLength, RefusedFull}
+use Rattle.drill_model.specs.Outcomes.{DrillOutcome, Refused, NothingWaits, Occurrence, at_end, facts_at, facts_in, frames_in}
+use Rattle.drill_model.specs.StationEnds.{outcomes_told_by_station, station_and_told, frames_heard, payload_refusal_of_station, handed_unless, station_send}
 use Rattle.drill_model.specs.Ends.{OfStation, EndEvent, station_end, station_end_step}
-use Rattle.drill_model.specs.Links.{Link, OfStations, with_waiting, with_answer, give}
+use Rattle.drill_model.specs.Links.{Link, OfStations, waiting_of, with_waiting, with_answer, give}
 use Rattle.drill_model.specs.Kinds.{sent_in, accepted_in, released_in, passed_in, is_disorder, is_disturbance, sent_by, accepted_by, releases_in, deliveries, is_disordered, is_disturbed}
-use Rattle.drill_laws.proofs.Tellings.{Says, Ready, Went, frames_told, frames_append}
+use Rattle.drill_laws.proofs.Tellings.{Says, says_nothing, says_more, Ready, Went, frames_told, frames_append}
 
 -- ---- what occurrences at one side say
 
@@ -162,39 +161,16 @@ pub record Sees (l : Link) (history : List Occurrence) (p : Pair) : Type 0 where
   pub accepted_r : accepted_by R history ≡ p.r.taken
   pub order : is_disordered history ≡ not p.order_kept
   pub free : is_disturbed history ≡ not p.loss_free
+  pub count : deliveries history ≡ p.passes
   pub facts : facts_in history ≡ []
   pub releases : AllByRecursion (IsOfPair p) (releases_in history)
 
--- what came of a step of the pair is no part of it
-pub came_sees : (l : Link) (history : List Occurrence) (p : Pair) (came : List StationLinkOutcome) → Sees l history p → Sees l history (record p { came = came })
-came_sees l history p came v =
-    record {
-      opening_is = v.opening_is;
-      e_is = v.e_is;
-      r_is = v.r_is;
-      from_e_is = v.from_e_is;
-      from_r_is = v.from_r_is;
-      moment_is = v.moment_is;
-      ready_e = v.ready_e;
-      ready_r = v.ready_r;
-      sent_e = v.sent_e;
-      sent_r = v.sent_r;
-      accepted_e = v.accepted_e;
-      accepted_r = v.accepted_r;
-      order = v.order;
-      free = v.free;
-      facts = v.facts;
-      releases = v.releases;
-    }
+-- all octets that the end of a side was given
+abbrev pub read_by : Pair → Side → List ℕ
+read_by p E = p.read_e
+read_by p R = p.read_r
 
--- p is q, but for what came
-abbrev pub Like : Pair → Pair → Type 0
-Like p q = (came : List StationLinkOutcome) × (p ≡ record q { came = came })
-
-pub like_sees : (l : Link) (history : List Occurrence) (p q : Pair) → Like p q → Sees l history q → Sees l history p
-like_sees l history p q like v = subst (λ (t : Pair). Sees l history t) (sym like.1) (came_sees l history q like.0 v)
-
--- ---- booleans
+-- ---- small things
 
 pub or_false : (b : Bool) → (b || false) ≡ b
 or_false true = refl
@@ -211,6 +187,34 @@ not_or true true c = refl
 not_or true false true = refl
 not_or true false false = refl
 not_or false b c = refl
+
+pub and_true : (b : Bool) → b ≡ (b && not false)
+and_true true = refl
+and_true false = refl
+
+pub and_false : (b : Bool) → false ≡ (b && not true)
+and_false true = refl
+and_false false = refl
+
+pub same_count : (n : ℕ) → n ≡ n + 0
+same_count n = omega arith
+
+pub plus_none : (n : ℕ) → n + 0 ≡ n
+plus_none n = omega arith
+
+pub full_if : (b c : Bool) → (b || c) ≡ is_some (if b then Some E else if c then Some R else None)
+full_if true c = refl
+full_if false true = refl
+full_if false false = refl
+
+-- what waits, and that nothing does
+
+pub same_waiting : (l : Link) (side : Side) → with_waiting l side (waiting_of l side) ≡ l
+same_waiting l E = refl
+same_waiting l R = refl
+
+pub waits_nothing : Says (NothingWaits ∷ []) [] [] [] false false 0
+waits_nothing = says_more NothingWaits [] [] [] [] false false 0 (λ side. refl) says_nothing
 
 -- ---- releases
 
@@ -261,6 +265,7 @@ acted_sees l history p E stream a late free v w is =
       accepted_r = g.accepted_other ∙ v.accepted_r;
       order = g.disorder_is ∙ or_false (is_disordered history) ∙ v.order;
       free = g.disturbed_is ∙ ap (λ (b : Bool). b || late) v.free ∙ not_and p.loss_free late ∙ ap not (sym is);
+      count = deliveries_grow history (map (at_end E) a.1) ∙ ap₂ (λ (i j : ℕ). i + j) v.count (passes_of E a.1 w.handed w.taken w.releases false late 0 w.says) ∙ plus_none p.passes;
       facts = g.facts ∙ v.facts;
       releases = subst (AllByRecursion (IsOfPair q)) (sym g.releases_are)
           (all_push q (releases_in history) w.releases (all_of_pair p q (releases_in history) (λ release is. elim is [ inl x ↦ inl (w.kept release x) | inr x ↦ inr x ]) v.releases) (all_at_e q w.releases w.given));
@@ -283,6 +288,7 @@ acted_sees l history p R stream a late free v w is =
       accepted_e = g.accepted_other ∙ v.accepted_e;
       order = g.disorder_is ∙ or_false (is_disordered history) ∙ v.order;
       free = g.disturbed_is ∙ ap (λ (b : Bool). b || late) v.free ∙ not_and p.loss_free late ∙ ap not (sym is);
+      count = deliveries_grow history (map (at_end R) a.1) ∙ ap₂ (λ (i j : ℕ). i + j) v.count (passes_of R a.1 w.handed w.taken w.releases false late 0 w.says) ∙ plus_none p.passes;
       facts = g.facts ∙ v.facts;
       releases = subst (AllByRecursion (IsOfPair q)) (sym g.releases_are)
           (all_push q (releases_in history) w.releases (all_of_pair p q (releases_in history) (λ release is. elim is [ inl x ↦ inl x | inr x ↦ inr (w.kept release x) ]) v.releases) (all_at_r q w.releases w.given));
@@ -294,9 +300,9 @@ lined E frames order free passes p = record p { from_e = frames; order_kept = or
 lined R frames order free passes p = record p { from_r = frames; order_kept = order; loss_free = free; passes = passes }
 
 pub lined_sees : (l : Link) (history : List Occurrence) (p : Pair) (side : Side) (os : List DrillOutcome) (frames : List (List ℕ)) (disorder disturbed order free : Bool) (n passes : ℕ)
-    → Sees l history p → Says os [] [] [] disorder disturbed n → order ≡ (p.order_kept && not disorder) → free ≡ (p.loss_free && not disturbed)
+    → Sees l history p → Says os [] [] [] disorder disturbed n → passes ≡ p.passes + n → order ≡ (p.order_kept && not disorder) → free ≡ (p.loss_free && not disturbed)
     → Sees (with_waiting l side frames) (history ++ map (at_end side) os) (lined side frames order free passes p)
-lined_sees l history p E os frames disorder disturbed order free n passes v says order_is free_is =
+lined_sees l history p E os frames disorder disturbed order free n passes v says count_is order_is free_is =
     let g = grows_of E history os [] [] [] disorder disturbed n says in
     let q : Pair = lined E frames order free passes p in
     record {
@@ -314,10 +320,11 @@ lined_sees l history p E os frames disorder disturbed order free n passes v says
       accepted_r = g.accepted_other ∙ v.accepted_r;
       order = g.disorder_is ∙ ap (λ (b : Bool). b || disorder) v.order ∙ not_and p.order_kept disorder ∙ ap not (sym order_is);
       free = g.disturbed_is ∙ ap (λ (b : Bool). b || disturbed) v.free ∙ not_and p.loss_free disturbed ∙ ap not (sym free_is);
+      count = deliveries_grow history (map (at_end E) os) ∙ ap₂ (λ (i j : ℕ). i + j) v.count (passes_of E os [] [] [] disorder disturbed n says) ∙ sym count_is;
       facts = g.facts ∙ v.facts;
       releases = subst (AllByRecursion (IsOfPair q)) (sym (g.releases_are ∙ append-nil (releases_in history))) v.releases;
     }
-lined_sees l history p R os frames disorder disturbed order free n passes v says order_is free_is =
+lined_sees l history p R os frames disorder disturbed order free n passes v says count_is order_is free_is =
     let g = grows_of R history os [] [] [] disorder disturbed n says in
     let q : Pair = lined R frames order free passes p in
     record {
@@ -335,81 +342,79 @@ lined_sees l history p R os frames disorder disturbed order free n passes v says
       accepted_e = g.accepted_other ∙ v.accepted_e;
       order = g.disorder_is ∙ ap (λ (b : Bool). b || disorder) v.order ∙ not_and p.order_kept disorder ∙ ap not (sym order_is);
       free = g.disturbed_is ∙ ap (λ (b : Bool). b || disturbed) v.free ∙ not_and p.loss_free disturbed ∙ ap not (sym free_is);
+      count = deliveries_grow history (map (at_end R) os) ∙ ap₂ (λ (i j : ℕ). i + j) v.count (passes_of R os [] [] [] disorder disturbed n says) ∙ sym count_is;
       facts = g.facts ∙ v.facts;
       releases = subst (AllByRecursion (IsOfPair q)) (sym (g.releases_are ∙ append-nil (releases_in history))) v.releases;
     }
 
 -- what an end of such a link answers
 pub gives_stationed : (l : Link) (history : List Occurrence) (p : Pair) (side : Side) (event : EndEvent) → Sees l history p
-    → give l side event ≡ with_answer l side (station_end_step p.selective p.moment (station_of p side) (octets_read_by_side p side) event)
+    → give l side event ≡ with_answer l side (station_end_step p.selective p.moment (station_of p side) (read_by p side) event)
 gives_stationed l history p E event v = rw (v.opening_is, v.e_is, v.moment_is) refl
 gives_stationed l history p R event v = rw (v.opening_is, v.r_is, v.moment_is) refl
 
 -- ---- a call of the pair is a call of a station
 
-pub read_stays : (p : Pair) (side : Side) → acted side (octets_read_by_side p side) (station_of p side, []) p.loss_free p ≡ p
+pub read_stays : (p : Pair) (side : Side) → acted side (read_by p side) (station_of p side, []) p.loss_free p ≡ p
 read_stays p E = ap (λ (fs : List (List ℕ)). record p { from_e = fs }) (append-nil p.from_e)
 read_stays p R = ap (λ (fs : List (List ℕ)). record p { from_r = fs }) (append-nil p.from_r)
 
-pub did_like : (side : Side) (t : Station) (p : Pair) → Like (did side t p) (acted side (octets_read_by_side p side) (station_and_told t) p.loss_free p)
-did_like E t p =
-    let came : List StationLinkOutcome = (did E t p).came in
-    (came, ap (λ (fs : List (List ℕ)). record p { e = settled t; from_e = p.from_e ++ fs; came = came }) (sym (frames_told t)))
-did_like R t p =
-    let came : List StationLinkOutcome = (did R t p).came in
-    (came, ap (λ (fs : List (List ℕ)). record p { r = settled t; from_r = p.from_r ++ fs; came = came }) (sym (frames_told t)))
+pub did_is : (side : Side) (t : Station) (p : Pair) → did side t p ≡ acted side (read_by p side) (station_and_told t) p.loss_free p
+did_is E t p = ap (λ (fs : List (List ℕ)). record p { e = settled t; from_e = p.from_e ++ fs }) (sym (frames_told t))
+did_is R t p = ap (λ (fs : List (List ℕ)). record p { r = settled t; from_r = p.from_r ++ fs }) (sym (frames_told t))
+
+-- the frames of one call, and those of the calls behind it
+joined : (frames : List (List ℕ)) (t : Station) (os : List DrillOutcome) → (frames ++ said_octets t) ++ frames_in os ≡ frames ++ frames_in (outcomes_told_by_station t ++ os)
+joined frames t os =
+    append_assoc frames (said_octets t) (frames_in os)
+    ∙ ap (λ (xs : List (List ℕ)). frames ++ xs) (ap (λ (xs : List (List ℕ)). xs ++ frames_in os) (sym (frames_told t)) ∙ sym (frames_append (outcomes_told_by_station t) os))
 
 -- frames that are closed, one after the other
-hears_like : (side : Side) (vs : List Verdict) (p : Pair)
-    → Like (hears_each side vs p) (acted side (octets_read_by_side p side) (frames_heard p.selective p.moment vs (station_of p side)) p.loss_free p)
-hears_like E [] p = (p.came, ap (λ (fs : List (List ℕ)). record p { from_e = fs }) (sym (append-nil p.from_e)))
-hears_like R [] p = (p.came, ap (λ (fs : List (List ℕ)). record p { from_r = fs }) (sym (append-nil p.from_r)))
-hears_like E (v ∷ vs) p =
+hears_is : (side : Side) (vs : List Verdict) (p : Pair)
+    → hears_each side vs p ≡ acted side (read_by p side) (frames_heard p.selective p.moment vs (station_of p side)) p.loss_free p
+hears_is E [] p = sym (read_stays p E)
+hears_is R [] p = sym (read_stays p R)
+hears_is E (v ∷ vs) p =
     let t : Station = finishes (receives_as p.selective p.moment v p.e) in
     let b : Station × List DrillOutcome = frames_heard p.selective p.moment vs (settled t) in
-    let more = hears_like E vs (did E t p) in
-    let fs : (p.from_e ++ said_octets t) ++ frames_in b.1 ≡ p.from_e ++ frames_in (outcomes_told_by_station t ++ b.1) =
-    append_assoc p.from_e (said_octets t) (frames_in b.1)
-    ∙ ap (λ (xs : List (List ℕ)). p.from_e ++ xs) (ap (λ (xs : List (List ℕ)). xs ++ frames_in b.1) (sym (frames_told t)) ∙ sym (frames_append (outcomes_told_by_station t) b.1)) in
-    (more.0, more.1 ∙ ap (λ (xs : List (List ℕ)). record p { e = b.0; from_e = xs; came = more.0 }) fs)
-hears_like R (v ∷ vs) p =
+    hears_is E vs (did E t p) ∙ ap (λ (xs : List (List ℕ)). record p { e = b.0; from_e = xs }) (joined p.from_e t b.1)
+hears_is R (v ∷ vs) p =
     let t : Station = finishes (receives_as p.selective p.moment v p.r) in
     let b : Station × List DrillOutcome = frames_heard p.selective p.moment vs (settled t) in
-    let more = hears_like R vs (did R t p) in
-    let fs : (p.from_r ++ said_octets t) ++ frames_in b.1 ≡ p.from_r ++ frames_in (outcomes_told_by_station t ++ b.1) =
-    append_assoc p.from_r (said_octets t) (frames_in b.1)
-    ∙ ap (λ (xs : List (List ℕ)). p.from_r ++ xs) (ap (λ (xs : List (List ℕ)). xs ++ frames_in b.1) (sym (frames_told t)) ∙ sym (frames_append (outcomes_told_by_station t) b.1)) in
-    (more.0, more.1 ∙ ap (λ (xs : List (List ℕ)). record p { r = b.0; from_r = xs; came = more.0 }) fs)
+    hears_is R vs (did R t p) ∙ ap (λ (xs : List (List ℕ)). record p { r = b.0; from_r = xs }) (joined p.from_r t b.1)
 
 -- octets are read
-pub reads_like : (side : Side) (octets : List ℕ) (p : Pair)
-    → Like (station_link_behind_octets side octets p) (acted side (octets_read_by_side p side ++ octets) (frames_heard p.selective p.moment (news (octets_read_by_side p side) octets) (station_of p side)) p.loss_free p)
-reads_like E octets p = hears_like E (news p.read_e octets) (record p { read_e = p.read_e ++ octets })
-reads_like R octets p = hears_like R (news p.read_r octets) (record p { read_r = p.read_r ++ octets })
+pub reads_is : (side : Side) (octets : List ℕ) (p : Pair)
+    → station_link_behind_octets side octets p ≡ acted side (read_by p side ++ octets) (frames_heard p.selective p.moment (news (read_by p side) octets) (station_of p side)) p.loss_free p
+reads_is E octets p = hears_is E (news p.read_e octets) (record p { read_e = p.read_e ++ octets })
+reads_is R octets p = hears_is R (news p.read_r octets) (record p { read_r = p.read_r ++ octets })
 
 -- a payload is handed down, or refused
-handed_like : (side : Side) (payload : List ℕ) (p : Pair)
-    → Like (did side (finishes (hands p.moment payload (station_of p side))) p)
-    (acted side (octets_read_by_side p side) (handed_unless None p.moment payload (station_of p side)) p.loss_free p)
-handed_like E payload p = did_like E (finishes (hands p.moment payload p.e)) p
-handed_like R payload p = did_like R (finishes (hands p.moment payload p.r)) p
+refused_is : (side : Side) (refusal : SendRefusal) (p : Pair) → p ≡ acted side (read_by p side) (station_of p side, Refused refusal ∷ []) p.loss_free p
+refused_is E refusal p = sym (read_stays p E)
+refused_is R refusal p = sym (read_stays p R)
 
-refused_like : (side : Side) (came : StationLinkOutcome) (refusal : SendRefusal) (p : Pair)
-    → Like (station_link_with_outcomes (came ∷ []) p) (acted side (octets_read_by_side p side) (station_of p side, Refused refusal ∷ []) p.loss_free p)
-refused_like E came refusal p = (p.came ++ came ∷ [], ap (λ (fs : List (List ℕ)). record p { from_e = fs; came = p.came ++ came ∷ [] }) (sym (append-nil p.from_e)))
-refused_like R came refusal p = (p.came ++ came ∷ [], ap (λ (fs : List (List ℕ)). record p { from_r = fs; came = p.came ++ came ∷ [] }) (sym (append-nil p.from_r)))
+handed_is : (side : Side) (payload : List ℕ) (p : Pair)
+    → did side (finishes (hands p.moment payload (station_of p side))) p ≡ acted side (read_by p side) (handed_unless None p.moment payload (station_of p side)) p.loss_free p
+handed_is E payload p = did_is E (finishes (hands p.moment payload p.e)) p
+handed_is R payload p = did_is R (finishes (hands p.moment payload p.r)) p
 
-send_like_if : (side : Side) (payload : List ℕ) (p : Pair) (long full : Bool) (x y : StationLinkOutcome) (x' y' : SendRefusal)
-    → Like (send_unless (if long then (if full then None else Some x) else Some y) side payload p)
-    (acted side (octets_read_by_side p side) (handed_unless (if long then (if full then None else Some x') else Some y') p.moment payload (station_of p side)) p.loss_free p)
-send_like_if side payload p true true x y x' y' = handed_like side payload p
-send_like_if side payload p true false x y x' y' = refused_like side x x' p
-send_like_if side payload p false full x y x' y' = refused_like side y y' p
+send_if : (side : Side) (payload : List ℕ) (p : Pair) (fits room : Bool) (x y : SendRefusal)
+    → (if fits && room then did side (finishes (hands p.moment payload (station_of p side))) p else p)
+    ≡ acted side (read_by p side) (handed_unless (if fits then (if room then None else Some x) else Some y) p.moment payload (station_of p side)) p.loss_free p
+send_if side payload p true true x y = handed_is side payload p
+send_if side payload p true false x y = refused_is side x p
+send_if side payload p false room x y = refused_is side y p
 
-pub send_like : (side : Side) (payload : List ℕ) (p : Pair) (o : Option Release)
-    → Like (send_unless (payload_refusal_at_side side (station_of p side) payload o) side payload p)
-    (acted side (octets_read_by_side p side) (handed_unless (payload_refusal_of_station (station_of p side) payload o) p.moment payload (station_of p side)) p.loss_free p)
-send_like side payload p (Some release) = refused_like side (pair.RefusedReleased side release) (RefusedReleased release) p
-send_like side payload p None =
-    send_like_if side payload p (nat_le 1 (length payload) && nat_le (length payload) 1026) (nat_lt (waiting (station_of p side)) 16)
-    (pair.RefusedFull side (waiting (station_of p side))) (pair.RefusedLength side (length payload)) _ _
+send_at : (side : Side) (payload : List ℕ) (p : Pair) (o : Option Release)
+    → let s : Station = station_of p side in
+    (if not (is_some o) && (nat_le 1 (length payload) && nat_le (length payload) 1026) && nat_lt (waiting s) 16 then did side (finishes (hands p.moment payload s)) p else p)
+    ≡ acted side (read_by p side) (handed_unless (payload_refusal_of_station s payload o) p.moment payload s) p.loss_free p
+send_at side payload p (Some release) = refused_is side (RefusedReleased release) p
+send_at side payload p None =
+    send_if side payload p (nat_le 1 (length payload) && nat_le (length payload) 1026) (nat_lt (waiting (station_of p side)) 16)
+    (RefusedFull (waiting (station_of p side))) (RefusedLength (length payload))
+
+pub send_is : (side : Side) (payload : List ℕ) (p : Pair)
+    → send side payload p ≡ acted side (read_by p side) (station_send p.moment payload (station_of p side)) p.loss_free p
+send_is side payload p = send_at side payload p (station_of p side).released

@@ -132,7 +132,7 @@ pub fn delivery()
     safety_automaton::laws::steps();
     safety_pair_laws::laws::flows_deliver();
     hdlc_pair_laws::laws::delivery();
-    hdlc_pair_laws::laws::few_wait();
+    hdlc_pair_laws::laws::delivery_bound();
     stack_laws();
     er_settings::laws::allowed_are_bounded();
     station_laws();

@@ -103,16 +103,16 @@ says_no_set_up selective window high before behind brought x t quiet spends =
     ]
 
 -- x became t at the first frame of y
-pub came_left : (selective : Bool) (window n : ℕ) (lx : List Frame) (x t : Station) (f : Frame) (fs : List Frame) (y : Station) → x.said ≡ [] → t.handed ≡ x.handed
+pub came_left : (selective : Bool) (window : ℕ) (lx : List Frame) (x t : Station) (f : Frame) (fs : List Frame) (y : Station) → x.said ≡ [] → t.handed ≡ x.handed
     → ((set_up_cost : ℕ) → Spends selective set_up_cost window (length y.handed) (sets_up (f ∷ fs)) (sets_up fs) (weight 2 window f) x t)
-    → left selective window lx x (f ∷ fs) y ≤ n → left selective window (lx ++ t.said) t fs y + 1 ≤ n
-came_left selective window n lx x t f fs y quiet handed spends h =
+    → left selective window (lx ++ t.said) t fs y + 1 ≤ left selective window lx x (f ∷ fs) y
+came_left selective window lx x t f fs y quiet handed spends =
     let none : weights 2 window x.said ≡ 0 = ap (weights 2 window) quiet in
     let same = sets_up_join lx t.said (says_no_set_up selective window (length y.handed) (sets_up (f ∷ fs)) (sets_up fs) (weight 2 window f) x t quiet spends) in
     let other : upkeep selective window (length t.handed) (sets_up (lx ++ t.said)) y ≡ upkeep selective window (length x.handed) (sets_up lx) y =
     ap (λ (l : List (List ℕ)). upkeep selective window (length l) (sets_up (lx ++ t.said)) y) handed
     ∙ ap (λ (b : Bool). upkeep selective window (length x.handed) b y) same in
-    omega (arith, none, other, spends 2, weights_join 2 window lx t.said, h)
+    omega (arith, none, other, spends 2, weights_join 2 window lx t.said)
 
 -- ---- before the first pass
 

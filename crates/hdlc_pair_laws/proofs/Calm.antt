@@ -1,6 +1,6 @@
 -- A line that lost nothing and repeated nothing: no station sees a gap, and none asks for a number. With the shape of what flows, beside what holds
 -- of each station alone.
-use Rattle.std.proofs.Common.{if◌then◌else◌, ◌≡◌, ℕ, zero, suc, ◌+◌, ◌≤◌, inl, inr, max, Bool, true, false, not, ◌&&◌, ◌||◌, List, [], ◌∷◌, ◌++◌, length, Option, Some, None, refl, sym, ◌∙◌, ap, subst, append-nil}
+use Rattle.std.proofs.Common.{if◌then◌else◌, ◌≡◌, ℕ, zero, suc, ◌+◌, ◌≤◌, inl, inr, max, Bool, true, false, List, [], ◌∷◌, ◌++◌, length, Option, Some, None, refl, sym, ◌∙◌, ap, subst, append-nil}
 use Rattle.std.specs.Prelude.{nat_le, ◌==◌, nat_lt}
 use Rattle.std.specs.List.{filter}
 use Rattle.std.proofs.lemmas.Bool.{cond_both}
@@ -16,8 +16,8 @@ use Rattle.hdlc_station_model.specs.Selective.{receives_as}
 use Rattle.hdlc_station_model.specs.Calls.{hands, finishes, ticks}
 use Rattle.hdlc_station_model.specs.Events.{quits, is_late}
 use Rattle.hdlc_station_model.specs.Lines.{altered, next_of}
-use Rattle.hdlc_pair_laws.specs.Links.{StationLinkOutcome, StationLink, station_of, frames_from_station, with_frames_from_station, did, opened_station_link}
-use Rattle.hdlc_pair_laws.specs.Steps.{StationLinkStep, Send, Pass, Lose, Repeat, Alter, Put, UserRelease, Drain, Tick, payload_refusal_at_side, send_unless, lose, repeat, alter, release, tick_at, tick, is_overfull, Draining, pass_next, drained, station_link_step, link_behind_step, station_link_run}
+use Rattle.hdlc_pair_laws.specs.Links.{StationLink, frames_from_station, with_frames_from_station, did, opened_station_link}
+use Rattle.hdlc_pair_laws.specs.Steps.{StationLinkStep, Send, Pass, Lose, Repeat, Alter, Put, UserRelease, Drain, Tick, may_hand_down, send, lose, repeat, alter, release, tick_at, tick, is_overfull, pass_next, drained, station_link_step, station_link_run}
 use Rattle.hdlc_pair_laws.specs.Laws.{StationLinkOpening, after}
 use Rattle.hdlc_pair_laws.specs.Invariant.{IsStationPair, Both}
 use Rattle.hdlc_pair_laws.specs.Keeping.{found}
@@ -26,7 +26,7 @@ use Rattle.hdlc_pair_laws.specs.Flowing.{Still, Asked, Agreed, Shape, Flushed, M
 use Rattle.hdlc_pair_laws.proofs.Events.{finishes_keeps, hands_keeps, ticks_keeps}
 use Rattle.hdlc_pair_laws.proofs.Hearing.{row_as}
 use Rattle.hdlc_pair_laws.proofs.Opened.{span_of, opened_stands}
-use Rattle.hdlc_pair_laws.proofs.Runs.{Frames, refused_long}
+use Rattle.hdlc_pair_laws.proofs.Runs.{Frames, short_enough, at_moment}
 use Rattle.hdlc_pair_laws.proofs.Telling.{phases_stay, ticks_tell}
 use Rattle.hdlc_pair_laws.proofs.Flows.{still_swap, takes_next, heard_live, heard_row, info_is, rr_is, not_due}
 use Rattle.hdlc_pair_laws.proofs.Delivers.{called_cannot, sets_up, agreed_row}
@@ -152,9 +152,6 @@ module _ (laws : Frames) (wd : ℕ) where
   keeps : FlowKeeps
   keeps = flow_keeps laws.back
 
-  same_calm : (l : StationLink) (came : List StationLinkOutcome) → Sounds wd Calm l → Sounds wd Calm (record l { came = came })
-  same_calm l came h = same wd Calm l h l.moment l.passes l.order_kept l.loss_free came
-
   to_r : ToR wd Calm
   to_r selective k now fr r f fs e wide quiet b own_r own_e rests_r rests_e q =
       let m = called_begins q.0 (f ∷ fs) e fr r quiet b.0.0.given q.1.0 in
@@ -181,14 +178,13 @@ module _ (laws : Frames) (wd : ℕ) where
 
   -- ---- the steps
 
-  sent_calm : (side : Side) (l : StationLink) (p : List ℕ) (o : Option StationLinkOutcome) → (o ≡ None → length p ≤ 1026) → Sounds wd Calm l → Sounds wd Calm (send_unless o side p l)
-  sent_calm E l p (Some refused) short h = same_calm l _ h
-  sent_calm R l p (Some refused) short h = same_calm l _ h
-  sent_calm E l p None short h =
+  sent_calm : (side : Side) (l : StationLink) (p : List ℕ) → Sounds wd Calm l → Sounds wd Calm (send side p l)
+  sent_calm E l p h =
       let q = h.claim in
       let t : Station = hands l.moment p l.e in
-      e_does wd Calm Calm l h (finishes t)
-      (finishes_keeps l.selective h.k h.fe t h.fr l.r (hands_keeps l.selective h.k h.fe l.moment l.e h.fr l.r p (short refl) (e_ready wd Calm l h)))
+      cond_both (may_hand_down p l.e) (did E (finishes t) l) l (Sounds wd Calm)
+      (λ may. e_does wd Calm Calm l h (finishes t)
+      (finishes_keeps l.selective h.k h.fe t h.fr l.r (hands_keeps l.selective h.k h.fe l.moment l.e h.fr l.r p (short_enough p l.e may) (e_ready wd Calm l h)))
       (hands_leaves true wd h.fe l.moment p l.e h.stands.pair.0.0.given (e_own wd Calm l h))
       (λ idle. ap is_up (phases_stay.finishes t ∙ phases_stay.hands l.moment p l.e) ∙ h.first idle) (
         q.0,
@@ -198,12 +194,14 @@ module _ (laws : Frames) (wd : ℕ) where
           finishes_calm t (hands_calm l.moment p l.e q.1.1),
           q.1.2,
         ),
-      )
-  sent_calm R l p None short h =
+      ))
+      (λ refused. h)
+  sent_calm R l p h =
       let q = h.claim in
       let t : Station = hands l.moment p l.r in
-      r_does wd Calm Calm l h (finishes t)
-      (finishes_keeps l.selective h.k h.fr t h.fe l.e (hands_keeps l.selective h.k h.fr l.moment l.r h.fe l.e p (short refl) (r_ready wd Calm l h)))
+      cond_both (may_hand_down p l.r) (did R (finishes t) l) l (Sounds wd Calm)
+      (λ may. r_does wd Calm Calm l h (finishes t)
+      (finishes_keeps l.selective h.k h.fr t h.fe l.e (hands_keeps l.selective h.k h.fr l.moment l.r h.fe l.e p (short_enough p l.r may) (r_ready wd Calm l h)))
       (hands_leaves false wd h.fr l.moment p l.r h.stands.pair.1.0.given (r_own wd Calm l h)) (
         q.0,
         (
@@ -212,38 +210,39 @@ module _ (laws : Frames) (wd : ℕ) where
           q.1.1,
           finishes_calm t (hands_calm l.moment p l.r q.1.2),
         ),
-      )
+      ))
+      (λ refused. h)
 
-  e_ticked : (now : ℕ) (l : StationLink) → is_late now l.e ≡ false → Sounds wd Calm l → Sounds wd Calm (tick_at E now l)
-  e_ticked now l late h =
+  e_ticked : (l : StationLink) → is_late l.moment l.e ≡ false → Sounds wd Calm l → Sounds wd Calm (tick_at E l)
+  e_ticked l late h =
       let q = h.claim in
-      let t : Station = ticks now l.e in
+      let t : Station = ticks l.moment l.e in
       e_does wd Calm Calm l h (finishes t)
-      (finishes_keeps l.selective h.k h.fe t h.fr l.r (ticks_keeps l.selective h.k h.fe now l.e h.fr l.r (e_ready wd Calm l h)))
-      (ticks_leaves true wd h.fe now l.e h.stands.pair.0.0.given (e_own wd Calm l h))
-      (λ idle. ap is_up (phases_stay.finishes t) ∙ ticks_tell.asleep now l.e (h.first idle)) (
+      (finishes_keeps l.selective h.k h.fe t h.fr l.r (ticks_keeps l.selective h.k h.fe l.moment l.e h.fr l.r (e_ready wd Calm l h)))
+      (ticks_leaves true wd h.fe l.moment l.e h.stands.pair.0.0.given (e_own wd Calm l h))
+      (λ idle. ap is_up (phases_stay.finishes t) ∙ ticks_tell.asleep l.moment l.e (h.first idle)) (
         q.0,
         (
           keeps.finished true q.0 h.fe t h.fr l.r
-              (keeps.ticked true q.0 h.fe now l.e h.fr l.r late (calling_begins q.0 h.fe l.e h.fr l.r h.stands.quiet_x h.stands.pair.0.0.given q.1.0)),
-          finishes_calm t (ticks_calm now l.e late q.1.1),
+              (keeps.ticked true q.0 h.fe l.moment l.e h.fr l.r late (calling_begins q.0 h.fe l.e h.fr l.r h.stands.quiet_x h.stands.pair.0.0.given q.1.0)),
+          finishes_calm t (ticks_calm l.moment l.e late q.1.1),
           q.1.2,
         ),
       )
 
-  r_ticked : (now : ℕ) (l : StationLink) → is_late now l.r ≡ false → Sounds wd Calm l → Sounds wd Calm (tick_at R now l)
-  r_ticked now l late h =
+  r_ticked : (l : StationLink) → is_late l.moment l.r ≡ false → Sounds wd Calm l → Sounds wd Calm (tick_at R l)
+  r_ticked l late h =
       let q = h.claim in
-      let t : Station = ticks now l.r in
+      let t : Station = ticks l.moment l.r in
       r_does wd Calm Calm l h (finishes t)
-      (finishes_keeps l.selective h.k h.fr t h.fe l.e (ticks_keeps l.selective h.k h.fr now l.r h.fe l.e (r_ready wd Calm l h)))
-      (ticks_leaves false wd h.fr now l.r h.stands.pair.1.0.given (r_own wd Calm l h)) (
+      (finishes_keeps l.selective h.k h.fr t h.fe l.e (ticks_keeps l.selective h.k h.fr l.moment l.r h.fe l.e (r_ready wd Calm l h)))
+      (ticks_leaves false wd h.fr l.moment l.r h.stands.pair.1.0.given (r_own wd Calm l h)) (
         q.0,
         (
           keeps.finished false q.0 h.fr t h.fe l.e
-              (keeps.ticked false q.0 h.fr now l.r h.fe l.e late (called_begins q.0 h.fe l.e h.fr l.r h.stands.quiet_y h.stands.pair.1.0.given q.1.0)),
+              (keeps.ticked false q.0 h.fr l.moment l.r h.fe l.e late (called_begins q.0 h.fe l.e h.fr l.r h.stands.quiet_y h.stands.pair.1.0.given q.1.0)),
           q.1.1,
-          finishes_calm t (ticks_calm now l.r late q.1.2),
+          finishes_calm t (ticks_calm l.moment l.r late q.1.2),
         ),
       )
 
@@ -253,28 +252,29 @@ module _ (laws : Frames) (wd : ℕ) where
 
   ticked_calm : (now : ℕ) (l : StationLink) → Clean l → Clean (tick now l)
   ticked_calm now l h e =
-      let f = both_false l.loss_free (is_late now l.e) (is_late now l.r) e in
-      let first : StationLink = record l { moment = max l.moment now; loss_free = l.loss_free && not (is_late now l.e || is_late now l.r) } in
-      r_ticked now (tick_at E now first) f.2 (e_ticked now first f.1 (same wd Calm l (h f.0) _ l.passes l.order_kept _ l.came))
+      let to : ℕ = max l.moment now in
+      let f = both_false l.loss_free (is_late to l.e) (is_late to l.r) e in
+      let first : StationLink = at_moment to l in
+      r_ticked (tick_at E first) f.2 (e_ticked first f.1 (same wd Calm l (h f.0) _ l.passes l.order_kept _))
 
-  next_calm : (side : Option Side) (overfull : Bool) (d : Draining) → Sounds wd Calm d.link → Sounds wd Calm (pass_next side overfull d).link
-  next_calm None overfull d h = h
-  next_calm (Some side) true d h = h
-  next_calm (Some side) false d h = (passed wd Calm laws to_r to_e side d.link h).0
+  next_calm : (side : Option Side) (overfull : Bool) (l : StationLink) → Sounds wd Calm l → Sounds wd Calm (pass_next side overfull l)
+  next_calm None overfull l h = h
+  next_calm (Some side) true l h = h
+  next_calm (Some side) false l h = (passed wd Calm laws to_r to_e side l h).0
 
-  drained_calm : (most : ℕ) (d : Draining) → Sounds wd Calm d.link → Sounds wd Calm (drained most d).link
-  drained_calm zero d h = h
-  drained_calm (suc most) d h =
-      drained_calm most (pass_next (next_of d.link.from_e d.link.from_r) (is_overfull d.link) d)
-      (next_calm (next_of d.link.from_e d.link.from_r) (is_overfull d.link) d h)
+  drained_calm : (most : ℕ) (l : StationLink) → Sounds wd Calm l → Sounds wd Calm (drained most l)
+  drained_calm zero l h = h
+  drained_calm (suc most) l h =
+      let next : Option Side = next_of l.from_e l.from_r in
+      drained_calm most (pass_next next (is_overfull l) l) (next_calm next (is_overfull l) l h)
 
   lost_calm : (side : Side) (line : List (List ℕ)) (l : StationLink) → Clean l → Clean (lose side line l)
-  lost_calm side [] l h = λ e. same_calm l _ (h e)
+  lost_calm side [] l h = h
   lost_calm E (octets ∷ rest) l h = λ e. absurd cc
   lost_calm R (octets ∷ rest) l h = λ e. absurd cc
 
   repeated_calm : (side : Side) (line : List (List ℕ)) (l : StationLink) → Clean l → Clean (repeat side line l)
-  repeated_calm side [] l h = λ e. same_calm l _ (h e)
+  repeated_calm side [] l h = h
   repeated_calm E (octets ∷ rest) l h = λ e. absurd cc
   repeated_calm R (octets ∷ rest) l h = λ e. absurd cc
 
@@ -283,13 +283,13 @@ module _ (laws : Frames) (wd : ℕ) where
   changed_calm R frames l = λ e. absurd cc
 
   altered_calm : (side : Side) (place mask : ℕ) (line : List (List ℕ)) (l : StationLink) → Clean l → Clean (alter side place mask line l)
-  altered_calm side place mask [] l h = λ e. same_calm l _ (h e)
+  altered_calm side place mask [] l h = h
   altered_calm side place mask (octets ∷ rest) l h =
       cond_both (nat_lt place (length octets))
       (if mask == 0 then l else with_frames_from_station side (altered octets place mask ∷ rest) (record l { order_kept = false; loss_free = false })) _ Clean
       (λ in_frame. cond_both (mask == 0) l (with_frames_from_station side (altered octets place mask ∷ rest) (record l { order_kept = false; loss_free = false })) Clean
       (λ none. h) (λ some. changed_calm side (altered octets place mask ∷ rest) l))
-      (λ short e. same_calm l _ (h e))
+      (λ short. h)
 
   released_calm : (side : Side) (sub : ℕ) (l : StationLink) → Clean (release side sub l)
   released_calm E sub l =
@@ -298,23 +298,19 @@ module _ (laws : Frames) (wd : ℕ) where
       cond_both (is_down l.r.phase) (record l { loss_free = false }) (did R (quits sub l.r) (record l { loss_free = false })) Clean (λ d e. absurd cc) (λ d e. absurd cc)
 
   step_calm : (s : StationLinkStep) (l : StationLink) → Clean l → Clean (station_link_step s l)
-  step_calm (Send side p) l h = λ e.
-      sent_calm side l p (payload_refusal_at_side side (station_of l side) p (station_of l side).released) (refused_long side (station_of l side) p (station_of l side).released)
-      (h (sym (sent_free side p l (payload_refusal_at_side side (station_of l side) p (station_of l side).released)) ∙ e))
+  step_calm (Send side p) l h = λ e. sent_calm side l p (h (sym (sent_free side p l) ∙ e))
   step_calm (Pass side) l h = λ e. (passed wd Calm laws to_r to_e side l (h (sym (passed_free side (frames_from_station l side) l) ∙ e))).0
   step_calm (Lose side) l h = lost_calm side (frames_from_station l side) l h
   step_calm (Repeat side) l h = repeated_calm side (frames_from_station l side) l h
   step_calm (Alter side place mask) l h = altered_calm side place mask (frames_from_station l side) l h
   step_calm (Put side octets) l h = changed_calm side (octets ∷ frames_from_station l side) l
   step_calm (UserRelease side sub) l h = released_calm side sub l
-  step_calm (Drain most) l h = λ e.
-      same_calm (drained most (record { link = l; passes = 0 })).link _
-      (drained_calm most (record { link = l; passes = 0 }) (h (sym (drained_free most (record { link = l; passes = 0 })) ∙ e)))
+  step_calm (Drain most) l h = λ e. drained_calm most l (h (sym (drained_free most l) ∙ e))
   step_calm (Tick moment) l h = ticked_calm moment l h
 
   run_calm : (steps : List StationLinkStep) (l : StationLink) → Clean l → Clean (station_link_run l steps)
   run_calm [] l h = h
-  run_calm (s ∷ rest) l h = run_calm rest (link_behind_step s l) (step_calm s (record l { came = [] }) (λ e. same_calm l [] (h e)))
+  run_calm (s ∷ rest) l h = run_calm rest (station_link_step s l) (step_calm s l h)
 
 opened_calm : (s : StationLinkOpening) → Sounds s.window Calm (opened_station_link s.selective s.extended s.window s.n2 s.t1 s.moment)
 opened_calm s = record {

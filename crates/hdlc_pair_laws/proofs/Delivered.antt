@@ -10,33 +10,29 @@ use Rattle.hdlc_station_model.specs.declared.phase.Phase.TheVariants.{Up}
 use Rattle.hdlc_station_model.specs.Frames.{Frame, SetUp, Ua}
 use Rattle.hdlc_station_model.specs.Stations.{Station, is_up, is_down}
 use Rattle.hdlc_station_model.specs.Sending.{can_send}
-use Rattle.hdlc_station_model.specs.Calls.{finishes}
+use Rattle.hdlc_station_model.specs.Calls.{hands, finishes}
 use Rattle.hdlc_station_model.specs.Selective.{receives_as}
 use Rattle.hdlc_station_model.specs.Events.{news, quits, is_late}
 use Rattle.hdlc_station_model.specs.Lines.{altered, next_of}
-use Rattle.hdlc_pair_laws.specs.Links.{StationLinkOutcome, StationLink, station_of, frames_from_station, with_frames_from_station, did, hears_each, opened_station_link}
-use Rattle.hdlc_pair_laws.specs.Steps.{StationLinkStep, Send, Pass, Lose, Repeat, Alter, Put, UserRelease, Drain, Tick, payload_refusal_at_side, send_unless, pass, lose, repeat, alter, release, tick_at, tick, is_overfull, Draining, pass_next, drained, station_link_step, link_behind_step, station_link_run}
+use Rattle.hdlc_pair_laws.specs.Links.{StationLink, frames_from_station, with_frames_from_station, did, hears_each, opened_station_link}
+use Rattle.hdlc_pair_laws.specs.Steps.{StationLinkStep, Send, Pass, Lose, Repeat, Alter, Put, UserRelease, Drain, Tick, may_hand_down, send, pass, lose, repeat, alter, release, tick_at, tick, is_overfull, pass_next, drained, station_link_step, station_link_run}
 use Rattle.hdlc_pair_laws.specs.Laws.{StationLinkOpening, after, IsEmpty, bound, Delivery, DeliveryBound}
 use Rattle.hdlc_pair_laws.specs.Invariant.{IsStationPair, infos, receive_numbers_in_frames}
 use Rattle.hdlc_pair_laws.specs.Flowing.{HasNoPayloadToSend, Shape}
 use Rattle.hdlc_pair_laws.proofs.Ways.{way_bounds}
 use Rattle.hdlc_pair_laws.proofs.Lines.{none_on_line}
 use Rattle.hdlc_pair_laws.proofs.Opened.{span_of, opened_stands}
-use Rattle.hdlc_pair_laws.proofs.Runs.{Frames, refused_long}
+use Rattle.hdlc_pair_laws.proofs.Runs.{Frames, short_enough, at_moment}
 use Rattle.hdlc_pair_laws.proofs.Delivers.{Flows, Passed, e_sends, r_sends, e_ticks, r_ticks, e_pass, r_pass}
-
--- the parts of a link that the shape doesn't speak of
-same_flows : (l : StationLink) (came : List StationLinkOutcome) → Flows l → Flows (record l { came = came })
-same_flows l came g = record { k = g.k; fe = g.fe; fr = g.fr; stands = g.stands; n = g.n; passes = g.passes; shape = g.shape }
 
 -- ---- a pass
 
 e_line : Frames → (l : StationLink) (line : List (List ℕ)) → l.from_e ≡ line → Flows l → Flows (pass E line l)
-e_line laws l [] e g = same_flows l _ g
+e_line laws l [] e g = g
 e_line laws l (octets ∷ rest) e g = (e_pass laws l g octets rest e).flows
 
 r_line : Frames → (l : StationLink) (line : List (List ℕ)) → l.from_r ≡ line → Flows l → Flows (pass R line l)
-r_line laws l [] e g = same_flows l _ g
+r_line laws l [] e g = g
 r_line laws l (octets ∷ rest) e g = (r_pass laws l g octets rest e).flows
 
 pass_flows : Frames → (side : Side) (l : StationLink) → Flows l → Flows (pass side (frames_from_station l side) l)
@@ -45,25 +41,25 @@ pass_flows laws R l g = r_line laws l l.from_r refl g
 
 -- ---- a drain
 
--- behind a drain that began at l with n deliveries: nothing waits, or too many frames, or each pass was a delivery
-pub record Emptied (l : StationLink) (n most : ℕ) (d : Draining) : Type 0 where
-  pub flows : Flows d.link
-  pub handed_e : d.link.e.handed ≡ l.e.handed
-  pub handed_r : d.link.r.handed ≡ l.r.handed
-  pub ends : IsEmpty d.link ⊎ (is_overfull d.link ≡ true) ⊎ (flows.n ≡ n + most)
+-- behind a drain that began at l: nothing waits, or too many frames, or each pass was a delivery
+pub record Emptied (l : StationLink) (most : ℕ) (d : StationLink) : Type 0 where
+  pub flows : Flows d
+  pub handed_e : d.e.handed ≡ l.e.handed
+  pub handed_r : d.r.handed ≡ l.r.handed
+  pub ends : IsEmpty d ⊎ (is_overfull d ≡ true) ⊎ (d.passes ≡ l.passes + most)
 
-pub none_next : (most : ℕ) (d : Draining) → next_of d.link.from_e d.link.from_r ≡ None → drained most d ≡ d
-none_next zero d h = refl
-none_next (suc most) d h = ap (λ (o : Option Side). drained most (pass_next o (is_overfull d.link) d)) h ∙ none_next most d h
+pub none_next : (most : ℕ) (l : StationLink) → next_of l.from_e l.from_r ≡ None → drained most l ≡ l
+none_next zero l h = refl
+none_next (suc most) l h = ap (λ (o : Option Side). drained most (pass_next o (is_overfull l) l)) h ∙ none_next most l h
 
-full_stays : (side : Option Side) (d : Draining) → pass_next side true d ≡ d
-full_stays None d = refl
-full_stays (Some side) d = refl
+full_stays : (side : Option Side) (l : StationLink) → pass_next side true l ≡ l
+full_stays None l = refl
+full_stays (Some side) l = refl
 
-pub full_next : (most : ℕ) (d : Draining) → is_overfull d.link ≡ true → drained most d ≡ d
-full_next zero d h = refl
-full_next (suc most) d h =
-    ap (drained most) (ap (λ (b : Bool). pass_next (next_of d.link.from_e d.link.from_r) b d) h ∙ full_stays (next_of d.link.from_e d.link.from_r) d) ∙ full_next most d h
+pub full_next : (most : ℕ) (l : StationLink) → is_overfull l ≡ true → drained most l ≡ l
+full_next zero l h = refl
+full_next (suc most) l h =
+    ap (drained most) (ap (λ (b : Bool). pass_next (next_of l.from_e l.from_r) b l) h ∙ full_stays (next_of l.from_e l.from_r) l) ∙ full_next most l h
 
 -- which end is next, as the lines are
 pub next_is : (from_e from_r : List (List ℕ)) → next_of from_e from_r ≡ None → (from_e ≡ []) × (from_r ≡ [])
@@ -72,51 +68,47 @@ next_is [] (f ∷ fs) h = absurd cc
 next_is [] [] h = (refl, refl)
 
 -- the pass of the end that is next is a delivery
-e_delivers : Frames → (l : StationLink) (line : List (List ℕ)) (from_r : List (List ℕ)) → l.from_e ≡ line → next_of line from_r ≡ Some E → (g : Flows l) → Passed l g.n (pass E line l)
+e_delivers : Frames → (l : StationLink) (line : List (List ℕ)) (from_r : List (List ℕ)) → l.from_e ≡ line → next_of line from_r ≡ Some E → Flows l → Passed l (pass E line l)
 e_delivers laws l (f ∷ fs) from_r e h g = e_pass laws l g f fs e
 e_delivers laws l [] (f ∷ fs) e h g = absurd cc
 e_delivers laws l [] [] e h g = absurd cc
 
-r_delivers : Frames → (l : StationLink) (from_e line : List (List ℕ)) → l.from_r ≡ line → next_of from_e line ≡ Some R → (g : Flows l) → Passed l g.n (pass R line l)
+r_delivers : Frames → (l : StationLink) (from_e line : List (List ℕ)) → l.from_r ≡ line → next_of from_e line ≡ Some R → Flows l → Passed l (pass R line l)
 r_delivers laws l (f ∷ fs) line e h g = absurd cc
 r_delivers laws l [] (f ∷ fs) e h g = r_pass laws l g f fs e
 r_delivers laws l [] [] e h g = absurd cc
 
-pub delivers : Frames → (side : Side) (l : StationLink) → next_of l.from_e l.from_r ≡ Some side → (g : Flows l) → Passed l g.n (pass side (frames_from_station l side) l)
+pub delivers : Frames → (side : Side) (l : StationLink) → next_of l.from_e l.from_r ≡ Some side → Flows l → Passed l (pass side (frames_from_station l side) l)
 delivers laws E l h g = e_delivers laws l l.from_e l.from_r refl h g
 delivers laws R l h g = r_delivers laws l l.from_e l.from_r refl h g
 
-more_passes : (l l' : StationLink) (n most : ℕ) (d : Draining) → l'.e.handed ≡ l.e.handed → l'.r.handed ≡ l.r.handed → Emptied l' (n + 1) most d → Emptied l n (suc most) d
-more_passes l l' n most d e r h =
+more_passes : (l l' : StationLink) (most : ℕ) (d : StationLink) → Passed l l' → Emptied l' most d → Emptied l (suc most) d
+more_passes l l' most d p h =
     record {
       flows = h.flows;
-      handed_e = h.handed_e ∙ e;
-      handed_r = h.handed_r ∙ r;
-      ends = elim h.ends [ inl none ↦ inl none | inr (inl full) ↦ inr (inl full) | inr (inr more) ↦ inr (inr (omega arith)) ];
+      handed_e = h.handed_e ∙ p.handed_e;
+      handed_r = h.handed_r ∙ p.handed_r;
+      ends = elim h.ends [ inl none ↦ inl none | inr (inl full) ↦ inr (inl full) | inr (inr more) ↦ inr (inr (omega (arith, more, p.count))) ];
     }
 
 -- one round: what the rest of the drain does is an argument
 abbrev Rest : ℕ → Type 0
-Rest most = (d : Draining) (g : Flows d.link) → Emptied d.link g.n most (drained most d)
+Rest most = (l : StationLink) → Flows l → Emptied l most (drained most l)
 
-one_round : Frames → (most : ℕ) → Rest most → (d : Draining) (g : Flows d.link) (o : Option Side) (b : Bool)
-    → next_of d.link.from_e d.link.from_r ≡ o → is_overfull d.link ≡ b → Emptied d.link g.n (suc most) (drained most (pass_next o b d))
-one_round laws most rest d g None b next full =
-    subst (λ (t : Draining). Emptied d.link g.n (suc most) t) (sym (none_next most d next))
-    (record { flows = g; handed_e = refl; handed_r = refl; ends = inl (next_is d.link.from_e d.link.from_r next) })
-one_round laws most rest d g (Some side) true next full =
-    subst (λ (t : Draining). Emptied d.link g.n (suc most) t) (sym (full_next most d full))
-    (record { flows = g; handed_e = refl; handed_r = refl; ends = inr (inl full) })
-one_round laws most rest d g (Some side) false next full =
-    let p = delivers laws side d.link next g in
-    let r = rest (pass_next (Some side) false d) p.flows in
-    let l' : StationLink = pass side (frames_from_station d.link side) d.link in
-    more_passes d.link l' g.n most (drained most (pass_next (Some side) false d)) p.handed_e p.handed_r
-    (subst (λ (n : ℕ). Emptied l' n most (drained most (pass_next (Some side) false d))) p.count r)
+one_round : Frames → (most : ℕ) → Rest most → (l : StationLink) → Flows l → (o : Option Side) (b : Bool) → next_of l.from_e l.from_r ≡ o → is_overfull l ≡ b
+    → Emptied l (suc most) (drained most (pass_next o b l))
+one_round laws most rest l g None b next full =
+    subst (Emptied l (suc most)) (sym (none_next most l next)) (record { flows = g; handed_e = refl; handed_r = refl; ends = inl (next_is l.from_e l.from_r next) })
+one_round laws most rest l g (Some side) true next full =
+    subst (Emptied l (suc most)) (sym (full_next most l full)) (record { flows = g; handed_e = refl; handed_r = refl; ends = inr (inl full) })
+one_round laws most rest l g (Some side) false next full =
+    let p = delivers laws side l next g in
+    let l' : StationLink = pass side (frames_from_station l side) l in
+    more_passes l l' most (drained most l') p (rest l' p.flows)
 
-pub drained_empties : Frames → (most : ℕ) (d : Draining) (g : Flows d.link) → Emptied d.link g.n most (drained most d)
-drained_empties laws zero d g = record { flows = g; handed_e = refl; handed_r = refl; ends = inr (inr (omega arith)) }
-drained_empties laws (suc most) d g = one_round laws most (drained_empties laws most) d g (next_of d.link.from_e d.link.from_r) (is_overfull d.link) refl refl
+pub drained_empties : Frames → (most : ℕ) → Rest most
+drained_empties laws zero l g = record { flows = g; handed_e = refl; handed_r = refl; ends = inr (inr (omega arith)) }
+drained_empties laws (suc most) l g = one_round laws most (drained_empties laws most) l g (next_of l.from_e l.from_r) (is_overfull l) refl refl
 
 -- ---- a line is loss-free before a step where it is so behind it
 
@@ -131,39 +123,39 @@ passed_free R [] l = refl
 passed_free E (octets ∷ rest) l = heard_free R (news l.read_r octets) _
 passed_free R (octets ∷ rest) l = heard_free E (news l.read_e octets) _
 
-next_free : (side : Option Side) (overfull : Bool) (d : Draining) → (pass_next side overfull d).link.loss_free ≡ d.link.loss_free
-next_free None overfull d = refl
-next_free (Some side) true d = refl
-next_free (Some side) false d = passed_free side (frames_from_station d.link side) d.link
+next_free : (side : Option Side) (overfull : Bool) (l : StationLink) → (pass_next side overfull l).loss_free ≡ l.loss_free
+next_free None overfull l = refl
+next_free (Some side) true l = refl
+next_free (Some side) false l = passed_free side (frames_from_station l side) l
 
-pub drained_free : (most : ℕ) (d : Draining) → (drained most d).link.loss_free ≡ d.link.loss_free
-drained_free zero d = refl
-drained_free (suc most) d =
-    drained_free most (pass_next (next_of d.link.from_e d.link.from_r) (is_overfull d.link) d) ∙ next_free (next_of d.link.from_e d.link.from_r) (is_overfull d.link) d
+pub drained_free : (most : ℕ) (l : StationLink) → (drained most l).loss_free ≡ l.loss_free
+drained_free zero l = refl
+drained_free (suc most) l =
+    let next : Option Side = next_of l.from_e l.from_r in
+    drained_free most (pass_next next (is_overfull l) l) ∙ next_free next (is_overfull l) l
 
-pub sent_free : (side : Side) (p : List ℕ) (l : StationLink) (o : Option StationLinkOutcome) → (send_unless o side p l).loss_free ≡ l.loss_free
-sent_free E p l None = refl
-sent_free R p l None = refl
-sent_free E p l (Some refused) = refl
-sent_free R p l (Some refused) = refl
+pub sent_free : (side : Side) (p : List ℕ) (l : StationLink) → (send side p l).loss_free ≡ l.loss_free
+sent_free E p l = cond_both (may_hand_down p l.e) (did E (finishes (hands l.moment p l.e)) l) l (λ t. t.loss_free ≡ l.loss_free) (λ e. refl) (λ e. refl)
+sent_free R p l = cond_both (may_hand_down p l.r) (did R (finishes (hands l.moment p l.r)) l) l (λ t. t.loss_free ≡ l.loss_free) (λ e. refl) (λ e. refl)
 
 -- ---- the steps
 
 abbrev pub Clean : StationLink → Type 0
 Clean l = l.loss_free ≡ true → Flows l
 
-sent_flows : (side : Side) (l : StationLink) (p : List ℕ) (o : Option StationLinkOutcome) → (o ≡ None → length p ≤ 1026) → Flows l → Flows (send_unless o side p l)
-sent_flows side l p (Some refused) short g = same_flows l _ g
-sent_flows E l p None short g = e_sends l p (short refl) g
-sent_flows R l p None short g = r_sends l p (short refl) g
+sent_flows : (side : Side) (l : StationLink) (p : List ℕ) → Flows l → Flows (send side p l)
+sent_flows E l p g =
+    cond_both (may_hand_down p l.e) (did E (finishes (hands l.moment p l.e)) l) l Flows (λ may. e_sends l p (short_enough p l.e may) g) (λ refused. g)
+sent_flows R l p g =
+    cond_both (may_hand_down p l.r) (did R (finishes (hands l.moment p l.r)) l) l Flows (λ may. r_sends l p (short_enough p l.r may) g) (λ refused. g)
 
 lost_clean : (side : Side) (line : List (List ℕ)) (l : StationLink) → Clean l → Clean (lose side line l)
-lost_clean side [] l h = λ e. same_flows l _ (h e)
+lost_clean side [] l h = h
 lost_clean E (octets ∷ rest) l h = λ e. absurd cc
 lost_clean R (octets ∷ rest) l h = λ e. absurd cc
 
 repeated_clean : (side : Side) (line : List (List ℕ)) (l : StationLink) → Clean l → Clean (repeat side line l)
-repeated_clean side [] l h = λ e. same_flows l _ (h e)
+repeated_clean side [] l h = h
 repeated_clean E (octets ∷ rest) l h = λ e. absurd cc
 repeated_clean R (octets ∷ rest) l h = λ e. absurd cc
 
@@ -172,13 +164,13 @@ changed_clean E frames l = λ e. absurd cc
 changed_clean R frames l = λ e. absurd cc
 
 altered_clean : (side : Side) (place mask : ℕ) (line : List (List ℕ)) (l : StationLink) → Clean l → Clean (alter side place mask line l)
-altered_clean side place mask [] l h = λ e. same_flows l _ (h e)
+altered_clean side place mask [] l h = h
 altered_clean side place mask (octets ∷ rest) l h =
     cond_both (nat_lt place (length octets))
     (if mask == 0 then l else with_frames_from_station side (altered octets place mask ∷ rest) (record l { order_kept = false; loss_free = false })) _ Clean
     (λ in_frame. cond_both (mask == 0) l (with_frames_from_station side (altered octets place mask ∷ rest) (record l { order_kept = false; loss_free = false })) Clean
     (λ none. h) (λ some. changed_clean side (altered octets place mask ∷ rest) l))
-    (λ short e. same_flows l _ (h e))
+    (λ short. h)
 
 released_clean : (side : Side) (sub : ℕ) (l : StationLink) → Clean (release side sub l)
 released_clean E sub l =
@@ -194,33 +186,26 @@ both_false false b c h = absurd cc
 
 ticked_clean : (now : ℕ) (l : StationLink) → Clean l → Clean (tick now l)
 ticked_clean now l h e =
-    let f = both_false l.loss_free (is_late now l.e) (is_late now l.r) e in
+    let to : ℕ = max l.moment now in
+    let f = both_false l.loss_free (is_late to l.e) (is_late to l.r) e in
     let g = h f.0 in
-    let first : StationLink = record l { moment = max l.moment now; loss_free = l.loss_free && not (is_late now l.e || is_late now l.r) } in
-    let g' : Flows first = record { k = g.k; fe = g.fe; fr = g.fr; stands = g.stands; n = g.n; passes = g.passes; shape = g.shape } in
-    r_ticks (tick_at E now first) now f.2 (e_ticks first now f.1 g')
+    let first : StationLink = at_moment to l in
+    r_ticks (tick_at E first) f.2 (e_ticks first f.1 (record { k = g.k; fe = g.fe; fr = g.fr; stands = g.stands; shape = g.shape }))
 
 step_clean : Frames → (s : StationLinkStep) (l : StationLink) → Clean l → Clean (station_link_step s l)
-step_clean laws (Send side p) l h = λ e.
-    sent_flows side l p (payload_refusal_at_side side (station_of l side) p (station_of l side).released) (refused_long side (station_of l side) p (station_of l side).released)
-    (h (sym (sent_free side p l (payload_refusal_at_side side (station_of l side) p (station_of l side).released)) ∙ e))
+step_clean laws (Send side p) l h = λ e. sent_flows side l p (h (sym (sent_free side p l) ∙ e))
 step_clean laws (Pass side) l h = λ e. pass_flows laws side l (h (sym (passed_free side (frames_from_station l side) l) ∙ e))
 step_clean laws (Lose side) l h = lost_clean side (frames_from_station l side) l h
 step_clean laws (Repeat side) l h = repeated_clean side (frames_from_station l side) l h
 step_clean laws (Alter side place mask) l h = altered_clean side place mask (frames_from_station l side) l h
 step_clean laws (Put side octets) l h = changed_clean side (octets ∷ frames_from_station l side) l
 step_clean laws (UserRelease side sub) l h = released_clean side sub l
-step_clean laws (Drain most) l h = λ e.
-    same_flows (drained most (record { link = l; passes = 0 })).link _
-    (drained_empties laws most (record { link = l; passes = 0 }) (h (sym (drained_free most (record { link = l; passes = 0 })) ∙ e))).flows
+step_clean laws (Drain most) l h = λ e. (drained_empties laws most l (h (sym (drained_free most l) ∙ e))).flows
 step_clean laws (Tick moment) l h = ticked_clean moment l h
-
-happens_clean : Frames → (s : StationLinkStep) (l : StationLink) → Clean l → Clean (link_behind_step s l)
-happens_clean laws s l h = step_clean laws s (record l { came = [] }) (λ e. same_flows l [] (h e))
 
 run_clean : Frames → (steps : List StationLinkStep) (l : StationLink) → Clean l → Clean (station_link_run l steps)
 run_clean laws [] l h = h
-run_clean laws (s ∷ rest) l h = run_clean laws rest (link_behind_step s l) (happens_clean laws s l h)
+run_clean laws (s ∷ rest) l h = run_clean laws rest (station_link_step s l) (step_clean laws s l h)
 
 pub opened_flows : (s : StationLinkOpening) → Flows (opened_station_link s.selective s.extended s.window s.n2 s.t1 s.moment)
 opened_flows s =
@@ -229,15 +214,8 @@ opened_flows s =
       fe = SetUp ∷ [];
       fr = [];
       stands = opened_stands s;
-      n = 0;
-      passes = omega arith;
       shape = inl (refl, refl, refl, refl, (refl, refl, refl, refl, refl, refl, s.some, refl), (refl, refl, refl, refl, refl, refl, s.some, refl), refl);
     }
-
--- before the first step there was no delivery
-pub opened_none : (s : StationLinkOpening) → (opened_flows s).n ≡ 0
-unfolding opened_flows
-opened_none s = refl
 
 pub after_flows : Frames → (s : StationLinkOpening) (steps : List StationLinkStep) → (after s steps).loss_free ≡ true → Flows (after s steps)
 after_flows laws s steps = run_clean laws steps (opened_station_link s.selective s.extended s.window s.n2 s.t1 s.moment) (λ e. opened_flows s)
@@ -257,11 +235,11 @@ bound_at selective k n lx x ly y p shape =
       | inr (inr a) ↦ omega (arith, a.0.4)
     ]
 
-pub bound_flows : (l : StationLink) (g : Flows l) → g.n + (length g.fe + length g.fr) ≤ bound l
-bound_flows l g = bound_at l.selective g.k g.n g.fe l.e g.fr l.r g.stands.pair g.shape
+pub bound_flows : (l : StationLink) (g : Flows l) → l.passes + (length g.fe + length g.fr) ≤ bound l
+bound_flows l g = bound_at l.selective g.k l.passes g.fe l.e g.fr l.r g.stands.pair g.shape
 
 pub delivery_bound : Frames → DeliveryBound
-delivery_bound laws s steps e = let g = after_flows laws s steps e in omega (arith, g.passes, bound_flows (after s steps) g)
+delivery_bound laws s steps e = omega (arith, bound_flows (after s steps) (after_flows laws s steps e))
 
 -- ---- an empty line
 
@@ -307,6 +285,6 @@ delivery laws s steps free empty =
     let g = after_flows laws s steps free in
     let ne : g.fe ≡ [] = none_on_line l.e g.fe (sym empty.0 ∙ g.stands.lined_x) in
     let nr : g.fr ≡ [] = none_on_line l.r g.fr (sym empty.1 ∙ g.stands.lined_y) in
-    emptied_at l.selective g.k g.n l.e l.r
+    emptied_at l.selective g.k l.passes l.e l.r
     (subst (λ (t : List Frame). IsStationPair l.selective g.k t l.e [] l.r) ne (subst (λ (t : List Frame). IsStationPair l.selective g.k g.fe l.e t l.r) nr g.stands.pair))
-    (subst (λ (t : List Frame). Shape g.n t l.e [] l.r) ne (subst (λ (t : List Frame). Shape g.n g.fe l.e t l.r) nr g.shape))
+    (subst (λ (t : List Frame). Shape l.passes t l.e [] l.r) ne (subst (λ (t : List Frame). Shape l.passes g.fe l.e t l.r) nr g.shape))

@@ -14,7 +14,7 @@ use Rattle.hdlc_station_model.specs.Receiving.{row_idle, agrees, comes_up}
 use Rattle.hdlc_station_model.specs.Calls.{hands, finishes, ticks}
 use Rattle.hdlc_station_model.specs.Events.{is_late}
 use Rattle.hdlc_pair_laws.specs.Links.{StationLink, did, hears_each, station_link_behind_octets}
-use Rattle.hdlc_pair_laws.specs.Steps.{counted, pass, tick_at}
+use Rattle.hdlc_pair_laws.specs.Steps.{pass, tick_at}
 use Rattle.hdlc_pair_laws.specs.Invariant.{IsStationPair, Both}
 use Rattle.hdlc_pair_laws.specs.Keeping.{found}
 use Rattle.hdlc_pair_laws.specs.Flowing.{one_if, Still, AtRest, Fresh, Shape}
@@ -29,10 +29,7 @@ pub record Flows (l : StationLink) : Type 0 where
   pub fe : List Frame
   pub fr : List Frame
   pub stands : Stands l.selective k fe l.e fr l.r l.from_e l.from_r l.read_e l.read_r
-  -- the deliveries so far
-  pub n : ℕ
-  pub passes : l.passes ≤ n
-  pub shape : Shape n fe l.e fr l.r
+  pub shape : Shape l.passes fe l.e fr l.r
 
 -- ---- stations that can't send yet
 
@@ -80,18 +77,16 @@ quiet_ticks now x live late cannot owes =
 
 -- ---- an event at an end
 
-e_flows : (l : StationLink) (g : Flows l) (x : Station) → Both l.selective g.k g.fe x g.fr l.r → Shape g.n (g.fe ++ x.said) x g.fr l.r → Flows (did E x l)
+e_flows : (l : StationLink) (g : Flows l) (x : Station) → Both l.selective g.k g.fe x g.fr l.r → Shape l.passes (g.fe ++ x.said) x g.fr l.r → Flows (did E x l)
 e_flows l g x b shape = record {
   k = g.k;
   fe = g.fe ++ x.said;
   fr = g.fr;
   stands = acted l.selective g.k g.fe l.e g.fr l.r l.from_e l.from_r l.read_e l.read_r x g.fr l.from_r l.read_e g.stands g.stands.lined_y g.stands.flag_x b;
-  n = g.n;
-  passes = g.passes;
   shape = shape;
 }
 
-r_flows : (l : StationLink) (g : Flows l) (x : Station) → Both l.selective g.k g.fr x g.fe l.e → Shape g.n g.fe l.e (g.fr ++ x.said) x → Flows (did R x l)
+r_flows : (l : StationLink) (g : Flows l) (x : Station) → Both l.selective g.k g.fr x g.fe l.e → Shape l.passes g.fe l.e (g.fr ++ x.said) x → Flows (did R x l)
 r_flows l g x b shape =
     let t = turned l.selective g.k g.fe l.e g.fr l.r l.from_e l.from_r l.read_e l.read_r g.stands in
     let a = acted l.selective g.k g.fr l.r g.fe l.e l.from_r l.from_e l.read_r l.read_e x g.fe l.from_e l.read_r t t.lined_y t.flag_x b in
@@ -100,8 +95,6 @@ r_flows l g x b shape =
       fe = g.fe;
       fr = g.fr ++ x.said;
       stands = turned l.selective g.k (g.fr ++ x.said) _ g.fe l.e _ _ _ _ a;
-      n = g.n;
-      passes = g.passes;
       shape = shape;
     }
 
@@ -127,12 +120,12 @@ pub e_sends : (l : StationLink) (p : List ℕ) → length p ≤ 1026 → Flows l
 e_sends l p short g =
     e_flows l g (finishes (hands l.moment p l.e)) (finishes_keeps l.selective g.k g.fe (hands l.moment p l.e) g.fr l.r (hands_keeps l.selective g.k g.fe l.moment l.e g.fr l.r p short (e_ready l g)))
     (elim g.shape [
-      | inl a ↦ subst (λ (t : Station). Shape g.n (g.fe ++ t.said) t g.fr l.r) (sym (quiet_hands l.moment p l.e (ap is_down a.0) (early_cannot l.e (ap is_up a.0)) a.4.4))
+      | inl a ↦ subst (λ (t : Station). Shape l.passes (g.fe ++ t.said) t g.fr l.r) (sym (quiet_hands l.moment p l.e (ap is_down a.0) (early_cannot l.e (ap is_up a.0)) a.4.4))
           (inl (a.0, a.1, unsaid g.fe l.e g.stands.quiet_x ∙ a.2, a.3, a.4, a.5, a.6))
-      | inr (inl a) ↦ subst (λ (t : Station). Shape g.n (g.fe ++ t.said) t g.fr l.r) (sym (quiet_hands l.moment p l.e (ap is_down a.0) (early_cannot l.e (ap is_up a.0)) a.4.4))
+      | inr (inl a) ↦ subst (λ (t : Station). Shape l.passes (g.fe ++ t.said) t g.fr l.r) (sym (quiet_hands l.moment p l.e (ap is_down a.0) (early_cannot l.e (ap is_up a.0)) a.4.4))
           (inr (inl (a.0, a.1, unsaid g.fe l.e g.stands.quiet_x ∙ a.2, a.3, a.4, a.5, a.6)))
       | inr (inr a) ↦
-          let d = handed_flows true g.n g.fe l.moment p l.e g.fr l.r g.stands.pair.0.0.given (within_e g.n g.fe l.e g.fr l.r g.stands.quiet_x a.0) in
+          let d = handed_flows true l.passes g.fe l.moment p l.e g.fr l.r g.stands.pair.0.0.given (within_e l.passes g.fe l.e g.fr l.r g.stands.quiet_x a.0) in
           inr (inr (d.0, d.1, a.2))
     ])
 
@@ -140,43 +133,43 @@ pub r_sends : (l : StationLink) (p : List ℕ) → length p ≤ 1026 → Flows l
 r_sends l p short g =
     r_flows l g (finishes (hands l.moment p l.r)) (finishes_keeps l.selective g.k g.fr (hands l.moment p l.r) g.fe l.e (hands_keeps l.selective g.k g.fr l.moment l.r g.fe l.e p short (r_ready l g)))
     (elim g.shape [
-      | inl a ↦ subst (λ (t : Station). Shape g.n g.fe l.e (g.fr ++ t.said) t) (sym (quiet_hands l.moment p l.r (ap is_down a.1) (called_cannot l.r a.5) a.5.4))
+      | inl a ↦ subst (λ (t : Station). Shape l.passes g.fe l.e (g.fr ++ t.said) t) (sym (quiet_hands l.moment p l.r (ap is_down a.1) (called_cannot l.r a.5) a.5.4))
           (inl (a.0, a.1, a.2, unsaid g.fr l.r g.stands.quiet_y ∙ a.3, a.4, a.5, a.6))
-      | inr (inl a) ↦ subst (λ (t : Station). Shape g.n g.fe l.e (g.fr ++ t.said) t) (sym (quiet_hands l.moment p l.r (ap is_down a.1) (called_cannot l.r a.5) a.5.4))
+      | inr (inl a) ↦ subst (λ (t : Station). Shape l.passes g.fe l.e (g.fr ++ t.said) t) (sym (quiet_hands l.moment p l.r (ap is_down a.1) (called_cannot l.r a.5) a.5.4))
           (inr (inl (a.0, a.1, a.2, unsaid g.fr l.r g.stands.quiet_y ∙ a.3, a.4, a.5, a.6)))
       | inr (inr a) ↦
-          let d = handed_flows false g.n g.fr l.moment p l.r g.fe l.e g.stands.pair.1.0.given
-          (within_r g.n g.fr l.r g.fe l.e g.stands.quiet_y (still_swap g.n g.fe l.e g.fr l.r a.0)) in
-          inr (inr (still_back g.n (g.fr ++ (finishes (hands l.moment p l.r)).said) (finishes (hands l.moment p l.r)) g.fe l.e d.0, a.1, d.1))
+          let d = handed_flows false l.passes g.fr l.moment p l.r g.fe l.e g.stands.pair.1.0.given
+          (within_r l.passes g.fr l.r g.fe l.e g.stands.quiet_y (still_swap l.passes g.fe l.e g.fr l.r a.0)) in
+          inr (inr (still_back l.passes (g.fr ++ (finishes (hands l.moment p l.r)).said) (finishes (hands l.moment p l.r)) g.fe l.e d.0, a.1, d.1))
     ])
 
 -- ---- a tick that finds no expired timer
 
-pub e_ticks : (l : StationLink) (now : ℕ) → is_late now l.e ≡ false → Flows l → Flows (tick_at E now l)
-e_ticks l now late g =
-    e_flows l g (finishes (ticks now l.e)) (finishes_keeps l.selective g.k g.fe (ticks now l.e) g.fr l.r (ticks_keeps l.selective g.k g.fe now l.e g.fr l.r (e_ready l g)))
+pub e_ticks : (l : StationLink) → is_late l.moment l.e ≡ false → Flows l → Flows (tick_at E l)
+e_ticks l late g =
+    e_flows l g (finishes (ticks l.moment l.e)) (finishes_keeps l.selective g.k g.fe (ticks l.moment l.e) g.fr l.r (ticks_keeps l.selective g.k g.fe l.moment l.e g.fr l.r (e_ready l g)))
     (elim g.shape [
-      | inl a ↦ subst (λ (t : Station). Shape g.n (g.fe ++ t.said) t g.fr l.r) (sym (quiet_ticks now l.e (ap is_down a.0) late (early_cannot l.e (ap is_up a.0)) a.4.4))
+      | inl a ↦ subst (λ (t : Station). Shape l.passes (g.fe ++ t.said) t g.fr l.r) (sym (quiet_ticks l.moment l.e (ap is_down a.0) late (early_cannot l.e (ap is_up a.0)) a.4.4))
           (inl (a.0, a.1, unsaid g.fe l.e g.stands.quiet_x ∙ a.2, a.3, a.4, a.5, a.6))
-      | inr (inl a) ↦ subst (λ (t : Station). Shape g.n (g.fe ++ t.said) t g.fr l.r) (sym (quiet_ticks now l.e (ap is_down a.0) late (early_cannot l.e (ap is_up a.0)) a.4.4))
+      | inr (inl a) ↦ subst (λ (t : Station). Shape l.passes (g.fe ++ t.said) t g.fr l.r) (sym (quiet_ticks l.moment l.e (ap is_down a.0) late (early_cannot l.e (ap is_up a.0)) a.4.4))
           (inr (inl (a.0, a.1, unsaid g.fe l.e g.stands.quiet_x ∙ a.2, a.3, a.4, a.5, a.6)))
       | inr (inr a) ↦
-          let d = ticked_flows true g.n g.fe now l.e g.fr l.r late g.stands.pair.0.0.given (within_e g.n g.fe l.e g.fr l.r g.stands.quiet_x a.0) in
+          let d = ticked_flows true l.passes g.fe l.moment l.e g.fr l.r late g.stands.pair.0.0.given (within_e l.passes g.fe l.e g.fr l.r g.stands.quiet_x a.0) in
           inr (inr (d.0, d.1, a.2))
     ])
 
-pub r_ticks : (l : StationLink) (now : ℕ) → is_late now l.r ≡ false → Flows l → Flows (tick_at R now l)
-r_ticks l now late g =
-    r_flows l g (finishes (ticks now l.r)) (finishes_keeps l.selective g.k g.fr (ticks now l.r) g.fe l.e (ticks_keeps l.selective g.k g.fr now l.r g.fe l.e (r_ready l g)))
+pub r_ticks : (l : StationLink) → is_late l.moment l.r ≡ false → Flows l → Flows (tick_at R l)
+r_ticks l late g =
+    r_flows l g (finishes (ticks l.moment l.r)) (finishes_keeps l.selective g.k g.fr (ticks l.moment l.r) g.fe l.e (ticks_keeps l.selective g.k g.fr l.moment l.r g.fe l.e (r_ready l g)))
     (elim g.shape [
-      | inl a ↦ subst (λ (t : Station). Shape g.n g.fe l.e (g.fr ++ t.said) t) (sym (quiet_ticks now l.r (ap is_down a.1) late (called_cannot l.r a.5) a.5.4))
+      | inl a ↦ subst (λ (t : Station). Shape l.passes g.fe l.e (g.fr ++ t.said) t) (sym (quiet_ticks l.moment l.r (ap is_down a.1) late (called_cannot l.r a.5) a.5.4))
           (inl (a.0, a.1, a.2, unsaid g.fr l.r g.stands.quiet_y ∙ a.3, a.4, a.5, a.6))
-      | inr (inl a) ↦ subst (λ (t : Station). Shape g.n g.fe l.e (g.fr ++ t.said) t) (sym (quiet_ticks now l.r (ap is_down a.1) late (called_cannot l.r a.5) a.5.4))
+      | inr (inl a) ↦ subst (λ (t : Station). Shape l.passes g.fe l.e (g.fr ++ t.said) t) (sym (quiet_ticks l.moment l.r (ap is_down a.1) late (called_cannot l.r a.5) a.5.4))
           (inr (inl (a.0, a.1, a.2, unsaid g.fr l.r g.stands.quiet_y ∙ a.3, a.4, a.5, a.6)))
       | inr (inr a) ↦
-          let d = ticked_flows false g.n g.fr now l.r g.fe l.e late g.stands.pair.1.0.given
-          (within_r g.n g.fr l.r g.fe l.e g.stands.quiet_y (still_swap g.n g.fe l.e g.fr l.r a.0)) in
-          inr (inr (still_back g.n (g.fr ++ (finishes (ticks now l.r)).said) (finishes (ticks now l.r)) g.fe l.e d.0, a.1, d.1))
+          let d = ticked_flows false l.passes g.fr l.moment l.r g.fe l.e late g.stands.pair.1.0.given
+          (within_r l.passes g.fr l.r g.fe l.e g.stands.quiet_y (still_swap l.passes g.fe l.e g.fr l.r a.0)) in
+          inr (inr (still_back l.passes (g.fr ++ (finishes (ticks l.moment l.r)).said) (finishes (ticks l.moment l.r)) g.fe l.e d.0, a.1, d.1))
     ])
 
 -- ---- the set-up frame comes to the called station, its answer to the calling one
@@ -212,21 +205,21 @@ agreed_answer law selective k now lx x fs y setting h =
 -- ---- a frame is passed
 
 -- the link behind the pass, one delivery more; what was handed down stays
-pub record Passed (l : StationLink) (n : ℕ) (l' : StationLink) : Type 0 where
+pub record Passed (l l' : StationLink) : Type 0 where
   pub flows : Flows l'
-  pub count : flows.n ≡ n + 1
+  pub count : l'.passes ≡ l.passes + 1
   pub handed_e : l'.e.handed ≡ l.e.handed
   pub handed_r : l'.r.handed ≡ l.r.handed
 
 abbrev from_e_passed : StationLink → List (List ℕ) → List ℕ → Station → StationLink
-from_e_passed l rest read x = did R x (record l { from_e = rest; passes = counted l.passes; read_r = read })
+from_e_passed l rest read x = did R x (record l { from_e = rest; passes = l.passes + 1; read_r = read })
 
 abbrev from_r_passed : StationLink → List (List ℕ) → List ℕ → Station → StationLink
-from_r_passed l rest read x = did E x (record l { from_r = rest; passes = counted l.passes; read_e = read })
+from_r_passed l rest read x = did E x (record l { from_r = rest; passes = l.passes + 1; read_e = read })
 
 e_passed_to : (l : StationLink) (g : Flows l) (octets : List ℕ) (rest : List (List ℕ)) (f : First l.e octets rest g.fe) (x : Station)
-    → Both l.selective g.k g.fr x f.frames l.e → Shape (g.n + 1) f.frames l.e (g.fr ++ x.said) x → x.handed ≡ l.r.handed
-    → Passed l g.n (from_e_passed l rest (l.read_r ++ octets_of l.e f.frame) x)
+    → Both l.selective g.k g.fr x f.frames l.e → Shape (l.passes + 1) f.frames l.e (g.fr ++ x.said) x → x.handed ≡ l.r.handed
+    → Passed l (from_e_passed l rest (l.read_r ++ octets_of l.e f.frame) x)
 e_passed_to l g octets rest f x b shape handed =
     let t = turned l.selective g.k g.fe l.e g.fr l.r l.from_e l.from_r l.read_e l.read_r g.stands in
     let a = acted l.selective g.k g.fr l.r g.fe l.e l.from_r l.from_e l.read_r l.read_e x f.frames rest (l.read_r ++ octets_of l.e f.frame) t f.rest_are (flag_behind l.e f.frame l.read_r) b in
@@ -236,8 +229,6 @@ e_passed_to l g octets rest f x b shape handed =
         fe = f.frames;
         fr = g.fr ++ x.said;
         stands = turned l.selective g.k (g.fr ++ x.said) _ f.frames l.e _ _ _ _ a;
-        n = g.n + 1;
-        passes = omega (arith, g.passes);
         shape = shape;
       };
       count = refl;
@@ -246,12 +237,12 @@ e_passed_to l g octets rest f x b shape handed =
     }
 
 r_passed_to : (l : StationLink) (g : Flows l) (octets : List ℕ) (rest : List (List ℕ)) (f : First l.r octets rest g.fr) (x : Station)
-    → Both l.selective g.k g.fe x f.frames l.r → Shape (g.n + 1) (g.fe ++ x.said) x f.frames l.r → x.handed ≡ l.e.handed
-    → Passed l g.n (from_r_passed l rest (l.read_e ++ octets_of l.r f.frame) x)
+    → Both l.selective g.k g.fe x f.frames l.r → Shape (l.passes + 1) (g.fe ++ x.said) x f.frames l.r → x.handed ≡ l.e.handed
+    → Passed l (from_r_passed l rest (l.read_e ++ octets_of l.r f.frame) x)
 r_passed_to l g octets rest f x b shape handed =
     let a = acted l.selective g.k g.fe l.e g.fr l.r l.from_e l.from_r l.read_e l.read_r x f.frames rest (l.read_e ++ octets_of l.r f.frame) g.stands f.rest_are (flag_behind l.r f.frame l.read_e) b in
     record {
-      flows = record { k = g.k; fe = g.fe ++ x.said; fr = f.frames; stands = a; n = g.n + 1; passes = omega (arith, g.passes); shape = shape };
+      flows = record { k = g.k; fe = g.fe ++ x.said; fr = f.frames; stands = a; shape = shape };
       count = refl;
       handed_e = handed;
       handed_r = refl;
@@ -266,7 +257,7 @@ none_first f fs l p q = let e : f ∷ fs ≡ [] = sym p ∙ q in cc
 
 e_arrives : Frames → (l : StationLink) (g : Flows l) (octets : List ℕ) (rest : List (List ℕ)) (f : First l.e octets rest g.fe)
     → IsStationPair l.selective g.k g.fr l.r (f.frame ∷ f.frames) l.e → Both l.selective g.k g.fr l.r (f.frame ∷ f.frames) l.e
-    → Passed l g.n (from_e_passed l rest (l.read_r ++ octets_of l.e f.frame) (answered l.selective l.moment l.e f.frame l.r))
+    → Passed l (from_e_passed l rest (l.read_r ++ octets_of l.e f.frame) (answered l.selective l.moment l.e f.frame l.r))
 e_arrives laws l g octets rest f p b =
     let kept = answered_keeps laws.back l.selective g.k g.fr l.moment l.r f.frame f.frames l.e b in
     elim g.shape [
@@ -275,16 +266,16 @@ e_arrives laws l g octets rest f p b =
           let q = subst (λ (z : Frame). IsStationPair l.selective g.k g.fr l.r (z ∷ f.frames) l.e) first.0 p in
           let e = ap (λ (z : Frame). answered l.selective l.moment l.e z l.r) first.0 ∙ asked_answer laws.back l.selective g.k l.moment g.fr l.r f.frames l.e a.1 a.5 q in
           let x : Station = agrees true (comes_up (sees l.moment l.r)) in
-          subst (λ (t : Station). Passed l g.n (from_e_passed l rest (l.read_r ++ octets_of l.e f.frame) t)) (sym e)
+          subst (λ (t : Station). Passed l (from_e_passed l rest (l.read_r ++ octets_of l.e f.frame) t)) (sym e)
           (e_passed_to l g octets rest f x (subst (λ (t : Station). Both l.selective g.k g.fr t f.frames l.e) e kept)
           (inr (inl (a.0, refl, first.1, ap (λ (t : List Frame). t ++ x.said) a.3 ∙ ap (λ (t : List Frame). t ++ Ua true ∷ []) g.stands.quiet_y, a.4, a.5, ap (λ t. t + 1) a.6))) refl)
       | inr (inl a) ↦ absurd (none_first f.frame f.frames g.fe f.all a.2)
       | inr (inr a) ↦
-          let s = within_r g.n g.fr l.r g.fe l.e g.stands.quiet_y (still_swap g.n g.fe l.e g.fr l.r a.0) in
-          let d = answered_flows laws.back l.selective false g.n g.k g.fr l.moment l.r f.frame f.frames l.e g.stands.pair.1.0.given b
-          (subst (λ (t : List Frame). Within false g.n g.fr l.r t l.e) f.all s) in
+          let s = within_r l.passes g.fr l.r g.fe l.e g.stands.quiet_y (still_swap l.passes g.fe l.e g.fr l.r a.0) in
+          let d = answered_flows laws.back l.selective false l.passes g.k g.fr l.moment l.r f.frame f.frames l.e g.stands.pair.1.0.given b
+          (subst (λ (t : List Frame). Within false l.passes g.fr l.r t l.e) f.all s) in
           e_passed_to l g octets rest f (answered l.selective l.moment l.e f.frame l.r) kept
-          (inr (inr (still_back (g.n + 1) (g.fr ++ (answered l.selective l.moment l.e f.frame l.r).said) (answered l.selective l.moment l.e f.frame l.r) f.frames l.e d.0, a.1, d.1))) d.2
+          (inr (inr (still_back (l.passes + 1) (g.fr ++ (answered l.selective l.moment l.e f.frame l.r).said) (answered l.selective l.moment l.e f.frame l.r) f.frames l.e d.0, a.1, d.1))) d.2
     ]
 
 -- the calling station is up, and what was handed to it before flows
@@ -301,7 +292,7 @@ up_flows n w x y quiet none up few hx hy =
 
 r_arrives : Frames → (l : StationLink) (g : Flows l) (octets : List ℕ) (rest : List (List ℕ)) (f : First l.r octets rest g.fr)
     → IsStationPair l.selective g.k g.fe l.e (f.frame ∷ f.frames) l.r → Both l.selective g.k g.fe l.e (f.frame ∷ f.frames) l.r
-    → Passed l g.n (from_r_passed l rest (l.read_e ++ octets_of l.r f.frame) (answered l.selective l.moment l.r f.frame l.e))
+    → Passed l (from_r_passed l rest (l.read_e ++ octets_of l.r f.frame) (answered l.selective l.moment l.r f.frame l.e))
 r_arrives laws l g octets rest f p b =
     let kept = answered_keeps laws.back l.selective g.k g.fe l.moment l.e f.frame f.frames l.r b in
     elim g.shape [
@@ -311,58 +302,40 @@ r_arrives laws l g octets rest f p b =
           let q = subst (λ (z : Frame). IsStationPair l.selective g.k g.fe l.e (z ∷ f.frames) l.r) first.0 p in
           let e = ap (λ (z : Frame). answered l.selective l.moment l.r z l.e) first.0 ∙ agreed_answer laws.back l.selective g.k l.moment g.fe l.e f.frames l.r a.0 q in
           let z : Station = comes_up (record (sees l.moment l.e) { timer = None; expiries = 0 }) in
-          let s = up_flows (g.n + 1) g.fe (record (sees l.moment l.e) { timer = None; expiries = 0; deed = z.deed }) l.r g.stands.quiet_x a.2 a.1 (omega (arith, a.6)) a.4 a.5 in
-          let d = ends_well true (g.n + 1) g.fe z [] l.r g.stands.pair.0.0.given s in
+          let s = up_flows (l.passes + 1) g.fe (record (sees l.moment l.e) { timer = None; expiries = 0; deed = z.deed }) l.r g.stands.quiet_x a.2 a.1 (omega (arith, a.6)) a.4 a.5 in
+          let d = ends_well true (l.passes + 1) g.fe z [] l.r g.stands.pair.0.0.given s in
           let x : Station = finishes (sends_waiting z) in
-          subst (λ (t : Station). Passed l g.n (from_r_passed l rest (l.read_e ++ octets_of l.r f.frame) t)) (sym e)
+          subst (λ (t : Station). Passed l (from_r_passed l rest (l.read_e ++ octets_of l.r f.frame) t)) (sym e)
           (e_is_up l g octets rest f x (subst (λ (t : Station). Both l.selective g.k g.fe t f.frames l.r) e kept)
-          (subst (λ (t : List Frame). Still true (g.n + 1) (g.fe ++ x.said) x t l.r) (sym first.1) d.0) d.1 (a.5.4, inl (called_cannot l.r a.5)) d.2)
+          (subst (λ (t : List Frame). Still true (l.passes + 1) (g.fe ++ x.said) x t l.r) (sym first.1) d.0) d.1 (a.5.4, inl (called_cannot l.r a.5)) d.2)
       | inr (inr a) ↦
-          let s = within_e g.n g.fe l.e g.fr l.r g.stands.quiet_x a.0 in
-          let d = answered_flows laws.back l.selective true g.n g.k g.fe l.moment l.e f.frame f.frames l.r g.stands.pair.0.0.given b
-          (subst (λ (t : List Frame). Within true g.n g.fe l.e t l.r) f.all s) in
+          let s = within_e l.passes g.fe l.e g.fr l.r g.stands.quiet_x a.0 in
+          let d = answered_flows laws.back l.selective true l.passes g.k g.fe l.moment l.e f.frame f.frames l.r g.stands.pair.0.0.given b
+          (subst (λ (t : List Frame). Within true l.passes g.fe l.e t l.r) f.all s) in
           r_passed_to l g octets rest f (answered l.selective l.moment l.r f.frame l.e) kept (inr (inr (d.0, d.1, a.2))) d.2
     ] where
       e_is_up : (l : StationLink) (g : Flows l) (octets : List ℕ) (rest : List (List ℕ)) (f : First l.r octets rest g.fr) (x : Station) → Both l.selective g.k g.fe x f.frames l.r
-          → Still true (g.n + 1) (g.fe ++ x.said) x f.frames l.r → AtRest x → AtRest l.r → x.handed ≡ l.e.handed
-          → Passed l g.n (from_r_passed l rest (l.read_e ++ octets_of l.r f.frame) x)
+          → Still true (l.passes + 1) (g.fe ++ x.said) x f.frames l.r → AtRest x → AtRest l.r → x.handed ≡ l.e.handed
+          → Passed l (from_r_passed l rest (l.read_e ++ octets_of l.r f.frame) x)
       e_is_up l g octets rest f x b still rests others handed = r_passed_to l g octets rest f x b (inr (inr (still, rests, others))) handed
 
-pub e_pass : Frames → (l : StationLink) (g : Flows l) (octets : List ℕ) (rest : List (List ℕ)) → l.from_e ≡ octets ∷ rest → Passed l g.n (pass E (octets ∷ rest) l)
+pub e_pass : Frames → (l : StationLink) (g : Flows l) (octets : List ℕ) (rest : List (List ℕ)) → l.from_e ≡ octets ∷ rest → Passed l (pass E (octets ∷ rest) l)
 e_pass laws l g octets rest e =
     let f = first_of_line l.e octets rest g.fe (sym e ∙ g.stands.lined_x) in
     let t = turned l.selective g.k g.fe l.e g.fr l.r l.from_e l.from_r l.read_e l.read_r g.stands in
     let p : IsStationPair l.selective g.k g.fr l.r (f.frame ∷ f.frames) l.e = subst (λ (q : List Frame). IsStationPair l.selective g.k g.fr l.r q l.e) f.all t.pair in
     let b : Both l.selective g.k g.fr l.r (f.frame ∷ f.frames) l.e = subst (λ (q : List Frame). Both l.selective g.k g.fr l.r q l.e) f.all (r_ready l g) in
-    subst (λ (os : List ℕ). Passed l g.n (station_link_behind_octets R os (record l { from_e = rest; passes = counted l.passes }))) (sym f.octets_are)
-    (subst (λ (vs : List Verdict). Passed l g.n (hears_each R vs (record l { from_e = rest; passes = counted l.passes; read_r = l.read_r ++ octets_of l.e f.frame })))
+    subst (λ (os : List ℕ). Passed l (station_link_behind_octets R os (record l { from_e = rest; passes = l.passes + 1 }))) (sym f.octets_are)
+    (subst (λ (vs : List Verdict). Passed l (hears_each R vs (record l { from_e = rest; passes = l.passes + 1; read_r = l.read_r ++ octets_of l.e f.frame })))
     (sym (one_event laws.parts laws.alone l.selective g.k g.fr l.r f.frame f.frames l.e l.read_r t.flag_x p))
     (e_arrives laws l g octets rest f p b))
 
-pub r_pass : Frames → (l : StationLink) (g : Flows l) (octets : List ℕ) (rest : List (List ℕ)) → l.from_r ≡ octets ∷ rest → Passed l g.n (pass R (octets ∷ rest) l)
+pub r_pass : Frames → (l : StationLink) (g : Flows l) (octets : List ℕ) (rest : List (List ℕ)) → l.from_r ≡ octets ∷ rest → Passed l (pass R (octets ∷ rest) l)
 r_pass laws l g octets rest e =
     let f = first_of_line l.r octets rest g.fr (sym e ∙ g.stands.lined_y) in
     let p : IsStationPair l.selective g.k g.fe l.e (f.frame ∷ f.frames) l.r = subst (λ (q : List Frame). IsStationPair l.selective g.k g.fe l.e q l.r) f.all g.stands.pair in
     let b : Both l.selective g.k g.fe l.e (f.frame ∷ f.frames) l.r = subst (λ (q : List Frame). Both l.selective g.k g.fe l.e q l.r) f.all (e_ready l g) in
-    subst (λ (os : List ℕ). Passed l g.n (station_link_behind_octets E os (record l { from_r = rest; passes = counted l.passes }))) (sym f.octets_are)
-    (subst (λ (vs : List Verdict). Passed l g.n (hears_each E vs (record l { from_r = rest; passes = counted l.passes; read_e = l.read_e ++ octets_of l.r f.frame })))
+    subst (λ (os : List ℕ). Passed l (station_link_behind_octets E os (record l { from_r = rest; passes = l.passes + 1 }))) (sym f.octets_are)
+    (subst (λ (vs : List Verdict). Passed l (hears_each E vs (record l { from_r = rest; passes = l.passes + 1; read_e = l.read_e ++ octets_of l.r f.frame })))
     (sym (one_event laws.parts laws.alone l.selective g.k g.fe l.e f.frame f.frames l.r l.read_e g.stands.flag_x p))
     (r_arrives laws l g octets rest f p b))
-
--- ---- a payload and a tick deliver nothing
-
-pub e_sends_n : (l : StationLink) (p : List ℕ) (short : length p ≤ 1026) (g : Flows l) → (e_sends l p short g).n ≡ g.n
-unfolding e_sends e_flows
-e_sends_n l p short g = refl
-
-pub r_sends_n : (l : StationLink) (p : List ℕ) (short : length p ≤ 1026) (g : Flows l) → (r_sends l p short g).n ≡ g.n
-unfolding r_sends r_flows
-r_sends_n l p short g = refl
-
-pub e_ticks_n : (l : StationLink) (now : ℕ) (late : is_late now l.e ≡ false) (g : Flows l) → (e_ticks l now late g).n ≡ g.n
-unfolding e_ticks e_flows
-e_ticks_n l now late g = refl
-
-pub r_ticks_n : (l : StationLink) (now : ℕ) (late : is_late now l.r ≡ false) (g : Flows l) → (r_ticks l now late g).n ≡ g.n
-unfolding r_ticks r_flows
-r_ticks_n l now late g = refl

@@ -6,7 +6,7 @@ use Rattle.hdlc_frames.specs.Laws.{ControlReadsBack}
 use Rattle.hdlc_station_model.specs.Frames.{Frame, Info, Rr, Rej, Srej, SetUp, Disc, Dm, Ua}
 use Rattle.hdlc_station_model.specs.Stations.{Station}
 use Rattle.hdlc_pair_laws.specs.Links.{StationLink, frames_from_station, opened_station_link}
-use Rattle.hdlc_pair_laws.specs.Steps.{Lose, lose, link_behind_step, station_link_run}
+use Rattle.hdlc_pair_laws.specs.Steps.{Lose, lose, station_link_step, station_link_run}
 use Rattle.hdlc_pair_laws.specs.Laws.{after, IsEmpty}
 use Rattle.hdlc_pair_laws.specs.Invariant.{infos, receive_numbers_in_frames}
 use Rattle.hdlc_pair_laws.specs.Flowing.{Consecutive, EndsAtNumber, AllData, Still, Shape}
@@ -291,11 +291,6 @@ gaps_are_filled laws s steps free side two passes p end =
     let o : StationLink = opened_station_link s.selective s.extended s.window s.n2 s.t1 s.moment in
     let split : station_link_run o (steps ++ Lose side ∷ passes) ≡ station_link_run l (Lose side ∷ passes) = run_append steps (Lose side ∷ passes) o in
     let h = after_calm laws s steps free in
-    let clear : StationLink = record l { came = [] } in
-    let g = lost_fills s.window side clear (two_same side l two) (frames_from_station clear side) refl (same s.window Calm l h l.moment l.passes l.order_kept l.loss_free []) in
-    let r = (passes_keep s.window (Fills side) laws (to_r laws.back s.window side) (to_e laws.back s.window side) passes (link_behind_step (Lose side) l) p g).0 in
+    let g = lost_fills s.window side l two (frames_from_station l side) refl h in
+    let r = (passes_keep s.window (Fills side) laws (to_r laws.back s.window side) (to_e laws.back s.window side) passes (station_link_step (Lose side) l) p g).0 in
     subst IsRecovered (sym split) (emptied s.window side (station_link_run l (Lose side ∷ passes)) s.some r (subst IsEmpty split end))
-  where
-    two_same : (side : Side) (l : StationLink) → TwoWait side l → TwoWait side (record l { came = [] })
-    two_same E l h = h
-    two_same R l h = h

@@ -1,5 +1,5 @@
 -- A link whose waiting octets are frames that its stations sent: each step of an order-keeping line keeps that, and the invariant.
-use Rattle.std.proofs.Common.{◌≡◌, ℕ, ◌≤◌, Bool, not, List, [], ◌∷◌, ◌++◌, length, map, refl, sym, ◌∙◌, ap, subst, arith, append-nil}
+use Rattle.std.proofs.Common.{◌≡◌, ℕ, ◌≤◌, Bool, List, [], ◌∷◌, ◌++◌, length, map, refl, sym, ◌∙◌, ap, subst, arith, append-nil}
 use Rattle.std.proofs.lemmas.List.{map-append}
 use Rattle.hdlc_frames.specs.Framing.{Frame as Frame_found}
 use Rattle.hdlc_frames.specs.Laws.{ControlReadsBack, FlagParts, FrameAlone}
@@ -38,10 +38,6 @@ turned selective k lx x ly y line_x line_y read_x read_y h =
 pub begun : (selective : Bool) (k : ℕ) (lx : List Frame) (x : Station) (ly : List Frame) (y : Station) (line_x line_y : List (List ℕ)) (read_x read_y : List ℕ)
     → Stands selective k lx x ly y line_x line_y read_x read_y → Both selective k lx x ly y
 begun selective k lx x ly y line_x line_y read_x read_y h = subst (λ (t : List Frame). IsStationPair selective k (lx ++ t) x ly y) (sym h.quiet_x) (subst (λ (t : List Frame). IsStationPair selective k t x ly y) (sym (append-nil lx)) h.pair)
-
--- a call keeps the role and the modulo
-same_calling : (b c d : Bool) → b ≡ not c → d ≡ not c → d ≡ b
-same_calling b c d h g = g ∙ sym h
 
 -- x did something: before it, lx waited; behind it, what it said stands behind
 pub acted : (selective : Bool) (k : ℕ) (lx : List Frame) (x : Station) (ly : List Frame) (y : Station) (line_x line_y : List (List ℕ)) (read_x read_y : List ℕ)

@@ -1,5 +1,5 @@
 -- The law of recovery: the tick sends again all that is unacknowledged, and once no frame waits behind it, all was taken.
-use Rattle.std.proofs.Common.{◌≡◌, ℕ, ◌<◌, ◌≤◌, inl, inr, max, Bool, true, false, not, ◌&&◌, ◌||◌, List, [], ◌∷◌, ◌++◌, length, None, refl, sym, ◌∙◌, ap, subst, arith, append-nil, lt-ltb, true≢false}
+use Rattle.std.proofs.Common.{◌≡◌, ℕ, ◌<◌, ◌≤◌, inl, inr, max, Bool, true, false, ◌||◌, List, [], ◌∷◌, ◌++◌, length, None, refl, sym, ◌∙◌, ap, subst, arith, append-nil, lt-ltb, true≢false}
 use Rattle.std.specs.Prelude.{nat_lt}
 use Rattle.std.proofs.lemmas.Bool.{cases_lt}
 use Rattle.er_base.specs.declared.side.Side.TheVariants.{E, R}
@@ -8,12 +8,11 @@ use Rattle.hdlc_station_model.specs.Frames.{Frame, SetUp, Ua}
 use Rattle.hdlc_station_model.specs.Stations.{Station, is_up, is_down, settled}
 use Rattle.hdlc_station_model.specs.Selective.{held_for, is_found}
 use Rattle.hdlc_station_model.specs.Calls.{finishes, ticks}
-use Rattle.hdlc_station_model.specs.Events.{is_late}
 use Rattle.hdlc_pair_laws.specs.Links.{StationLink, opened_station_link}
-use Rattle.hdlc_pair_laws.specs.Steps.{StationLinkStep, Tick, tick_at, tick, link_behind_step, station_link_run}
+use Rattle.hdlc_pair_laws.specs.Steps.{StationLinkStep, Tick, tick_at, tick, station_link_step, station_link_run}
 use Rattle.hdlc_pair_laws.specs.Laws.{StationLinkOpening, after, IsEmpty}
 use Rattle.hdlc_pair_laws.specs.Invariant.{IsStationPair}
-use Rattle.hdlc_pair_laws.specs.Recovery.{ArePasses, AreLive, IsRecovered, Recovery}
+use Rattle.hdlc_pair_laws.specs.Recovery.{ArePasses, AreLive, GoOn, IsRecovered, Recovery}
 use Rattle.hdlc_station_model.specs.Repeating.{MayRepeat}
 use Rattle.hdlc_pair_laws.specs.Timers.{IsRenewed, Renewal}
 use Rattle.hdlc_pair_laws.specs.Mending.{Timed, Own, Rested, HasAllSentComing, Mends, HalfTicked, Ticked, Reached}
@@ -21,7 +20,7 @@ use Rattle.hdlc_pair_laws.specs.Repairs.{IsMended}
 use Rattle.hdlc_pair_laws.proofs.Ways.{way_bounds}
 use Rattle.hdlc_pair_laws.proofs.Events.{finishes_keeps, ticks_keeps}
 use Rattle.hdlc_pair_laws.proofs.Lines.{none_on_line}
-use Rattle.hdlc_pair_laws.proofs.Runs.{Frames}
+use Rattle.hdlc_pair_laws.proofs.Runs.{Frames, at_moment}
 use Rattle.hdlc_pair_laws.proofs.Delivered.{all_sent, whole}
 use Rattle.hdlc_pair_laws.proofs.Telling.{phases_stay, ticks_tell}
 use Rattle.hdlc_pair_laws.proofs.SoundCalls.{ticks_leaves}
@@ -36,39 +35,39 @@ use Rattle.hdlc_pair_laws.proofs.Ticks.{calling_ticks, called_ticks}
 abbrev HalfRecovers : Claim
 HalfRecovers selective fe e fr r = Reached HalfTicked selective true fe e fr r
 
-e_ticks : (wd : ℕ) (l : StationLink) (now : ℕ) → Sound wd l → AreLive l → IsEmpty l → MayRepeat now l.e → Sounds wd HalfRecovers (tick_at E now l)
-e_ticks wd l now g live empty may =
-    let t : Station = ticks now l.e in
+e_ticks : (wd : ℕ) (l : StationLink) → Sound wd l → AreLive l → IsEmpty l → MayRepeat l.moment l.e → Sounds wd HalfRecovers (tick_at E l)
+e_ticks wd l g live empty may =
+    let t : Station = ticks l.moment l.e in
     let x : Station = finishes t in
     let ne : g.fe ≡ [] = none_on_line l.e g.fe (sym empty.0 ∙ g.stands.lined_x) in
     let nr : g.fr ≡ [] = none_on_line l.r g.fr (sym empty.1 ∙ g.stands.lined_y) in
     e_does wd NoClaim HalfRecovers l g x
-    (finishes_keeps l.selective g.k g.fe t g.fr l.r (ticks_keeps l.selective g.k g.fe now l.e g.fr l.r (e_ready wd NoClaim l g)))
-    (ticks_leaves true wd g.fe now l.e g.stands.pair.0.0.given (e_own wd NoClaim l g))
-    (λ idle. ap is_up (phases_stay.finishes t) ∙ ticks_tell.asleep now l.e (g.first idle))
+    (finishes_keeps l.selective g.k g.fe t g.fr l.r (ticks_keeps l.selective g.k g.fe l.moment l.e g.fr l.r (e_ready wd NoClaim l g)))
+    (ticks_leaves true wd g.fe l.moment l.e g.stands.pair.0.0.given (e_own wd NoClaim l g))
+    (λ idle. ap is_up (phases_stay.finishes t) ∙ ticks_tell.asleep l.moment l.e (g.first idle))
     (settled_reached HalfTicked l.selective true (g.fe ++ x.said) x g.fr l.r
     (finished_reached HalfTicked l.selective true g.fe t g.fr l.r tt
-    (calling_ticks l.selective g.k wd g.fe now l.e g.fr l.r ne nr g.stands.quiet_x g.stands.pair g.own_e g.own_r g.rests_e g.rests_r (g.first, g.begun) live.0 live.1 may)))
+    (calling_ticks l.selective g.k wd g.fe l.moment l.e g.fr l.r ne nr g.stands.quiet_x g.stands.pair g.own_e g.own_r g.rests_e g.rests_r (g.first, g.begun) live.0 live.1 may)))
 
-r_ticks : (wd : ℕ) (l : StationLink) (now : ℕ) → Sounds wd HalfRecovers l → MayRepeat now l.r → Sounds wd Recovers (tick_at R now l)
-r_ticks wd l now g may =
-    let t : Station = ticks now l.r in
+r_ticks : (wd : ℕ) (l : StationLink) → Sounds wd HalfRecovers l → MayRepeat l.moment l.r → Sounds wd Recovers (tick_at R l)
+r_ticks wd l g may =
+    let t : Station = ticks l.moment l.r in
     let x : Station = finishes t in
     let h = turned_reached HalfTicked l.selective true g.fe l.e g.fr l.r g.claim in
     let unsaid : g.fr ++ l.r.said ≡ g.fr = ap (λ (v : List Frame). g.fr ++ v) g.stands.quiet_y ∙ append-nil g.fr in
     r_does wd HalfRecovers Recovers l g x
-    (finishes_keeps l.selective g.k g.fr t g.fe l.e (ticks_keeps l.selective g.k g.fr now l.r g.fe l.e (r_ready wd HalfRecovers l g)))
-    (ticks_leaves false wd g.fr now l.r g.stands.pair.1.0.given (r_own wd HalfRecovers l g))
+    (finishes_keeps l.selective g.k g.fr t g.fe l.e (ticks_keeps l.selective g.k g.fr l.moment l.r g.fe l.e (r_ready wd HalfRecovers l g)))
+    (ticks_leaves false wd g.fr l.moment l.r g.stands.pair.1.0.given (r_own wd HalfRecovers l g))
     (turned_reached Ticked l.selective false (g.fr ++ x.said) (settled x) g.fe l.e (settled_reached Ticked l.selective false (g.fr ++ x.said) x g.fe l.e
     (finished_reached Ticked l.selective false g.fr t g.fe l.e tt
-    (called_ticks l.selective g.k wd g.fr now l.r g.fe l.e g.stands.quiet_y (r_ready wd HalfRecovers l g) g.own_r
+    (called_ticks l.selective g.k wd g.fr l.moment l.r g.fe l.e g.stands.quiet_y (r_ready wd HalfRecovers l g) g.own_r
     (subst (λ (v : List Frame). Reached HalfTicked l.selective false v l.r g.fe l.e) (sym unsaid) h) may))))
 
-both_ticked : (wd : ℕ) (l : StationLink) (now : ℕ) → Sound wd l → AreLive l → IsEmpty l → MayRepeat now l.e → MayRepeat now l.r → Sounds wd Recovers (tick now l)
-both_ticked wd l now h live empty may_e may_r =
-    let first : StationLink = record l { moment = max l.moment now; loss_free = l.loss_free && not (is_late now l.e || is_late now l.r) } in
-    let g : Sound wd first = same wd NoClaim l h _ l.passes l.order_kept _ l.came in
-    r_ticks wd (tick_at E now first) now (e_ticks wd first now g live empty may_e) may_r
+both_ticked : (wd : ℕ) (l : StationLink) (now : ℕ) → Sound wd l → AreLive l → IsEmpty l → GoOn now l → Sounds wd Recovers (tick now l)
+both_ticked wd l now h live empty may =
+    let first : StationLink = at_moment (max l.moment now) l in
+    let g : Sound wd first = same wd NoClaim l h _ l.passes l.order_kept _ in
+    r_ticks wd (tick_at E first) (e_ticks wd first g live empty may.0) may.1
 
 -- ---- no frame waits any more
 
@@ -135,11 +134,11 @@ record Behind (l : StationLink) : Type 0 where
   recovered : IsRecovered l
   renewed : IsRenewed l
 
-behind : Frames → (wd : ℕ) (l : StationLink) → 1 ≤ wd → Sound wd l → AreLive l → IsEmpty l → (now : ℕ) → MayRepeat now l.e → MayRepeat now l.r
+behind : Frames → (wd : ℕ) (l : StationLink) → 1 ≤ wd → Sound wd l → AreLive l → IsEmpty l → (now : ℕ) → GoOn now l
     → (second : List StationLinkStep) → ArePasses second → IsEmpty (station_link_run l (Tick now ∷ second)) → Behind (station_link_run l (Tick now ∷ second))
-behind laws wd l some h live empty now may_e may_r second passes end =
-    let g = both_ticked wd (record l { came = [] }) now (same wd NoClaim l h l.moment l.passes l.order_kept l.loss_free []) live empty may_e may_r in
-    let r = (passes_keep wd Recovers laws (recovers_to_r laws.back wd) (recovers_to_e laws.back wd) second (link_behind_step (Tick now) l) passes g).0 in
+behind laws wd l some h live empty now may second passes end =
+    let g = both_ticked wd l now h live empty may in
+    let r = (passes_keep wd Recovers laws (recovers_to_r laws.back wd) (recovers_to_e laws.back wd) second (station_link_step (Tick now) l) passes g).0 in
     let e = emptied wd (station_link_run l (Tick now ∷ second)) some r end in
     record {
       recovered = record { e_up = e.x_up; r_up = e.y_up; at_r = e.at_y; at_e = e.at_x };
@@ -148,22 +147,22 @@ behind laws wd l some h live empty now may_e may_r second passes end =
 
 all_behind : Frames → (s : StationLinkOpening) (steps : List StationLinkStep) → (after s steps).order_kept ≡ true → AreLive (after s steps)
     → (first : List StationLinkStep) → ArePasses first → IsEmpty (after s (steps ++ first))
-    → (now : ℕ) → MayRepeat now (after s (steps ++ first)).e → MayRepeat now (after s (steps ++ first)).r
+    → (now : ℕ) → GoOn now (after s (steps ++ first))
     → (second : List StationLinkStep) → ArePasses second → IsEmpty (after s (steps ++ first ++ Tick now ∷ second))
     → Behind (after s (steps ++ first ++ Tick now ∷ second))
-all_behind laws s steps kept live first passes empty now may_e may_r second more end =
+all_behind laws s steps kept live first passes empty now may second more end =
     let o : StationLink = opened_station_link s.selective s.extended s.window s.n2 s.t1 s.moment in
     let l : StationLink = after s (steps ++ first) in
     let split : station_link_run o (steps ++ first) ≡ station_link_run (after s steps) first = run_append steps first o in
     let h = passes_sound s.window laws first (after s steps) passes (after_sound laws s steps kept) in
     let join : station_link_run o (steps ++ first ++ Tick now ∷ second) ≡ station_link_run l (Tick now ∷ second) = run_append (steps ++ first) (Tick now ∷ second) o in
     subst Behind (sym join)
-    (behind laws s.window l s.some (subst (Sound s.window) (sym split) h.0) (subst AreLive (sym split) (h.1 live)) empty now may_e may_r second more (subst IsEmpty join end))
+    (behind laws s.window l s.some (subst (Sound s.window) (sym split) h.0) (subst AreLive (sym split) (h.1 live)) empty now may second more (subst IsEmpty join end))
 
 pub recovery : Frames → Recovery
-recovery laws s steps kept live first passes empty now may_e may_r second more end =
-    (all_behind laws s steps kept live first passes empty now may_e may_r second more end).recovered
+recovery laws s steps kept live first passes empty now may second more end =
+    (all_behind laws s steps kept live first passes empty now may second more end).recovered
 
 pub renewal : Frames → Renewal
-renewal laws s steps kept live first passes empty now may_e may_r second more end =
-    (all_behind laws s steps kept live first passes empty now may_e may_r second more end).renewed
+renewal laws s steps kept live first passes empty now may second more end =
+    (all_behind laws s steps kept live first passes empty now may second more end).renewed

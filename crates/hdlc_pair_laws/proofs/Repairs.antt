@@ -4,8 +4,7 @@ use Rattle.std.proofs.Common.{if◌then◌else◌, ◌≡◌, ℕ, zero, suc, �
 use Rattle.std.specs.Prelude.{nat_le, ◌==◌}
 use Rattle.std.specs.List.{filter}
 use Rattle.std.proofs.lemmas.Bool.{cases_Bool, cases_lt, cond_both, leb-false}
-use Rattle.hdlc_station_model.specs.Stations.{Station}
-use Rattle.hdlc_station_model.specs.Selective.{held_for, is_found, is_one_of, numbers_from, missing_below}
+use Rattle.hdlc_station_model.specs.Selective.{held_for, is_found, is_one_of, numbers_from}
 use Rattle.hdlc_pair_laws.proofs.Potential.{rejections, rejections_le, passing, passing_filter, passing_all, passing_le, passing_none, passing_split}
 
 -- ---- a station with selective reject
@@ -13,9 +12,6 @@ use Rattle.hdlc_pair_laws.proofs.Potential.{rejections, rejections_le, passing, 
 -- a number isn't held, and wasn't asked for
 abbrev pub is_open : List (ℕ × List ℕ) → List ℕ → ℕ → Bool
 is_open held asked m = not (is_found (held_for m held) || is_one_of m asked)
-
-pub missing_are : (n : ℕ) (x : Station) → length (missing_below n x) ≡ passing (is_open x.held x.asked) (length x.taken) (n - length x.taken)
-missing_are n x = passing_filter (is_open x.held x.asked) (length x.taken) (n - length x.taken)
 
 not_true : (b : Bool) → not b ≡ true → b ≡ false
 not_true true h = absurd (true≢false (sym h))

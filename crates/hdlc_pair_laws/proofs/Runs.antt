@@ -1,10 +1,9 @@
 -- The steps of a link, one after the other, and the two laws of an order-keeping line.
-use Rattle.std.proofs.Common.{if◌then◌else◌, ◌≡◌, ℕ, zero, suc, ◌≤◌, inl, inr, max, Bool, true, false, not, ◌&&◌, ◌||◌, List, [], ◌∷◌, ◌++◌, length, Option, Some, None, refl, sym, ◌∙◌, ap, subst, leb-true}
-use Rattle.std.specs.Prelude.{nat_lt, nat_le, ◌==◌}
-use Rattle.std.proofs.lemmas.Bool.{cases_Bool, and_parts, cond_both}
+use Rattle.std.proofs.Common.{if◌then◌else◌, ◌≡◌, ℕ, zero, suc, ◌≤◌, max, Bool, true, false, not, ◌&&◌, ◌||◌, List, [], ◌∷◌, ◌++◌, length, Option, Some, None, refl, sym, ◌∙◌, subst, leb-true}
+use Rattle.std.specs.Prelude.{nat_lt, nat_le, ◌==◌, is_some}
+use Rattle.std.proofs.lemmas.Bool.{and_parts, cond_both}
 use Rattle.er_base.specs.declared.side.Side.{Side}
 use Rattle.er_base.specs.declared.side.Side.TheVariants.{E, R}
-use Rattle.er_base.specs.declared.release.Release.{Release}
 use Rattle.hdlc_frames.specs.Framing.{Verdict}
 use Rattle.hdlc_frames.specs.Laws.{ControlReadsBack, FlagParts, FrameAlone}
 use Rattle.hdlc_station_model.specs.Frames.{Frame, SetUp}
@@ -14,8 +13,8 @@ use Rattle.hdlc_station_model.specs.Calls.{hands, finishes, ticks}
 use Rattle.hdlc_station_model.specs.Selective.{receives_as}
 use Rattle.hdlc_station_model.specs.Events.{news, quits, is_late}
 use Rattle.hdlc_station_model.specs.Lines.{altered, next_of}
-use Rattle.hdlc_pair_laws.specs.Links.{StationLinkOutcome, RefusedLength, RefusedFull, StationLink, station_of, frames_from_station, with_frames_from_station, did, hears_each, station_link_behind_octets, opened_station_link}
-use Rattle.hdlc_pair_laws.specs.Steps.{StationLinkStep, Send, Pass, Lose, Repeat, Alter, Put, UserRelease, Drain, Tick, payload_refusal_at_side, send_unless, send, pass, lose, repeat, alter, release, tick_at, tick, is_overfull, Draining, pass_next, drained, station_link_step, link_behind_step, station_link_run}
+use Rattle.hdlc_pair_laws.specs.Links.{StationLink, frames_from_station, with_frames_from_station, did, hears_each, station_link_behind_octets, opened_station_link}
+use Rattle.hdlc_pair_laws.specs.Steps.{StationLinkStep, Send, Pass, Lose, Repeat, Alter, Put, UserRelease, Drain, Tick, may_hand_down, send, pass, lose, repeat, alter, release, tick_at, tick, is_overfull, pass_next, drained, station_link_step, station_link_run}
 use Rattle.hdlc_pair_laws.specs.Laws.{StationLinkOpening, after, Prefix, LosingLineReasons}
 use Rattle.hdlc_pair_laws.specs.Invariant.{IsStationPair, Both}
 use Rattle.hdlc_pair_laws.proofs.Events.{finishes_keeps, hands_keeps, ticks_keeps, quits_keeps}
@@ -64,27 +63,23 @@ r_begun l h = begun l.selective h.k h.fr l.r h.fe l.e l.from_r l.from_e l.read_r
 
 -- ---- sends
 
-sent_unless : (side : Side) (l : StationLink) (p : List ℕ) (o : Option StationLinkOutcome) → (o ≡ None → length p ≤ 1026) → Holds l → Holds (send_unless o side p l)
-sent_unless E l p (Some refused) short h = record { k = h.k; fe = h.fe; fr = h.fr; stands = h.stands }
-sent_unless R l p (Some refused) short h = record { k = h.k; fe = h.fe; fr = h.fr; stands = h.stands }
-sent_unless E l p None short h =
-    e_did l h (finishes (hands l.moment p l.e))
-    (finishes_keeps l.selective h.k h.fe (hands l.moment p l.e) h.fr l.r (hands_keeps l.selective h.k h.fe l.moment l.e h.fr l.r p (short refl) (e_begun l h)))
-sent_unless R l p None short h =
-    r_did l h (finishes (hands l.moment p l.r))
-    (finishes_keeps l.selective h.k h.fr (hands l.moment p l.r) h.fe l.e (hands_keeps l.selective h.k h.fr l.moment l.r h.fe l.e p (short refl) (r_begun l h)))
-
-pub refused_long : (side : Side) (s : Station) (p : List ℕ) (o : Option Release) → payload_refusal_at_side side s p o ≡ None → length p ≤ 1026
-refused_long side s p (Some release) e = absurd cc
-refused_long side s p None e =
-    elim (cases_Bool (nat_le 1 (length p) && nat_le (length p) 1026)) [
-      | inl fits ↦ leb-true (length p) 1026 (and_parts (nat_le 1 (length p)) (nat_le (length p) 1026) fits).1
-      | inr not_fits ↦ absurd (let w : Some (RefusedLength side (length p)) ≡ None = sym (ap (λ (b : Bool). if b then (if nat_lt (waiting s) 16 then None else Some (RefusedFull side (waiting s))) else Some (RefusedLength side (length p))) not_fits) ∙ e in let u : ⊥ = cc in u)
-    ]
+pub short_enough : (p : List ℕ) (s : Station) → may_hand_down p s ≡ true → length p ≤ 1026
+short_enough p s e =
+    let fits : Bool = nat_le 1 (length p) && nat_le (length p) 1026 in
+    let both = and_parts (not (is_some s.released)) fits (and_parts (not (is_some s.released) && fits) (nat_lt (waiting s) 16) e).0 in
+    leb-true (length p) 1026 (and_parts (nat_le 1 (length p)) (nat_le (length p) 1026) both.1).1
 
 pub send_holds : (side : Side) (l : StationLink) (p : List ℕ) → Holds l → Holds (send side p l)
-send_holds side l p h =
-    sent_unless side l p (payload_refusal_at_side side (station_of l side) p (station_of l side).released) (refused_long side (station_of l side) p (station_of l side).released) h
+send_holds E l p h =
+    cond_both (may_hand_down p l.e) (did E (finishes (hands l.moment p l.e)) l) l Holds
+    (λ may. e_did l h (finishes (hands l.moment p l.e))
+    (finishes_keeps l.selective h.k h.fe (hands l.moment p l.e) h.fr l.r (hands_keeps l.selective h.k h.fe l.moment l.e h.fr l.r p (short_enough p l.e may) (e_begun l h))))
+    (λ refused. h)
+send_holds R l p h =
+    cond_both (may_hand_down p l.r) (did R (finishes (hands l.moment p l.r)) l) l Holds
+    (λ may. r_did l h (finishes (hands l.moment p l.r))
+    (finishes_keeps l.selective h.k h.fr (hands l.moment p l.r) h.fe l.e (hands_keeps l.selective h.k h.fr l.moment l.r h.fe l.e p (short_enough p l.r may) (r_begun l h))))
+    (λ refused. h)
 
 -- ---- a frame is passed
 
@@ -118,11 +113,11 @@ r_first laws l octets rest e h f passes =
     (record { k = h.k; fe = h.fe ++ x.said; fr = f.frames; stands = a }))
 
 e_passed : Frames → (l : StationLink) (line : List (List ℕ)) → l.from_e ≡ line → Holds l → Holds (pass E line l)
-e_passed laws l [] e h = record { k = h.k; fe = h.fe; fr = h.fr; stands = h.stands }
+e_passed laws l [] e h = h
 e_passed laws l (octets ∷ rest) e h = e_first laws l octets rest e h (first_of_line l.e octets rest h.fe (sym e ∙ h.stands.lined_x)) _
 
 r_passed : Frames → (l : StationLink) (line : List (List ℕ)) → l.from_r ≡ line → Holds l → Holds (pass R line l)
-r_passed laws l [] e h = record { k = h.k; fe = h.fe; fr = h.fr; stands = h.stands }
+r_passed laws l [] e h = h
 r_passed laws l (octets ∷ rest) e h = r_first laws l octets rest e h (first_of_line l.r octets rest h.fr (sym e ∙ h.stands.lined_y)) _
 
 pub pass_holds : Frames → (side : Side) (l : StationLink) → Holds l → Holds (pass side (frames_from_station l side) l)
@@ -132,7 +127,7 @@ pass_holds laws R l h = r_passed laws l l.from_r refl h
 -- ---- a frame is lost or repeated
 
 e_lost : (l : StationLink) (line : List (List ℕ)) → l.from_e ≡ line → Holds l → Holds (lose E line l)
-e_lost l [] e h = record { k = h.k; fe = h.fe; fr = h.fr; stands = h.stands }
+e_lost l [] e h = h
 e_lost l (octets ∷ rest) e h =
     let f = first_of_line l.e octets rest h.fe (sym e ∙ h.stands.lined_x) in
     let t = turned l.selective h.k h.fe l.e h.fr l.r l.from_e l.from_r l.read_e l.read_r h.stands in
@@ -144,13 +139,13 @@ e_lost l (octets ∷ rest) e h =
     }
 
 r_lost : (l : StationLink) (line : List (List ℕ)) → l.from_r ≡ line → Holds l → Holds (lose R line l)
-r_lost l [] e h = record { k = h.k; fe = h.fe; fr = h.fr; stands = h.stands }
+r_lost l [] e h = h
 r_lost l (octets ∷ rest) e h =
     let f = first_of_line l.r octets rest h.fr (sym e ∙ h.stands.lined_y) in
     record { k = h.k; fe = h.fe; fr = f.frames; stands = lost l.selective h.k h.fe l.e h.fr l.r l.from_e l.from_r l.read_e l.read_r octets rest h.stands f }
 
 e_repeated : (l : StationLink) (line : List (List ℕ)) → l.from_e ≡ line → Holds l → Holds (repeat E line l)
-e_repeated l [] e h = record { k = h.k; fe = h.fe; fr = h.fr; stands = h.stands }
+e_repeated l [] e h = h
 e_repeated l (octets ∷ rest) e h =
     let f = first_of_line l.e octets rest h.fe (sym e ∙ h.stands.lined_x) in
     let t = turned l.selective h.k h.fe l.e h.fr l.r l.from_e l.from_r l.read_e l.read_r h.stands in
@@ -163,7 +158,7 @@ e_repeated l (octets ∷ rest) e h =
     }
 
 r_repeated : (l : StationLink) (line : List (List ℕ)) → l.from_r ≡ line → Holds l → Holds (repeat R line l)
-r_repeated l [] e h = record { k = h.k; fe = h.fe; fr = h.fr; stands = h.stands }
+r_repeated l [] e h = h
 r_repeated l (octets ∷ rest) e h =
     let f = first_of_line l.r octets rest h.fr (sym e ∙ h.stands.lined_y) in
     record {
@@ -189,31 +184,35 @@ r_released l sub h =
     (λ e. r_did (record l { loss_free = false }) (record { k = h.k; fe = h.fe; fr = h.fr; stands = h.stands }) (quits sub l.r)
     (quits_keeps l.selective h.k h.fr l.r h.fe l.e sub (r_begun l h)))
 
-e_ticked : (l : StationLink) (now : ℕ) → Holds l → Holds (tick_at E now l)
-e_ticked l now h = e_did l h (finishes (ticks now l.e))
-    (finishes_keeps l.selective h.k h.fe (ticks now l.e) h.fr l.r (ticks_keeps l.selective h.k h.fe now l.e h.fr l.r (e_begun l h)))
+e_ticked : (l : StationLink) → Holds l → Holds (tick_at E l)
+e_ticked l h = e_did l h (finishes (ticks l.moment l.e))
+    (finishes_keeps l.selective h.k h.fe (ticks l.moment l.e) h.fr l.r (ticks_keeps l.selective h.k h.fe l.moment l.e h.fr l.r (e_begun l h)))
 
-r_ticked : (l : StationLink) (now : ℕ) → Holds l → Holds (tick_at R now l)
-r_ticked l now h = r_did l h (finishes (ticks now l.r))
-    (finishes_keeps l.selective h.k h.fr (ticks now l.r) h.fe l.e (ticks_keeps l.selective h.k h.fr now l.r h.fe l.e (r_begun l h)))
+r_ticked : (l : StationLink) → Holds l → Holds (tick_at R l)
+r_ticked l h = r_did l h (finishes (ticks l.moment l.r))
+    (finishes_keeps l.selective h.k h.fr (ticks l.moment l.r) h.fe l.e (ticks_keeps l.selective h.k h.fr l.moment l.r h.fe l.e (r_begun l h)))
+
+-- a link at this moment, before its ends tick
+abbrev pub at_moment : ℕ → StationLink → StationLink
+at_moment to l = record l { moment = to; loss_free = l.loss_free && not (is_late to l.e || is_late to l.r) }
 
 tick_holds : (l : StationLink) (now : ℕ) → Holds l → Holds (tick now l)
 tick_holds l now h =
-    let first : StationLink = record l { moment = max l.moment now; loss_free = l.loss_free && not (is_late now l.e || is_late now l.r) } in
-    r_ticked (tick_at E now first) now (e_ticked first now (record { k = h.k; fe = h.fe; fr = h.fr; stands = h.stands }))
+    let first : StationLink = at_moment (max l.moment now) l in
+    r_ticked (tick_at E first) (e_ticked first (record { k = h.k; fe = h.fe; fr = h.fr; stands = h.stands }))
 
 -- ---- a drain
 
-next_holds : Frames → (side : Option Side) (overfull : Bool) (d : Draining) → Holds d.link → Holds (pass_next side overfull d).link
-next_holds laws None overfull d h = h
-next_holds laws (Some side) true d h = h
-next_holds laws (Some side) false d h = pass_holds laws side d.link h
+next_holds : Frames → (side : Option Side) (overfull : Bool) (l : StationLink) → Holds l → Holds (pass_next side overfull l)
+next_holds laws None overfull l h = h
+next_holds laws (Some side) true l h = h
+next_holds laws (Some side) false l h = pass_holds laws side l h
 
-pub drained_holds : Frames → (most : ℕ) (d : Draining) → Holds d.link → Holds (drained most d).link
-drained_holds laws zero d h = h
-drained_holds laws (suc most) d h =
-    drained_holds laws most (pass_next (next_of d.link.from_e d.link.from_r) (is_overfull d.link) d)
-    (next_holds laws (next_of d.link.from_e d.link.from_r) (is_overfull d.link) d h)
+pub drained_holds : Frames → (most : ℕ) (l : StationLink) → Holds l → Holds (drained most l)
+drained_holds laws zero l h = h
+drained_holds laws (suc most) l h =
+    let next : Option Side = next_of l.from_e l.from_r in
+    drained_holds laws most (pass_next next (is_overfull l) l) (next_holds laws next (is_overfull l) l h)
 
 -- ---- no frame was altered or put in, before a step where it is so behind it
 
@@ -228,21 +227,20 @@ passed_kept R [] l = refl
 passed_kept E (octets ∷ rest) l = heard_kept R (news l.read_r octets) _
 passed_kept R (octets ∷ rest) l = heard_kept E (news l.read_e octets) _
 
-next_kept : (side : Option Side) (overfull : Bool) (d : Draining) → (pass_next side overfull d).link.order_kept ≡ d.link.order_kept
-next_kept None overfull d = refl
-next_kept (Some side) true d = refl
-next_kept (Some side) false d = passed_kept side (frames_from_station d.link side) d.link
+next_kept : (side : Option Side) (overfull : Bool) (l : StationLink) → (pass_next side overfull l).order_kept ≡ l.order_kept
+next_kept None overfull l = refl
+next_kept (Some side) true l = refl
+next_kept (Some side) false l = passed_kept side (frames_from_station l side) l
 
-pub drained_kept : (most : ℕ) (d : Draining) → (drained most d).link.order_kept ≡ d.link.order_kept
-drained_kept zero d = refl
-drained_kept (suc most) d =
-    drained_kept most (pass_next (next_of d.link.from_e d.link.from_r) (is_overfull d.link) d) ∙ next_kept (next_of d.link.from_e d.link.from_r) (is_overfull d.link) d
+pub drained_kept : (most : ℕ) (l : StationLink) → (drained most l).order_kept ≡ l.order_kept
+drained_kept zero l = refl
+drained_kept (suc most) l =
+    let next : Option Side = next_of l.from_e l.from_r in
+    drained_kept most (pass_next next (is_overfull l) l) ∙ next_kept next (is_overfull l) l
 
-pub sent_kept : (side : Side) (p : List ℕ) (l : StationLink) (o : Option StationLinkOutcome) → (send_unless o side p l).order_kept ≡ l.order_kept
-sent_kept E p l None = refl
-sent_kept R p l None = refl
-sent_kept E p l (Some refused) = refl
-sent_kept R p l (Some refused) = refl
+pub sent_kept : (side : Side) (p : List ℕ) (l : StationLink) → (send side p l).order_kept ≡ l.order_kept
+sent_kept E p l = cond_both (may_hand_down p l.e) (did E (finishes (hands l.moment p l.e)) l) l (λ t. t.order_kept ≡ l.order_kept) (λ e. refl) (λ e. refl)
+sent_kept R p l = cond_both (may_hand_down p l.r) (did R (finishes (hands l.moment p l.r)) l) l (λ t. t.order_kept ≡ l.order_kept) (λ e. refl) (λ e. refl)
 
 pub lost_kept : (side : Side) (line : List (List ℕ)) (l : StationLink) → (lose side line l).order_kept ≡ l.order_kept
 lost_kept side [] l = refl
@@ -267,24 +265,23 @@ abbrev pub Kept : StationLink → Type 0
 Kept l = l.order_kept ≡ true → Holds l
 
 e_altered : (place mask : ℕ) (line : List (List ℕ)) (l : StationLink) → Kept l → Kept (alter E place mask line l)
-e_altered place mask [] l h = λ e. let g = h e in record { k = g.k; fe = g.fe; fr = g.fr; stands = g.stands }
+e_altered place mask [] l h = h
 e_altered place mask (octets ∷ rest) l h =
     cond_both (nat_lt place (length octets))
     (if mask == 0 then l else with_frames_from_station E (altered octets place mask ∷ rest) (record l { order_kept = false; loss_free = false })) _ Kept
     (λ in_frame. cond_both (mask == 0) l (with_frames_from_station E (altered octets place mask ∷ rest) (record l { order_kept = false; loss_free = false })) Kept (λ none. h) (λ some e. absurd cc))
-    (λ short e. let g = h e in record { k = g.k; fe = g.fe; fr = g.fr; stands = g.stands })
+    (λ short. h)
 
 r_altered : (place mask : ℕ) (line : List (List ℕ)) (l : StationLink) → Kept l → Kept (alter R place mask line l)
-r_altered place mask [] l h = λ e. let g = h e in record { k = g.k; fe = g.fe; fr = g.fr; stands = g.stands }
+r_altered place mask [] l h = h
 r_altered place mask (octets ∷ rest) l h =
     cond_both (nat_lt place (length octets))
     (if mask == 0 then l else with_frames_from_station R (altered octets place mask ∷ rest) (record l { order_kept = false; loss_free = false })) _ Kept
     (λ in_frame. cond_both (mask == 0) l (with_frames_from_station R (altered octets place mask ∷ rest) (record l { order_kept = false; loss_free = false })) Kept (λ none. h) (λ some e. absurd cc))
-    (λ short e. let g = h e in record { k = g.k; fe = g.fe; fr = g.fr; stands = g.stands })
+    (λ short. h)
 
 step_keeps : Frames → (s : StationLinkStep) (l : StationLink) → Kept l → Kept (station_link_step s l)
-step_keeps laws (Send side p) l h e =
-    send_holds side l p (h (sym (sent_kept side p l (payload_refusal_at_side side (station_of l side) p (station_of l side).released)) ∙ e))
+step_keeps laws (Send side p) l h e = send_holds side l p (h (sym (sent_kept side p l) ∙ e))
 step_keeps laws (Pass side) l h e = pass_holds laws side l (h (sym (passed_kept side (frames_from_station l side) l) ∙ e))
 step_keeps laws (Lose E) l h e = e_lost l l.from_e refl (h (sym (lost_kept E l.from_e l) ∙ e))
 step_keeps laws (Lose R) l h e = r_lost l l.from_r refl (h (sym (lost_kept R l.from_r l) ∙ e))
@@ -296,18 +293,12 @@ step_keeps laws (Put E octets) l h e = absurd cc
 step_keeps laws (Put R octets) l h e = absurd cc
 step_keeps laws (UserRelease E sub) l h e = e_released l sub (h (sym (released_kept E sub l) ∙ e))
 step_keeps laws (UserRelease R sub) l h e = r_released l sub (h (sym (released_kept R sub l) ∙ e))
-step_keeps laws (Drain most) l h e =
-    let g = drained_holds laws most (record { link = l; passes = 0 }) (h (sym (drained_kept most (record { link = l; passes = 0 })) ∙ e)) in
-    record { k = g.k; fe = g.fe; fr = g.fr; stands = g.stands }
+step_keeps laws (Drain most) l h e = drained_holds laws most l (h (sym (drained_kept most l) ∙ e))
 step_keeps laws (Tick moment) l h e = tick_holds l moment (h e)
-
-pub happens_keeps : Frames → (s : StationLinkStep) (l : StationLink) → Kept l → Kept (link_behind_step s l)
-happens_keeps laws s l h =
-    step_keeps laws s (record l { came = [] }) (λ e. let g = h e in record { k = g.k; fe = g.fe; fr = g.fr; stands = g.stands })
 
 pub run_keeps : Frames → (steps : List StationLinkStep) (l : StationLink) → Kept l → Kept (station_link_run l steps)
 run_keeps laws [] l h = h
-run_keeps laws (s ∷ rest) l h = run_keeps laws rest (link_behind_step s l) (happens_keeps laws s l h)
+run_keeps laws (s ∷ rest) l h = run_keeps laws rest (station_link_step s l) (step_keeps laws s l h)
 
 -- ---- a link that was just opened
 

@@ -1,5 +1,5 @@
 -- Each step of an order-keeping line keeps what holds of each station alone; while frames are given alone, no live end is released.
-use Rattle.std.proofs.Common.{if◌then◌else◌, ◌≡◌, ℕ, zero, suc, ◌≤◌, inl, max, Bool, true, false, not, ◌&&◌, ◌||◌, List, [], ◌∷◌, ◌++◌, length, Option, Some, None, refl, sym, ◌∙◌, ap, subst, true≢false}
+use Rattle.std.proofs.Common.{if◌then◌else◌, ◌≡◌, ℕ, zero, suc, inl, max, Bool, true, false, List, [], ◌∷◌, ◌++◌, length, Option, Some, None, refl, sym, ◌∙◌, ap, subst, true≢false}
 use Rattle.std.specs.Prelude.{nat_lt, ◌==◌}
 use Rattle.std.proofs.lemmas.Bool.{cond_both}
 use Rattle.er_base.specs.declared.side.Side.{Side}
@@ -9,10 +9,10 @@ use Rattle.hdlc_station_model.specs.declared.phase.Phase.TheVariants.{Idle, Sett
 use Rattle.hdlc_station_model.specs.Frames.{SetUp}
 use Rattle.hdlc_station_model.specs.Stations.{Station, is_up, is_down, settled}
 use Rattle.hdlc_station_model.specs.Calls.{hands, finishes, ticks, closes_at}
-use Rattle.hdlc_station_model.specs.Events.{quits, is_late}
+use Rattle.hdlc_station_model.specs.Events.{quits}
 use Rattle.hdlc_station_model.specs.Lines.{altered, next_of}
-use Rattle.hdlc_pair_laws.specs.Links.{StationLinkOutcome, StationLink, station_of, frames_from_station, with_frames_from_station, did, opened_station_link}
-use Rattle.hdlc_pair_laws.specs.Steps.{StationLinkStep, Send, Pass, Lose, Repeat, Alter, Put, UserRelease, Drain, Tick, payload_refusal_at_side, send_unless, lose, repeat, alter, release, tick_at, tick, is_overfull, Draining, pass_next, drained, station_link_step, link_behind_step, station_link_run}
+use Rattle.hdlc_pair_laws.specs.Links.{StationLink, frames_from_station, with_frames_from_station, did, opened_station_link}
+use Rattle.hdlc_pair_laws.specs.Steps.{StationLinkStep, Send, Pass, Lose, Repeat, Alter, Put, UserRelease, Drain, Tick, may_hand_down, send, lose, repeat, alter, release, tick_at, tick, is_overfull, pass_next, drained, station_link_step, station_link_run}
 use Rattle.hdlc_pair_laws.specs.Laws.{StationLinkOpening, after}
 use Rattle.hdlc_pair_laws.specs.Timers.{TimedAt, TimersRun}
 use Rattle.hdlc_pair_laws.specs.Recovery.{ArePasses, AreLive, PassesRelease}
@@ -20,7 +20,7 @@ use Rattle.hdlc_pair_laws.specs.Mending.{Own, Timed}
 use Rattle.hdlc_pair_laws.proofs.Events.{finishes_keeps, hands_keeps, ticks_keeps, quits_keeps}
 use Rattle.hdlc_pair_laws.proofs.Lines.{turned, first_of_line, lost, repeated}
 use Rattle.hdlc_pair_laws.proofs.Opened.{span_of, opened_stands}
-use Rattle.hdlc_pair_laws.proofs.Runs.{Frames, refused_long, passed_kept, drained_kept, sent_kept, lost_kept, repeated_kept, released_kept}
+use Rattle.hdlc_pair_laws.proofs.Runs.{Frames, short_enough, at_moment, passed_kept, drained_kept, sent_kept, lost_kept, repeated_kept, released_kept}
 use Rattle.hdlc_pair_laws.proofs.Telling.{phases_stay, ticks_tell}
 use Rattle.hdlc_pair_laws.proofs.SoundCalls.{hands_leaves, ticks_leaves, quits_leaves}
 use Rattle.hdlc_pair_laws.proofs.Sounds.{Claim, Sounds, own_gone, own_twice, e_does, r_does, e_ready, r_ready, e_own, r_own, same, ToR, ToE, passed, passes_keep}
@@ -33,23 +33,22 @@ abbrev pub Sound : (window : ℕ) → StationLink → Type 0
 Sound window l = Sounds window NoClaim l
 
 module _ (wd : ℕ) where
-  same_sound : (l : StationLink) (came : List StationLinkOutcome) → Sound wd l → Sound wd (record l { came = came })
-  same_sound l came h = same wd NoClaim l h l.moment l.passes l.order_kept l.loss_free came
-
   -- ---- sends
 
-  sent_sound : (side : Side) (l : StationLink) (p : List ℕ) (o : Option StationLinkOutcome) → (o ≡ None → length p ≤ 1026) → Sound wd l → Sound wd (send_unless o side p l)
-  sent_sound E l p (Some refused) short h = same_sound l _ h
-  sent_sound R l p (Some refused) short h = same_sound l _ h
-  sent_sound E l p None short h =
-      e_does wd NoClaim NoClaim l h (finishes (hands l.moment p l.e))
-      (finishes_keeps l.selective h.k h.fe (hands l.moment p l.e) h.fr l.r (hands_keeps l.selective h.k h.fe l.moment l.e h.fr l.r p (short refl) (e_ready wd NoClaim l h)))
+  sent_sound : (side : Side) (l : StationLink) (p : List ℕ) → Sound wd l → Sound wd (send side p l)
+  sent_sound E l p h =
+      cond_both (may_hand_down p l.e) (did E (finishes (hands l.moment p l.e)) l) l (Sound wd)
+      (λ may. e_does wd NoClaim NoClaim l h (finishes (hands l.moment p l.e))
+      (finishes_keeps l.selective h.k h.fe (hands l.moment p l.e) h.fr l.r (hands_keeps l.selective h.k h.fe l.moment l.e h.fr l.r p (short_enough p l.e may) (e_ready wd NoClaim l h)))
       (hands_leaves true wd h.fe l.moment p l.e h.stands.pair.0.0.given (e_own wd NoClaim l h))
-      (λ idle. ap is_up (phases_stay.finishes (hands l.moment p l.e) ∙ phases_stay.hands l.moment p l.e) ∙ h.first idle) tt
-  sent_sound R l p None short h =
-      r_does wd NoClaim NoClaim l h (finishes (hands l.moment p l.r))
-      (finishes_keeps l.selective h.k h.fr (hands l.moment p l.r) h.fe l.e (hands_keeps l.selective h.k h.fr l.moment l.r h.fe l.e p (short refl) (r_ready wd NoClaim l h)))
-      (hands_leaves false wd h.fr l.moment p l.r h.stands.pair.1.0.given (r_own wd NoClaim l h)) tt
+      (λ idle. ap is_up (phases_stay.finishes (hands l.moment p l.e) ∙ phases_stay.hands l.moment p l.e) ∙ h.first idle) tt)
+      (λ refused. h)
+  sent_sound R l p h =
+      cond_both (may_hand_down p l.r) (did R (finishes (hands l.moment p l.r)) l) l (Sound wd)
+      (λ may. r_does wd NoClaim NoClaim l h (finishes (hands l.moment p l.r))
+      (finishes_keeps l.selective h.k h.fr (hands l.moment p l.r) h.fe l.e (hands_keeps l.selective h.k h.fr l.moment l.r h.fe l.e p (short_enough p l.r may) (r_ready wd NoClaim l h)))
+      (hands_leaves false wd h.fr l.moment p l.r h.stands.pair.1.0.given (r_own wd NoClaim l h)) tt)
+      (λ refused. h)
 
   -- ---- a frame is passed
 
@@ -65,7 +64,7 @@ module _ (wd : ℕ) where
   -- ---- a frame is lost or repeated
 
   lost_sound : (side : Side) (l : StationLink) (line : List (List ℕ)) → frames_from_station l side ≡ line → Sound wd l → Sound wd (lose side line l)
-  lost_sound side l [] e h = same_sound l _ h
+  lost_sound side l [] e h = h
   lost_sound E l (octets ∷ rest) e h =
       let f = first_of_line l.e octets rest h.fe (sym e ∙ h.stands.lined_x) in
       let t = turned l.selective h.k h.fe l.e h.fr l.r l.from_e l.from_r l.read_e l.read_r h.stands in
@@ -101,7 +100,7 @@ module _ (wd : ℕ) where
       }
 
   repeated_sound : (side : Side) (l : StationLink) (line : List (List ℕ)) → frames_from_station l side ≡ line → Sound wd l → Sound wd (repeat side line l)
-  repeated_sound side l [] e h = same_sound l _ h
+  repeated_sound side l [] e h = h
   repeated_sound E l (octets ∷ rest) e h =
       let f = first_of_line l.e octets rest h.fe (sym e ∙ h.stands.lined_x) in
       let t = turned l.selective h.k h.fe l.e h.fr l.r l.from_e l.from_r l.read_e l.read_r h.stands in
@@ -146,41 +145,42 @@ module _ (wd : ℕ) where
   released_sound : (side : Side) (sub : ℕ) (l : StationLink) → Sound wd l → Sound wd (release side sub l)
   released_sound E sub l h =
       let first : StationLink = record l { loss_free = false } in
-      let g : Sound wd first = same wd NoClaim l h l.moment l.passes l.order_kept false l.came in
+      let g : Sound wd first = same wd NoClaim l h l.moment l.passes l.order_kept false in
       cond_both (is_down l.e.phase) first (did E (quits sub l.e) first) (Sound wd) (λ down. g)
       (λ live. e_does wd NoClaim NoClaim first g (quits sub l.e) (quits_keeps l.selective g.k g.fe l.e g.fr l.r sub (e_ready wd NoClaim first g))
       (quits_leaves true wd g.fe sub l.e live (e_own wd NoClaim first g)) (λ idle. quits_down sub l.e live) tt)
   released_sound R sub l h =
       let first : StationLink = record l { loss_free = false } in
-      let g : Sound wd first = same wd NoClaim l h l.moment l.passes l.order_kept false l.came in
+      let g : Sound wd first = same wd NoClaim l h l.moment l.passes l.order_kept false in
       cond_both (is_down l.r.phase) first (did R (quits sub l.r) first) (Sound wd) (λ down. g)
       (λ live. r_does wd NoClaim NoClaim first g (quits sub l.r) (quits_keeps l.selective g.k g.fr l.r g.fe l.e sub (r_ready wd NoClaim first g))
       (quits_leaves false wd g.fr sub l.r live (r_own wd NoClaim first g)) tt)
 
   ticked_sound : (now : ℕ) (l : StationLink) → Sound wd l → Sound wd (tick now l)
   ticked_sound now l h =
-      let first : StationLink = record l { moment = max l.moment now; loss_free = l.loss_free && not (is_late now l.e || is_late now l.r) } in
-      let g : Sound wd first = same wd NoClaim l h _ l.passes l.order_kept _ l.came in
-      let e = e_does wd NoClaim NoClaim first g (finishes (ticks now l.e))
-      (finishes_keeps l.selective g.k g.fe (ticks now l.e) g.fr l.r (ticks_keeps l.selective g.k g.fe now l.e g.fr l.r (e_ready wd NoClaim first g)))
-      (ticks_leaves true wd g.fe now l.e g.stands.pair.0.0.given (e_own wd NoClaim first g))
-      (λ idle. ap is_up (phases_stay.finishes (ticks now l.e)) ∙ ticks_tell.asleep now l.e (g.first idle)) tt in
-      r_does wd NoClaim NoClaim (tick_at E now first) e (finishes (ticks now l.r))
-      (finishes_keeps l.selective e.k e.fr (ticks now l.r) e.fe (settled (finishes (ticks now l.e))) (ticks_keeps l.selective e.k e.fr now l.r e.fe (settled (finishes (ticks now l.e))) (r_ready wd NoClaim (tick_at E now first) e)))
-      (ticks_leaves false wd e.fr now l.r e.stands.pair.1.0.given (r_own wd NoClaim (tick_at E now first) e)) tt
+      let to : ℕ = max l.moment now in
+      let first : StationLink = at_moment to l in
+      let g : Sound wd first = same wd NoClaim l h _ l.passes l.order_kept _ in
+      let e = e_does wd NoClaim NoClaim first g (finishes (ticks to l.e))
+      (finishes_keeps l.selective g.k g.fe (ticks to l.e) g.fr l.r (ticks_keeps l.selective g.k g.fe to l.e g.fr l.r (e_ready wd NoClaim first g)))
+      (ticks_leaves true wd g.fe to l.e g.stands.pair.0.0.given (e_own wd NoClaim first g))
+      (λ idle. ap is_up (phases_stay.finishes (ticks to l.e)) ∙ ticks_tell.asleep to l.e (g.first idle)) tt in
+      r_does wd NoClaim NoClaim (tick_at E first) e (finishes (ticks to l.r))
+      (finishes_keeps l.selective e.k e.fr (ticks to l.r) e.fe (settled (finishes (ticks to l.e))) (ticks_keeps l.selective e.k e.fr to l.r e.fe (settled (finishes (ticks to l.e))) (r_ready wd NoClaim (tick_at E first) e)))
+      (ticks_leaves false wd e.fr to l.r e.stands.pair.1.0.given (r_own wd NoClaim (tick_at E first) e)) tt
 
   -- ---- a drain
 
-  next_sound : Frames → (side : Option Side) (overfull : Bool) (d : Draining) → Sound wd d.link → Sound wd (pass_next side overfull d).link
-  next_sound laws None overfull d h = h
-  next_sound laws (Some side) true d h = h
-  next_sound laws (Some side) false d h = (passed wd NoClaim laws to_r to_e side d.link h).0
+  next_sound : Frames → (side : Option Side) (overfull : Bool) (l : StationLink) → Sound wd l → Sound wd (pass_next side overfull l)
+  next_sound laws None overfull l h = h
+  next_sound laws (Some side) true l h = h
+  next_sound laws (Some side) false l h = (passed wd NoClaim laws to_r to_e side l h).0
 
-  drained_sound : Frames → (most : ℕ) (d : Draining) → Sound wd d.link → Sound wd (drained most d).link
-  drained_sound laws zero d h = h
-  drained_sound laws (suc most) d h =
-      drained_sound laws most (pass_next (next_of d.link.from_e d.link.from_r) (is_overfull d.link) d)
-      (next_sound laws (next_of d.link.from_e d.link.from_r) (is_overfull d.link) d h)
+  drained_sound : Frames → (most : ℕ) (l : StationLink) → Sound wd l → Sound wd (drained most l)
+  drained_sound laws zero l h = h
+  drained_sound laws (suc most) l h =
+      let next : Option Side = next_of l.from_e l.from_r in
+      drained_sound laws most (pass_next next (is_overfull l) l) (next_sound laws next (is_overfull l) l h)
 
   -- ---- the steps
 
@@ -193,32 +193,28 @@ module _ (wd : ℕ) where
   changed_sound R frames l = λ e. absurd cc
 
   altered_sound : (side : Side) (place mask : ℕ) (line : List (List ℕ)) (l : StationLink) → Kept l → Kept (alter side place mask line l)
-  altered_sound side place mask [] l h = λ e. same_sound l _ (h e)
+  altered_sound side place mask [] l h = h
   altered_sound side place mask (octets ∷ rest) l h =
       cond_both (nat_lt place (length octets))
       (if mask == 0 then l else with_frames_from_station side (altered octets place mask ∷ rest) (record l { order_kept = false; loss_free = false })) _ Kept
       (λ in_frame. cond_both (mask == 0) l (with_frames_from_station side (altered octets place mask ∷ rest) (record l { order_kept = false; loss_free = false })) Kept
       (λ none. h) (λ some. changed_sound side (altered octets place mask ∷ rest) l))
-      (λ short e. same_sound l _ (h e))
+      (λ short. h)
 
   step_sound : Frames → (s : StationLinkStep) (l : StationLink) → Kept l → Kept (station_link_step s l)
-  step_sound laws (Send side p) l h e =
-      sent_sound side l p (payload_refusal_at_side side (station_of l side) p (station_of l side).released) (refused_long side (station_of l side) p (station_of l side).released)
-      (h (sym (sent_kept side p l (payload_refusal_at_side side (station_of l side) p (station_of l side).released)) ∙ e))
+  step_sound laws (Send side p) l h e = sent_sound side l p (h (sym (sent_kept side p l) ∙ e))
   step_sound laws (Pass side) l h e = (passed wd NoClaim laws to_r to_e side l (h (sym (passed_kept side (frames_from_station l side) l) ∙ e))).0
   step_sound laws (Lose side) l h e = lost_sound side l (frames_from_station l side) refl (h (sym (lost_kept side (frames_from_station l side) l) ∙ e))
   step_sound laws (Repeat side) l h e = repeated_sound side l (frames_from_station l side) refl (h (sym (repeated_kept side (frames_from_station l side) l) ∙ e))
   step_sound laws (Alter side place mask) l h e = altered_sound side place mask (frames_from_station l side) l h e
   step_sound laws (Put side octets) l h e = changed_sound side (octets ∷ frames_from_station l side) l e
   step_sound laws (UserRelease side sub) l h e = released_sound side sub l (h (sym (released_kept side sub l) ∙ e))
-  step_sound laws (Drain most) l h e =
-      same_sound (drained most (record { link = l; passes = 0 })).link _
-      (drained_sound laws most (record { link = l; passes = 0 }) (h (sym (drained_kept most (record { link = l; passes = 0 })) ∙ e)))
+  step_sound laws (Drain most) l h e = drained_sound laws most l (h (sym (drained_kept most l) ∙ e))
   step_sound laws (Tick moment) l h e = ticked_sound moment l (h e)
 
   run_sound : Frames → (steps : List StationLinkStep) (l : StationLink) → Kept l → Kept (station_link_run l steps)
   run_sound laws [] l h = h
-  run_sound laws (s ∷ rest) l h = run_sound laws rest (link_behind_step s l) (step_sound laws s (record l { came = [] }) (λ e. same_sound l [] (h e)))
+  run_sound laws (s ∷ rest) l h = run_sound laws rest (station_link_step s l) (step_sound laws s l h)
 
 -- ---- a link that was just opened
 
@@ -249,7 +245,7 @@ after_sound laws s steps = run_sound s.window laws steps (opened_station_link s.
 
 pub run_append : (a b : List StationLinkStep) (l : StationLink) → station_link_run l (a ++ b) ≡ station_link_run (station_link_run l a) b
 run_append [] b l = refl
-run_append (s ∷ a) b l = run_append a b (link_behind_step s l)
+run_append (s ∷ a) b l = run_append a b (station_link_step s l)
 
 pub passes_release : Frames → PassesRelease
 passes_release laws s steps kept live passes p =

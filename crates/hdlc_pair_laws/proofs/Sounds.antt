@@ -7,8 +7,8 @@ use Rattle.hdlc_frames.specs.Framing.{Verdict}
 use Rattle.hdlc_station_model.specs.declared.phase.Phase.TheVariants.{Idle}
 use Rattle.hdlc_station_model.specs.Frames.{Frame}
 use Rattle.hdlc_station_model.specs.Stations.{Station, is_up, settled}
-use Rattle.hdlc_pair_laws.specs.Links.{StationLinkOutcome, StationLink, frames_from_station, did, hears_each, station_link_behind_octets}
-use Rattle.hdlc_pair_laws.specs.Steps.{StationLinkStep, Send, Pass, Lose, Repeat, Alter, Put, UserRelease, Drain, Tick, pass, link_behind_step, station_link_run}
+use Rattle.hdlc_pair_laws.specs.Links.{StationLink, frames_from_station, did, hears_each, station_link_behind_octets}
+use Rattle.hdlc_pair_laws.specs.Steps.{StationLinkStep, Send, Pass, Lose, Repeat, Alter, Put, UserRelease, Drain, Tick, pass, station_link_step, station_link_run}
 use Rattle.hdlc_pair_laws.specs.Invariant.{IsStationPair, Both}
 use Rattle.hdlc_pair_laws.specs.Recovery.{ArePasses, AreLive}
 use Rattle.hdlc_pair_laws.specs.Mending.{Own, Rested}
@@ -103,9 +103,9 @@ module _ (wd : ℕ) (Q : Claim) where
   r_own l h = own_begun false wd h.fr l.r h.stands.quiet_y h.own_r
 
   -- the parts of a link that nothing is claimed of
-  pub same : (l : StationLink) (h : Sounds wd Q l) (moment passes : ℕ) (order_kept loss_free : Bool) (came : List StationLinkOutcome)
-      → Sounds wd Q (record l { moment = moment; passes = passes; order_kept = order_kept; loss_free = loss_free; came = came })
-  same l h moment passes order_kept loss_free came =
+  pub same : (l : StationLink) (h : Sounds wd Q l) (moment passes : ℕ) (order_kept loss_free : Bool)
+      → Sounds wd Q (record l { moment = moment; passes = passes; order_kept = order_kept; loss_free = loss_free })
+  same l h moment passes order_kept loss_free =
       record { k = h.k; fe = h.fe; fr = h.fr; stands = h.stands; own_e = h.own_e; own_r = h.own_r; rests_e = h.rests_e; rests_r = h.rests_r; first = h.first; wide = h.wide; begun = h.begun; claim = h.claim }
 
   -- ---- a frame is passed
@@ -193,11 +193,11 @@ module _ (wd : ℕ) (Q : Claim) where
       ))
 
   e_passed : Frames → ToR → (l : StationLink) (line : List (List ℕ)) → l.from_e ≡ line → Sounds wd Q l → Gone l (pass E line l)
-  e_passed laws keeps l [] e h = (same l h l.moment l.passes l.order_kept l.loss_free _, λ live. live)
+  e_passed laws keeps l [] e h = (h, λ live. live)
   e_passed laws keeps l (octets ∷ rest) e h = e_first laws keeps l octets rest e h (first_of_line l.e octets rest h.fe (sym e ∙ h.stands.lined_x)) _
 
   r_passed : Frames → ToE → (l : StationLink) (line : List (List ℕ)) → l.from_r ≡ line → Sounds wd Q l → Gone l (pass R line l)
-  r_passed laws keeps l [] e h = (same l h l.moment l.passes l.order_kept l.loss_free _, λ live. live)
+  r_passed laws keeps l [] e h = (h, λ live. live)
   r_passed laws keeps l (octets ∷ rest) e h = r_first laws keeps l octets rest e h (first_of_line l.r octets rest h.fr (sym e ∙ h.stands.lined_y)) _
 
   pub passed : Frames → ToR → ToE → (side : Side) (l : StationLink) → Sounds wd Q l → Gone l (pass side (frames_from_station l side) l)
@@ -208,8 +208,8 @@ module _ (wd : ℕ) (Q : Claim) where
   pub passes_keep : Frames → ToR → ToE → (passes : List StationLinkStep) (l : StationLink) → ArePasses passes → Sounds wd Q l → Gone l (station_link_run l passes)
   passes_keep laws to_r to_e [] l p h = (h, λ live. live)
   passes_keep laws to_r to_e (Pass side ∷ rest) l p h =
-      let first = passed laws to_r to_e side (record l { came = [] }) (same l h l.moment l.passes l.order_kept l.loss_free []) in
-      let r = passes_keep laws to_r to_e rest (link_behind_step (Pass side) l) p.1 first.0 in
+      let first = passed laws to_r to_e side l h in
+      let r = passes_keep laws to_r to_e rest (station_link_step (Pass side) l) p.1 first.0 in
       (r.0, λ live. r.1 (first.1 live))
   passes_keep laws to_r to_e (Send side payload ∷ rest) l p h = absurd p.0
   passes_keep laws to_r to_e (Lose side ∷ rest) l p h = absurd p.0

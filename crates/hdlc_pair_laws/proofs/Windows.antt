@@ -15,7 +15,7 @@ use Rattle.hdlc_station_model.specs.Stations.{Station, is_up, is_down, sees, put
 use Rattle.hdlc_station_model.specs.Sending.{can_send, waiting, sends_next, sends_up_to, sends_waiting, sends_again, starts_timer, settles, gives_up, counts_expiry, expires_at, expires, expires_if_due, is_due, refuses_frame}
 use Rattle.hdlc_station_model.specs.Receiving.{strays, is_known_address, is_addressed, is_error, errs, number_shown_as, acknowledges, acknowledging, by_number, accepts, rejects, takes, marks_busy, repeats_rejected, agrees, sets_up_again, row_idle, row_of_phase, hears, hears_control}
 use Rattle.hdlc_station_model.specs.Selective.{is_selective_error, held_for, is_found, without_gap, takes_run, holds, says_next, files_at, files, repeats_at, repeats_one, sets_up_selective_again, selective_row, selective_hears, selective_hears_control, receives_as}
-use Rattle.hdlc_station_model.specs.Calls.{starts_at, starts, hands, finishes, ticks, closes_at}
+use Rattle.hdlc_station_model.specs.Calls.{hands, finishes, ticks, closes_at}
 use Rattle.hdlc_station_model.specs.Events.{quits}
 use Rattle.hdlc_pair_laws.proofs.SelectiveRows.{named_at}
 use Rattle.hdlc_pair_laws.proofs.Hearing.{hears_as, received}
@@ -219,14 +219,6 @@ module _ (window : ℕ) (given : List (List ℕ)) where
       rw (received selective now v x)
       (cond_both (is_down x.phase) x (sends_waiting (hears_as selective v (sees now x))) (InWindow window given) (λ e. h)
       (λ e. waiting_in (hears_as selective v (sees now x)) (hears_as_in selective v (sees now x) h)))
-
-  pub starts_in : (now : ℕ) (x : Station) → InWindow window given x → InWindow window given (starts now x)
-  starts_in now x h =
-      cond_both (is_down x.phase) x (starts_at x.phase (sees now x)) (InWindow window given) (λ e. h) (λ e. starts_at_in x.phase (sees now x) h)
-    where
-      starts_at_in : (p : Phase) (z : Station) → InWindow window given z → InWindow window given (starts_at p z)
-      starts_at_in Idle z g = cond_both z.calling (starts_timer (puts SetUp (record z { phase = Setting }))) z (InWindow window given) (λ e. g) (λ e. g)
-      starts_at_in p z g = g
 
   pub finishes_in : (x : Station) → InWindow window given x → InWindow window given (finishes x)
   finishes_in x h =

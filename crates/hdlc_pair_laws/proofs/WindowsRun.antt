@@ -1,5 +1,5 @@
 -- What a station keeps at every call, over a list of steps.
-use Rattle.std.proofs.Common.{if◌then◌else◌, ℕ, zero, suc, Bool, true, false, List, [], ◌∷◌, length, Option, Some, None, refl, arith, true≢false, sym}
+use Rattle.std.proofs.Common.{if◌then◌else◌, ℕ, zero, suc, max, Bool, true, false, List, [], ◌∷◌, length, Option, Some, None, refl, arith, true≢false, sym}
 use Rattle.std.specs.Prelude.{nat_lt, ◌==◌}
 use Rattle.std.proofs.lemmas.Bool.{cond_both}
 use Rattle.er_base.specs.declared.side.Side.{Side}
@@ -10,8 +10,8 @@ use Rattle.hdlc_station_model.specs.Calls.{hands, finishes, ticks}
 use Rattle.hdlc_station_model.specs.Selective.{receives_as}
 use Rattle.hdlc_station_model.specs.Events.{news, quits}
 use Rattle.hdlc_station_model.specs.Lines.{altered, next_of}
-use Rattle.hdlc_pair_laws.specs.Links.{StationLinkOutcome, StationLink, station_of, frames_from_station, with_frames_from_station, did, hears_each, opened_station_link}
-use Rattle.hdlc_pair_laws.specs.Steps.{StationLinkStep, Send, Pass, Lose, Repeat, Alter, Put, UserRelease, Drain, Tick, payload_refusal_at_side, send_unless, pass, lose, repeat, alter, release, is_overfull, Draining, pass_next, drained, station_link_step, link_behind_step, station_link_run}
+use Rattle.hdlc_pair_laws.specs.Links.{StationLink, frames_from_station, with_frames_from_station, did, hears_each, opened_station_link}
+use Rattle.hdlc_pair_laws.specs.Steps.{StationLinkStep, Send, Pass, Lose, Repeat, Alter, Put, UserRelease, Drain, Tick, may_hand_down, send, pass, lose, repeat, alter, release, is_overfull, pass_next, drained, station_link_step, station_link_run}
 use Rattle.hdlc_pair_laws.specs.Laws.{StationLinkOpening, after}
 use Rattle.hdlc_pair_laws.proofs.Windows.{InWindow, own_handed, receives_in, finishes_in, hands_in, ticks_in, quits_in}
 
@@ -36,10 +36,11 @@ handed window now p x h =
     let t : Station = hands now p x in
     own_handed window t.handed (finishes t) (finishes_in window t.handed t (hands_in window now p x h))
 
-sent : (window : ℕ) (side : Side) (p : List ℕ) (o : Option StationLinkOutcome) (l : StationLink) → Windowed window l → Windowed window (send_unless o side p l)
-sent window side p (Some refused) l h = h
-sent window E p None l h = (handed window l.moment p l.e h.0, h.1)
-sent window R p None l h = (h.0, handed window l.moment p l.r h.1)
+sent : (window : ℕ) (side : Side) (p : List ℕ) (l : StationLink) → Windowed window l → Windowed window (send side p l)
+sent window E p l h =
+    cond_both (may_hand_down p l.e) (did E (finishes (hands l.moment p l.e)) l) l (Windowed window) (λ may. (handed window l.moment p l.e h.0, h.1)) (λ refused. h)
+sent window R p l h =
+    cond_both (may_hand_down p l.r) (did R (finishes (hands l.moment p l.r)) l) l (Windowed window) (λ may. (h.0, handed window l.moment p l.r h.1)) (λ refused. h)
 
 passed : (window : ℕ) (side : Side) (line : List (List ℕ)) (l : StationLink) → Windowed window l → Windowed window (pass side line l)
 passed window side [] l h = h
@@ -80,31 +81,31 @@ ticked window now x h = own_handed window x.handed (finishes (ticks now x)) (fin
 
 -- ---- the steps
 
-next_passed : (window : ℕ) (side : Option Side) (overfull : Bool) (d : Draining) → Windowed window d.link → Windowed window (pass_next side overfull d).link
-next_passed window None overfull d h = h
-next_passed window (Some side) true d h = h
-next_passed window (Some side) false d h = passed window side (frames_from_station d.link side) d.link h
+next_passed : (window : ℕ) (side : Option Side) (overfull : Bool) (l : StationLink) → Windowed window l → Windowed window (pass_next side overfull l)
+next_passed window None overfull l h = h
+next_passed window (Some side) true l h = h
+next_passed window (Some side) false l h = passed window side (frames_from_station l side) l h
 
-all_passed : (window most : ℕ) (d : Draining) → Windowed window d.link → Windowed window (drained most d).link
-all_passed window zero d h = h
-all_passed window (suc most) d h =
-    all_passed window most (pass_next (next_of d.link.from_e d.link.from_r) (is_overfull d.link) d)
-    (next_passed window (next_of d.link.from_e d.link.from_r) (is_overfull d.link) d h)
+all_passed : (window most : ℕ) (l : StationLink) → Windowed window l → Windowed window (drained most l)
+all_passed window zero l h = h
+all_passed window (suc most) l h =
+    let next : Option Side = next_of l.from_e l.from_r in
+    all_passed window most (pass_next next (is_overfull l) l) (next_passed window next (is_overfull l) l h)
 
 stepped : (window : ℕ) (s : StationLinkStep) (l : StationLink) → Windowed window l → Windowed window (station_link_step s l)
-stepped window (Send side p) l h = sent window side p (payload_refusal_at_side side (station_of l side) p (station_of l side).released) l h
+stepped window (Send side p) l h = sent window side p l h
 stepped window (Pass side) l h = passed window side (frames_from_station l side) l h
 stepped window (Lose side) l h = lost window side (frames_from_station l side) l h
 stepped window (Repeat side) l h = repeated window side (frames_from_station l side) l h
 stepped window (Alter side place mask) l h = changed window side place mask (frames_from_station l side) l h
 stepped window (Put side octets) l h = lined window side (octets ∷ frames_from_station l side) l h
 stepped window (UserRelease side sub) l h = released window side sub l h
-stepped window (Drain most) l h = all_passed window most (record { link = l; passes = 0 }) h
-stepped window (Tick moment) l h = (ticked window moment l.e h.0, ticked window moment l.r h.1)
+stepped window (Drain most) l h = all_passed window most l h
+stepped window (Tick moment) l h = let to : ℕ = max l.moment moment in (ticked window to l.e h.0, ticked window to l.r h.1)
 
 ran : (window : ℕ) (steps : List StationLinkStep) (l : StationLink) → Windowed window l → Windowed window (station_link_run l steps)
 ran window [] l h = h
-ran window (s ∷ rest) l h = ran window rest (link_behind_step s l) (stepped window s (record l { came = [] }) h)
+ran window (s ∷ rest) l h = ran window rest (station_link_step s l) (stepped window s l h)
 
 pub after_windowed : (s : StationLinkOpening) (steps : List StationLinkStep) → Windowed s.window (after s steps)
 after_windowed s steps =

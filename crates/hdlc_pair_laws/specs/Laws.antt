@@ -1,12 +1,12 @@
 -- What holds of two stations over two lines, with go-back or with selective reject, over every list of steps, at modulo 8 and at modulo 128. A list of steps stands for each
 -- moment of a longer run.
-use Rattle.std.specs.Prelude.{◌≡◌, ℕ, ◌+◌, ◌*◌, ◌<◌, ◌≤◌, Bool, true, false, List, [], ◌∷◌, length, Option, Some, None}
+use Rattle.std.specs.Prelude.{◌≡◌, ℕ, ◌*◌, ◌<◌, ◌≤◌, Bool, true, false, List, [], length, Option, Some, None}
 use Rattle.er_base.specs.declared.release.Release.{Release}
 use Rattle.hdlc_station_model.specs.declared.phase.Phase.TheVariants.{Up}
 use Rattle.hdlc_station_model.specs.Frames.{modulo}
 use Rattle.hdlc_station_model.specs.Lines.{IsPrefix, IsLosingLineReason, station_bound}
-use Rattle.hdlc_pair_laws.specs.Links.{StationLink, frames_from_station, opened_station_link}
-use Rattle.hdlc_pair_laws.specs.Steps.{StationLinkStep, Send, Pass, Lose, Repeat, Alter, Put, UserRelease, Drain, Tick, drained, link_behind_step, station_link_run}
+use Rattle.hdlc_pair_laws.specs.Links.{StationLink, opened_station_link}
+use Rattle.hdlc_pair_laws.specs.Steps.{StationLinkStep, drained, station_link_run}
 
 -- the greatest window of a kind: one below the modulo, and with selective reject half of it, so that an old frame that comes again is never
 -- taken for a new one (ISO/IEC 13239)
@@ -47,30 +47,6 @@ LosingLineReasons =
     (s : StationLinkOpening) (steps : List StationLinkStep) → (after s steps).order_kept ≡ true
     → IsLosingLineRelease (after s steps).e.released × IsLosingLineRelease (after s steps).r.released
 
--- ---- deliveries
-
--- a pass gives a frame, where one waits
-abbrev pub count_of_passed_frames : List (List ℕ) → ℕ
-count_of_passed_frames [] = 0
-count_of_passed_frames (frame ∷ frames) = 1
-
--- the frames that a step gives
-abbrev pub deliveries_of : StationLinkStep → StationLink → ℕ
-deliveries_of (Send side payload) l = 0
-deliveries_of (Pass side) l = count_of_passed_frames (frames_from_station l side)
-deliveries_of (Lose side) l = 0
-deliveries_of (Repeat side) l = 0
-deliveries_of (Alter side place mask) l = 0
-deliveries_of (Put side octets) l = 0
-deliveries_of (UserRelease side sub) l = 0
-deliveries_of (Drain most) l = (drained most (record { link = l; passes = 0 })).passes
-deliveries_of (Tick moment) l = 0
-
--- and all steps of a list: a number that has no greatest value
-abbrev pub deliveries : StationLink → List StationLinkStep → ℕ
-deliveries l [] = 0
-deliveries l (s ∷ rest) = deliveries_of s (record l { came = [] }) + deliveries (link_behind_step s l) rest
-
 -- ---- a loss-free line
 
 abbrev pub IsEmpty : StationLink → Type 0
@@ -93,12 +69,6 @@ abbrev pub DeliveryBound : Type 0
 DeliveryBound =
     (s : StationLinkOpening) (steps : List StationLinkStep) → (after s steps).loss_free ≡ true → (after s steps).passes ≤ bound (after s steps)
 
--- the same of the deliveries
-abbrev pub DeliveriesBound : Type 0
-DeliveriesBound =
-    (s : StationLinkOpening) (steps : List StationLinkStep) → (after s steps).loss_free ≡ true
-    → deliveries (opened_station_link s.selective s.extended s.window s.n2 s.t1 s.moment) steps ≤ bound (after s steps)
-
 -- never more than 254 frames wait in one direction: at modulo 128 at most 127 I frames, and an RR for each of the other direction
 abbrev pub FewWait : Type 0
 FewWait =
@@ -109,4 +79,4 @@ FewWait =
 abbrev pub DrainEmpties : Type 0
 DrainEmpties =
     (s : StationLinkOpening) (steps : List StationLinkStep) (most : ℕ) → (after s steps).loss_free ≡ true → bound (after s steps) ≤ most
-    → IsEmpty (drained most (record { link = after s steps; passes = 0 })).link
+    → IsEmpty (drained most (after s steps))

@@ -1,57 +1,33 @@
 -- Two stations of one kind, with go-back or with selective reject, over two lines (ISO/IEC 13239, asynchronous balanced mode): e is the
 -- calling station, r the called one. Each line is the list of the frames that wait on it, as octets. An end reads all octets that it is
 -- given as one stream (this profile).
-use Rattle.std.specs.Prelude.{ℕ, Bool, true, false, List, [], ◌∷◌, ◌++◌, map, Option, Some, None}
+use Rattle.std.specs.Prelude.{ℕ, Bool, true, false, List, [], ◌∷◌, ◌++◌}
 use Rattle.er_base.specs.declared.side.Side.{Side}
 use Rattle.er_base.specs.declared.side.Side.TheVariants.{E, R}
-use Rattle.er_base.specs.declared.release.Release.{Release}
 use Rattle.hdlc_frames.specs.Framing.{Verdict}
-use Rattle.hdlc_station_model.specs.Stations.{Station, Deed, made, settled}
+use Rattle.hdlc_station_model.specs.Stations.{Station, made, settled}
 use Rattle.hdlc_station_model.specs.Calls.{starts, finishes}
 use Rattle.hdlc_station_model.specs.Selective.{receives_as}
 use Rattle.hdlc_station_model.specs.Events.{said_octets, news}
-
--- what comes of a step
-pub data StationLinkOutcome : Type 0 where
-  -- the link came up at this end
-  CameUp : (side : Side) → StationLinkOutcome
-  -- this end took a payload
-  Accepted : (side : Side) (payload : List ℕ) → StationLinkOutcome
-  -- this end was released
-  WasReleased : (side : Side) (release : Release) → StationLinkOutcome
-  -- this end sent a frame
-  Sent : (side : Side) (octets : List ℕ) → StationLinkOutcome
-  -- a payload wasn't handed down: the end was released before, the length isn't from 1 to 1,026, so many payloads wait
-  RefusedReleased : (side : Side) (release : Release) → StationLinkOutcome
-  RefusedLength RefusedFull : (side : Side) (found : ℕ) → StationLinkOutcome
-  -- no frame of this end waits, or the first one has only so many octets: the step does nothing
-  NothingWaits : (side : Side) → StationLinkOutcome
-  IsShort : (side : Side) (found : ℕ) → StationLinkOutcome
-  -- a drain made so many passes
-  Drained : (passes : ℕ) → StationLinkOutcome
 
 pub record StationLink : Type 0 where
   -- whether both stations have selective reject
   pub selective : Bool
   pub e : Station
   pub r : Station
-  -- the frames that e sent and that wait, the first to be passed first
+  -- the frames that e sent and that wait, the first to be passed first, and those of r
   pub from_e : List (List ℕ)
-  -- those of r
   pub from_r : List (List ℕ)
-  -- all octets that e was given so far
+  -- all octets that e was given so far, and those that r was given
   pub read_e : List ℕ
-  -- those that r was given
   pub read_r : List ℕ
   pub moment : ℕ
-  -- the passes so far; the number stays at its greatest value
+  -- the deliveries so far
   pub passes : ℕ
   -- whether no frame that waited was altered, and none was put in
   pub order_kept : Bool
   -- whether besides none was lost or repeated, no user released, and no tick found an expired timer
   pub loss_free : Bool
-  -- what came of the newest step
-  pub came : List StationLinkOutcome
 
 abbrev pub station_of : StationLink → Side → Station
 station_of l E = l.e
@@ -65,40 +41,12 @@ abbrev pub with_frames_from_station : Side → List (List ℕ) → StationLink �
 with_frames_from_station E frames l = record l { from_e = frames }
 with_frames_from_station R frames l = record l { from_r = frames }
 
-abbrev pub octets_read_by_side : StationLink → Side → List ℕ
-octets_read_by_side l E = l.read_e
-octets_read_by_side l R = l.read_r
-
-abbrev pub station_link_with_outcomes : List StationLinkOutcome → StationLink → StationLink
-station_link_with_outcomes came l = record l { came = l.came ++ came }
-
 -- ---- an event at an end
-
-abbrev pub if_up : Side → Bool → List StationLinkOutcome
-if_up side true = CameUp side ∷ []
-if_up side false = []
-
-abbrev pub if_accepted : Side → Option (List ℕ) → List StationLinkOutcome
-if_accepted side None = []
-if_accepted side (Some payload) = Accepted side payload ∷ []
-
-abbrev pub if_released : Side → Option Release → List StationLinkOutcome
-if_released side None = []
-if_released side (Some release) = WasReleased side release ∷ []
-
--- the payloads that a call took
-abbrev pub all_accepted : Side → Deed → List StationLinkOutcome
-all_accepted side d = if_accepted side d.payload ++ map (Accepted side) d.more
-
--- what a call told, then the frames that it sent
-abbrev pub came_of : Side → Station → List StationLinkOutcome
-came_of side s =
-    ((if_up side s.deed.up ++ all_accepted side s.deed) ++ if_released side s.deed.released) ++ map (Sent side) (said_octets s)
 
 -- an end did this: its frames join those that wait
 abbrev pub did : Side → Station → StationLink → StationLink
-did E s l = record l { e = settled s; from_e = l.from_e ++ said_octets s; came = l.came ++ came_of E s }
-did R s l = record l { r = settled s; from_r = l.from_r ++ said_octets s; came = l.came ++ came_of R s }
+did E s l = record l { e = settled s; from_e = l.from_e ++ said_octets s }
+did R s l = record l { r = settled s; from_r = l.from_r ++ said_octets s }
 
 -- ---- octets come to an end
 
@@ -129,5 +77,4 @@ opened_station_link selective extended window n2 t1 moment =
       passes = 0;
       order_kept = true;
       loss_free = true;
-      came = [];
     })

@@ -1,12 +1,12 @@
 -- What two stations recover from (ISO/IEC 13239, asynchronous balanced mode): a line that lost and repeated frames, and then for a while
 -- loses none, by T1 alone.
-use Rattle.std.specs.Prelude.{◌≡◌, ◌⊎◌, ℕ, ◌+◌, ◌*◌, ◌<◌, ◌≤◌, true, false, List, [], ◌∷◌, ◌++◌, length, None}
+use Rattle.std.specs.Prelude.{◌≡◌, ◌⊎◌, ℕ, ◌+◌, ◌≤◌, max, true, false, List, [], ◌∷◌, ◌++◌, length}
 use Rattle.hdlc_station_model.specs.declared.phase.Phase.TheVariants.{Up}
 use Rattle.hdlc_station_model.specs.Stations.{is_down}
 use Rattle.hdlc_station_model.specs.Repeating.{MayRepeat, passes_bound}
 use Rattle.hdlc_pair_laws.specs.Links.{StationLink}
 use Rattle.hdlc_pair_laws.specs.Steps.{StationLinkStep, Send, Pass, Lose, Repeat, Alter, Put, UserRelease, Drain, Tick, drained, is_overfull}
-use Rattle.hdlc_pair_laws.specs.Laws.{StationLinkOpening, after, deliveries, IsEmpty}
+use Rattle.hdlc_pair_laws.specs.Laws.{StationLinkOpening, after, IsEmpty}
 
 -- all that the line does is to give frames
 abbrev pub IsPass : StationLinkStep → Type 0
@@ -36,13 +36,17 @@ pub record IsRecovered (l : StationLink) : Type 0 where
   pub at_r : l.r.taken ≡ l.e.handed
   pub at_e : 1 ≤ length l.e.handed → l.e.taken ≡ l.r.handed
 
+-- a moment finds each T1 that runs expired, and neither station gives up yet; one below the link's counts as the link's
+abbrev pub GoOn : (now : ℕ) → StationLink → Type 0
+GoOn now l = MayRepeat (max l.moment now) l.e × MayRepeat (max l.moment now) l.r
+
 -- whatever the line lost and repeated, while no end was released: all that waits is given; then comes a moment that finds each T1 that runs
 -- expired; then all that waits is given. With that each end took all that the other was handed
 abbrev pub Recovery : Type 0
 Recovery =
     (s : StationLinkOpening) (steps : List StationLinkStep) → (after s steps).order_kept ≡ true → AreLive (after s steps)
     → (first : List StationLinkStep) → ArePasses first → IsEmpty (after s (steps ++ first))
-    → (now : ℕ) → MayRepeat now (after s (steps ++ first)).e → MayRepeat now (after s (steps ++ first)).r
+    → (now : ℕ) → GoOn now (after s (steps ++ first))
     → (second : List StationLinkStep) → ArePasses second → IsEmpty (after s (steps ++ first ++ Tick now ∷ second))
     → IsRecovered (after s (steps ++ first ++ Tick now ∷ second))
 
@@ -61,11 +65,10 @@ bound_of s l = passes_bound s.window (length l.from_e + length l.from_r) (length
 abbrev pub PassesBound : Type 0
 PassesBound =
     (s : StationLinkOpening) (steps : List StationLinkStep) → (after s steps).order_kept ≡ true → AreLive (after s steps)
-    → (passes : List StationLinkStep) → ArePasses passes → deliveries (after s steps) passes ≤ bound_of s (after s steps)
+    → (passes : List StationLinkStep) → ArePasses passes → (after s (steps ++ passes)).passes ≤ (after s steps).passes + bound_of s (after s steps)
 
 -- so a drain of as many passes leaves no frame waiting; it stops before where too many wait in one direction
 abbrev pub DrainEmptiesLive : Type 0
 DrainEmptiesLive =
     (s : StationLinkOpening) (steps : List StationLinkStep) (most : ℕ) → (after s steps).order_kept ≡ true → AreLive (after s steps) → bound_of s (after s steps) ≤ most
-    → IsEmpty (drained most (record { link = after s steps; passes = 0 })).link
-    ⊎ (is_overfull (drained most (record { link = after s steps; passes = 0 })).link ≡ true)
+    → IsEmpty (drained most (after s steps)) ⊎ (is_overfull (drained most (after s steps)) ≡ true)

@@ -1,16 +1,15 @@
 -- The steps of two stations over two lines: their users hand payloads down and release, the lines pass, lose, repeat, alter and put in
 -- frames, and time goes on (this profile).
-use Rattle.std.specs.Prelude.{ℕ, zero, suc, ◌+◌, ◌-◌, ◌^◌, ◌==◌, min, max, nat_lt, nat_le, Bool, true, false, not, ◌&&◌, ◌||◌, if◌then◌else◌, List, [], ◌∷◌, length, Option, Some, None}
+use Rattle.std.specs.Prelude.{ℕ, zero, suc, ◌+◌, ◌==◌, max, nat_lt, nat_le, Bool, true, false, not, ◌&&◌, ◌||◌, if◌then◌else◌, List, [], ◌∷◌, length, Option, Some, None, is_some}
 use Rattle.er_base.specs.declared.side.Side.{Side}
 use Rattle.er_base.specs.declared.side.Side.TheVariants.{E, R}
 use Rattle.er_base.specs.Sides.{other}
-use Rattle.er_base.specs.declared.release.Release.{Release}
 use Rattle.hdlc_station_model.specs.Stations.{Station, is_down}
 use Rattle.hdlc_station_model.specs.Sending.{waiting}
 use Rattle.hdlc_station_model.specs.Calls.{hands, finishes, ticks}
 use Rattle.hdlc_station_model.specs.Events.{quits, is_late}
 use Rattle.hdlc_station_model.specs.Lines.{altered, next_of}
-use Rattle.hdlc_pair_laws.specs.Links.{StationLinkOutcome, RefusedReleased, RefusedLength, RefusedFull, NothingWaits, IsShort, Drained, StationLink, station_of, frames_from_station, with_frames_from_station, station_link_with_outcomes, did, station_link_behind_octets}
+use Rattle.hdlc_pair_laws.specs.Links.{StationLink, station_of, frames_from_station, with_frames_from_station, did, station_link_behind_octets}
 
 -- the steps of a link
 pub data StationLinkStep : Type 0 where
@@ -35,49 +34,34 @@ pub data StationLinkStep : Type 0 where
 
 -- ---- a payload is handed down
 
--- why it is refused, where it is: in this order
-abbrev pub payload_refusal_at_side : Side → Station → List ℕ → Option Release → Option StationLinkOutcome
-payload_refusal_at_side side s payload (Some release) = Some (RefusedReleased side release)
-payload_refusal_at_side side s payload None =
-    if nat_le 1 (length payload) && nat_le (length payload) 1026
-    then (if nat_lt (waiting s) 16 then None else Some (RefusedFull side (waiting s)))
-    else Some (RefusedLength side (length payload))
-
-abbrev pub send_unless : Option StationLinkOutcome → Side → List ℕ → StationLink → StationLink
-send_unless (Some refused) side payload l = station_link_with_outcomes (refused ∷ []) l
-send_unless None side payload l = did side (finishes (hands l.moment payload (station_of l side))) l
+-- a station takes one of 1 to 1,026 octets while it isn't released and fewer than 16 wait to be sent
+abbrev pub may_hand_down : List ℕ → Station → Bool
+may_hand_down payload s = not (is_some s.released) && (nat_le 1 (length payload) && nat_le (length payload) 1026) && nat_lt (waiting s) 16
 
 abbrev pub send : Side → List ℕ → StationLink → StationLink
-send side payload l = send_unless (payload_refusal_at_side side (station_of l side) payload (station_of l side).released) side payload l
+send side payload l = if may_hand_down payload (station_of l side) then did side (finishes (hands l.moment payload (station_of l side))) l else l
 
 -- ---- the line
 
-abbrev pub nothing_waits : Side → StationLink → StationLink
-nothing_waits side l = station_link_with_outcomes (NothingWaits side ∷ []) l
-
--- a number that stays at its greatest value
-abbrev pub counted : ℕ → ℕ
-counted n = min (n + 1) (2 ^ 64 - 1)
-
 abbrev pub pass : Side → List (List ℕ) → StationLink → StationLink
-pass side [] l = nothing_waits side l
-pass side (frame ∷ frames) l = station_link_behind_octets (other side) frame (with_frames_from_station side frames (record l { passes = counted l.passes }))
+pass side [] l = l
+pass side (frame ∷ frames) l = station_link_behind_octets (other side) frame (with_frames_from_station side frames (record l { passes = l.passes + 1 }))
 
 abbrev pub lose : Side → List (List ℕ) → StationLink → StationLink
-lose side [] l = nothing_waits side l
+lose side [] l = l
 lose side (frame ∷ frames) l = with_frames_from_station side frames (record l { loss_free = false })
 
 abbrev pub repeat : Side → List (List ℕ) → StationLink → StationLink
-repeat side [] l = nothing_waits side l
+repeat side [] l = l
 repeat side (frame ∷ frames) l = with_frames_from_station side (frame ∷ frame ∷ frames) (record l { loss_free = false })
 
 -- a mask of 0 changes nothing
 abbrev pub alter : Side → ℕ → ℕ → List (List ℕ) → StationLink → StationLink
-alter side place mask [] l = nothing_waits side l
+alter side place mask [] l = l
 alter side place mask (frame ∷ frames) l =
     if nat_lt place (length frame)
     then (if mask == 0 then l else with_frames_from_station side (altered frame place mask ∷ frames) (record l { order_kept = false; loss_free = false }))
-    else station_link_with_outcomes (IsShort side (length frame) ∷ []) l
+    else l
 
 abbrev pub put : Side → List ℕ → StationLink → StationLink
 put side octets l = with_frames_from_station side (octets ∷ frames_from_station l side) (record l { order_kept = false; loss_free = false })
@@ -92,15 +76,14 @@ release side sub l =
 
 -- ---- time
 
-abbrev pub tick_at : Side → ℕ → StationLink → StationLink
-tick_at side now l = did side (finishes (ticks now (station_of l side))) l
+abbrev pub tick_at : Side → StationLink → StationLink
+tick_at side l = did side (finishes (ticks l.moment (station_of l side))) l
 
+-- a moment below the link's counts as the link's
 abbrev pub tick : ℕ → StationLink → StationLink
 tick now l =
-    tick_at R now (tick_at E now (record l {
-      moment = max l.moment now;
-      loss_free = l.loss_free && not (is_late now l.e || is_late now l.r);
-    }))
+    let to = max l.moment now in
+    tick_at R (tick_at E (record l { moment = to; loss_free = l.loss_free && not (is_late to l.e || is_late to l.r) }))
 
 -- ---- a drain
 
@@ -108,27 +91,16 @@ tick now l =
 abbrev pub is_overfull : StationLink → Bool
 is_overfull l = nat_lt 4096 (length l.from_e) || nat_lt 4096 (length l.from_r)
 
--- a link behind so many passes
-pub record Draining : Type 0 where
-  pub link : StationLink
-  pub passes : ℕ
+-- one pass, where a frame waits and not too many do: of e where one of e waits, else of r; else the link stays as it is
+abbrev pub pass_next : Option Side → Bool → StationLink → StationLink
+pass_next None overfull l = l
+pass_next (Some side) true l = l
+pass_next (Some side) false l = pass side (frames_from_station l side) l
 
--- one pass, where a frame waits and not too many do; else the link stays as it is
-abbrev pub pass_next : Option Side → Bool → Draining → Draining
-pass_next None overfull d = d
-pass_next (Some side) true d = d
-pass_next (Some side) false d = record { link = pass side (frames_from_station d.link side) d.link; passes = d.passes + 1 }
-
--- at most so many passes, and how many were made
-abbrev pub drained : ℕ → Draining → Draining
-drained zero d = d
-drained (suc most) d = drained most (pass_next (next_of d.link.from_e d.link.from_r) (is_overfull d.link) d)
-
-abbrev pub told_passes : Draining → StationLink
-told_passes d = station_link_with_outcomes (Drained d.passes ∷ []) d.link
-
-abbrev pub drain : ℕ → StationLink → StationLink
-drain most l = told_passes (drained most (record { link = l; passes = 0 }))
+-- at most so many passes
+abbrev pub drained : ℕ → StationLink → StationLink
+drained zero l = l
+drained (suc most) l = drained most (pass_next (next_of l.from_e l.from_r) (is_overfull l) l)
 
 -- ---- one step, and a list of steps
 
@@ -140,13 +112,9 @@ station_link_step (Repeat side) l = repeat side (frames_from_station l side) l
 station_link_step (Alter side place mask) l = alter side place mask (frames_from_station l side) l
 station_link_step (Put side octets) l = put side octets l
 station_link_step (UserRelease side sub) l = release side sub l
-station_link_step (Drain most) l = drain most l
+station_link_step (Drain most) l = drained most l
 station_link_step (Tick moment) l = tick moment l
-
--- what came before the step is put away
-abbrev pub link_behind_step : StationLinkStep → StationLink → StationLink
-link_behind_step s l = station_link_step s (record l { came = [] })
 
 abbrev pub station_link_run : StationLink → List StationLinkStep → StationLink
 station_link_run l [] = l
-station_link_run l (s ∷ rest) = station_link_run (link_behind_step s l) rest
+station_link_run l (s ∷ rest) = station_link_run (station_link_step s l) rest

@@ -11,8 +11,7 @@ use Rattle.hdlc_station_model.specs.Selective.{receives_as}
 use Rattle.hdlc_pair_laws.specs.Links.{StationLink}
 use Rattle.hdlc_pair_laws.specs.Steps.{StationLinkStep, Tick}
 use Rattle.hdlc_pair_laws.specs.Laws.{StationLinkOpening, after, IsEmpty}
-use Rattle.hdlc_pair_laws.specs.Recovery.{ArePasses, AreLive}
-use Rattle.hdlc_station_model.specs.Repeating.{MayRepeat}
+use Rattle.hdlc_pair_laws.specs.Recovery.{ArePasses, AreLive, GoOn}
 
 -- T1 runs exactly while an I frame is unacknowledged, or while the set-up is unanswered; where it doesn't run no expiry is counted
 abbrev pub TimedAt : Phase → Station → Type 0
@@ -38,7 +37,7 @@ abbrev pub Renewal : Type 0
 Renewal =
     (s : StationLinkOpening) (steps : List StationLinkStep) → (after s steps).order_kept ≡ true → AreLive (after s steps)
     → (first : List StationLinkStep) → ArePasses first → IsEmpty (after s (steps ++ first))
-    → (now : ℕ) → MayRepeat now (after s (steps ++ first)).e → MayRepeat now (after s (steps ++ first)).r
+    → (now : ℕ) → GoOn now (after s (steps ++ first))
     → (second : List StationLinkStep) → ArePasses second → IsEmpty (after s (steps ++ first ++ Tick now ∷ second))
     → IsRenewed (after s (steps ++ first ++ Tick now ∷ second))
 

@@ -6,7 +6,7 @@ ghost use Rattle.hdlc_pair_laws.specs.LossFree.{FlowBounds, FlowKeeps};
 ghost use Rattle.hdlc_pair_laws.specs.Recovery.{DrainEmptiesLive, PassesBound, PassesRelease, Recovery};
 ghost use Rattle.hdlc_pair_laws.specs.Repairs.{MendEnds, MendKeeps};
 ghost use Rattle.hdlc_pair_laws.specs.Timers.{Renewal, TimersRun, TimersStart};
-ghost use Rattle.hdlc_pair_laws.specs.Laws.{Prefix, LosingLineReasons, Delivery, DeliveryBound, DrainEmpties, DeliveriesBound, FewWait};
+ghost use Rattle.hdlc_pair_laws.specs.Laws.{Prefix, LosingLineReasons, Delivery, DeliveryBound, DrainEmpties, FewWait};
 
 use hdlc_frames::laws::{control_reads_back, flag_parts, frame_alone};
 
@@ -49,11 +49,9 @@ pub fn delivery_bound()
     frame_alone();
 }
 
-/// A loss-free line: the bound of the deliveries as a number that has no greatest value, and never more than 254 frames wait in one
-/// direction.
+/// A loss-free line: never more than 254 frames wait in one direction.
 pub fn few_wait()
-    ensures deliveries { DeliveriesBound }
-    ensures waiting { FewWait }
+    ensures { FewWait }
 {
     control_reads_back();
     flag_parts();

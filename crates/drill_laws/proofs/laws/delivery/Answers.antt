@@ -27,5 +27,5 @@ returns c =
       calls = c.stack_laws.ensures.calls;
       marks = c.stack_laws.ensures.marks;
     } in
-    delivers_always stations stacks c.delivery.ensures c.few_wait.ensures.deliveries c.few_wait.ensures.waiting c.allowed_are_bounded.ensures c.steps.ensures.only
+    delivers_always stations stacks c.delivery.ensures c.delivery_bound.ensures.bound c.delivery_bound.ensures.drain c.allowed_are_bounded.ensures c.steps.ensures.only
     c.flows_deliver.ensures c.histories.ensures.facts c.histories.ensures.grow c.histories.ensures.own c.histories.ensures.other

@@ -31,5 +31,5 @@ returns c =
       repairs = repairs_always stations c.allowed_are_bounded.ensures c.histories.ensures.facts c.histories.ensures.grow c.histories.ensures.own c.histories.ensures.other
           stacks c.runs_grow.ensures.run c.recovery.ensures.recovered c.recovery-2.ensures.recovered;
       drains = drains_always stations c.allowed_are_bounded.ensures c.histories.ensures.facts c.histories.ensures.grow c.histories.ensures.own c.histories.ensures.other
-          c.passes_are_bounded.ensures.passes;
+          c.passes_are_bounded.ensures.drain;
     }
