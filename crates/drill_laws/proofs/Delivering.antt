@@ -30,12 +30,11 @@ use Rattle.er_settings.specs.Ranges.{AllAllowed}
 use Rattle.er_settings.specs.Laws.{AreBounded, AllowedAreBounded}
 use Rattle.hdlc_pair_laws.specs.Laws.{Delivery, DeliveryBound, DrainEmpties}
 use Rattle.drill_laws.proofs.Tellings.{StationLaws}
-use Rattle.drill_laws.proofs.Wired.{Either, kind_of}
+use Rattle.drill_laws.proofs.Stationed.{Either}
 use Rattle.drill_laws.proofs.Losing.{allowed_of, narrow_of}
 use Rattle.drill_laws.proofs.Emptying.{wired_delivers}
 use Rattle.drill_laws.proofs.Fitting.{steps_fit}
-use Rattle.drill_laws.proofs.StackWiring.{Numbers}
-use Rattle.drill_laws.proofs.StackWired.{IsStacked}
+use Rattle.drill_laws.proofs.Stacked.{Numbers, IsStacked}
 use Rattle.drill_laws.proofs.StackLaws.{StackLaws, stacked_delivers, stacked_at}
 use Rattle.drill_laws.proofs.StackUnforged.{unforged_at}
 use Rattle.drill_laws.proofs.Worlds.{AtPlace, world_lives}
@@ -254,7 +253,7 @@ module _ (laws : StationLaws) (stacks : StackLaws) (delivery : Delivery) (delive
                   (unforged_at stacks facts grow own other plan steps fit n l is k t.opening_is allowed free)
             ]
         | inr w ↦
-            let kind : l.opening ≡ OfStations w.0 = kind_of settings w.0 l history w.1 in
+            let kind : l.opening ≡ OfStations w.0 = w.1.sees.opening_is in
             let bounded : AreBounded settings = bounds settings (allowed_of settings w.0 l kind settings_fit) in
             wired_delivers laws delivery deliveries_bound empties settings w.0 bounded (narrow_of settings w.0 l kind settings_fit bounded) l history w.1 free
       ]

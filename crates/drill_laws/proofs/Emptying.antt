@@ -6,8 +6,8 @@ use Rattle.er_settings.specs.Values.{Settings}
 use Rattle.er_settings.specs.Laws.{AreBounded}
 use Rattle.hdlc_station_model.specs.declared.phase.Phase.TheVariants.{Up}
 use Rattle.hdlc_station_model.specs.Stations.{Station}
-use Rattle.hdlc_pair_laws.specs.Links.{StationLink as Pair}
-use Rattle.hdlc_pair_laws.specs.Steps.{station_link_run}
+use Rattle.pair_model.specs.Steps.{pair_run}
+use Rattle.hdlc_pair_laws.specs.Links.{StationLink as Pair, station_kind}
 use Rattle.hdlc_pair_laws.specs.Laws.{IsNarrow, StationLinkOpening, Delivery, DeliveryBound, DrainEmpties}
 use Rattle.hdlc_pair_laws.specs.Laws as of_pair
 use Rattle.safety_pair_laws.specs.Facts.{SideFact, MarkedFact, marked}
@@ -19,7 +19,8 @@ use Rattle.drill_model.specs.Kinds.{sent_by, deliveries, IsLossFree, bound}
 use Rattle.drill_model.specs.Claims.{IsConnectedEnd, HasAllPayloads, IsEmpty, IsDelivered}
 use Rattle.drill_model.specs.Claims as claim
 use Rattle.drill_laws.proofs.Tellings.{StationLaws}
-use Rattle.drill_laws.proofs.Wired.{wired, IsWired, kind_of, drain_sees}
+use Rattle.drill_laws.proofs.Wired.{drain_sees}
+use Rattle.drill_laws.proofs.Stationed.{station_level, station_acts, wired, IsWired}
 use Rattle.drill_laws.proofs.Losing.{pair_opening, not_false}
 
 -- ---- one link
@@ -30,7 +31,7 @@ module _ (laws : StationLaws) (delivers : Delivery) (deliveries_bound : Delivery
   s = pair_opening settings selective w.moment bounded narrow
 
   abbrev p : Pair
-  p = station_link_run (wired settings selective w.moment) w.steps
+  p = pair_run (station_kind selective) (wired settings selective w.moment) w.steps
 
   abbrev most : ℕ
   most = station_bound (length (sent_by E history)) (length (sent_by R history))
@@ -38,7 +39,7 @@ module _ (laws : StationLaws) (delivers : Delivery) (deliveries_bound : Delivery
   most_is : most ≡ of_pair.bound p
   most_is = ap₂ (λ (xs ys : List (List ℕ)). station_bound (length xs) (length ys)) w.sees.sent_e w.sees.sent_r
 
-  connected : (end : EndAtLevel) (t : Station) (stream : List ℕ) → end ≡ OfStation p.selective t stream → t.phase ≡ Up → IsConnectedEnd end
+  connected : (end : EndAtLevel) (t : Station) (stream : List ℕ) → end ≡ OfStation selective t stream → t.phase ≡ Up → IsConnectedEnd end
   connected end t stream is up = subst IsConnectedEnd (sym is) up
 
   all_payloads : p.loss_free ≡ true → (l.from_e ≡ []) × (l.from_r ≡ []) → HasAllPayloads history l
@@ -46,8 +47,8 @@ module _ (laws : StationLaws) (delivers : Delivery) (deliveries_bound : Delivery
       let v = w.sees in
       let d = delivers s w.steps free (sym v.from_e_is ∙ empty.0, sym v.from_r_is ∙ empty.1) in
       record {
-        e_up = connected l.e p.e p.read_e v.e_is d.0;
-        r_up = connected l.r p.r p.read_r v.r_is d.1;
+        e_up = connected l.e p.e.station p.e.stream v.e_is d.0;
+        r_up = connected l.r p.r.station p.r.stream v.r_is d.1;
         at_r = v.accepted_r ∙ d.2 ∙ sym v.sent_e;
         at_e = λ some. v.accepted_e ∙ d.3 (subst (λ (xs : List (List ℕ)). 1 ≤ length xs) v.sent_e some) ∙ sym v.sent_r;
       }
@@ -56,16 +57,16 @@ module _ (laws : StationLaws) (delivers : Delivery) (deliveries_bound : Delivery
   wired_delivers loss_free =
       let v = w.sees in
       let free : p.loss_free ≡ true = not_false p.loss_free (sym v.free ∙ loss_free.undisturbed) in
-      let is : l.opening ≡ OfStations selective = kind_of settings selective l history w in
+      let is : l.opening ≡ OfStations selective = w.sees.opening_is in
       let same : bound settings l.opening history ≡ of_pair.bound p = ap (λ (o : LinkOpening). bound settings o history) is ∙ most_is in
       let D : LinkOpening → Type 0 = λ o. IsEmpty o l → IsDelivered o history l in
       let done : D (OfStations selective) = λ empty. all_payloads free empty in
       record {
-        unforged = ap (λ (fs : List SideFact). list_any (λ (m : MarkedFact). m.forged) (marked fs)) v.facts;
+        unforged = ap (λ (fs : List SideFact). list_any (λ (m : MarkedFact). m.forged) (marked fs)) v.tells;
         bounded = subst (λ (n : ℕ). deliveries history ≤ n) (sym same) (subst (λ (n : ℕ). n ≤ of_pair.bound p) (sym v.count) (deliveries_bound s w.steps free));
         done = subst D (sym is) done;
         drains = λ roomy passes enough.
-            let there = drain_sees laws passes l history p v in
+            let there = drain_sees (station_level selective) (station_acts laws selective) passes l history p v in
             let empty = empties s w.steps passes free (subst (λ (n : ℕ). n ≤ passes) same enough) in
             (there.from_e_is ∙ empty.0, there.from_r_is ∙ empty.1);
       }

@@ -16,7 +16,7 @@ use Rattle.er_end_model.specs.Steps.{is_connected}
 use Rattle.er_end_pair_laws.specs.Phases.{connection_of, IsEnginesPhase, IsCentres}
 use Rattle.er_end_pair_laws.specs.Ordered.{IsEngine, IsCentre}
 use Rattle.drill_model.specs.StackReports.{user_by}
-use Rattle.drill_laws.proofs.StackWiring.{Numbers}
+use Rattle.drill_laws.proofs.Stacked.{Numbers}
 use Rattle.drill_laws.proofs.StackSaying.{sent_by_step}
 use Rattle.drill_laws.proofs.Sealing.{IsSealed, IsUnforged, self_sealing, sealed_still, sealed_now, none_mistrusted}
 use Rattle.drill_laws.proofs.Trusting.{key, text_au2, text_au3, text_ar, text_e, text_r}

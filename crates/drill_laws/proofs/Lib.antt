@@ -1,6 +1,7 @@
 mod Tellings
 mod Wiring
 mod Wired
+mod Stationed
 mod Worlds
 mod Talking
 mod Printing
@@ -14,8 +15,7 @@ mod StackTalking
 mod StackPrinting
 mod StackSaying
 mod StackGoing
-mod StackWiring
-mod StackWired
+mod Stacked
 mod Fitting
 mod StackLaws
 mod OrderKeeping
@@ -36,6 +36,7 @@ mod Keyed
 mod StackOrdered
 mod OrderUnforged
 mod OneLink
+mod Given
 mod Repairing
 mod StackRepairing
 mod Recovering

@@ -10,8 +10,8 @@ use Rattle.er_settings.specs.Laws.{AreBounded, AllowedAreBounded}
 use Rattle.hdlc_station_model.specs.Frames.{modulo}
 use Rattle.hdlc_station_model.specs.Lines as line_words
 use Rattle.hdlc_station_model.specs.Lines.{IsPrefix}
-use Rattle.hdlc_pair_laws.specs.Links.{StationLink as Pair}
-use Rattle.hdlc_pair_laws.specs.Steps.{station_link_run}
+use Rattle.pair_model.specs.Steps.{pair_run}
+use Rattle.hdlc_pair_laws.specs.Links.{StationLink as Pair, station_kind}
 use Rattle.hdlc_pair_laws.specs.Laws.{IsNarrow, StationLinkOpening, Prefix, LosingLineReasons}
 use Rattle.hdlc_pair_laws.specs.Laws as of_pair
 use Rattle.drill_model.specs.Outcomes.{Occurrence}
@@ -20,7 +20,7 @@ use Rattle.drill_model.specs.Kinds.{sent_by, accepted_by, releases_in, IsOrderKe
 use Rattle.drill_laws.specs.Laws.{FitsSettings}
 use Rattle.drill_model.specs.Claims.{IsInOrder, IsLosingLineReason}
 use Rattle.drill_laws.proofs.Wiring.{IsOfPair}
-use Rattle.drill_laws.proofs.Wired.{wired, IsWired, kind_of}
+use Rattle.drill_laws.proofs.Stationed.{station_level, wired, IsWired}
 
 -- ---- the pair's opening
 
@@ -63,14 +63,14 @@ not_false false e = absurd (cc)
 -- ---- one link
 
 pub kept_of : (settings : Settings) (selective : Bool) (l : Link) (history : List Occurrence) (w : IsWired settings selective l history) → IsOrderKeeping l.opening history
-    → (station_link_run (wired settings selective w.moment) w.steps).order_kept ≡ true
-kept_of settings selective l history w keeping = not_false (station_link_run (wired settings selective w.moment) w.steps).order_kept (sym w.sees.order ∙ keeping.ordered)
+    → (pair_run (station_kind selective) (wired settings selective w.moment) w.steps).order_kept ≡ true
+kept_of settings selective l history w keeping = not_false (pair_run (station_kind selective) (wired settings selective w.moment) w.steps).order_kept (sym w.sees.order ∙ keeping.ordered)
 
 -- how the pair of such a link was opened
 abbrev pub opening_at : AllowedAreBounded → (settings : Settings) (selective : Bool) (l : Link) (history : List Occurrence) → IsWired settings selective l history
     → FitsSettings settings l.opening → (moment : ℕ) → StationLinkOpening
 opening_at bounds settings selective l history w fit moment =
-    let kind : l.opening ≡ OfStations selective = kind_of settings selective l history w in
+    let kind : l.opening ≡ OfStations selective = w.sees.opening_is in
     let bounded : AreBounded settings = bounds settings (allowed_of settings selective l kind fit) in
     pair_opening settings selective moment bounded (narrow_of settings selective l kind fit bounded)
 
@@ -81,30 +81,30 @@ pub wired_in_order : Prefix → AllowedAreBounded → (settings : Settings) (sel
     → FitsSettings settings l.opening → IsOrderKeeping l.opening history → IsInOrder history
 wired_in_order law bounds settings selective l history w fit keeping =
     let v = w.sees in
-    let p : Pair = station_link_run (wired settings selective w.moment) w.steps in
+    let p : Pair = pair_run (station_kind selective) (wired settings selective w.moment) w.steps in
     let s : StationLinkOpening = opening_at bounds settings selective l history w fit w.moment in
-    let both : line_words.IsPrefix p.r.taken p.e.handed × line_words.IsPrefix p.e.taken p.r.handed = law s w.steps (kept_of settings selective l history w keeping) in
+    let both : line_words.IsPrefix p.r.station.taken p.e.station.handed × line_words.IsPrefix p.e.station.taken p.r.station.handed = law s w.steps (kept_of settings selective l history w keeping) in
     record {
-      at_r = prefix_of (accepted_by R history) (sent_by E history) p.r.taken p.e.handed v.accepted_r v.sent_e both.0;
-      at_e = prefix_of (accepted_by E history) (sent_by R history) p.e.taken p.r.handed v.accepted_e v.sent_r both.1;
+      at_r = prefix_of (accepted_by R history) (sent_by E history) p.r.station.taken p.e.station.handed v.accepted_r v.sent_e both.0;
+      at_e = prefix_of (accepted_by E history) (sent_by R history) p.e.station.taken p.r.station.handed v.accepted_e v.sent_r both.1;
     }
 
 one_reason : (selective : Bool) (released : Option Release) (release : Release) → released ≡ Some release
     → of_pair.IsLosingLineRelease released → IsLosingLineReason (OfStations selective) release
 one_reason selective released release is reason = subst of_pair.IsLosingLineRelease is reason
 
-all_reasons : (selective : Bool) (p : Pair) (releases : List Release) → of_pair.IsLosingLineRelease p.e.released → of_pair.IsLosingLineRelease p.r.released
-    → AllByRecursion (IsOfPair p) releases → AllByRecursion (IsLosingLineReason (OfStations selective)) releases
+all_reasons : (selective : Bool) (p : Pair) (releases : List Release) → of_pair.IsLosingLineRelease p.e.station.released → of_pair.IsLosingLineRelease p.r.station.released
+    → AllByRecursion (IsOfPair (station_level selective) p) releases → AllByRecursion (IsLosingLineReason (OfStations selective)) releases
 all_reasons selective p [] e r all = tt
 all_reasons selective p (x ∷ xs) e r all =
-    (elim all.0 [ inl is ↦ one_reason selective p.e.released x is e | inr is ↦ one_reason selective p.r.released x is r ], all_reasons selective p xs e r all.1)
+    (elim all.0 [ inl is ↦ one_reason selective p.e.station.released x is e | inr is ↦ one_reason selective p.r.station.released x is r ], all_reasons selective p xs e r all.1)
 
 pub wired_reasons : LosingLineReasons → AllowedAreBounded → (settings : Settings) (selective : Bool) (l : Link) (history : List Occurrence) → IsWired settings selective l history
     → FitsSettings settings l.opening → IsOrderKeeping l.opening history → AllByRecursion (IsLosingLineReason l.opening) (releases_in history)
 wired_reasons law bounds settings selective l history w fit keeping =
     let v = w.sees in
-    let p : Pair = station_link_run (wired settings selective w.moment) w.steps in
+    let p : Pair = pair_run (station_kind selective) (wired settings selective w.moment) w.steps in
     let s : StationLinkOpening = opening_at bounds settings selective l history w fit w.moment in
-    let both : of_pair.IsLosingLineRelease p.e.released × of_pair.IsLosingLineRelease p.r.released = law s w.steps (kept_of settings selective l history w keeping) in
-    subst (λ (o : LinkOpening). AllByRecursion (IsLosingLineReason o) (releases_in history)) (sym (kind_of settings selective l history w))
+    let both : of_pair.IsLosingLineRelease p.e.station.released × of_pair.IsLosingLineRelease p.r.station.released = law s w.steps (kept_of settings selective l history w keeping) in
+    subst (λ (o : LinkOpening). AllByRecursion (IsLosingLineReason o) (releases_in history)) (sym w.sees.opening_is)
     (all_reasons selective p (releases_in history) both.0 both.1 v.releases)

@@ -22,13 +22,13 @@ use Rattle.drill_model.specs.Steps.{AllFit}
 use Rattle.drill_model.specs.Growth.{FactsGrow, HistoryGrows, HistoryOfOwn, HistoryOfOther}
 use Rattle.drill_laws.proofs.Tellings.{StationLaws}
 use Rattle.drill_laws.proofs.Losing.{not_false}
-use Rattle.drill_laws.proofs.Wired.{Either}
+use Rattle.drill_laws.proofs.Stationed.{Either}
 use Rattle.drill_laws.proofs.Worlds.{AtPlace, Keeps, world_lives}
 use Rattle.drill_laws.proofs.Viewing.{FitsLinkStep, FitsLinkOpening, step_opening, no_send_fits}
 use Rattle.drill_laws.proofs.Fitting.{steps_fit}
 use Rattle.drill_laws.proofs.Talking.{Speaks, world_stands}
-use Rattle.drill_laws.proofs.StackWiring.{Numbers, Sees}
-use Rattle.drill_laws.proofs.StackWired.{IsStacked, stacked_steps, stacked_numbers, stacked_opens, opened_numbers}
+use Rattle.drill_laws.proofs.Wiring.{Sees}
+use Rattle.drill_laws.proofs.Stacked.{stack_level, Numbers, IsStacked, stacked_steps, stacked_numbers, stacked_opens, opened_numbers}
 use Rattle.drill_laws.proofs.StackLaws.{StackLaws, pair_opening, pair_of, agrees, IsLower, fits_stack}
 use Rattle.drill_laws.proofs.StackOrdered.{Known, PairSound, step_ordered, opened_ordered}
 
@@ -83,7 +83,7 @@ module _ (laws : StackLaws) (while_ordered : InStepWhileOrdered) (facts : FactsG
             let same_before : t.k.kr ≡ Some t.k.ke = subst (λ (k : Numbers). k.kr ≡ Some k.ke) k_is same in
             let before : is_disordered history ≡ false = ordered_before history a.1 ordered in
             let knows : KnownAt t.k q = subst (λ (k : Numbers). KnownAt k q) k_is (known_at settings a.0 (history ++ a.1) u allowed same ordered) in
-            let sees : Sees t.k a.0 (history ++ a.1) q = subst (λ (k : Numbers). Sees k a.0 (history ++ a.1) q) k_is u.sees in
+            let sees : Sees (stack_level t.k) a.0 (history ++ a.1) q = subst (λ (k : Numbers). Sees (stack_level k) a.0 (history ++ a.1) q) k_is u.sees in
             subst (λ (k : Numbers). SoundAt k q (history ++ a.1)) (sym k_is)
             (step_ordered facts laws.marks laws.only laws.calls t.k l history p q s t.sees (known_at settings l history t allowed same_before before) knows
             (h.sound allowed same_before before) sees);
@@ -103,7 +103,7 @@ module _ (laws : StackLaws) (while_ordered : InStepWhileOrdered) (facts : FactsG
       let u : IsStacked settings a.0 a.1 = stacked_opens laws.only laws.calls laws.opens settings moment k fit in
       let q : Pair = pair_of settings a.0 a.1 u in
       let k_is : u.k ≡ k = opened_numbers laws.only laws.calls laws.opens settings moment k fit in
-      let sees : Sees k a.0 a.1 q = subst (λ (j : Numbers). Sees j a.0 a.1 q) k_is u.sees in
+      let sees : Sees (stack_level k) a.0 a.1 q = subst (λ (j : Numbers). Sees (stack_level j) a.0 a.1 q) k_is u.sees in
       inl (record {
         stacked = u;
         sound = λ allowed same ordered.
@@ -151,5 +151,5 @@ module _ (laws : StackLaws) (while_ordered : InStepWhileOrdered) (facts : FactsG
                 | inl t ↦ absurd (subst IsNumbered t.opening_is keeping.numbered)
                 | inr t ↦ absurd (subst IsLower t.opening_is low)
               ]
-          | inr w ↦ ap (λ (fs : List SideFact). list_any (λ f. f.forged) (marked fs)) w.1.sees.facts
+          | inr w ↦ ap (λ (fs : List SideFact). list_any (λ f. f.forged) (marked fs)) w.1.sees.tells
         ]) keeping.ordered agree

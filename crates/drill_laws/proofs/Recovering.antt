@@ -5,17 +5,16 @@ use Rattle.er_settings.specs.Ranges.{AllAllowed}
 use Rattle.er_settings.specs.Laws.{AllowedAreBounded}
 use Rattle.er_scenario.specs.declared.step.Step.{Step}
 use Rattle.er_scenario.specs.declared.step.Step.TheVariants as does
-use Rattle.hdlc_pair_laws.specs.Links.{StationLink as Pair}
-use Rattle.hdlc_pair_laws.specs.Steps.{station_link_run}
-use Rattle.hdlc_pair_laws.specs.Steps as on_pair
+use Rattle.pair_model.specs.Steps.{pair_step, pair_run}
+use Rattle.pair_model.specs.Steps as on_pair
+use Rattle.hdlc_pair_laws.specs.Links.{StationOnLine, StationLink}
 use Rattle.hdlc_pair_laws.specs.Laws.{StationLinkOpening, after}
 use Rattle.hdlc_pair_laws.specs.Recovery.{Recovery, DrainEmptiesLive}
-use Rattle.er_end_pair_laws.specs.Links.{EndLink as Ends}
-use Rattle.er_end_pair_laws.specs.Steps.{end_link_run as ends_run}
-use Rattle.er_end_pair_laws.specs.Steps as on_ends
+use Rattle.er_end_model.specs.Ends.{End}
+use Rattle.er_end_pair_laws.specs.Links.{EndLink}
 use Rattle.er_end_pair_laws.specs.Recovery as of_ends
 use Rattle.drill_model.specs.Outcomes.{Occurrence}
-use Rattle.drill_model.specs.Links.{Link, LinkOpening, OfStations}
+use Rattle.drill_model.specs.Links.{Link, LinkOpening}
 use Rattle.drill_model.specs.Steps.{AllFit}
 use Rattle.drill_model.specs.Worlds.{DrillPlan, link_at, history_on, world_run}
 use Rattle.drill_model.specs.Recovery.{IsLive, GoOn, NoneWaits, IsRepairable, AreStations, ArePassesAndTakes}
@@ -23,14 +22,15 @@ use Rattle.drill_laws.specs.Laws.{FitsSettings, FitsSteps, RepairsAlways, Drains
 use Rattle.drill_model.specs.Claims.{IsEmpty, IsDelivered}
 use Rattle.drill_model.specs.Growth.{FactsGrow, HistoryGrows, HistoryOfOwn, HistoryOfOther, RunGrows}
 use Rattle.drill_laws.proofs.Tellings.{StationLaws}
-use Rattle.drill_laws.proofs.Wired.{Either, IsWired}
+use Rattle.drill_laws.proofs.Wiring.{Level, Acts}
+use Rattle.drill_laws.proofs.Stationed.{station_level, station_acts, Either, IsWired}
 use Rattle.drill_laws.proofs.Worlds.{AtPlace}
 use Rattle.drill_laws.proofs.Talking.{Speaks, world_stands}
 use Rattle.drill_laws.proofs.OneLink.{given, mended}
 use Rattle.drill_laws.proofs.Losing.{kept_of, opening_at}
-use Rattle.drill_laws.proofs.Repairing.{Passed, passes_kept, takes_kept, tick_kept, pair_drains, pair_repairs}
-use Rattle.drill_laws.proofs.StackWiring.{Numbers, opening_of, finds_of}
-use Rattle.drill_laws.proofs.StackWired.{IsStacked}
+use Rattle.drill_laws.proofs.Given.{Given, passes_kept, takes_kept, tick_kept}
+use Rattle.drill_laws.proofs.Repairing.{pair_drains, pair_repairs}
+use Rattle.drill_laws.proofs.Stacked.{Numbers, opening_of, stack_level, stack_acts, IsStacked}
 use Rattle.drill_laws.proofs.StackLaws.{StackLaws, pair_of, stacked_at}
 use Rattle.drill_laws.proofs.StackRepairing as of_stacks
 
@@ -81,33 +81,35 @@ module _ (laws : StationLaws) (bounds : AllowedAreBounded) (facts : FactsGrow) (
       stations_repair : Recovery → (selective : Bool) → IsWired plan.settings selective l (came before) → FitsSettings plan.settings l.opening → IsDelivered k.opening (came all) k
       stations_repair law selective w fit =
           let s : StationLinkOpening = opening_at bounds plan.settings selective l (came before) w fit w.moment in
-          let p : Pair = after s w.steps in
-          let a : Passed p m (came begun) =
-          given grow own other runs (Passed p) (passes_kept laws p) (takes_kept laws p) plan before first n l m is are there (record { steps = []; passes = tt; sees = w.sees }) in
-          let q : Pair = station_link_run p a.steps in
-          let r : Pair = on_pair.station_link_step (on_pair.Tick moment) q in
-          let c : Passed r k (came all) =
-          mended grow own other runs (Passed r) (passes_kept laws r) (takes_kept laws r) facts plan before first moment second n m k there on later at_end
-          (tick_kept laws m (came begun) q moment a.sees) in
-          let opening : k.opening ≡ OfStations (station_link_run r c.steps).selective = c.sees.opening_is in
-          let waits : NoneWaits k = subst (λ (o : LinkOpening). IsEmpty o k) opening empty in
-          subst (λ (o : LinkOpening). IsDelivered o (came all) k) (sym opening)
+          let p : StationLink = after s w.steps in
+          let v : Level StationOnLine = station_level selective in
+          let acts : Acts v = station_acts laws selective in
+          let a : Given v p m (came begun) =
+          given grow own other runs (Given v p) (passes_kept v acts p) (takes_kept v acts p) plan before first n l m is are there (record { steps = []; are = tt; sees = w.sees }) in
+          let q : StationLink = pair_run v.kind p a.steps in
+          let r : StationLink = pair_step v.kind (on_pair.Tick moment) q in
+          let c : Given v r k (came all) =
+          mended grow own other runs (Given v r) (passes_kept v acts r) (takes_kept v acts r) facts plan before first moment second n m k there on later at_end
+          (tick_kept v acts m (came begun) q moment a.sees) in
+          let waits : NoneWaits k = subst (λ (o : LinkOpening). IsEmpty o k) c.sees.opening_is empty in
+          subst (λ (o : LinkOpening). IsDelivered o (came all) k) (sym c.sees.opening_is)
           (pair_repairs laws l (came before) s w.steps w.sees (kept_of plan.settings selective l (came before) w repairable.ordered) repairable law m k (came begun) (came all) a none
           moment go_on c waits)
 
       stacks_repair : StackLaws → of_ends.Recovery → (t : IsStacked plan.settings l (came before)) → AllAllowed plan.settings → IsDelivered k.opening (came all) k
       stacks_repair stacks law t allowed =
-          let p : Ends = pair_of plan.settings l (came before) t in
-          let a : of_stacks.Given t.k p m (came begun) =
-          given grow own other runs (of_stacks.Given t.k p) (of_stacks.passes_kept stacks.only stacks.calls t.k p) (of_stacks.takes_kept stacks.only stacks.calls t.k p) plan before first n
-          l m is are there (record { steps = []; are = tt; sees = t.sees }) in
-          let q : Ends = ends_run (finds_of t.k) p a.steps in
-          let r : Ends = on_ends.end_link_step (finds_of t.k) (on_ends.Tick moment) q in
-          let c : of_stacks.Given t.k r k (came all) =
-          mended grow own other runs (of_stacks.Given t.k r) (of_stacks.passes_kept stacks.only stacks.calls t.k r) (of_stacks.takes_kept stacks.only stacks.calls t.k r) facts plan before
-          first moment second n m k there on later at_end (of_stacks.tick_kept stacks.only stacks.calls t.k m (came begun) q moment a.sees) in
+          let p : EndLink = pair_of plan.settings l (came before) t in
+          let v : Level End = stack_level t.k in
+          let acts : Acts v = stack_acts stacks.only stacks.calls t.k in
+          let a : Given v p m (came begun) =
+          given grow own other runs (Given v p) (passes_kept v acts p) (takes_kept v acts p) plan before first n l m is are there (record { steps = []; are = tt; sees = t.sees }) in
+          let q : EndLink = pair_run v.kind p a.steps in
+          let r : EndLink = pair_step v.kind (on_pair.Tick moment) q in
+          let c : Given v r k (came all) =
+          mended grow own other runs (Given v r) (passes_kept v acts r) (takes_kept v acts r) facts plan before first moment second n m k there on later at_end
+          (tick_kept v acts m (came begun) q moment a.sees) in
           subst (λ (o : LinkOpening). IsDelivered o (came all) k) (sym c.sees.opening_is)
-          (of_stacks.stacks_repair stacks.only stacks.calls plan.settings l (came before) t allowed repairable law m k (came begun) (came all) a none moment go_on c empty)
+          (of_stacks.stacks_repair plan.settings l (came before) t allowed repairable law m k (came begun) (came all) a none moment go_on c empty)
 
   pub repairs_always : StackLaws → RunGrows → Recovery → of_ends.Recovery → RepairsAlways
   repairs_always stacks runs law ends_law plan before n first moment second fits l m k is repairable are there none on go_on later at_end empty =

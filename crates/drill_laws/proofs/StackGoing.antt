@@ -21,20 +21,14 @@ use Rattle.drill_model.specs.StackReports.{IsOrderly, CallsReport}
 use Rattle.drill_model.specs.Kinds.{sent_in, accepted_in, released_in, passed_in, is_disorder, is_disturbance}
 use Rattle.drill_model.specs.Ends.{EndAtLevel, OfStack, EndEvent, stack_end_step}
 use Rattle.drill_model.specs.Ends as event
-use Rattle.drill_laws.proofs.Tellings.{frames_released, frames_append}
+use Rattle.drill_laws.proofs.Tellings.{all_kept, all_push, frames_released, frames_append}
 use Rattle.drill_laws.proofs.StackSaying.{Says, starts_went, comes_went, leaves_went, ticks_went, uses_went, sends_went, spoke_none, call_says}
 
 -- ---- outcomes one after the other
 
-all_kept : (a b : Core) (rs : List Release) → ((r : Release) → a.released ≡ Some r → b.released ≡ Some r) → AllByRecursion (λ r. a.released ≡ Some r) rs
-    → AllByRecursion (λ r. b.released ≡ Some r) rs
-all_kept a b [] kept h = tt
-all_kept a b (r ∷ rs) kept h = (kept r h.0, all_kept a b rs kept h.1)
-
-all_push : (a : Core) (xs ys : List Release) → AllByRecursion (λ r. a.released ≡ Some r) xs → AllByRecursion (λ r. a.released ≡ Some r) ys
-    → AllByRecursion (λ r. a.released ≡ Some r) (xs ++ ys)
-all_push a [] ys h i = i
-all_push a (x ∷ xs) ys h i = (h.0, all_push a xs ys h.1 i)
+-- a core was released so
+abbrev IsReleaseOf : Core → Release → Type 0
+IsReleaseOf x release = x.released ≡ Some release
 
 grown : (a b c xs ys : List (List ℕ)) → b ≡ a ++ xs → c ≡ b ++ ys → c ≡ a ++ (xs ++ ys)
 grown a b c xs ys x y = y ∙ ap (λ (zs : List (List ℕ)). zs ++ ys) x ∙ append_assoc a xs ys
@@ -47,7 +41,7 @@ says_then a b c os ps late later x y =
       accepted_is = grown a.upper.accepted b.upper.accepted c.upper.accepted (flat_map accepted_in os) (flat_map accepted_in ps) x.accepted_is y.accepted_is
           ∙ ap (λ (zs : List (List ℕ)). a.upper.accepted ++ zs) (sym (flat_map-append accepted_in os ps));
       releases = subst (λ (rs : List Release). AllByRecursion (λ (r : Release). c.released ≡ Some r) rs) (sym (flat_map-append released_in os ps))
-          (all_push c (flat_map released_in os) (flat_map released_in ps) (all_kept b c (flat_map released_in os) y.stays x.releases) y.releases);
+          (all_push (IsReleaseOf c) (flat_map released_in os) (flat_map released_in ps) (all_kept (IsReleaseOf b) (IsReleaseOf c) (flat_map released_in os) y.stays x.releases) y.releases);
       stays = λ r is. y.stays r (x.stays r is);
       disorder_is = list_any-append is_disorder os ps ∙ ap₂ (λ (p q : Bool). p || q) x.disorder_is y.disorder_is;
       disturbed_is = list_any-append is_disturbance os ps ∙ ap₂ (λ (p q : Bool). p || q) x.disturbed_is y.disturbed_is;
@@ -79,7 +73,7 @@ frames_told x =
 -- ---- the events
 
 -- at a moment a stack does with an event what the end of a pair does with it, and these outcomes say so
-pub record Does (moment : ℕ) (event : Event) (m : Stack) (os : List DrillOutcome) (late : Bool) : Type 0 where
+pub record StackDoes (moment : ℕ) (event : Event) (m : Stack) (os : List DrillOutcome) (late : Bool) : Type 0 where
   pub says : Says m.core (step_event moment event m).0.core os late
   pub frames : frames_in os ≡ frames_by moment event m
   pub orderly : IsOrderly (step_event moment event m).0.core
@@ -106,14 +100,14 @@ module _ (only : StepsOnly) (reports : CallsReport) where
   heard_orderly finds moment [] x orderly = orderly
   heard_orderly finds moment (v ∷ vs) x orderly = heard_orderly finds moment vs (step_frame model finds moment v x) ((reports x orderly).1 finds moment v).0
 
-  begins_does : (moment : ℕ) (m : Stack) → IsOrderly m.core → Does moment Start m (outcomes_told_by_stack (step_event moment Start m).0.core) false
+  begins_does : (moment : ℕ) (m : Stack) → IsOrderly m.core → StackDoes moment Start m (outcomes_told_by_stack (step_event moment Start m).0.core) false
   begins_does moment m orderly =
       let x : Core = step_start model moment m.core in
       let r = (reports m.core orderly).0 moment in
       record { says = call_says m.core x (starts_went moment m.core) r.1; frames = frames_told x; orderly = r.0 }
 
   hears_does : (finds : Finds) (moment : ℕ) (octets : List ℕ) (m : Stack) → IsOrderly m.core
-      → Does moment (Come finds octets) m (stack_told finds moment (news m.stream octets) (new_event_at model moment m.core)) false
+      → StackDoes moment (Come finds octets) m (stack_told finds moment (news m.stream octets) (new_event_at model moment m.core)) false
   hears_does finds moment octets m orderly =
       let x : Core = new_event_at model moment m.core in
       let vs : List Verdict = news m.stream octets in
@@ -139,7 +133,7 @@ module _ (only : StepsOnly) (reports : CallsReport) where
   sent_frames None x = frames_told x
 
   sends_does : (moment : ℕ) (user : List ℕ) (m : Stack) → IsOrderly m.core
-      → Does moment (Send user) m (told_unless (refusal_of model user m.core) (step_event moment (Send user) m).0.core) false
+      → StackDoes moment (Send user) m (told_unless (refusal_of model user m.core) (step_event moment (Send user) m).0.core) false
   sends_does moment user m orderly =
       let o : Option SendRefusal = refusal_of model user m.core in
       let both = sent_says moment user m.core orderly o refl in
@@ -154,7 +148,7 @@ module _ (only : StepsOnly) (reports : CallsReport) where
   took_frames (Some message) os = refl
 
   takes_does : (moment : ℕ) (m : Stack) → IsOrderly m.core
-      → Does moment Take m (told_of_take (model.oldest m.core.upper) ++ outcomes_told_by_stack (step_event moment Take m).0.core) false
+      → StackDoes moment Take m (told_of_take (model.oldest m.core.upper) ++ outcomes_told_by_stack (step_event moment Take m).0.core) false
   takes_does moment m orderly =
       let x : Core = step_take model moment m.core in
       let r = (reports m.core orderly).3 moment in
@@ -165,7 +159,7 @@ module _ (only : StepsOnly) (reports : CallsReport) where
         orderly = r.0;
       }
 
-  leaves_does : (moment sub : ℕ) (m : Stack) → IsOrderly m.core → Does moment (Leave sub) m (outcomes_told_by_stack (step_event moment (Leave sub) m).0.core) false
+  leaves_does : (moment sub : ℕ) (m : Stack) → IsOrderly m.core → StackDoes moment (Leave sub) m (outcomes_told_by_stack (step_event moment (Leave sub) m).0.core) false
   leaves_does moment sub m orderly =
       let x : Core = step_release model moment sub m.core in
       let r = (reports m.core orderly).4 moment sub in
@@ -184,7 +178,7 @@ module _ (only : StepsOnly) (reports : CallsReport) where
   or_false false = refl
 
   ticks_does : (moment : ℕ) (m : Stack) → IsOrderly m.core
-      → Does moment Tick m (if_expired (finds_expired (new_event_at model moment m.core)) ++ outcomes_told_by_stack (step_event moment Tick m).0.core)
+      → StackDoes moment Tick m (if_expired (finds_expired (new_event_at model moment m.core)) ++ outcomes_told_by_stack (step_event moment Tick m).0.core)
       (finds_expired (new_event_at model moment m.core))
   ticks_does moment m orderly =
       let x : Core = step_tick model moment m.core in
@@ -228,7 +222,7 @@ module _ (only : StepsOnly) (reports : CallsReport) where
   stack_leads key_of moment m event.Tick = refl
 
   pub stack_does : (key_of : ℕ → ℕ → Option TripleKey) (moment : ℕ) (m : Stack) (given : EndEvent) → IsOrderly m.core
-      → Does moment (as_given key_of given) m (stack_end_step key_of moment m given).1 (is_late_at moment m given)
+      → StackDoes moment (as_given key_of given) m (stack_end_step key_of moment m given).1 (is_late_at moment m given)
   stack_does key_of moment m event.Start orderly = begins_does moment m orderly
   stack_does key_of moment m (event.Receive octets) orderly = hears_does (λ now. key_of) moment octets m orderly
   stack_does key_of moment m (event.Send user) orderly = sends_does moment user m orderly

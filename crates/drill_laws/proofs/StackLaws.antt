@@ -16,8 +16,8 @@ use Rattle.er_end_model.specs.Steps.{is_connected}
 use Rattle.er_end_model.specs.Ends.{End as Stack}
 use Rattle.er_end_model.specs.Bounds as end_bounds_words
 use Rattle.er_end_pair_laws.specs.Openings.{EndLinkOpening, Agree}
-use Rattle.er_end_pair_laws.specs.Links.{EndLink as Pair}
-use Rattle.er_end_pair_laws.specs.Steps.{end_link_run}
+use Rattle.pair_model.specs.Steps.{pair_run}
+use Rattle.er_end_pair_laws.specs.Links.{EndLink as Pair, end_kind}
 use Rattle.er_end_pair_laws.specs.Laws.{Prefix, OneFrame, LosingLineReasons, InStep, Delivery, DeliveryBound, DrainEmpties}
 use Rattle.er_end_pair_laws.specs.Laws as of_pair
 use Rattle.er_end_pair_laws.specs.Reasons as of_pair_reasons
@@ -35,8 +35,9 @@ use Rattle.drill_laws.proofs.Losing.{prefix_of, not_false}
 use Rattle.drill_laws.proofs.Worlds.{AtPlace, Keeps, world_lives}
 use Rattle.drill_laws.proofs.Viewing.{FitsLinkStep, FitsLinkOpening, step_opening, no_send_fits}
 use Rattle.drill_laws.proofs.Fitting.{steps_fit}
-use Rattle.drill_laws.proofs.StackWiring.{Numbers, opening_of, finds_of, IsOfPair}
-use Rattle.drill_laws.proofs.StackWired.{FitsStackStep, paired, IsStacked, stacked_steps, stacked_opens, drain_sees}
+use Rattle.drill_laws.proofs.Wiring.{IsOfPair}
+use Rattle.drill_laws.proofs.Wired.{drain_sees}
+use Rattle.drill_laws.proofs.Stacked.{Numbers, opening_of, finds_of, stack_level, stack_acts, FitsStackStep, paired, IsStacked, stacked_steps, stacked_opens}
 
 -- the laws of two ends of the whole stack, of the safety side, and of a stack's reports
 pub record StackLaws : Type 0 where
@@ -73,7 +74,7 @@ pair_opening settings l history t allowed = record {
 
 -- the pair behind the steps
 abbrev pub pair_of : (settings : Settings) (l : Link) (history : List Occurrence) → IsStacked settings l history → Pair
-pair_of settings l history t = end_link_run (finds_of t.k) (paired settings t.k t.moment) t.steps
+pair_of settings l history t = pair_run (end_kind (finds_of t.k)) (paired settings t.k t.moment) t.steps
 
 -- the radio block centre finds the engine's KMAC
 pub agrees : (k : Numbers) → k.kr ≡ Some k.ke → (now : ℕ) → finds_of k now k.engine k.rbc ≡ Some k.ke
@@ -108,7 +109,7 @@ module _ (settings : Settings) (l : Link) (history : List Occurrence) (t : IsSta
   one_reason released release is reason = subst of_pair_reasons.IsLosingLineRelease is reason
 
   all_reasons : (releases : List Release) → (t.k.kr ≡ Some t.k.ke → of_pair_reasons.IsLosingLineRelease p.e.core.released × of_pair_reasons.IsLosingLineRelease p.r.core.released)
-      → AllByRecursion (IsOfPair p) releases → AllByRecursion (IsLosingLineReason (opening_of t.k)) releases
+      → AllByRecursion (IsOfPair (stack_level t.k) p) releases → AllByRecursion (IsLosingLineReason (opening_of t.k)) releases
   all_reasons [] both all = tt
   all_reasons (x ∷ xs) both all =
       (λ same. elim all.0 [ inl is ↦ one_reason p.e.core.released x is (both same).0 | inr is ↦ one_reason p.r.core.released x is (both same).1 ], all_reasons xs both all.1)
@@ -172,7 +173,7 @@ module _ (settings : Settings) (l : Link) (history : List Occurrence) (t : IsSta
         done = subst D (sym v.opening_is) done;
         drains = λ roomy passes enough.
             let d : Drain = drain passes l in
-            let there = drain_sees laws.only laws.calls t.k passes l history p v in
+            let there = drain_sees (stack_level t.k) (stack_acts laws.only laws.calls t.k) passes l history p v in
             let empty = laws.drain_empties s t.steps passes t.fit agree is_free (subst (λ (n : ℕ). n ≤ passes) same enough) in
             (there.from_e_is ∙ empty.0, there.from_r_is ∙ empty.1);
       }

@@ -22,7 +22,8 @@ use Rattle.hdlc_station_model.specs.Events.{news}
 use Rattle.hdlc_station_model.specs.Lines.{IsPrefix}
 use Rattle.er_end_model.specs.Ends.{End as Stack, Call, Answer, opened as stack_opened, hears_each, finds_expired}
 use Rattle.er_end_model.specs.Ends as on_end
-use Rattle.er_end_pair_laws.specs.Links.{EndLink as Pair, end_of}
+use Rattle.pair_model.specs.Links.{end_of_side}
+use Rattle.er_end_pair_laws.specs.Links.{EndLink as Pair}
 use Rattle.er_end_pair_laws.specs.Laws.{IsOneFrame}
 use Rattle.er_end_pair_laws.specs.Ordered.{begins_with_cc, HasConfirmed, HasSaid, Knows, IsJoined, AreOrdered}
 use Rattle.drill_model.specs.Outcomes.{DrillOutcome, NothingWaits, UserReleased, Passed, Occurrence, at_end, facts_in}
@@ -39,7 +40,8 @@ use Rattle.drill_laws.proofs.Speaking.{Speaks, Spoke, comes_spoke, sends_spoke, 
 use Rattle.drill_laws.proofs.Talking.{silent_changes}
 use Rattle.drill_laws.proofs.StackSaying.{sent_by_step, sent_in_step}
 use Rattle.drill_laws.proofs.StackGoing.{as_given, stack_leads, stack_does}
-use Rattle.drill_laws.proofs.StackWiring.{Numbers, opening_of, key_of, Sees}
+use Rattle.drill_laws.proofs.Wiring.{Sees}
+use Rattle.drill_laws.proofs.Stacked.{stack_level, Numbers, opening_of, key_of}
 use Rattle.drill_laws.proofs.StackCalls.{facts_spoken, Tells, told_tells, tells_behind, starts_rest, starts_tell, ticks_rest, ticks_tell}
 use Rattle.drill_laws.proofs.StackEnding.{EndsCalmly, starts_ended, comes_ended, sends_ended, uses_ended, leaves_ended, ticks_ended}
 use Rattle.drill_laws.proofs.Sealing.{IsSealed, IsUnforged, sealed_still, all_sealed_still, unforged_more}
@@ -585,18 +587,18 @@ module _ (grow : FactsGrow) (marks : MarksGrow) (only : StepsOnly) (reports : Ca
     pub frame_r : IsOneFrame p.r.stream p.from_e
     pub frame_e : IsOneFrame p.e.stream p.from_r
 
-  sees_stands : (l : Link) (history : List Occurrence) (p : Pair) → Sees k l history p → Stands l p.e p.r
+  sees_stands : (l : Link) (history : List Occurrence) (p : Pair) → Sees (stack_level k) l history p → Stands l p.e p.r
   sees_stands l history p v = record { opening_is = v.opening_is; e_is = v.e_is; r_is = v.r_is }
 
   stack_same : (a b : Stack) → OfStack a ≡ OfStack b → a ≡ b
   stack_same a b e = cc
 
   -- the stacks to which a link led are those of its pair
-  same_stacks : (l : Link) (history : List Occurrence) (p : Pair) (e r : Stack) (P : Stack → Stack → Type 0) → Sees k l history p → Stands l e r → P e r → P p.e p.r
+  same_stacks : (l : Link) (history : List Occurrence) (p : Pair) (e r : Stack) (P : Stack → Stack → Type 0) → Sees (stack_level k) l history p → Stands l e r → P e r → P p.e p.r
   same_stacks l history p e r P v s h =
       subst (λ (x : Stack). P x p.r) (stack_same e p.e (sym s.e_is ∙ v.e_is)) (subst (λ (y : Stack). P e y) (stack_same r p.r (sym s.r_is ∙ v.r_is)) h)
 
-  stacks_same : (l : Link) (history : List Occurrence) (p : Pair) (e r : Stack) (P : Stack → Stack → Type 0) → Sees k l history p → Stands l e r → P p.e p.r → P e r
+  stacks_same : (l : Link) (history : List Occurrence) (p : Pair) (e r : Stack) (P : Stack → Stack → Type 0) → Sees (stack_level k) l history p → Stands l e r → P p.e p.r → P e r
   stacks_same l history p e r P v s h =
       subst (λ (x : Stack). P x r) (stack_same p.e e (sym v.e_is ∙ s.e_is)) (subst (λ (y : Stack). P p.e y) (stack_same p.r r (sym v.r_is ∙ s.r_is)) h)
 
@@ -608,8 +610,8 @@ module _ (grow : FactsGrow) (marks : MarksGrow) (only : StepsOnly) (reports : Ca
 
   -- an event at an end, at a link whose line may have changed, behind occurrences that are no facts
   event_sound : (l : Link) (history first : List Occurrence) (p q : Pair) (side : Side) (given : EndEvent) → facts_in first ≡ [] → Stands l p.e p.r
-      → OneFrame (end_of p side) given → IsOrderly p.e.core → IsOrderly p.r.core → Known p → Known q → PairSound p history
-      → Sees k (drill.give l side given).0 (history ++ (first ++ (drill.give l side given).1)) q
+      → OneFrame (end_of_side p side) given → IsOrderly p.e.core → IsOrderly p.r.core → Known p → Known q → PairSound p history
+      → Sees (stack_level k) (drill.give l side given).0 (history ++ (first ++ (drill.give l side given).1)) q
       → PairSound q (history ++ (first ++ (drill.give l side given).1))
   event_sound l history first p q E given none s one orderly_e orderly_r before after h v =
       let a : Link × List Occurrence = drill.give l E given in
@@ -633,7 +635,7 @@ module _ (grow : FactsGrow) (marks : MarksGrow) (only : StepsOnly) (reports : Ca
       same_stacks a.0 whole q p.e next (λ x y. SoundAt x y whole) v there (subst (λ (os : List Occurrence). SoundAt p.e next os) (append_assoc history first a.1) now)
 
   -- occurrences that are no facts, at a link whose line may have changed
-  quiet_sound : (l : Link) (history more : List Occurrence) (p q : Pair) → facts_in more ≡ [] → Stands l p.e p.r → PairSound p history → Sees k l (history ++ more) q
+  quiet_sound : (l : Link) (history more : List Occurrence) (p q : Pair) → facts_in more ≡ [] → Stands l p.e p.r → PairSound p history → Sees (stack_level k) l (history ++ more) q
       → PairSound q (history ++ more)
   quiet_sound l history more p q none s h v = same_stacks l (history ++ more) q p.e p.r (λ x y. SoundAt x y (history ++ more)) v s (silent p.e p.r history more none h)
 
@@ -642,31 +644,31 @@ module _ (grow : FactsGrow) (marks : MarksGrow) (only : StepsOnly) (reports : Ca
   lined_stands l R frames e r s = record { opening_is = s.opening_is; e_is = s.e_is; r_is = s.r_is }
 
   -- the frame that is passed is one frame at the other end
-  one_of : (l : Link) (history : List Occurrence) (p : Pair) (side : Side) (frame : List ℕ) (frames : List (List ℕ)) → waiting_of l side ≡ frame ∷ frames → Sees k l history p → Known p
-      → length (news (end_of p (other side)).stream frame) ≡ 1
+  one_of : (l : Link) (history : List Occurrence) (p : Pair) (side : Side) (frame : List ℕ) (frames : List (List ℕ)) → waiting_of l side ≡ frame ∷ frames → Sees (stack_level k) l history p → Known p
+      → length (news (end_of_side p (other side)).stream frame) ≡ 1
   one_of l history p E frame frames waits v knows = knows.frame_r frame frames (sym v.from_e_is ∙ waits)
   one_of l history p R frame frames waits v knows = knows.frame_e frame frames (sym v.from_r_is ∙ waits)
 
-  pass_sound : (l : Link) (history : List Occurrence) (p q : Pair) (side : Side) (frames : List (List ℕ)) → waiting_of l side ≡ frames → Sees k l history p → Known p → Known q
-      → PairSound p history → Sees k (pass l side frames).0 (history ++ (pass l side frames).1) q → PairSound q (history ++ (pass l side frames).1)
+  pass_sound : (l : Link) (history : List Occurrence) (p q : Pair) (side : Side) (frames : List (List ℕ)) → waiting_of l side ≡ frames → Sees (stack_level k) l history p → Known p → Known q
+      → PairSound p history → Sees (stack_level k) (pass l side frames).0 (history ++ (pass l side frames).1) q → PairSound q (history ++ (pass l side frames).1)
   pass_sound l history p q side [] waits v before after h there = quiet_sound l history (at_end side NothingWaits ∷ []) p q refl (sees_stands l history p v) h there
   pass_sound l history p q side (frame ∷ frames) waits v before after h there =
       event_sound (with_waiting l side frames) history (at_end side (Passed frame) ∷ []) p q (other side) (event.Receive frame) refl
-      (lined_stands l side frames p.e p.r (sees_stands l history p v)) (one_of l history p side frame frames waits v before) v.orderly_e v.orderly_r before after h there
+      (lined_stands l side frames p.e p.r (sees_stands l history p v)) (one_of l history p side frame frames waits v before) v.stands_e v.stands_r before after h there
 
-  pub step_ordered : (l : Link) (history : List Occurrence) (p q : Pair) (s : LinkStep) → Sees k l history p → Known p → Known q → PairSound p history
-      → Sees k (link_step l s).0 (history ++ (link_step l s).1) q → PairSound q (history ++ (link_step l s).1)
+  pub step_ordered : (l : Link) (history : List Occurrence) (p q : Pair) (s : LinkStep) → Sees (stack_level k) l history p → Known p → Known q → PairSound p history
+      → Sees (stack_level k) (link_step l s).0 (history ++ (link_step l s).1) q → PairSound q (history ++ (link_step l s).1)
   step_ordered l history p q (Send side octets) v before after h there =
-      event_sound l history [] p q side (event.Send octets) refl (sees_stands l history p v) tt v.orderly_e v.orderly_r before after h there
+      event_sound l history [] p q side (event.Send octets) refl (sees_stands l history p v) tt v.stands_e v.stands_r before after h there
   step_ordered l history p q (Pass side) v before after h there = pass_sound l history p q side (waiting_of l side) refl v before after h there
   step_ordered l history p q (Change side change) v before after h there =
       let frames : List (List ℕ) = waiting_of l side in
       quiet_sound (with_waiting l side (change_first change frames).0) history (map (at_end side) (change_first change frames).1) p q (silent_changes grow side change frames)
       (lined_stands l side (change_first change frames).0 p.e p.r (sees_stands l history p v)) h there
   step_ordered l history p q (Take side) v before after h there =
-      event_sound l history [] p q side event.Take refl (sees_stands l history p v) tt v.orderly_e v.orderly_r before after h there
+      event_sound l history [] p q side event.Take refl (sees_stands l history p v) tt v.stands_e v.stands_r before after h there
   step_ordered l history p q (ReleaseStep side sub) v before after h there =
-      event_sound l history (at_end side (UserReleased sub) ∷ []) p q side (event.Release sub) refl (sees_stands l history p v) tt v.orderly_e v.orderly_r before after h there
+      event_sound l history (at_end side (UserReleased sub) ∷ []) p q side (event.Release sub) refl (sees_stands l history p v) tt v.stands_e v.stands_r before after h there
   step_ordered l history p q (Tick moment) v before after h there =
       let now : ℕ = max l.moment moment in
       let m : Link = record l { moment = now } in
@@ -680,11 +682,11 @@ module _ (grow : FactsGrow) (marks : MarksGrow) (only : StepsOnly) (reports : Ca
       let sb : Stands b.0 e r = stands_r a.0 e p.r event.Tick sa in
       let whole : List Occurrence = history ++ (a.1 ++ b.1) in
       let ordered : Ordered k e.core r.core = stacks_same b.0 whole q e r OrderedStacks there sb after.ordered in
-      same_stacks b.0 whole q e r (λ x y. SoundAt x y whole) there sb (ticked l p.e p.r history now s v.orderly_e v.orderly_r ordered h)
+      same_stacks b.0 whole q e r (λ x y. SoundAt x y whole) there sb (ticked l p.e p.r history now s v.stands_e v.stands_r ordered h)
 
   -- as they are opened nothing was sealed or verified, and nothing was given or said
   pub opened_ordered : OpensOrderly → (settings : Settings) (moment : ℕ) (q : Pair) → Known q
-      → let a = opened_stacks settings moment k.engine k.rbc k.ke k.kr k.ra k.rb in Sees k a.0 a.1 q → PairSound q a.1
+      → let a = opened_stacks settings moment k.engine k.rbc k.ke k.kr k.ra k.rb in Sees (stack_level k) a.0 a.1 q → PairSound q a.1
   opened_ordered orderly settings moment q after there =
       let e : Stack = stack_opened (Call settings k.engine k.rbc k.ke k.rb moment) in
       let r : Stack = stack_opened (Answer settings k.rbc k.ra moment) in

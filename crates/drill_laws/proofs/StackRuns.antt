@@ -12,8 +12,7 @@ use Rattle.drill_model.specs.Hearing.{passed_of}
 use Rattle.drill_laws.specs.Stacks.{IsPair, StacksRun}
 use Rattle.drill_laws.proofs.Hearing.{StreamIs}
 use Rattle.drill_laws.proofs.Brought.{Streams, streams_at}
-use Rattle.drill_laws.proofs.StackWiring.{Numbers}
-use Rattle.drill_laws.proofs.StackWired.{IsStacked}
+use Rattle.drill_laws.proofs.Stacked.{Numbers, IsStacked}
 use Rattle.drill_laws.proofs.StackLaws.{StackLaws, pair_opening, stacked_at}
 
 pair_is : (plan : DrillPlan) (l : Link) (history : List Occurrence) → AllAllowed plan.settings → IsStacked plan.settings l history → Streams l history

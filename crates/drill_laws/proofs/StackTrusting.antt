@@ -21,7 +21,8 @@ use Rattle.hdlc_station_model.specs.Events.{news}
 use Rattle.hdlc_station_model.specs.Lines.{IsPrefix}
 use Rattle.er_end_model.specs.Ends.{End as Stack, Event, Call, Answer, opened as stack_opened, finds_expired}
 use Rattle.er_end_model.specs.Ends as on_end
-use Rattle.er_end_pair_laws.specs.Links.{EndLink as Pair, end_of}
+use Rattle.pair_model.specs.Links.{end_of_side}
+use Rattle.er_end_pair_laws.specs.Links.{EndLink as Pair}
 use Rattle.er_end_pair_laws.specs.Laws.{IsOneFrame}
 use Rattle.drill_model.specs.Outcomes.{DrillOutcome, NothingWaits, UserReleased, Passed, Occurrence, at_end, facts_in}
 use Rattle.drill_model.specs.Growth.{FactsGrow}
@@ -36,7 +37,8 @@ use Rattle.drill_laws.proofs.Speaking.{Speaks}
 use Rattle.drill_laws.proofs.Talking.{silent_changes}
 use Rattle.drill_laws.proofs.StackSaying.{sent_in_step}
 use Rattle.drill_laws.proofs.StackGoing.{as_given, stack_leads, stack_does}
-use Rattle.drill_laws.proofs.StackWiring.{Numbers, opening_of, key_of, Sees}
+use Rattle.drill_laws.proofs.Wiring.{Sees}
+use Rattle.drill_laws.proofs.Stacked.{stack_level, Numbers, opening_of, key_of}
 use Rattle.drill_laws.proofs.StackCalls.{facts_spoken, Tells, Calls, sends_call, takes_call, hears_call, starts_rest, starts_tell, ticks_rest, ticks_tell}
 use Rattle.drill_laws.proofs.Sealing.{IsSealed}
 use Rattle.drill_laws.proofs.Trusting.{key, text_e, text_r, InStep, IsSound, same_e, same_r, e_steps, r_steps}
@@ -259,22 +261,22 @@ module _ (grow : FactsGrow) (marks : MarksGrow) (only : StepsOnly) (reports : Ca
 
   -- ---- a step of a link, seen as a pair
 
-  sees_stands : (l : Link) (history : List Occurrence) (p : Pair) → Sees k l history p → Stands k l p.e p.r
+  sees_stands : (l : Link) (history : List Occurrence) (p : Pair) → Sees (stack_level k) l history p → Stands k l p.e p.r
   sees_stands l history p v = record { opening_is = v.opening_is; e_is = v.e_is; r_is = v.r_is }
 
   -- the stacks to which a link led are those of its pair
-  same_stacks : (l : Link) (history : List Occurrence) (p : Pair) (e r : Stack) (P : Stack → Stack → Type 0) → Sees k l history p → Stands k l e r → P e r → P p.e p.r
+  same_stacks : (l : Link) (history : List Occurrence) (p : Pair) (e r : Stack) (P : Stack → Stack → Type 0) → Sees (stack_level k) l history p → Stands k l e r → P e r → P p.e p.r
   same_stacks l history p e r P v s h =
       subst (λ (x : Stack). P x p.r) (stack_same e p.e (sym s.e_is ∙ v.e_is)) (subst (λ (y : Stack). P e y) (stack_same r p.r (sym s.r_is ∙ v.r_is)) h)
 
-  stacks_same : (l : Link) (history : List Occurrence) (p : Pair) (e r : Stack) (P : Stack → Stack → Type 0) → Sees k l history p → Stands k l e r → P p.e p.r → P e r
+  stacks_same : (l : Link) (history : List Occurrence) (p : Pair) (e r : Stack) (P : Stack → Stack → Type 0) → Sees (stack_level k) l history p → Stands k l e r → P p.e p.r → P e r
   stacks_same l history p e r P v s h =
       subst (λ (x : Stack). P x r) (stack_same p.e e (sym v.e_is ∙ s.e_is)) (subst (λ (y : Stack). P p.e y) (stack_same p.r r (sym v.r_is ∙ s.r_is)) h)
 
-  knows_of : (l : Link) (history : List Occurrence) (p : Pair) (e r : Stack) → Sees k l history p → Stands k l e r → KnowsAt k p → Knows k e r p.from_e p.from_r
+  knows_of : (l : Link) (history : List Occurrence) (p : Pair) (e r : Stack) → Sees (stack_level k) l history p → Stands k l e r → KnowsAt k p → Knows k e r p.from_e p.from_r
   knows_of l history p e r v s h = stacks_same l history p e r (λ x y. Knows k x y p.from_e p.from_r) v s h
 
-  sound_of : (l : Link) (history : List Occurrence) (p : Pair) (e r : Stack) → Sees k l history p → Stands k l e r → Sound k e r history → SoundAt k p history
+  sound_of : (l : Link) (history : List Occurrence) (p : Pair) (e r : Stack) → Sees (stack_level k) l history p → Stands k l e r → Sound k e r history → SoundAt k p history
   sound_of l history p e r v s h = same_stacks l history p e r (λ x y. Sound k x y history) v s h
 
   -- an event that is one step of the safety side
@@ -283,8 +285,8 @@ module _ (grow : FactsGrow) (marks : MarksGrow) (only : StepsOnly) (reports : Ca
 
   -- at a link whose line may have changed, and behind occurrences that are no facts
   event_sound : (l : Link) (history first : List Occurrence) (p q : Pair) (side : Side) (given : EndEvent) → facts_in first ≡ [] → Stands k l p.e p.r
-      → EventCalls l (end_of p side) given → KnowsAt k p → KnowsAt k q → SoundAt k p history
-      → Sees k (drill.give l side given).0 (history ++ (first ++ (drill.give l side given).1)) q
+      → EventCalls l (end_of_side p side) given → KnowsAt k p → KnowsAt k q → SoundAt k p history
+      → Sees (stack_level k) (drill.give l side given).0 (history ++ (first ++ (drill.give l side given).1)) q
       → SoundAt k q (history ++ (first ++ (drill.give l side given).1))
   event_sound l history first p q E given none s calls before after h v =
       let a : Link × List Occurrence = drill.give l E given in
@@ -304,7 +306,7 @@ module _ (grow : FactsGrow) (marks : MarksGrow) (only : StepsOnly) (reports : Ca
       sound_of a.0 whole q p.e (next_of l given p.r) v there (subst (λ (os : List Occurrence). Sound k p.e (next_of l given p.r) os) (append_assoc history first a.1) now)
 
   -- occurrences that are no facts, at a link whose line may have changed
-  quiet_sound : (l : Link) (history more : List Occurrence) (p q : Pair) → facts_in more ≡ [] → Stands k l p.e p.r → SoundAt k p history → Sees k l (history ++ more) q
+  quiet_sound : (l : Link) (history more : List Occurrence) (p q : Pair) → facts_in more ≡ [] → Stands k l p.e p.r → SoundAt k p history → Sees (stack_level k) l (history ++ more) q
       → SoundAt k q (history ++ more)
   quiet_sound l history more p q none s h v = sound_of l (history ++ more) q p.e p.r v s (silent p.e p.r history more none h)
 
@@ -316,17 +318,17 @@ module _ (grow : FactsGrow) (marks : MarksGrow) (only : StepsOnly) (reports : Ca
   opening = OfKeys k.engine k.rbc k.ke k.kr k.ra k.rb
 
   -- the frame that is passed is one frame at the other end
-  one_of : (l : Link) (history : List Occurrence) (p : Pair) (side : Side) (frame : List ℕ) (frames : List (List ℕ)) → waiting_of l side ≡ frame ∷ frames → Sees k l history p → KnowsAt k p
-      → length (news (end_of p (other side)).stream frame) ≡ 1
+  one_of : (l : Link) (history : List Occurrence) (p : Pair) (side : Side) (frame : List ℕ) (frames : List (List ℕ)) → waiting_of l side ≡ frame ∷ frames → Sees (stack_level k) l history p → KnowsAt k p
+      → length (news (end_of_side p (other side)).stream frame) ≡ 1
   one_of l history p E frame frames waits v knows = knows.frame_r frame frames (sym v.from_e_is ∙ waits)
   one_of l history p R frame frames waits v knows = knows.frame_e frame frames (sym v.from_r_is ∙ waits)
 
-  pass_sound : (l : Link) (history : List Occurrence) (p q : Pair) (side : Side) (frames : List (List ℕ)) → waiting_of l side ≡ frames → Sees k l history p → KnowsAt k p → KnowsAt k q
-      → SoundAt k p history → Sees k (pass l side frames).0 (history ++ (pass l side frames).1) q → SoundAt k q (history ++ (pass l side frames).1)
+  pass_sound : (l : Link) (history : List Occurrence) (p q : Pair) (side : Side) (frames : List (List ℕ)) → waiting_of l side ≡ frames → Sees (stack_level k) l history p → KnowsAt k p → KnowsAt k q
+      → SoundAt k p history → Sees (stack_level k) (pass l side frames).0 (history ++ (pass l side frames).1) q → SoundAt k q (history ++ (pass l side frames).1)
   pass_sound l history p q side [] waits v before after h there = quiet_sound l history (at_end side NothingWaits ∷ []) p q refl (sees_stands l history p v) h there
   pass_sound l history p q side (frame ∷ frames) waits v before after h there =
       let m : Link = with_waiting l side frames in
-      let x : Stack = end_of p (other side) in
+      let x : Stack = end_of_side p (other side) in
       event_sound m history (at_end side (Passed frame) ∷ []) p q (other side) (event.Receive frame) refl (lined_stands l side frames p.e p.r (sees_stands l history p v))
       (hears_call grow opening (key_of k) m.moment (news x.stream frame) (new_event_at model m.moment x.core) (one_of l history p side frame frames waits v before)) before after h there
 
@@ -336,12 +338,12 @@ module _ (grow : FactsGrow) (marks : MarksGrow) (only : StepsOnly) (reports : Ca
       (sym (list_any-append (λ (o : Occurrence). is_disturbance o.outcome) history (at_end side (UserReleased sub) ∷ more)) ∙ e) in
       true≢false both.1
 
-  pub step_sound : (l : Link) (history : List Occurrence) (p q : Pair) (s : LinkStep) → Sees k l history p → KnowsAt k p → KnowsAt k q
+  pub step_sound : (l : Link) (history : List Occurrence) (p q : Pair) (s : LinkStep) → Sees (stack_level k) l history p → KnowsAt k p → KnowsAt k q
       → is_disturbed (history ++ (link_step l s).1) ≡ false → SoundAt k p history
-      → Sees k (link_step l s).0 (history ++ (link_step l s).1) q → SoundAt k q (history ++ (link_step l s).1)
+      → Sees (stack_level k) (link_step l s).0 (history ++ (link_step l s).1) q → SoundAt k q (history ++ (link_step l s).1)
   step_sound l history p q (Send side octets) v before after calm h there =
       event_sound l history [] p q side (event.Send octets) refl (sees_stands l history p v)
-      (sends_call grow opening (key_of k) l.moment octets (end_of p side).core) before after h there
+      (sends_call grow opening (key_of k) l.moment octets (end_of_side p side).core) before after h there
   step_sound l history p q (Pass side) v before after calm h there = pass_sound l history p q side (waiting_of l side) refl v before after h there
   step_sound l history p q (Change side change) v before after calm h there =
       let frames : List (List ℕ) = waiting_of l side in
@@ -349,7 +351,7 @@ module _ (grow : FactsGrow) (marks : MarksGrow) (only : StepsOnly) (reports : Ca
       (lined_stands l side (change_first change frames).0 p.e p.r (sees_stands l history p v)) h there
   step_sound l history p q (Take side) v before after calm h there =
       event_sound l history [] p q side event.Take refl (sees_stands l history p v)
-      (takes_call grow opening (key_of k) l.moment (end_of p side).core) before after h there
+      (takes_call grow opening (key_of k) l.moment (end_of_side p side).core) before after h there
   step_sound l history p q (Release side sub) v before after calm h there =
       absurd (released_disturbs history (drill.give l side (event.Release sub)).1 side sub calm)
   step_sound l history p q (Tick moment) v before after calm h there =
@@ -367,7 +369,7 @@ module _ (grow : FactsGrow) (marks : MarksGrow) (only : StepsOnly) (reports : Ca
 
   -- as they are opened nothing was sealed or verified
   pub opened_sound : OpensOrderly → (settings : Settings) (moment : ℕ) (q : Pair)
-      → let a = opened_stacks settings moment k.engine k.rbc k.ke k.kr k.ra k.rb in Sees k a.0 a.1 q → SoundAt k q a.1
+      → let a = opened_stacks settings moment k.engine k.rbc k.ke k.kr k.ra k.rb in Sees (stack_level k) a.0 a.1 q → SoundAt k q a.1
   opened_sound orderly settings moment q there =
       let e : Stack = stack_opened (Call settings k.engine k.rbc k.ke k.rb moment) in
       let r : Stack = stack_opened (Answer settings k.rbc k.ra moment) in

@@ -20,8 +20,8 @@ use Rattle.drill_laws.proofs.Losing.{not_false}
 use Rattle.drill_laws.proofs.Worlds.{AtPlace, Keeps, world_lives}
 use Rattle.drill_laws.proofs.Viewing.{FitsLinkStep, FitsLinkOpening, step_opening, no_send_fits}
 use Rattle.drill_laws.proofs.Fitting.{steps_fit}
-use Rattle.drill_laws.proofs.StackWiring.{Numbers, opening_of, Sees}
-use Rattle.drill_laws.proofs.StackWired.{IsStacked, stacked_steps, stacked_numbers, stacked_opens, opened_numbers}
+use Rattle.drill_laws.proofs.Wiring.{Sees}
+use Rattle.drill_laws.proofs.Stacked.{stack_level, Numbers, opening_of, IsStacked, stacked_steps, stacked_numbers, stacked_opens, opened_numbers}
 use Rattle.drill_laws.proofs.StackLaws.{StackLaws, pair_opening, pair_of, agrees, IsLower, fits_stack}
 use Rattle.drill_laws.proofs.StackTrusting.{SoundAt, KnowsAt, step_sound, opened_sound}
 
@@ -75,8 +75,8 @@ module _ (laws : StackLaws) (facts : FactsGrow) where
         at_e = prefix.1;
         frame_r = frames.0;
         frame_e = frames.1;
-        orderly_e = t.sees.orderly_e;
-        orderly_r = t.sees.orderly_r;
+        orderly_e = t.sees.stands_e;
+        orderly_r = t.sees.stands_r;
       }
 
   -- ---- worlds
@@ -103,7 +103,7 @@ module _ (laws : StackLaws) (facts : FactsGrow) where
             let same_before : t.k.kr ≡ Some t.k.ke = subst (λ (k : Numbers). k.kr ≡ Some k.ke) k_is same in
             let before : is_disturbed history ≡ false = calm_before history a.1 calm in
             let knows : KnowsAt t.k q = subst (λ (k : Numbers). KnowsAt k q) k_is (knows_at settings a.0 (history ++ a.1) u allowed same calm) in
-            let sees : Sees t.k a.0 (history ++ a.1) q = subst (λ (k : Numbers). Sees k a.0 (history ++ a.1) q) k_is u.sees in
+            let sees : Sees (stack_level t.k) a.0 (history ++ a.1) q = subst (λ (k : Numbers). Sees (stack_level k) a.0 (history ++ a.1) q) k_is u.sees in
             subst (λ (k : Numbers). SoundAt k q (history ++ a.1)) (sym k_is)
             (step_sound facts laws.marks laws.only laws.calls t.k l history p q s t.sees (knows_at settings l history t allowed same_before before) knows calm
             (h.sound allowed same_before before) sees);
@@ -123,7 +123,7 @@ module _ (laws : StackLaws) (facts : FactsGrow) where
       let u : IsStacked settings a.0 a.1 = stacked_opens laws.only laws.calls laws.opens settings moment k fit in
       let q : Pair = pair_of settings a.0 a.1 u in
       let k_is : u.k ≡ k = opened_numbers laws.only laws.calls laws.opens settings moment k fit in
-      let sees : Sees k a.0 a.1 q = subst (λ (j : Numbers). Sees j a.0 a.1 q) k_is u.sees in
+      let sees : Sees (stack_level k) a.0 a.1 q = subst (λ (j : Numbers). Sees (stack_level j) a.0 a.1 q) k_is u.sees in
       inl (record {
         stacked = u;
         sound = λ allowed same calm.

@@ -44,7 +44,7 @@ use Rattle.drill_model.specs.Kinds.{accepted_in, accepted_by, took_in, taken_by}
 use Rattle.drill_model.specs.Claims.{TakesInOrder}
 use Rattle.drill_model.specs.Growth.{HistoryGrows, HistoryOfOwn, HistoryOfOther}
 use Rattle.drill_laws.proofs.StackKeeping.{starts_keep, comes_keep, leaves_keep, ticks_keep, uses_none, uses_one, sends_keep}
-use Rattle.drill_laws.proofs.StackGoing.{Does, stack_does}
+use Rattle.drill_laws.proofs.StackGoing.{StackDoes, stack_does}
 use Rattle.drill_laws.proofs.Worlds.{AtPlace, Keeps as KeepsWorld, world_lives}
 use Rattle.drill_laws.proofs.Wiring.{flat_mapped, accepted_grows, accepted_e_e, accepted_e_r, accepted_r_r, accepted_r_e}
 use Rattle.drill_laws.proofs.Talking.{any_steps}
@@ -196,7 +196,7 @@ one_takes m n taken accepted more message h waits oldest used grew orderly =
 module _ (only : StepsOnly) (reports : CallsReport) where
   -- what is kept of an event in which none is taken
   stack_keeps : (key_of : ℕ → ℕ → Option TripleKey) (moment : ℕ) (m : Stack) (given : EndEvent) (event : Event) (os : List DrillOutcome) (late : Bool) (taken accepted : List (List ℕ))
-      → StackTakes m taken accepted → Does moment event m os late → (step_event moment event m).0.core.upper.used ≡ m.core.upper.used → told_taken os ≡ []
+      → StackTakes m taken accepted → StackDoes moment event m os late → (step_event moment event m).0.core.upper.used ≡ m.core.upper.used → told_taken os ≡ []
       → StackTakes (step_event moment event m).0 (taken ++ told_taken os) (accepted ++ told_accepted os)
   stack_keeps key_of moment m given event os late taken accepted h d used none =
       kept_takes m (step_event moment event m).0 taken accepted (told_taken os) (told_accepted os) h used d.says.accepted_is none d.orderly
@@ -214,7 +214,7 @@ module _ (only : StepsOnly) (reports : CallsReport) where
   -- the oldest one is taken, where one waits
   stack_uses : (moment : ℕ) (m : Stack) (taken accepted : List (List ℕ)) → StackTakes m taken accepted
       → let os = told_of_take (model.oldest m.core.upper) ++ outcomes_told_by_stack (step_take model moment m.core) in
-      Does moment TakeEvent m os false → StackTakes (step_event moment TakeEvent m).0 (taken ++ told_taken os) (accepted ++ told_accepted os)
+      StackDoes moment TakeEvent m os false → StackTakes (step_event moment TakeEvent m).0 (taken ++ told_taken os) (accepted ++ told_accepted os)
   stack_uses moment m taken accepted h d =
       let u : ℕ = m.core.upper.used in
       let A : List (List ℕ) = m.core.upper.accepted in

@@ -25,7 +25,7 @@ use Rattle.drill_laws.specs.Laws.{LawfulAlways}
 use Rattle.drill_model.specs.Growth.{HistoryGrows, HistoryOfOwn, HistoryOfOther, FactsGrow}
 use Rattle.drill_laws.proofs.Tellings.{StationLaws}
 use Rattle.drill_laws.proofs.StackTalking.{IsStackTalk, stack_step, opened_stack_talks}
-use Rattle.drill_laws.proofs.Wired.{Either, wired_opens, wired_steps}
+use Rattle.drill_laws.proofs.Stationed.{Either, wired_opens, wired_steps}
 use Rattle.drill_laws.proofs.Worlds.{OpensFit, StepFits, AtPlace, Keeps, world_lives}
 
 -- the ends of a link are these two sides of its opening, which said so much
@@ -249,7 +249,7 @@ lawful_at law facts settings None history none = none
 lawful_at law facts settings (Some l) history (inl (inl t)) = rw t.opening_is (law t.opening (facts_in history) t.pair t.talks)
 lawful_at law facts settings (Some l) history (inl (inr t)) =
     rw t.opening_is (law (OfKeys t.engine t.rbc t.ke t.kr t.ra t.rb) (facts_in history) (record { e = t.e.core.safe.safety; r = t.r.core.safe.safety }) t.talks)
-lawful_at law facts settings (Some l) history (inr w) = rw w.1.sees.opening_is w.1.sees.facts
+lawful_at law facts settings (Some l) history (inr w) = rw w.1.sees.opening_is w.1.sees.tells
 
 pub lawful_always : StationLaws → TalksAreAuthentic → FactsGrow → HistoryGrows → HistoryOfOwn → HistoryOfOther → LawfulAlways
 lawful_always laws law facts grow own other plan steps n = lawful_at law facts plan.settings _ _ (world_stands laws facts grow own other plan steps n)

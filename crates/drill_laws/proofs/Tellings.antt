@@ -187,6 +187,10 @@ one_of s t (Some release) is h =
 either_of : (s t : Station) → TellsRelease s t → LeavesRelease s t ⊎ GivesRelease t
 either_of s t h = one_of s t t.deed.released refl h
 
+-- a station was released so
+abbrev IsReleaseOf : Station → Release → Type 0
+IsReleaseOf s release = s.released ≡ Some release
+
 -- a station went on so: its lists grew by what the outcomes say, and each release among them is its own, which it keeps
 pub record Went (s : Station) (a : Station × List DrillOutcome) (late : Bool) : Type 0 where
   pub handed : List (List ℕ)
@@ -214,15 +218,13 @@ stays s ready =
     }
 
 -- releases that were given before stay
-all_kept : (s t : Station) (releases : List Release) → ((release : Release) → s.released ≡ Some release → t.released ≡ Some release)
-    → AllByRecursion (λ release. s.released ≡ Some release) releases → AllByRecursion (λ release. t.released ≡ Some release) releases
-all_kept s t [] kept h = tt
-all_kept s t (r ∷ rs) kept h = (kept r h.0, all_kept s t rs kept h.1)
+pub all_kept : (P Q : Release → Type 0) (releases : List Release) → ((release : Release) → P release → Q release) → AllByRecursion P releases → AllByRecursion Q releases
+all_kept P Q [] kept h = tt
+all_kept P Q (r ∷ rs) kept h = (kept r h.0, all_kept P Q rs kept h.1)
 
-all_append : (t : Station) (xs ys : List Release) → AllByRecursion (λ release. t.released ≡ Some release) xs → AllByRecursion (λ release. t.released ≡ Some release) ys
-    → AllByRecursion (λ release. t.released ≡ Some release) (xs ++ ys)
-all_append t [] ys h i = i
-all_append t (x ∷ xs) ys h i = (h.0, all_append t xs ys h.1 i)
+pub all_push : (P : Release → Type 0) (xs ys : List Release) → AllByRecursion P xs → AllByRecursion P ys → AllByRecursion P (xs ++ ys)
+all_push P [] ys h i = i
+all_push P (x ∷ xs) ys h i = (h.0, all_push P xs ys h.1 i)
 
 then_went : (s : Station) (a : Station × List DrillOutcome) (b : Station × List DrillOutcome) (late later : Bool) → Went s a late → Went a.0 b later → Went s (b.0, a.1 ++ b.1) (late || later)
 then_went s a b late later x y =
@@ -235,7 +237,7 @@ then_went s a b late later x y =
       handed_is = y.handed_is ∙ ap (λ (xs : List (List ℕ)). xs ++ y.handed) x.handed_is ∙ append_assoc s.handed x.handed y.handed;
       taken_is = y.taken_is ∙ ap (λ (xs : List (List ℕ)). xs ++ y.taken) x.taken_is ∙ append_assoc s.taken x.taken y.taken;
       kept = λ release is. y.kept release (x.kept release is);
-      given = all_append b.0 x.releases y.releases (all_kept a.0 b.0 x.releases y.kept x.given) y.given;
+      given = all_push (IsReleaseOf b.0) x.releases y.releases (all_kept (IsReleaseOf a.0) (IsReleaseOf b.0) x.releases y.kept x.given) y.given;
     }
 
 -- a call gave t, and these outcomes stand before what it told

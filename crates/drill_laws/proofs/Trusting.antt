@@ -15,7 +15,7 @@ use Rattle.safety_pair_laws.specs.Facts.{MarkedFact, at_side, facts_of, is_seali
 use Rattle.er_end_model.specs.Steps.{is_connected}
 use Rattle.er_end_pair_laws.specs.Phases.{connection_of, IsEnginesPhase, IsCentres, AreInStep}
 use Rattle.drill_model.specs.StackReports.{user_by}
-use Rattle.drill_laws.proofs.StackWiring.{Numbers}
+use Rattle.drill_laws.proofs.Stacked.{Numbers}
 use Rattle.drill_laws.proofs.StackSaying.{sent_by_step}
 use Rattle.drill_laws.proofs.Sealing.{IsSealed, IsUnforged, self_sealing, sealed_still, sealed_now, all_sealed_still, unforged_more, none_mistrusted}
 

@@ -27,7 +27,7 @@ use Rattle.drill_model.specs.Kinds.{sent_in, accepted_in, sent_by, accepted_by, 
 use Rattle.drill_model.specs.Growth.{FactsGrow}
 use Rattle.drill_laws.proofs.Tellings.{StationLaws}
 use Rattle.drill_laws.proofs.Wiring.{deliveries_grow}
-use Rattle.drill_laws.proofs.Wired.{Either, wired_opens, wired_steps}
+use Rattle.drill_laws.proofs.Stationed.{Either, wired_opens, wired_steps}
 use Rattle.drill_laws.proofs.Worlds.{IsNoSend, Keeps}
 use Rattle.drill_laws.proofs.Talking.{facts_among}
 

@@ -1,5 +1,6 @@
--- A link of two stations is a pair of stations: each step of it is steps of the pair, and what came says what the stations were handed and took.
-use Rattle.std.proofs.Common.{if◌then◌else◌, ◌≡◌, ◌⊎◌, inl, inr, ℕ, ◌+◌, nat_lt, nat_le, Bool, true, false, not, ◌&&◌, ◌||◌, List, [], ◌∷◌, ◌++◌, length, map, refl, sym, ap, ap₂, subst, ◌∙◌, append-nil, append_assoc, length-append, arith}
+-- A link of the drill, and what came at it, seen as a pair of ends of one kind (pair_model): an event at an end is that event at the pair's end, and what
+-- the line does is what the pair's line does.
+use Rattle.std.proofs.Common.{if◌then◌else◌, ◌≡◌, ◌⊎◌, inl, inr, ℕ, ◌+◌, Bool, true, false, not, ◌&&◌, ◌||◌, List, [], ◌∷◌, ◌++◌, length, map, refl, sym, ap, ap₂, subst, ◌∙◌, append-nil, length-append, arith}
 use Rattle.std.specs.Prelude.{Option, Some, None, is_some}
 use Rattle.std.specs.List.{flat_map, list_any, AllByRecursion}
 use Rattle.std.proofs.lemmas.List.Concat.{flat_map-append}
@@ -8,22 +9,14 @@ use Rattle.er_base.specs.declared.release.Release.{Release}
 use Rattle.er_base.specs.declared.side.Side.{Side}
 use Rattle.er_base.specs.declared.side.Side.TheVariants.{E, R}
 use Rattle.er_base.specs.Sides.{other}
-use Rattle.hdlc_frames.specs.Framing.{Verdict}
-use Rattle.hdlc_station_model.specs.Stations.{Station, settled}
-use Rattle.hdlc_station_model.specs.Sending.{waiting}
-use Rattle.hdlc_station_model.specs.Calls.{hands, finishes}
-use Rattle.hdlc_station_model.specs.Selective.{receives_as}
-use Rattle.hdlc_station_model.specs.Events.{said_octets, news}
-use Rattle.hdlc_pair_laws.specs.Links.{StationLink as Pair, station_of, did, hears_each, station_link_behind_octets}
-use Rattle.hdlc_pair_laws.specs.Steps.{send}
 use Rattle.safety_pair_laws.specs.Facts.{SideFact, is_side}
-use Rattle.er_end_model.specs.Outcomes.{SendRefusal, RefusedReleased, RefusedLength, RefusedFull}
-use Rattle.drill_model.specs.Outcomes.{DrillOutcome, Refused, NothingWaits, Occurrence, at_end, facts_at, facts_in, frames_in}
-use Rattle.drill_model.specs.StationEnds.{outcomes_told_by_station, station_and_told, frames_heard, payload_refusal_of_station, handed_unless, station_send}
-use Rattle.drill_model.specs.Ends.{OfStation, EndEvent, station_end, station_end_step}
-use Rattle.drill_model.specs.Links.{Link, OfStations, waiting_of, with_waiting, with_answer, give}
+use Rattle.pair_model.specs.Links.{EndKind, PairLink, end_of_side, end_did}
+use Rattle.drill_model.specs.Outcomes.{DrillOutcome, NothingWaits, Occurrence, at_end, facts_at, facts_in, frames_in}
+use Rattle.drill_model.specs.Ends.{EndAtLevel, EndEvent, end_step}
+use Rattle.drill_model.specs.Ends as event
+use Rattle.drill_model.specs.Links.{Link, LinkOpening, key_on, waiting_of, with_waiting, with_answer, give}
 use Rattle.drill_model.specs.Kinds.{sent_in, accepted_in, released_in, passed_in, is_disorder, is_disturbance, sent_by, accepted_by, releases_in, deliveries, is_disordered, is_disturbed}
-use Rattle.drill_laws.proofs.Tellings.{Says, says_nothing, says_more, Ready, Went, frames_told, frames_append}
+use Rattle.drill_laws.proofs.Tellings.{Says, says_nothing, says_more, all_kept, all_push}
 
 -- ---- what occurrences at one side say
 
@@ -140,36 +133,6 @@ deliveries_grow history more =
     ap length (flat_map-append (λ (o : Occurrence). passed_in o.outcome) history more)
     ∙ length-append (flat_map (λ (o : Occurrence). passed_in o.outcome) history) (flat_map (λ (o : Occurrence). passed_in o.outcome) more)
 
--- ---- a link and what came at it, seen as a pair of stations
-
--- a release that an end had is that of its station
-abbrev pub IsOfPair : Pair → Release → Type 0
-IsOfPair p release = (p.e.released ≡ Some release) ⊎ (p.r.released ≡ Some release)
-
-pub record Sees (l : Link) (history : List Occurrence) (p : Pair) : Type 0 where
-  pub opening_is : l.opening ≡ OfStations p.selective
-  pub e_is : l.e ≡ OfStation p.selective p.e p.read_e
-  pub r_is : l.r ≡ OfStation p.selective p.r p.read_r
-  pub from_e_is : l.from_e ≡ p.from_e
-  pub from_r_is : l.from_r ≡ p.from_r
-  pub moment_is : l.moment ≡ p.moment
-  pub ready_e : Ready p.e
-  pub ready_r : Ready p.r
-  pub sent_e : sent_by E history ≡ p.e.handed
-  pub sent_r : sent_by R history ≡ p.r.handed
-  pub accepted_e : accepted_by E history ≡ p.e.taken
-  pub accepted_r : accepted_by R history ≡ p.r.taken
-  pub order : is_disordered history ≡ not p.order_kept
-  pub free : is_disturbed history ≡ not p.loss_free
-  pub count : deliveries history ≡ p.passes
-  pub facts : facts_in history ≡ []
-  pub releases : AllByRecursion (IsOfPair p) (releases_in history)
-
--- all octets that the end of a side was given
-abbrev pub read_by : Pair → Side → List ℕ
-read_by p E = p.read_e
-read_by p R = p.read_r
-
 -- ---- small things
 
 pub or_false : (b : Bool) → (b || false) ≡ b
@@ -199,9 +162,6 @@ and_false false = refl
 pub same_count : (n : ℕ) → n ≡ n + 0
 same_count n = omega arith
 
-pub plus_none : (n : ℕ) → n + 0 ≡ n
-plus_none n = omega arith
-
 pub full_if : (b c : Bool) → (b || c) ≡ is_some (if b then Some E else if c then Some R else None)
 full_if true c = refl
 full_if false true = refl
@@ -216,205 +176,235 @@ same_waiting l R = refl
 pub waits_nothing : Says (NothingWaits ∷ []) [] [] [] false false 0
 waits_nothing = says_more NothingWaits [] [] [] [] false false 0 (λ side. refl) says_nothing
 
--- ---- releases
+-- the releases, whether order was disturbed and what else was, and the deliveries, behind outcomes at one side
+module _ (side : Side) (history : List Occurrence) (os : List DrillOutcome) where
+  abbrev more : List Occurrence
+  more = map (at_end side) os
 
-all_of_pair : (p q : Pair) (releases : List Release) → ((release : Release) → IsOfPair p release → IsOfPair q release) → AllByRecursion (IsOfPair p) releases
-    → AllByRecursion (IsOfPair q) releases
-all_of_pair p q [] kept h = tt
-all_of_pair p q (r ∷ rs) kept h = (kept r h.0, all_of_pair p q rs kept h.1)
+  pub releases_more : releases_in (history ++ more) ≡ releases_in history ++ flat_map released_in os
+  releases_more =
+      releases_grow history more
+      ∙ ap (λ (xs : List Release). releases_in history ++ xs) (flat_mapped (λ (o : Occurrence). released_in o.outcome) released_in side (λ o. refl) os)
 
-all_push : (p : Pair) (xs ys : List Release) → AllByRecursion (IsOfPair p) xs → AllByRecursion (IsOfPair p) ys → AllByRecursion (IsOfPair p) (xs ++ ys)
-all_push p [] ys h i = i
-all_push p (x ∷ xs) ys h i = (h.0, all_push p xs ys h.1 i)
+  pub disorder_more : list_any is_disorder os ≡ false → is_disordered (history ++ more) ≡ is_disordered history
+  disorder_more none =
+      list_any-append (λ (o : Occurrence). is_disorder o.outcome) history more
+      ∙ ap (λ (b : Bool). is_disordered history || b) (any_mapped is_disorder side os ∙ none) ∙ or_false (is_disordered history)
 
-all_at_e : (p : Pair) (xs : List Release) → AllByRecursion (λ release. p.e.released ≡ Some release) xs → AllByRecursion (IsOfPair p) xs
-all_at_e p [] h = tt
-all_at_e p (x ∷ xs) h = (inl h.0, all_at_e p xs h.1)
+  pub disturbed_more : (late : Bool) → list_any is_disturbance os ≡ late → is_disturbed (history ++ more) ≡ (is_disturbed history || late)
+  disturbed_more late is =
+      list_any-append (λ (o : Occurrence). is_disturbance o.outcome) history more
+      ∙ ap (λ (b : Bool). is_disturbed history || b) (any_mapped is_disturbance side os ∙ is)
 
-all_at_r : (p : Pair) (xs : List Release) → AllByRecursion (λ release. p.r.released ≡ Some release) xs → AllByRecursion (IsOfPair p) xs
-all_at_r p [] h = tt
-all_at_r p (x ∷ xs) h = (inr h.0, all_at_r p xs h.1)
+  pub count_more : flat_map passed_in os ≡ [] → deliveries (history ++ more) ≡ deliveries history
+  count_more none =
+      let zero_more : deliveries more ≡ 0 = ap length (flat_mapped (λ (o : Occurrence). passed_in o.outcome) passed_in side (λ o. refl) os ∙ none) in
+      let grow : deliveries (history ++ more) ≡ deliveries history + deliveries more = deliveries_grow history more in
+      omega arith
 
--- ---- an event at an end
+-- ---- a level of a drill, whose links are pairs of ends of one kind
 
--- the station of a side did this, and the pair is as loss-free as told
-abbrev pub acted : Side → (stream : List ℕ) → Station × List DrillOutcome → Bool → Pair → Pair
-acted E stream a free p = record p { e = a.0; from_e = p.from_e ++ frames_in a.1; read_e = stream; loss_free = free }
-acted R stream a free p = record p { r = a.0; from_r = p.from_r ++ frames_in a.1; read_r = stream; loss_free = free }
+pub record Level (A : Type 0) : Type 1 where
+  -- how its links are opened, what its ends are, and what ends of the pair do
+  pub opening : LinkOpening
+  pub end : A → EndAtLevel
+  pub kind : EndKind A
+  -- what an end keeps of what it was handed and took, and why it was released
+  pub sent : A → List (List ℕ)
+  pub accepted : A → List (List ℕ)
+  pub released : A → Option Release
+  -- what holds of an end between two events
+  pub Stands : A → Type 0
+  -- what is told of the safety layer
+  pub Tells : List SideFact → Type 0
+  pub tells_none : Tells []
+  pub tells_more : (xs ys : List SideFact) → Tells xs → Tells ys → Tells (xs ++ ys)
 
-abbrev pub SeesAt : List Occurrence → Pair → Link × List Occurrence → Type 0
-SeesAt history p a = Sees a.0 (history ++ a.1) p
+-- an end of the drill does this with an event, where that end of the pair does that; late, where it finds a timer expired
+pub record Does {A : Type 0} (v : Level A) (x : A) (done : A × List (List ℕ)) (told : EndAtLevel × List DrillOutcome) (late : Bool) : Type 0 where
+  pub end_is : told.0 ≡ v.end done.0
+  pub frames_are : frames_in told.1 ≡ done.1
+  pub stands : v.Stands done.0
+  pub sent_is : v.sent done.0 ≡ v.sent x ++ flat_map sent_in told.1
+  pub accepted_is : v.accepted done.0 ≡ v.accepted x ++ flat_map accepted_in told.1
+  pub releases_are : AllByRecursion (λ release. v.released done.0 ≡ Some release) (flat_map released_in told.1)
+  pub stays : (release : Release) → v.released x ≡ Some release → v.released done.0 ≡ Some release
+  pub in_order : list_any is_disorder told.1 ≡ false
+  pub disturbs : list_any is_disturbance told.1 ≡ late
+  pub none_passed : flat_map passed_in told.1 ≡ []
+  pub tells : (side : Side) → v.Tells (facts_in (map (at_end side) told.1))
 
-pub acted_sees : (l : Link) (history : List Occurrence) (p : Pair) (side : Side) (stream : List ℕ) (a : Station × List DrillOutcome) (late free : Bool) → Sees l history p
-    → Went (station_of p side) a late → free ≡ (p.loss_free && not late) → SeesAt history (acted side stream a free p) (with_answer l side (station_end p.selective stream a))
-acted_sees l history p E stream a late free v w is =
-    let g = grows_of E history a.1 w.handed w.taken w.releases false late 0 w.says in
-    let q : Pair = acted E stream a free p in
-    record {
-      opening_is = v.opening_is;
-      e_is = refl;
-      r_is = v.r_is;
-      from_e_is = ap (λ (fs : List (List ℕ)). fs ++ frames_in a.1) v.from_e_is;
-      from_r_is = v.from_r_is;
-      moment_is = v.moment_is;
-      ready_e = w.ready;
-      ready_r = v.ready_r;
-      sent_e = g.sent_own ∙ ap (λ (xs : List (List ℕ)). xs ++ w.handed) v.sent_e ∙ sym w.handed_is;
-      sent_r = g.sent_other ∙ v.sent_r;
-      accepted_e = g.accepted_own ∙ ap (λ (xs : List (List ℕ)). xs ++ w.taken) v.accepted_e ∙ sym w.taken_is;
-      accepted_r = g.accepted_other ∙ v.accepted_r;
-      order = g.disorder_is ∙ or_false (is_disordered history) ∙ v.order;
-      free = g.disturbed_is ∙ ap (λ (b : Bool). b || late) v.free ∙ not_and p.loss_free late ∙ ap not (sym is);
-      count = deliveries_grow history (map (at_end E) a.1) ∙ ap₂ (λ (i j : ℕ). i + j) v.count (passes_of E a.1 w.handed w.taken w.releases false late 0 w.says) ∙ plus_none p.passes;
-      facts = g.facts ∙ v.facts;
-      releases = subst (AllByRecursion (IsOfPair q)) (sym g.releases_are)
-          (all_push q (releases_in history) w.releases (all_of_pair p q (releases_in history) (λ release is. elim is [ inl x ↦ inl (w.kept release x) | inr x ↦ inr x ]) v.releases) (all_at_e q w.releases w.given));
-    }
-acted_sees l history p R stream a late free v w is =
-    let g = grows_of R history a.1 w.handed w.taken w.releases false late 0 w.says in
-    let q : Pair = acted R stream a free p in
-    record {
-      opening_is = v.opening_is;
-      r_is = refl;
-      e_is = v.e_is;
-      from_r_is = ap (λ (fs : List (List ℕ)). fs ++ frames_in a.1) v.from_r_is;
-      from_e_is = v.from_e_is;
-      moment_is = v.moment_is;
-      ready_r = w.ready;
-      ready_e = v.ready_e;
-      sent_r = g.sent_own ∙ ap (λ (xs : List (List ℕ)). xs ++ w.handed) v.sent_r ∙ sym w.handed_is;
-      sent_e = g.sent_other ∙ v.sent_e;
-      accepted_r = g.accepted_own ∙ ap (λ (xs : List (List ℕ)). xs ++ w.taken) v.accepted_r ∙ sym w.taken_is;
-      accepted_e = g.accepted_other ∙ v.accepted_e;
-      order = g.disorder_is ∙ or_false (is_disordered history) ∙ v.order;
-      free = g.disturbed_is ∙ ap (λ (b : Bool). b || late) v.free ∙ not_and p.loss_free late ∙ ap not (sym is);
-      count = deliveries_grow history (map (at_end R) a.1) ∙ ap₂ (λ (i j : ℕ). i + j) v.count (passes_of R a.1 w.handed w.taken w.releases false late 0 w.says) ∙ plus_none p.passes;
-      facts = g.facts ∙ v.facts;
-      releases = subst (AllByRecursion (IsOfPair q)) (sym g.releases_are)
-          (all_push q (releases_in history) w.releases (all_of_pair p q (releases_in history) (λ release is. elim is [ inl x ↦ inl x | inr x ↦ inr (w.kept release x) ]) v.releases) (all_at_r q w.releases w.given));
-    }
+abbrev pub told_at : {A : Type 0} → Level A → (now : ℕ) → EndEvent → A → EndAtLevel × List DrillOutcome
+told_at v now event x = end_step (key_on v.opening) now (v.end x) event
 
--- occurrences at a side that change what waits, or nothing
-abbrev pub lined : Side → List (List ℕ) → (order free : Bool) → ℕ → Pair → Pair
+-- so it is with each event
+pub record Acts {A : Type 0} (v : Level A) : Type 0 where
+  pub start : (now : ℕ) (x : A) → v.Stands x → Does v x (v.kind.start now x) (told_at v now event.Start x) false
+  pub receive : (now : ℕ) (octets : List ℕ) (x : A) → v.Stands x → Does v x (v.kind.receive now octets x) (told_at v now (event.Receive octets) x) false
+  pub send : (now : ℕ) (user : List ℕ) (x : A) → v.Stands x → Does v x (v.kind.send now user x) (told_at v now (event.Send user) x) false
+  pub take : (now : ℕ) (x : A) → v.Stands x → Does v x (v.kind.take now x) (told_at v now event.Take x) false
+  pub release : (now : ℕ) (sub : ℕ) (x : A) → v.Stands x → Does v x (v.kind.release now sub x) (told_at v now (event.Release sub) x) false
+  pub tick : (now : ℕ) (x : A) → v.Stands x → Does v x (v.kind.tick now x) (told_at v now event.Tick x) (v.kind.is_late now x)
+
+-- ---- a link and what came at it, seen as a pair
+
+-- a release that an end had is that of the pair's
+abbrev pub IsOfPair : {A : Type 0} → Level A → PairLink A → Release → Type 0
+IsOfPair v p release = (v.released p.e ≡ Some release) ⊎ (v.released p.r ≡ Some release)
+
+pub record Sees {A : Type 0} (v : Level A) (l : Link) (history : List Occurrence) (p : PairLink A) : Type 0 where
+  pub opening_is : l.opening ≡ v.opening
+  pub e_is : l.e ≡ v.end p.e
+  pub r_is : l.r ≡ v.end p.r
+  pub from_e_is : l.from_e ≡ p.from_e
+  pub from_r_is : l.from_r ≡ p.from_r
+  pub moment_is : l.moment ≡ p.moment
+  pub stands_e : v.Stands p.e
+  pub stands_r : v.Stands p.r
+  pub sent_e : sent_by E history ≡ v.sent p.e
+  pub sent_r : sent_by R history ≡ v.sent p.r
+  pub accepted_e : accepted_by E history ≡ v.accepted p.e
+  pub accepted_r : accepted_by R history ≡ v.accepted p.r
+  pub order : is_disordered history ≡ not p.order_kept
+  pub free : is_disturbed history ≡ not p.loss_free
+  pub count : deliveries history ≡ p.passes
+  pub tells : v.Tells (facts_in history)
+  pub releases : AllByRecursion (IsOfPair v p) (releases_in history)
+
+-- how loss-free the pair is
+abbrev pub freed : {A : Type 0} → Bool → PairLink A → PairLink A
+freed free p = record p { loss_free = free }
+
+-- what waits of a side, and how the line did
+abbrev pub lined : {A : Type 0} → Side → List (List ℕ) → (order free : Bool) → ℕ → PairLink A → PairLink A
 lined E frames order free passes p = record p { from_e = frames; order_kept = order; loss_free = free; passes = passes }
 lined R frames order free passes p = record p { from_r = frames; order_kept = order; loss_free = free; passes = passes }
 
-pub lined_sees : (l : Link) (history : List Occurrence) (p : Pair) (side : Side) (os : List DrillOutcome) (frames : List (List ℕ)) (disorder disturbed order free : Bool) (n passes : ℕ)
-    → Sees l history p → Says os [] [] [] disorder disturbed n → passes ≡ p.passes + n → order ≡ (p.order_kept && not disorder) → free ≡ (p.loss_free && not disturbed)
-    → Sees (with_waiting l side frames) (history ++ map (at_end side) os) (lined side frames order free passes p)
-lined_sees l history p E os frames disorder disturbed order free n passes v says count_is order_is free_is =
-    let g = grows_of E history os [] [] [] disorder disturbed n says in
-    let q : Pair = lined E frames order free passes p in
-    record {
-      opening_is = v.opening_is;
-      e_is = v.e_is;
-      r_is = v.r_is;
-      from_e_is = refl;
-      from_r_is = v.from_r_is;
-      moment_is = v.moment_is;
-      ready_e = v.ready_e;
-      ready_r = v.ready_r;
-      sent_e = g.sent_own ∙ append-nil (sent_by E history) ∙ v.sent_e;
-      sent_r = g.sent_other ∙ v.sent_r;
-      accepted_e = g.accepted_own ∙ append-nil (accepted_by E history) ∙ v.accepted_e;
-      accepted_r = g.accepted_other ∙ v.accepted_r;
-      order = g.disorder_is ∙ ap (λ (b : Bool). b || disorder) v.order ∙ not_and p.order_kept disorder ∙ ap not (sym order_is);
-      free = g.disturbed_is ∙ ap (λ (b : Bool). b || disturbed) v.free ∙ not_and p.loss_free disturbed ∙ ap not (sym free_is);
-      count = deliveries_grow history (map (at_end E) os) ∙ ap₂ (λ (i j : ℕ). i + j) v.count (passes_of E os [] [] [] disorder disturbed n says) ∙ sym count_is;
-      facts = g.facts ∙ v.facts;
-      releases = subst (AllByRecursion (IsOfPair q)) (sym (g.releases_are ∙ append-nil (releases_in history))) v.releases;
-    }
-lined_sees l history p R os frames disorder disturbed order free n passes v says count_is order_is free_is =
-    let g = grows_of R history os [] [] [] disorder disturbed n says in
-    let q : Pair = lined R frames order free passes p in
-    record {
-      opening_is = v.opening_is;
-      e_is = v.e_is;
-      r_is = v.r_is;
-      from_r_is = refl;
-      from_e_is = v.from_e_is;
-      moment_is = v.moment_is;
-      ready_e = v.ready_e;
-      ready_r = v.ready_r;
-      sent_r = g.sent_own ∙ append-nil (sent_by R history) ∙ v.sent_r;
-      sent_e = g.sent_other ∙ v.sent_e;
-      accepted_r = g.accepted_own ∙ append-nil (accepted_by R history) ∙ v.accepted_r;
-      accepted_e = g.accepted_other ∙ v.accepted_e;
-      order = g.disorder_is ∙ ap (λ (b : Bool). b || disorder) v.order ∙ not_and p.order_kept disorder ∙ ap not (sym order_is);
-      free = g.disturbed_is ∙ ap (λ (b : Bool). b || disturbed) v.free ∙ not_and p.loss_free disturbed ∙ ap not (sym free_is);
-      count = deliveries_grow history (map (at_end R) os) ∙ ap₂ (λ (i j : ℕ). i + j) v.count (passes_of R os [] [] [] disorder disturbed n says) ∙ sym count_is;
-      facts = g.facts ∙ v.facts;
-      releases = subst (AllByRecursion (IsOfPair q)) (sym (g.releases_are ∙ append-nil (releases_in history))) v.releases;
-    }
+facts_grow : (history more : List Occurrence) → facts_in (history ++ more) ≡ facts_in history ++ facts_in more
+facts_grow history more = flat_map-append (λ (o : Occurrence). facts_at o.side o.outcome) history more
 
--- what an end of such a link answers
-pub gives_stationed : (l : Link) (history : List Occurrence) (p : Pair) (side : Side) (event : EndEvent) → Sees l history p
-    → give l side event ≡ with_answer l side (station_end_step p.selective p.moment (station_of p side) (read_by p side) event)
-gives_stationed l history p E event v = rw (v.opening_is, v.e_is, v.moment_is) refl
-gives_stationed l history p R event v = rw (v.opening_is, v.r_is, v.moment_is) refl
+module _ {A : Type 0} (v : Level A) where
+  abbrev pub SeesAt : List Occurrence → PairLink A → Link × List Occurrence → Type 0
+  SeesAt history p a = Sees v a.0 (history ++ a.1) p
 
--- ---- a call of the pair is a call of a station
+  -- an event at an end
+  acted_sees : (l : Link) (history : List Occurrence) (p : PairLink A) (side : Side) (done : A × List (List ℕ)) (told : EndAtLevel × List DrillOutcome) (late free : Bool)
+      → Sees v l history p → Does v (end_of_side p side) done told late → free ≡ (p.loss_free && not late)
+      → SeesAt history (freed free (end_did side done p)) (with_answer l side told)
+  acted_sees l history p E done told late free s w is =
+      let os : List DrillOutcome = told.1 in
+      let q : PairLink A = freed free (end_did E done p) in
+      record {
+        opening_is = s.opening_is;
+        e_is = w.end_is;
+        r_is = s.r_is;
+        from_e_is = ap₂ (λ (fs gs : List (List ℕ)). fs ++ gs) s.from_e_is w.frames_are;
+        from_r_is = s.from_r_is;
+        moment_is = s.moment_is;
+        stands_e = w.stands;
+        stands_r = s.stands_r;
+        sent_e = sent_grows E history (map (at_end E) os) ∙ ap₂ (λ (xs ys : List (List ℕ)). xs ++ ys) s.sent_e (sent_e_e os) ∙ sym w.sent_is;
+        sent_r = sent_grows R history (map (at_end E) os) ∙ ap (λ (xs : List (List ℕ)). sent_by R history ++ xs) (sent_r_e os) ∙ append-nil (sent_by R history) ∙ s.sent_r;
+        accepted_e = accepted_grows E history (map (at_end E) os) ∙ ap₂ (λ (xs ys : List (List ℕ)). xs ++ ys) s.accepted_e (accepted_e_e os) ∙ sym w.accepted_is;
+        accepted_r = accepted_grows R history (map (at_end E) os) ∙ ap (λ (xs : List (List ℕ)). accepted_by R history ++ xs) (accepted_r_e os)
+            ∙ append-nil (accepted_by R history) ∙ s.accepted_r;
+        order = disorder_more E history os w.in_order ∙ s.order;
+        free = disturbed_more E history os late w.disturbs ∙ ap (λ (b : Bool). b || late) s.free ∙ not_and p.loss_free late ∙ ap not (sym is);
+        count = count_more E history os w.none_passed ∙ s.count;
+        tells = subst v.Tells (sym (facts_grow history (map (at_end E) os))) (v.tells_more (facts_in history) (facts_in (map (at_end E) os)) s.tells (w.tells E));
+        releases = subst (AllByRecursion (IsOfPair v q)) (sym (releases_more E history os))
+            (all_push (IsOfPair v q) (releases_in history) (flat_map released_in os)
+            (all_kept (IsOfPair v p) (IsOfPair v q) (releases_in history) (λ release has. elim has [ inl x ↦ inl (w.stays release x) | inr x ↦ inr x ]) s.releases)
+            (all_kept (λ release. v.released done.0 ≡ Some release) (IsOfPair v q) (flat_map released_in os) (λ release is. inl is) w.releases_are));
+      }
+  acted_sees l history p R done told late free s w is =
+      let os : List DrillOutcome = told.1 in
+      let q : PairLink A = freed free (end_did R done p) in
+      record {
+        opening_is = s.opening_is;
+        e_is = s.e_is;
+        r_is = w.end_is;
+        from_e_is = s.from_e_is;
+        from_r_is = ap₂ (λ (fs gs : List (List ℕ)). fs ++ gs) s.from_r_is w.frames_are;
+        moment_is = s.moment_is;
+        stands_e = s.stands_e;
+        stands_r = w.stands;
+        sent_r = sent_grows R history (map (at_end R) os) ∙ ap₂ (λ (xs ys : List (List ℕ)). xs ++ ys) s.sent_r (sent_r_r os) ∙ sym w.sent_is;
+        sent_e = sent_grows E history (map (at_end R) os) ∙ ap (λ (xs : List (List ℕ)). sent_by E history ++ xs) (sent_e_r os) ∙ append-nil (sent_by E history) ∙ s.sent_e;
+        accepted_r = accepted_grows R history (map (at_end R) os) ∙ ap₂ (λ (xs ys : List (List ℕ)). xs ++ ys) s.accepted_r (accepted_r_r os) ∙ sym w.accepted_is;
+        accepted_e = accepted_grows E history (map (at_end R) os) ∙ ap (λ (xs : List (List ℕ)). accepted_by E history ++ xs) (accepted_e_r os)
+            ∙ append-nil (accepted_by E history) ∙ s.accepted_e;
+        order = disorder_more R history os w.in_order ∙ s.order;
+        free = disturbed_more R history os late w.disturbs ∙ ap (λ (b : Bool). b || late) s.free ∙ not_and p.loss_free late ∙ ap not (sym is);
+        count = count_more R history os w.none_passed ∙ s.count;
+        tells = subst v.Tells (sym (facts_grow history (map (at_end R) os))) (v.tells_more (facts_in history) (facts_in (map (at_end R) os)) s.tells (w.tells R));
+        releases = subst (AllByRecursion (IsOfPair v q)) (sym (releases_more R history os))
+            (all_push (IsOfPair v q) (releases_in history) (flat_map released_in os)
+            (all_kept (IsOfPair v p) (IsOfPair v q) (releases_in history) (λ release has. elim has [ inl x ↦ inl x | inr x ↦ inr (w.stays release x) ]) s.releases)
+            (all_kept (λ release. v.released done.0 ≡ Some release) (IsOfPair v q) (flat_map released_in os) (λ release is. inr is) w.releases_are));
+      }
 
-pub read_stays : (p : Pair) (side : Side) → acted side (read_by p side) (station_of p side, []) p.loss_free p ≡ p
-read_stays p E = ap (λ (fs : List (List ℕ)). record p { from_e = fs }) (append-nil p.from_e)
-read_stays p R = ap (λ (fs : List (List ℕ)). record p { from_r = fs }) (append-nil p.from_r)
+  -- what an end of such a link answers
+  gives_told : (l : Link) (history : List Occurrence) (p : PairLink A) (side : Side) (event : EndEvent) → Sees v l history p
+      → give l side event ≡ with_answer l side (told_at v p.moment event (end_of_side p side))
+  gives_told l history p E event s = rw (s.opening_is, s.e_is, s.moment_is) refl
+  gives_told l history p R event s = rw (s.opening_is, s.r_is, s.moment_is) refl
 
-pub did_is : (side : Side) (t : Station) (p : Pair) → did side t p ≡ acted side (read_by p side) (station_and_told t) p.loss_free p
-did_is E t p = ap (λ (fs : List (List ℕ)). record p { e = settled t; from_e = p.from_e ++ fs }) (sym (frames_told t))
-did_is R t p = ap (λ (fs : List (List ℕ)). record p { r = settled t; from_r = p.from_r ++ fs }) (sym (frames_told t))
+  pub stands_at : (l : Link) (history : List Occurrence) (p : PairLink A) (side : Side) → Sees v l history p → v.Stands (end_of_side p side)
+  stands_at l history p E s = s.stands_e
+  stands_at l history p R s = s.stands_r
 
--- the frames of one call, and those of the calls behind it
-joined : (frames : List (List ℕ)) (t : Station) (os : List DrillOutcome) → (frames ++ said_octets t) ++ frames_in os ≡ frames ++ frames_in (outcomes_told_by_station t ++ os)
-joined frames t os =
-    append_assoc frames (said_octets t) (frames_in os)
-    ∙ ap (λ (xs : List (List ℕ)). frames ++ xs) (ap (λ (xs : List (List ℕ)). xs ++ frames_in os) (sym (frames_told t)) ∙ sym (frames_append (outcomes_told_by_station t) os))
+  -- an event is given to an end
+  pub given_sees : (l : Link) (history : List Occurrence) (p : PairLink A) (side : Side) (event : EndEvent) (done : A × List (List ℕ)) (late free : Bool) → Sees v l history p
+      → Does v (end_of_side p side) done (told_at v p.moment event (end_of_side p side)) late → free ≡ (p.loss_free && not late)
+      → SeesAt history (freed free (end_did side done p)) (give l side event)
+  given_sees l history p side event done late free s w is =
+      subst (SeesAt history (freed free (end_did side done p))) (sym (gives_told l history p side event s))
+      (acted_sees l history p side done (told_at v p.moment event (end_of_side p side)) late free s w is)
 
--- frames that are closed, one after the other
-hears_is : (side : Side) (vs : List Verdict) (p : Pair)
-    → hears_each side vs p ≡ acted side (read_by p side) (frames_heard p.selective p.moment vs (station_of p side)) p.loss_free p
-hears_is E [] p = sym (read_stays p E)
-hears_is R [] p = sym (read_stays p R)
-hears_is E (v ∷ vs) p =
-    let t : Station = finishes (receives_as p.selective p.moment v p.e) in
-    let b : Station × List DrillOutcome = frames_heard p.selective p.moment vs (settled t) in
-    hears_is E vs (did E t p) ∙ ap (λ (xs : List (List ℕ)). record p { e = b.0; from_e = xs }) (joined p.from_e t b.1)
-hears_is R (v ∷ vs) p =
-    let t : Station = finishes (receives_as p.selective p.moment v p.r) in
-    let b : Station × List DrillOutcome = frames_heard p.selective p.moment vs (settled t) in
-    hears_is R vs (did R t p) ∙ ap (λ (xs : List (List ℕ)). record p { r = b.0; from_r = xs }) (joined p.from_r t b.1)
-
--- octets are read
-pub reads_is : (side : Side) (octets : List ℕ) (p : Pair)
-    → station_link_behind_octets side octets p ≡ acted side (read_by p side ++ octets) (frames_heard p.selective p.moment (news (read_by p side) octets) (station_of p side)) p.loss_free p
-reads_is E octets p = hears_is E (news p.read_e octets) (record p { read_e = p.read_e ++ octets })
-reads_is R octets p = hears_is R (news p.read_r octets) (record p { read_r = p.read_r ++ octets })
-
--- a payload is handed down, or refused
-refused_is : (side : Side) (refusal : SendRefusal) (p : Pair) → p ≡ acted side (read_by p side) (station_of p side, Refused refusal ∷ []) p.loss_free p
-refused_is E refusal p = sym (read_stays p E)
-refused_is R refusal p = sym (read_stays p R)
-
-handed_is : (side : Side) (payload : List ℕ) (p : Pair)
-    → did side (finishes (hands p.moment payload (station_of p side))) p ≡ acted side (read_by p side) (handed_unless None p.moment payload (station_of p side)) p.loss_free p
-handed_is E payload p = did_is E (finishes (hands p.moment payload p.e)) p
-handed_is R payload p = did_is R (finishes (hands p.moment payload p.r)) p
-
-send_if : (side : Side) (payload : List ℕ) (p : Pair) (fits room : Bool) (x y : SendRefusal)
-    → (if fits && room then did side (finishes (hands p.moment payload (station_of p side))) p else p)
-    ≡ acted side (read_by p side) (handed_unless (if fits then (if room then None else Some x) else Some y) p.moment payload (station_of p side)) p.loss_free p
-send_if side payload p true true x y = handed_is side payload p
-send_if side payload p true false x y = refused_is side x p
-send_if side payload p false room x y = refused_is side y p
-
-send_at : (side : Side) (payload : List ℕ) (p : Pair) (o : Option Release)
-    → let s : Station = station_of p side in
-    (if not (is_some o) && (nat_le 1 (length payload) && nat_le (length payload) 1026) && nat_lt (waiting s) 16 then did side (finishes (hands p.moment payload s)) p else p)
-    ≡ acted side (read_by p side) (handed_unless (payload_refusal_of_station s payload o) p.moment payload s) p.loss_free p
-send_at side payload p (Some release) = refused_is side (RefusedReleased release) p
-send_at side payload p None =
-    send_if side payload p (nat_le 1 (length payload) && nat_le (length payload) 1026) (nat_lt (waiting (station_of p side)) 16)
-    (RefusedFull (waiting (station_of p side))) (RefusedLength (length payload))
-
-pub send_is : (side : Side) (payload : List ℕ) (p : Pair)
-    → send side payload p ≡ acted side (read_by p side) (station_send p.moment payload (station_of p side)) p.loss_free p
-send_is side payload p = send_at side payload p (station_of p side).released
+  -- occurrences at a side that change what waits, or nothing
+  pub lined_sees : (l : Link) (history : List Occurrence) (p : PairLink A) (side : Side) (os : List DrillOutcome) (frames : List (List ℕ)) (disorder disturbed order free : Bool) (n passes : ℕ)
+      → Sees v l history p → Says os [] [] [] disorder disturbed n → passes ≡ p.passes + n → order ≡ (p.order_kept && not disorder) → free ≡ (p.loss_free && not disturbed)
+      → Sees v (with_waiting l side frames) (history ++ map (at_end side) os) (lined side frames order free passes p)
+  lined_sees l history p E os frames disorder disturbed order free n passes s says count_is order_is free_is =
+      let g = grows_of E history os [] [] [] disorder disturbed n says in
+      record {
+        opening_is = s.opening_is;
+        e_is = s.e_is;
+        r_is = s.r_is;
+        from_e_is = refl;
+        from_r_is = s.from_r_is;
+        moment_is = s.moment_is;
+        stands_e = s.stands_e;
+        stands_r = s.stands_r;
+        sent_e = g.sent_own ∙ append-nil (sent_by E history) ∙ s.sent_e;
+        sent_r = g.sent_other ∙ s.sent_r;
+        accepted_e = g.accepted_own ∙ append-nil (accepted_by E history) ∙ s.accepted_e;
+        accepted_r = g.accepted_other ∙ s.accepted_r;
+        order = g.disorder_is ∙ ap (λ (b : Bool). b || disorder) s.order ∙ not_and p.order_kept disorder ∙ ap not (sym order_is);
+        free = g.disturbed_is ∙ ap (λ (b : Bool). b || disturbed) s.free ∙ not_and p.loss_free disturbed ∙ ap not (sym free_is);
+        count = deliveries_grow history (map (at_end E) os) ∙ ap₂ (λ (i j : ℕ). i + j) s.count (passes_of E os [] [] [] disorder disturbed n says) ∙ sym count_is;
+        tells = subst v.Tells (sym g.facts) s.tells;
+        releases = subst (AllByRecursion (IsOfPair v p)) (sym (g.releases_are ∙ append-nil (releases_in history))) s.releases;
+      }
+  lined_sees l history p R os frames disorder disturbed order free n passes s says count_is order_is free_is =
+      let g = grows_of R history os [] [] [] disorder disturbed n says in
+      record {
+        opening_is = s.opening_is;
+        e_is = s.e_is;
+        r_is = s.r_is;
+        from_e_is = s.from_e_is;
+        from_r_is = refl;
+        moment_is = s.moment_is;
+        stands_e = s.stands_e;
+        stands_r = s.stands_r;
+        sent_r = g.sent_own ∙ append-nil (sent_by R history) ∙ s.sent_r;
+        sent_e = g.sent_other ∙ s.sent_e;
+        accepted_r = g.accepted_own ∙ append-nil (accepted_by R history) ∙ s.accepted_r;
+        accepted_e = g.accepted_other ∙ s.accepted_e;
+        order = g.disorder_is ∙ ap (λ (b : Bool). b || disorder) s.order ∙ not_and p.order_kept disorder ∙ ap not (sym order_is);
+        free = g.disturbed_is ∙ ap (λ (b : Bool). b || disturbed) s.free ∙ not_and p.loss_free disturbed ∙ ap not (sym free_is);
+        count = deliveries_grow history (map (at_end R) os) ∙ ap₂ (λ (i j : ℕ). i + j) s.count (passes_of R os [] [] [] disorder disturbed n says) ∙ sym count_is;
+        tells = subst v.Tells (sym g.facts) s.tells;
+        releases = subst (AllByRecursion (IsOfPair v p)) (sym (g.releases_are ∙ append-nil (releases_in history))) s.releases;
+      }

@@ -7,8 +7,8 @@ use Rattle.er_settings.specs.Values.{Settings}
 use Rattle.er_settings.specs.Ranges.{AllAllowed}
 use Rattle.er_scenario.specs.declared.step.Step.{Step}
 use Rattle.safety_pair_laws.specs.Openings.{OfKeys, key_for}
+use Rattle.pair_model.specs.Steps.{PairStep}
 use Rattle.er_end_pair_laws.specs.Openings.{EndLinkOpening}
-use Rattle.er_end_pair_laws.specs.Steps.{EndLinkStep}
 use Rattle.er_end_pair_laws.specs.Steps as pair
 use Rattle.er_end_pair_laws.specs.Laws.{end_link_after}
 use Rattle.drill_model.specs.Outcomes.{Occurrence}
@@ -24,7 +24,7 @@ pub record IsPair (settings : Settings) (l : Link) (history : List Occurrence) :
   pub s : EndLinkOpening
   -- the radio block centre's KMAC
   pub kr : Option TripleKey
-  pub steps : List EndLinkStep
+  pub steps : List PairStep
   pub fit : pair.AllFit steps
   pub settings_are : s.settings ≡ settings
   pub opening_is : l.opening ≡ OfStacks s.engine s.rbc s.kmac kr s.ra s.rb

@@ -12,9 +12,9 @@ use Rattle.x224_class2.specs.Tpdus.{GivenTpdu}
 use Rattle.x224_class2.specs.Transport.{Transport}
 use Rattle.er_end_model.specs.Layers.{Core}
 use Rattle.er_end_model.specs.Bounds.{count_of_message_segments, count_of_all_segments}
+use Rattle.pair_model.specs.Steps.{drained}
 use Rattle.er_end_pair_laws.specs.Openings.{EndLinkOpening, Agree}
-use Rattle.er_end_pair_laws.specs.Links.{EndLink}
-use Rattle.er_end_pair_laws.specs.Steps.{drained}
+use Rattle.er_end_pair_laws.specs.Links.{EndLink, end_kind}
 use Rattle.er_end_pair_laws.specs.Laws.{end_link_after, bound, DeliveryBound, DrainEmpties}
 use Rattle.er_end_pair_laws.proofs.Lists.{head_take}
 use Rattle.er_end_pair_laws.proofs.Ports.{got_most}
@@ -120,7 +120,7 @@ no_length (x ∷ xs) h = absurd (let u : ⊥ = omega arith in u)
 pub drain_empties : Free → DrainEmpties
 drain_empties free s steps most fits agree clean enough =
     let l : EndLink = end_link_after s steps in
-    let d : EndLink = drained s.finder most l in
+    let d : EndLink = drained (end_kind s.finder) most l in
     let h = drained_empties free s agree most l (after_flows free s steps fits agree clean) in
     let b = bound_flow free s agree d h.flows in
     let ce : count_of_all_segments s.settings d.e.core.upper.sent ≡ count_of_all_segments s.settings l.e.core.upper.sent = ap (count_of_all_segments s.settings) h.sent_e in

@@ -16,9 +16,11 @@ use Rattle.er_end_model.specs.Layers.{Core, model}
 use Rattle.er_end_model.specs.Steps.{new_event_at, refusal_at, is_connected, is_spent, step_send_unless, on_send, step_take, step_tick}
 use Rattle.er_end_model.specs.Ends.{End, finds_expired}
 use Rattle.er_end_model.specs.Ends as event
+use Rattle.pair_model.specs.Links.{end_of_side, frames_from}
+use Rattle.pair_model.specs.Steps.{pass, tick}
 use Rattle.er_end_pair_laws.specs.Openings.{EndLinkOpening, Agree}
-use Rattle.er_end_pair_laws.specs.Links.{EndLink, end_of, frames_from_end, frames_said, frames_unless, give, opened_end_link}
-use Rattle.er_end_pair_laws.specs.Steps.{pass, is_end_expired_at, tick}
+use Rattle.er_end_pair_laws.specs.Links.{EndLink, end_kind, frames_said, frames_unless, opened_end_link, is_end_expired_at}
+use Rattle.er_end_pair_laws.proofs.Given.{give}
 use Rattle.er_end_pair_laws.proofs.Own.{Done}
 use Rattle.er_end_pair_laws.proofs.Happens.{received_keeps, ticked_keeps, used_keeps, sent_keeps, e_begins, r_begins}
 use Rattle.er_end_pair_laws.proofs.Worlds.{Holds, e_event, r_event, e_did, r_did, other_parts, first_of_line, r_behind, e_behind, e_passes, r_passes, r_waits, e_waits}
@@ -106,7 +108,7 @@ unexpired x live e =
     either false true h = absurd cc
     either false false h = (refl, refl)
 
-tick_flows : Free → (s : EndLinkOpening) (side : Side) (l : EndLink) → is_end_expired_at l.moment (end_of l side) ≡ false → Flows s l → Flows s (give side event.Tick l)
+tick_flows : Free → (s : EndLinkOpening) (side : Side) (l : EndLink) → is_end_expired_at l.moment (end_of_side l side) ≡ false → Flows s l → Flows s (give side event.Tick l)
 tick_flows free s E l e g =
     let h = g.holds in
     let x : Core = new_event_at model l.moment l.e.core in
@@ -120,12 +122,6 @@ tick_flows free s R l e g =
     r_flows free s l g (step_tick model l.moment l.r.core) (ticked_keeps free.below s false h.k h.fr x h.fe l.e.core refl (r_begins free.below s h.k h.fe l.e.core h.fr l.r.core l.moment h.two))
     (ticked_went free s false h.k l.passes h.fr x h.fe l.e.core refl g.live_r u.0 u.1 (r_midway free s l g))
 
-both_false : (a b c : Bool) → (a && not (b || c)) ≡ true → (a ≡ true) × (b ≡ false) × (c ≡ false)
-both_false true false false h = (refl, refl, refl)
-both_false true false true h = absurd cc
-both_false true true c h = absurd cc
-both_false false b c h = absurd cc
-
 -- ---- a frame is passed
 
 -- behind a pass: one delivery more, and what the users sent stays
@@ -135,7 +131,7 @@ pub record Passed (s : EndLinkOpening) (l l' : EndLink) : Type 0 where
   pub sent_e : l'.e.core.upper.sent ≡ l.e.core.upper.sent
   pub sent_r : l'.r.core.upper.sent ≡ l.r.core.upper.sent
 
-pub e_pass : Free → (s : EndLinkOpening) → Agree s → (l : EndLink) (octets : List ℕ) (rest : List (List ℕ)) → l.from_e ≡ octets ∷ rest → Flows s l → Passed s l (pass s.finder E (octets ∷ rest) l)
+pub e_pass : Free → (s : EndLinkOpening) → Agree s → (l : EndLink) (octets : List ℕ) (rest : List (List ℕ)) → l.from_e ≡ octets ∷ rest → Flows s l → Passed s l (pass (end_kind s.finder) E (octets ∷ rest) l)
 unfolding r_did other_parts
 e_pass free s agree l octets rest e g =
     let h = g.holds in
@@ -161,7 +157,7 @@ e_pass free s agree l octets rest e g =
       sent_r = received_sent s (found l.e.core.line f.frame) x;
     })
 
-pub r_pass : Free → (s : EndLinkOpening) → Agree s → (l : EndLink) (octets : List ℕ) (rest : List (List ℕ)) → l.from_r ≡ octets ∷ rest → Flows s l → Passed s l (pass s.finder R (octets ∷ rest) l)
+pub r_pass : Free → (s : EndLinkOpening) → Agree s → (l : EndLink) (octets : List ℕ) (rest : List (List ℕ)) → l.from_r ≡ octets ∷ rest → Flows s l → Passed s l (pass (end_kind s.finder) R (octets ∷ rest) l)
 unfolding e_did other_parts
 r_pass free s agree l octets rest e g =
     let h = g.holds in
@@ -187,28 +183,20 @@ r_pass free s agree l octets rest e g =
       sent_r = refl;
     })
 
-e_line : Free → (s : EndLinkOpening) → Agree s → (l : EndLink) (line : List (List ℕ)) → l.from_e ≡ line → Flows s l → Flows s (pass s.finder E line l)
-e_line free s agree l [] e g = g
-e_line free s agree l (octets ∷ rest) e g = (e_pass free s agree l octets rest e g).flows
-
-r_line : Free → (s : EndLinkOpening) → Agree s → (l : EndLink) (line : List (List ℕ)) → l.from_r ≡ line → Flows s l → Flows s (pass s.finder R line l)
-r_line free s agree l [] e g = g
-r_line free s agree l (octets ∷ rest) e g = (r_pass free s agree l octets rest e g).flows
-
-pub pass_flows : Free → (s : EndLinkOpening) → Agree s → (side : Side) (l : EndLink) → Flows s l → Flows s (pass s.finder side (frames_from_end l side) l)
-pass_flows free s agree E l g = e_line free s agree l l.from_e refl g
-pass_flows free s agree R l g = r_line free s agree l l.from_r refl g
+pub line_flows : Free → (s : EndLinkOpening) → Agree s → (side : Side) (line : List (List ℕ)) (l : EndLink) → frames_from l side ≡ line → Flows s l → Flows s (pass (end_kind s.finder) side line l)
+line_flows free s agree side [] l e g = g
+line_flows free s agree E (octets ∷ rest) l e g = (e_pass free s agree l octets rest e g).flows
+line_flows free s agree R (octets ∷ rest) l e g = (r_pass free s agree l octets rest e g).flows
 
 -- ---- a tick
 
-pub link_tick_flows : Free → (s : EndLinkOpening) (l : EndLink) (now : ℕ) → (tick now l).loss_free ≡ true → (l.loss_free ≡ true → Flows s l) → Flows s (tick now l)
-link_tick_flows free s l now e h =
+pub link_tick_flows : Free → (s : EndLinkOpening) (now : ℕ) (l : EndLink) → is_end_expired_at (max l.moment now) l.e ≡ false → is_end_expired_at (max l.moment now) l.r ≡ false → Flows s l
+    → Flows s (tick (end_kind s.finder) now l)
+link_tick_flows free s now l timely_e timely_r h =
     let to : ℕ = max l.moment now in
-    let f = both_false l.loss_free (is_end_expired_at to l.e) (is_end_expired_at to l.r) e in
     let flag : Bool = l.loss_free && not (is_end_expired_at to l.e || is_end_expired_at to l.r) in
     let first : EndLink = record l { moment = to; loss_free = flag } in
-    let g : Flows s first = other_flows s l to l.order_kept flag (h f.0) in
-    tick_flows free s R (give E event.Tick first) f.2 (tick_flows free s E first f.1 g)
+    tick_flows free s R (give E event.Tick first) timely_r (tick_flows free s E first timely_e (other_flows s l to l.order_kept flag h))
 
 -- ---- a link that was just opened
 

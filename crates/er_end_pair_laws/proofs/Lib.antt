@@ -19,6 +19,7 @@ pub mod Tpdus
 pub mod Events
 pub mod Calls
 pub mod Happens
+pub mod Given
 pub mod Worlds
 pub mod Ordered
 pub mod Stations

@@ -14,9 +14,11 @@ use Rattle.er_end_model.specs.Outcomes.{SendRefusal}
 use Rattle.er_end_model.specs.Layers.{Core, model}
 use Rattle.er_end_model.specs.Steps.{new_event_at, refusal_at, is_connected, step_send_unless, on_send, step_take, step_tick}
 use Rattle.er_end_model.specs.Ends as event
+use Rattle.pair_model.specs.Links.{frames_from}
+use Rattle.pair_model.specs.Steps.{pass}
 use Rattle.er_end_pair_laws.specs.Openings.{EndLinkOpening, Agree}
-use Rattle.er_end_pair_laws.specs.Links.{EndLink, frames_from_end, frames_said, frames_unless, give, opened_end_link}
-use Rattle.er_end_pair_laws.specs.Steps.{pass}
+use Rattle.er_end_pair_laws.specs.Links.{EndLink, end_kind, frames_said, frames_unless, opened_end_link}
+use Rattle.er_end_pair_laws.proofs.Given.{give}
 use Rattle.er_end_pair_laws.proofs.Own.{Done}
 use Rattle.er_end_pair_laws.proofs.Happens.{received_keeps, used_keeps, sent_keeps, ticked_keeps, e_begins, r_begins}
 use Rattle.er_end_pair_laws.proofs.Worlds.{Holds, e_event, r_event, e_did, r_did, other_parts, first_of_line, r_behind, e_behind, e_passes, r_passes, r_waits, e_waits}
@@ -113,7 +115,7 @@ module _ (laws : Repair) (s : EndLinkOpening) where
 
   -- ---- a frame is passed
 
-  e_pass : Agree s → (p : Progress) → MayGo p → (l : EndLink) (octets : List ℕ) (rest : List (List ℕ)) → l.from_e ≡ octets ∷ rest → Mends p s l → Mends p s (pass s.finder E (octets ∷ rest) l)
+  e_pass : Agree s → (p : Progress) → MayGo p → (l : EndLink) (octets : List ℕ) (rest : List (List ℕ)) → l.from_e ≡ octets ∷ rest → Mends p s l → Mends p s (pass (end_kind s.finder) E (octets ∷ rest) l)
   unfolding r_did other_parts
   e_pass agree p may l octets rest e g =
       let h = g.holds in
@@ -133,7 +135,7 @@ module _ (laws : Repair) (s : EndLinkOpening) where
         between = laws.keep.turned p false false s.settings.window (h.fr ++ z.line.said) z.line f.frames l.e.core.line went.between;
       })
 
-  r_pass : Agree s → (p : Progress) → MayGo p → (l : EndLink) (octets : List ℕ) (rest : List (List ℕ)) → l.from_r ≡ octets ∷ rest → Mends p s l → Mends p s (pass s.finder R (octets ∷ rest) l)
+  r_pass : Agree s → (p : Progress) → MayGo p → (l : EndLink) (octets : List ℕ) (rest : List (List ℕ)) → l.from_r ≡ octets ∷ rest → Mends p s l → Mends p s (pass (end_kind s.finder) R (octets ∷ rest) l)
   unfolding e_did other_parts
   r_pass agree p may l octets rest e g =
       let h = g.holds in
@@ -153,17 +155,13 @@ module _ (laws : Repair) (s : EndLinkOpening) where
         between = went.between;
       })
 
-  e_line : Agree s → (p : Progress) → MayGo p → (l : EndLink) (line : List (List ℕ)) → l.from_e ≡ line → Mends p s l → Mends p s (pass s.finder E line l)
-  e_line agree p may l [] e g = g
-  e_line agree p may l (octets ∷ rest) e g = e_pass agree p may l octets rest e g
+  line_mends : Agree s → (p : Progress) → MayGo p → (side : Side) (line : List (List ℕ)) (l : EndLink) → frames_from l side ≡ line → Mends p s l → Mends p s (pass (end_kind s.finder) side line l)
+  line_mends agree p may side [] l e g = g
+  line_mends agree p may E (octets ∷ rest) l e g = e_pass agree p may l octets rest e g
+  line_mends agree p may R (octets ∷ rest) l e g = r_pass agree p may l octets rest e g
 
-  r_line : Agree s → (p : Progress) → MayGo p → (l : EndLink) (line : List (List ℕ)) → l.from_r ≡ line → Mends p s l → Mends p s (pass s.finder R line l)
-  r_line agree p may l [] e g = g
-  r_line agree p may l (octets ∷ rest) e g = r_pass agree p may l octets rest e g
-
-  pub pass_mends : Agree s → (p : Progress) → MayGo p → (side : Side) (l : EndLink) → Mends p s l → Mends p s (pass s.finder side (frames_from_end l side) l)
-  pass_mends agree p may E l g = e_line agree p may l l.from_e refl g
-  pass_mends agree p may R l g = r_line agree p may l l.from_r refl g
+  pub pass_mends : Agree s → (p : Progress) → MayGo p → (side : Side) (l : EndLink) → Mends p s l → Mends p s (pass (end_kind s.finder) side (frames_from l side) l)
+  pass_mends agree p may side l = line_mends agree p may side (frames_from l side) l refl
 
   -- ---- a tick that an end lives on behind, before the one that repairs
 

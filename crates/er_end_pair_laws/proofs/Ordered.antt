@@ -1,6 +1,7 @@
 -- A link that was just opened, and the two laws of an order-keeping line.
 use Rattle.std.proofs.Common.{◌≡◌, ℕ, ◌-◌, ◌<◌, inl, inr, Bool, true, false, List, [], length, take, refl, sym, subst, arith}
 use Rattle.std.specs.Prelude.{◌==◌}
+use Rattle.er_base.specs.Octets.{AreOctets}
 use Rattle.er_settings.specs.Ranges.{IsModulo}
 use Rattle.hdlc_station_model.specs.Frames.{modulo}
 use Rattle.x224_class2.specs.Segments.{messages_in}
@@ -10,9 +11,11 @@ use Rattle.er_end_model.specs.Layers.{Core, model}
 use Rattle.er_end_model.specs.Steps.{new_event_at, step_start}
 use Rattle.er_end_model.specs.Ends.{End, core_made, Call, Answer}
 use Rattle.er_end_model.specs.Ends as end
+use Rattle.pair_model.specs.Steps.{PairStep}
+use Rattle.pair_model.specs.Walks.{runs_keep_in_order}
 use Rattle.er_end_pair_laws.specs.Openings.{EndLinkOpening}
-use Rattle.er_end_pair_laws.specs.Links.{EndLink, opened_end_link}
-use Rattle.er_end_pair_laws.specs.Steps.{EndLinkStep, AllFit}
+use Rattle.er_end_pair_laws.specs.Links.{EndLink, end_kind, opened_end_link}
+use Rattle.er_end_pair_laws.specs.Steps.{AllFit}
 use Rattle.er_end_pair_laws.specs.Laws.{end_link_after, Prefix, LosingLineReasons}
 use Rattle.er_end_pair_laws.proofs.Lists.{Head, head_trans, head_take, head_flat, head_prefix}
 use Rattle.er_end_pair_laws.proofs.Segments.{messages_head}
@@ -21,7 +24,7 @@ use Rattle.er_end_pair_laws.proofs.Constants.{users_of}
 use Rattle.er_end_pair_laws.proofs.Own.{Own, users, heard}
 use Rattle.er_end_pair_laws.proofs.Below.{Below}
 use Rattle.er_end_pair_laws.proofs.Happens.{started_keeps, e_begins}
-use Rattle.er_end_pair_laws.proofs.Worlds.{Holds, e_event, run_keeps}
+use Rattle.er_end_pair_laws.proofs.Worlds.{Holds, e_event, each_holds}
 
 -- ---- two ends that were just made
 
@@ -137,8 +140,8 @@ opened_holds below s =
     e_event below s l h (step_start model l.moment l.e.core)
     (started_keeps below s true h.k h.fe (new_event_at model l.moment l.e.core) h.fr l.r.core (e_begins s h.k h.fe l.e.core h.fr l.r.core l.moment h.two))
 
-pub after_holds : Below → (s : EndLinkOpening) (steps : List EndLinkStep) → AllFit steps → (end_link_after s steps).order_kept ≡ true → Holds s (end_link_after s steps)
-after_holds below s steps fits = run_keeps below s steps (opened_end_link s) fits (λ e. opened_holds below s)
+pub after_holds : Below → (s : EndLinkOpening) (steps : List PairStep) → AllFit steps → (end_link_after s steps).order_kept ≡ true → Holds s (end_link_after s steps)
+after_holds below s steps fits = runs_keep_in_order (end_kind s.finder) AreOctets (Holds s) (each_holds below s) steps (opened_end_link s) fits (opened_holds below s)
 
 -- ---- the laws
 

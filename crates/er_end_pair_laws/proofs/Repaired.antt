@@ -8,17 +8,19 @@ use Rattle.hdlc_pair_laws.specs.Repairs.{MendEnds}
 use Rattle.er_end_model.specs.Layers.{Core, model}
 use Rattle.er_end_model.specs.Steps.{new_event_at, step_tick}
 use Rattle.er_end_model.specs.Ends as event
+use Rattle.pair_model.specs.Steps.{PairStep, Tick, tick, NoFrameWaits, pair_run, ArePassesAndTakes}
+use Rattle.pair_model.specs.Walks.{pair_run_append}
 use Rattle.er_end_pair_laws.specs.Openings.{EndLinkOpening, Agree}
-use Rattle.er_end_pair_laws.specs.Links.{EndLink, give, opened_end_link}
-use Rattle.er_end_pair_laws.specs.Steps.{EndLinkStep, Tick, is_end_expired_at, tick, end_link_run}
+use Rattle.er_end_pair_laws.specs.Links.{EndLink, end_kind, opened_end_link, is_end_expired_at}
 use Rattle.er_end_pair_laws.specs.Laws.{end_link_after, IsEmpty}
-use Rattle.er_end_pair_laws.specs.Recovery.{ArePassesAndTakes, NoFrameWaits, GoesOnAt, GoOn, IsRecovered, Recovery}
+use Rattle.er_end_pair_laws.specs.Recovery.{GoesOnAt, GoOn, IsRecovered, Recovery}
+use Rattle.er_end_pair_laws.proofs.Given.{give}
 use Rattle.er_end_pair_laws.proofs.Happens.{ticked_keeps, e_begins, r_begins}
 use Rattle.er_end_pair_laws.proofs.Worlds.{none_on_line}
 use Rattle.er_end_pair_laws.proofs.Delivered.{quiet_at, has_all}
 use Rattle.er_end_pair_laws.proofs.Mended.{Repair, In, ticked_mends, ticked_lives}
 use Rattle.er_end_pair_laws.proofs.Mending.{Mends, e_mends, r_mends, r_between, other_mends}
-use Rattle.er_end_pair_laws.proofs.Lasting.{after_lasts, calm_mends, both_go, run_append}
+use Rattle.er_end_pair_laws.proofs.Lasting.{after_lasts, calm_mends, both_go}
 
 module _ (laws : Repair) (s : EndLinkOpening) where
   -- ---- the tick
@@ -50,7 +52,7 @@ module _ (laws : Repair) (s : EndLinkOpening) where
       r_mends laws s HalfTicked Ticked l g (step_tick model l.moment l.r.core) (ticked_keeps laws.below s false h.k h.fr x h.fe l.e.core refl (r_begins laws.below s h.k h.fe l.e.core h.fr l.r.core l.moment h.two))
       (ticked_mends laws Ticked s false tt h.fr h.fe l.e.core.line x live w)
 
-  both_tick : (l : EndLink) (now : ℕ) → Mends Lossy s l → NoFrameWaits l → GoOn now l → Mends Ticked s (tick now l)
+  both_tick : (l : EndLink) (now : ℕ) → Mends Lossy s l → NoFrameWaits l → GoOn now l → Mends Ticked s (tick (end_kind s.finder) now l)
   both_tick l now g empty may =
       let to : ℕ = max l.moment now in
       let flag : Bool = l.loss_free && not (is_end_expired_at to l.e || is_end_expired_at to l.r) in
@@ -71,17 +73,17 @@ module _ (laws : Repair) (s : EndLinkOpening) where
         all = has_all laws.below s agree l g.live_e g.live_r (quiet_at s l h g.live_e g.live_r empty m.x_up m.at_y m.at_x);
       }
 
-  behind : MendEnds → Agree s → (l : EndLink) → Mends Lossy s l → NoFrameWaits l → (now : ℕ) → GoOn now l → (second : List EndLinkStep) → ArePassesAndTakes second
-      → IsEmpty (end_link_run s.finder l (Tick now ∷ second)) → IsRecovered (end_link_run s.finder l (Tick now ∷ second))
+  behind : MendEnds → Agree s → (l : EndLink) → Mends Lossy s l → NoFrameWaits l → (now : ℕ) → GoOn now l → (second : List PairStep) → ArePassesAndTakes second
+      → IsEmpty (pair_run (end_kind s.finder) l (Tick now ∷ second)) → IsRecovered (pair_run (end_kind s.finder) l (Tick now ∷ second))
   behind ends agree l g empty now may second are end =
-      let t : Mends Ticked s (tick now l) = both_tick l now g empty may in
-      recovered_at ends agree (end_link_run s.finder l (Tick now ∷ second))
-      (calm_mends laws s agree Ticked (record { hears = tt; speaks = λ c. tt }) second (tick now l) are t) end
+      let t : Mends Ticked s (tick (end_kind s.finder) now l) = both_tick l now g empty may in
+      recovered_at ends agree (pair_run (end_kind s.finder) l (Tick now ∷ second))
+      (calm_mends laws s agree Ticked (record { hears = tt; speaks = λ c. tt }) second (tick (end_kind s.finder) now l) are t) end
 
 pub recovery : Repair → MendEnds → Recovery
 recovery laws ends s steps fits agree kept live first passes empty now may second more end =
     let l : EndLink = end_link_after s (steps ++ first) in
-    let split : l ≡ end_link_run s.finder (end_link_after s steps) first = run_append s steps first (opened_end_link s) in
-    let g : Mends Lossy s (end_link_run s.finder (end_link_after s steps) first) = calm_mends laws s agree Lossy both_go first (end_link_after s steps) passes (after_lasts laws s agree steps fits kept live) in
-    let join : end_link_after s (steps ++ first ++ Tick now ∷ second) ≡ end_link_run s.finder l (Tick now ∷ second) = run_append s (steps ++ first) (Tick now ∷ second) (opened_end_link s) in
+    let split : l ≡ pair_run (end_kind s.finder) (end_link_after s steps) first = pair_run_append (end_kind s.finder) steps first (opened_end_link s) in
+    let g : Mends Lossy s (pair_run (end_kind s.finder) (end_link_after s steps) first) = calm_mends laws s agree Lossy both_go first (end_link_after s steps) passes (after_lasts laws s agree steps fits kept live) in
+    let join : end_link_after s (steps ++ first ++ Tick now ∷ second) ≡ pair_run (end_kind s.finder) l (Tick now ∷ second) = pair_run_append (end_kind s.finder) (steps ++ first) (Tick now ∷ second) (opened_end_link s) in
     subst IsRecovered (sym join) (behind laws s ends agree l (subst (Mends Lossy s) (sym split) g) empty now may second more (subst IsEmpty join end))

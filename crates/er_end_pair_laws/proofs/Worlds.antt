@@ -1,7 +1,5 @@
--- The steps of a link, one after the other, and the two laws of an order-keeping line.
-use Rattle.std.proofs.Common.{◌≡◌, ℕ, zero, suc, ◌+◌, max, Bool, true, false, not, ◌&&◌, ◌||◌, List, [], ◌∷◌, ◌++◌, length, map, Option, Some, None, refl, sym, ◌∙◌, ap, subst, append-nil}
-use Rattle.std.specs.Prelude.{nat_lt, ◌==◌, if◌then◌else◌}
-use Rattle.std.proofs.lemmas.Bool.{cond_both}
+-- The events of a link, and what each keeps on an order-keeping line.
+use Rattle.std.proofs.Common.{◌≡◌, ℕ, ◌+◌, max, Bool, true, false, not, ◌&&◌, ◌||◌, List, [], ◌∷◌, ◌++◌, map, Option, Some, None, refl, sym, ◌∙◌, ap, subst, append-nil}
 use Rattle.std.proofs.lemmas.List.{map-append}
 use Rattle.er_base.specs.declared.side.Side.{Side}
 use Rattle.er_base.specs.declared.side.Side.TheVariants.{E, R}
@@ -10,7 +8,6 @@ use Rattle.hdlc_frames.specs.Framing.{Verdict}
 use Rattle.hdlc_station_model.specs.Frames.{Frame, sent_octets}
 use Rattle.hdlc_station_model.specs.Stations.{Station}
 use Rattle.hdlc_station_model.specs.Events.{said_octets, news}
-use Rattle.hdlc_station_model.specs.Lines.{altered, next_of}
 use Rattle.hdlc_pair_laws.specs.Invariant.{IsStationPair}
 use Rattle.hdlc_pair_laws.specs.Keeping.{found, frame_octets_of_station, IsAtFlag}
 use Rattle.x224_class2.specs.Transport.{waiting_count}
@@ -19,9 +16,12 @@ use Rattle.er_end_model.specs.Layers.{Core, model}
 use Rattle.er_end_model.specs.Steps.{new_event_at, step_frame, refusal_at, is_connected, step_send_unless, on_send, step_take, step_release, step_tick}
 use Rattle.er_end_model.specs.Ends.{End, Event, Come, hears_each, step_event}
 use Rattle.er_end_model.specs.Ends as event
+use Rattle.pair_model.specs.Links.{frames_from}
+use Rattle.pair_model.specs.Steps.{pass, lose, repeat, tick}
+use Rattle.pair_model.specs.Walks.{KeepsEachInOrder}
 use Rattle.er_end_pair_laws.specs.Openings.{EndLinkOpening}
-use Rattle.er_end_pair_laws.specs.Links.{EndLink, frames_from_end, with_frames_from_end, frames_said, frames_of_each, frames_unless, give}
-use Rattle.er_end_pair_laws.specs.Steps.{EndLinkStep, Send, Pass, Lose, Repeat, Alter, Put, Take, UserRelease, Drain, Tick, pass, lose, repeat, alter, is_end_expired_at, tick, is_overfull, pass_next, drained, end_link_step, end_link_run, FitsStep, AllFit}
+use Rattle.er_end_pair_laws.specs.Links.{EndLink, end_kind, frames_said, frames_of_each, frames_unless, is_end_expired_at}
+use Rattle.er_end_pair_laws.proofs.Given.{give}
 use Rattle.er_end_pair_laws.proofs.Own.{Done}
 use Rattle.er_end_pair_laws.proofs.Below.{Below}
 use Rattle.er_end_pair_laws.proofs.Happens.{received_keeps, ticked_keeps, left_keeps, used_keeps, sent_keeps, Two, e_begins, r_begins, e_ends, r_ends}
@@ -115,13 +115,13 @@ r_sends below s l user None are e h =
     r_event below s l h (on_send model user (new_event_at model l.moment l.r.core))
     (sent_keeps below s false h.k h.fr (new_event_at model l.moment l.r.core) h.fe l.e.core user are e (r_begins below s h.k h.fe l.e.core h.fr l.r.core l.moment h.two))
 
-pub send_holds : Below → (s : EndLinkOpening) (side : Side) (l : EndLink) (user : List ℕ) → AreOctets user → Holds s l → Holds s (give side (event.Send user) l)
+send_holds : Below → (s : EndLinkOpening) (side : Side) (l : EndLink) (user : List ℕ) → AreOctets user → Holds s l → Holds s (give side (event.Send user) l)
 send_holds below s E l user are h =
     e_sends below s l user (refusal_at l.e.core.released (is_connected l.e.core.safe.safety.phase) user (waiting_count l.e.core.upper.transport)) are refl h
 send_holds below s R l user are h =
     r_sends below s l user (refusal_at l.r.core.released (is_connected l.r.core.safe.safety.phase) user (waiting_count l.r.core.upper.transport)) are refl h
 
-pub take_holds : Below → (s : EndLinkOpening) (side : Side) (l : EndLink) → Holds s l → Holds s (give side event.Take l)
+take_holds : Below → (s : EndLinkOpening) (side : Side) (l : EndLink) → Holds s l → Holds s (give side event.Take l)
 take_holds below s E l h =
     e_event below s l h (step_take model l.moment l.e.core)
     (used_keeps below s true h.k h.fe (new_event_at model l.moment l.e.core) h.fr l.r.core (e_begins s h.k h.fe l.e.core h.fr l.r.core l.moment h.two))
@@ -129,7 +129,7 @@ take_holds below s R l h =
     r_event below s l h (step_take model l.moment l.r.core)
     (used_keeps below s false h.k h.fr (new_event_at model l.moment l.r.core) h.fe l.e.core (r_begins below s h.k h.fe l.e.core h.fr l.r.core l.moment h.two))
 
-pub leave_holds : Below → (s : EndLinkOpening) (side : Side) (l : EndLink) (sub : ℕ) → Holds s l → Holds s (give side (event.Leave sub) l)
+leave_holds : Below → (s : EndLinkOpening) (side : Side) (l : EndLink) (sub : ℕ) → Holds s l → Holds s (give side (event.Leave sub) l)
 leave_holds below s E l sub h =
     e_event below s l h (step_release model l.moment sub l.e.core)
     (left_keeps below s true h.k h.fe (new_event_at model l.moment l.e.core) h.fr l.r.core sub (e_begins s h.k h.fe l.e.core h.fr l.r.core l.moment h.two))
@@ -137,7 +137,7 @@ leave_holds below s R l sub h =
     r_event below s l h (step_release model l.moment sub l.r.core)
     (left_keeps below s false h.k h.fr (new_event_at model l.moment l.r.core) h.fe l.e.core sub (r_begins below s h.k h.fe l.e.core h.fr l.r.core l.moment h.two))
 
-pub tick_holds : Below → (s : EndLinkOpening) (side : Side) (l : EndLink) → Holds s l → Holds s (give side event.Tick l)
+tick_holds : Below → (s : EndLinkOpening) (side : Side) (l : EndLink) → Holds s l → Holds s (give side event.Tick l)
 tick_holds below s E l h =
     e_event below s l h (step_tick model l.moment l.e.core)
     (ticked_keeps below s true h.k h.fe (new_event_at model l.moment l.e.core) h.fr l.r.core refl (e_begins s h.k h.fe l.e.core h.fr l.r.core l.moment h.two))
@@ -218,7 +218,7 @@ pub e_passes : Below → (s : EndLinkOpening) (P : EndLink → Type 0) (l : EndL
       from_r = l.from_r ++ frames_said (r_behind s l f.frame);
       from_e = rest;
       passes = l.passes + 1;
-    }) → P (pass s.finder E (octets ∷ rest) l)
+    }) → P (pass (end_kind s.finder) E (octets ∷ rest) l)
 e_passes below s P l h octets rest f p =
     subst (λ (os : List ℕ). P (r_reads s l rest (l.passes + 1) os (news l.r.stream os))) (sym f.octets_are)
     (subst (λ (vs : List Verdict). P (r_reads s l rest (l.passes + 1) (frame_octets_of_station l.e.core.line f.frame) vs)) (sym (r_news below s l h octets rest f))
@@ -235,7 +235,7 @@ pub r_passes : Below → (s : EndLinkOpening) (P : EndLink → Type 0) (l : EndL
       from_e = l.from_e ++ frames_said (e_behind s l f.frame);
       from_r = rest;
       passes = l.passes + 1;
-    }) → P (pass s.finder R (octets ∷ rest) l)
+    }) → P (pass (end_kind s.finder) R (octets ∷ rest) l)
 r_passes below s P l h octets rest f p =
     subst (λ (os : List ℕ). P (e_reads s l rest (l.passes + 1) os (news l.e.stream os))) (sym f.octets_are)
     (subst (λ (vs : List Verdict). P (e_reads s l rest (l.passes + 1) (frame_octets_of_station l.r.core.line f.frame) vs)) (sym (e_news below s l h octets rest f))
@@ -259,29 +259,22 @@ e_waits below s l h octets rest f =
     again s true h.k h.fe l.e.core (f.frame ∷ f.frames) l.r.core l.moment
     (subst (λ (t : List Frame). Done s true h.k h.fe (new_event_at model l.moment l.e.core) t l.r.core) f.all (e_begins s h.k h.fe l.e.core h.fr l.r.core l.moment h.two))
 
-e_passed : Below → (s : EndLinkOpening) (l : EndLink) (line : List (List ℕ)) → l.from_e ≡ line → Holds s l → Holds s (pass s.finder E line l)
-e_passed below s l [] e h = h
-e_passed below s l (octets ∷ rest) e h =
+pass_holds : Below → (s : EndLinkOpening) (side : Side) (line : List (List ℕ)) (l : EndLink) → frames_from l side ≡ line → Holds s l → Holds s (pass (end_kind s.finder) side line l)
+pass_holds below s side [] l e h = h
+pass_holds below s E (octets ∷ rest) l e h =
     let f = first_of_line l.e.core.line octets rest h.fe (sym e ∙ h.lined_e) in
     let x : Core = r_behind s l f.frame in
     e_passes below s (Holds s) l h octets rest f
     (other_parts s (record l { r = record { stream = l.r.stream ++ frame_octets_of_station l.e.core.line f.frame; core = x }; from_r = l.from_r ++ frames_said x; from_e = rest }) l.moment (l.passes + 1) l.order_kept l.loss_free
     (r_did below s l h f.frames rest (l.r.stream ++ frame_octets_of_station l.e.core.line f.frame) x f.rest_are (below.keep.at_flag l.e.core.line f.frame l.r.stream)
     (received_keeps below s false h.k h.fr (new_event_at model l.moment (new_event_at model l.moment l.r.core)) f.frame f.frames l.e.core refl (r_waits below s l h octets rest f))))
-
-r_passed : Below → (s : EndLinkOpening) (l : EndLink) (line : List (List ℕ)) → l.from_r ≡ line → Holds s l → Holds s (pass s.finder R line l)
-r_passed below s l [] e h = h
-r_passed below s l (octets ∷ rest) e h =
+pass_holds below s R (octets ∷ rest) l e h =
     let f = first_of_line l.r.core.line octets rest h.fr (sym e ∙ h.lined_r) in
     let x : Core = e_behind s l f.frame in
     r_passes below s (Holds s) l h octets rest f
     (other_parts s (record l { e = record { stream = l.e.stream ++ frame_octets_of_station l.r.core.line f.frame; core = x }; from_e = l.from_e ++ frames_said x; from_r = rest }) l.moment (l.passes + 1) l.order_kept l.loss_free
     (e_did below s l h f.frames rest (l.e.stream ++ frame_octets_of_station l.r.core.line f.frame) x f.rest_are (below.keep.at_flag l.r.core.line f.frame l.e.stream)
     (received_keeps below s true h.k h.fe (new_event_at model l.moment (new_event_at model l.moment l.e.core)) f.frame f.frames l.r.core refl (e_waits below s l h octets rest f))))
-
-pub pass_holds : Below → (s : EndLinkOpening) (side : Side) (l : EndLink) → Holds s l → Holds s (pass s.finder side (frames_from_end l side) l)
-pass_holds below s E l h = e_passed below s l l.from_e refl h
-pass_holds below s R l h = r_passed below s l l.from_r refl h
 
 -- ---- a frame is lost or repeated
 
@@ -325,122 +318,49 @@ pub r_first_pair : (s : EndLinkOpening) (l : EndLink) (h : Holds s l) (octets : 
     → IsStationPair false h.k h.fe l.e.core.line (f.frame ∷ f.frames) l.r.core.line
 r_first_pair s l h octets rest f = subst (λ (t : List Frame). IsStationPair false h.k h.fe l.e.core.line t l.r.core.line) f.all h.two.lines
 
-e_lost : Below → (s : EndLinkOpening) (l : EndLink) (line : List (List ℕ)) → l.from_e ≡ line → Holds s l → Holds s (lose E line l)
-e_lost below s l [] e h = h
-e_lost below s l (octets ∷ rest) e h =
+lost_holds : Below → (s : EndLinkOpening) (side : Side) (line : List (List ℕ)) (l : EndLink) → frames_from l side ≡ line → Holds s l → Holds s (lose side line l)
+lost_holds below s side [] l e h = h
+lost_holds below s E (octets ∷ rest) l e h =
     let f = first_of_line l.e.core.line octets rest h.fe (sym e ∙ h.lined_e) in
     other_parts s (record l { from_e = rest }) l.moment l.passes l.order_kept false
     (e_changed below s l h f.frames rest f.rest_are (below.keep.lost false h.k h.fr l.r.core.line f.frame f.frames l.e.core.line (e_first_pair below s l h octets rest f)))
-
-r_lost : Below → (s : EndLinkOpening) (l : EndLink) (line : List (List ℕ)) → l.from_r ≡ line → Holds s l → Holds s (lose R line l)
-r_lost below s l [] e h = h
-r_lost below s l (octets ∷ rest) e h =
+lost_holds below s R (octets ∷ rest) l e h =
     let f = first_of_line l.r.core.line octets rest h.fr (sym e ∙ h.lined_r) in
     other_parts s (record l { from_r = rest }) l.moment l.passes l.order_kept false
     (r_changed s l h f.frames rest f.rest_are (below.keep.lost false h.k h.fe l.e.core.line f.frame f.frames l.r.core.line (r_first_pair s l h octets rest f)))
 
-e_repeated : Below → (s : EndLinkOpening) (l : EndLink) (line : List (List ℕ)) → l.from_e ≡ line → Holds s l → Holds s (repeat E line l)
-e_repeated below s l [] e h = h
-e_repeated below s l (octets ∷ rest) e h =
+repeated_holds : Below → (s : EndLinkOpening) (side : Side) (line : List (List ℕ)) (l : EndLink) → frames_from l side ≡ line → Holds s l → Holds s (repeat side line l)
+repeated_holds below s side [] l e h = h
+repeated_holds below s E (octets ∷ rest) l e h =
     let f = first_of_line l.e.core.line octets rest h.fe (sym e ∙ h.lined_e) in
     other_parts s (record l { from_e = octets ∷ octets ∷ rest }) l.moment l.passes l.order_kept false
     (e_changed below s l h (f.frame ∷ f.frame ∷ f.frames) (octets ∷ octets ∷ rest)
     (ap (λ o. o ∷ o ∷ rest) f.octets_are ∙ ap (λ r. frame_octets_of_station l.e.core.line f.frame ∷ frame_octets_of_station l.e.core.line f.frame ∷ r) f.rest_are)
     (below.keep.repeated false h.k h.fr l.r.core.line f.frame f.frames l.e.core.line (e_first_pair below s l h octets rest f)))
-
-r_repeated : Below → (s : EndLinkOpening) (l : EndLink) (line : List (List ℕ)) → l.from_r ≡ line → Holds s l → Holds s (repeat R line l)
-r_repeated below s l [] e h = h
-r_repeated below s l (octets ∷ rest) e h =
+repeated_holds below s R (octets ∷ rest) l e h =
     let f = first_of_line l.r.core.line octets rest h.fr (sym e ∙ h.lined_r) in
     other_parts s (record l { from_r = octets ∷ octets ∷ rest }) l.moment l.passes l.order_kept false
     (r_changed s l h (f.frame ∷ f.frame ∷ f.frames) (octets ∷ octets ∷ rest)
     (ap (λ o. o ∷ o ∷ rest) f.octets_are ∙ ap (λ r. frame_octets_of_station l.r.core.line f.frame ∷ frame_octets_of_station l.r.core.line f.frame ∷ r) f.rest_are)
     (below.keep.repeated false h.k h.fe l.e.core.line f.frame f.frames l.r.core.line (r_first_pair s l h octets rest f)))
 
--- ---- a drain
+-- ---- time
 
-next_holds : Below → (s : EndLinkOpening) (side : Option Side) (overfull : Bool) (l : EndLink) → Holds s l → Holds s (pass_next s.finder side overfull l)
-next_holds below s None overfull l h = h
-next_holds below s (Some side) true l h = h
-next_holds below s (Some side) false l h = pass_holds below s side l h
-
-pub drained_holds : Below → (s : EndLinkOpening) (most : ℕ) (l : EndLink) → Holds s l → Holds s (drained s.finder most l)
-drained_holds below s zero l h = h
-drained_holds below s (suc most) l h =
-    drained_holds below s most (pass_next s.finder (next_of l.from_e l.from_r) (is_overfull l) l) (next_holds below s (next_of l.from_e l.from_r) (is_overfull l) l h)
-
--- ---- a line keeps its order before a step where it does so behind it
-
-pub give_kept : (side : Side) (event : Event) (l : EndLink) → (give side event l).order_kept ≡ l.order_kept
-give_kept E event l = refl
-give_kept R event l = refl
-
-pub passed_kept : (s : EndLinkOpening) (side : Side) (line : List (List ℕ)) (l : EndLink) → (pass s.finder side line l).order_kept ≡ l.order_kept
-passed_kept s side [] l = refl
-passed_kept s E (octets ∷ rest) l = refl
-passed_kept s R (octets ∷ rest) l = refl
-
-pub next_kept : (s : EndLinkOpening) (side : Option Side) (overfull : Bool) (l : EndLink) → (pass_next s.finder side overfull l).order_kept ≡ l.order_kept
-next_kept s None overfull l = refl
-next_kept s (Some side) true l = refl
-next_kept s (Some side) false l = passed_kept s side (frames_from_end l side) l
-
-pub drained_kept : (s : EndLinkOpening) (most : ℕ) (l : EndLink) → (drained s.finder most l).order_kept ≡ l.order_kept
-drained_kept s zero l = refl
-drained_kept s (suc most) l =
-    drained_kept s most (pass_next s.finder (next_of l.from_e l.from_r) (is_overfull l) l) ∙ next_kept s (next_of l.from_e l.from_r) (is_overfull l) l
-
-pub lost_kept : (side : Side) (line : List (List ℕ)) (l : EndLink) → (lose side line l).order_kept ≡ l.order_kept
-lost_kept side [] l = refl
-lost_kept E (octets ∷ rest) l = refl
-lost_kept R (octets ∷ rest) l = refl
-
-pub repeated_kept : (side : Side) (line : List (List ℕ)) (l : EndLink) → (repeat side line l).order_kept ≡ l.order_kept
-repeated_kept side [] l = refl
-repeated_kept E (octets ∷ rest) l = refl
-repeated_kept R (octets ∷ rest) l = refl
-
--- ---- the steps
-
--- the invariant holds as long as no frame was altered or put in
-abbrev pub Kept : EndLinkOpening → EndLink → Type 0
-Kept s l = l.order_kept ≡ true → Holds s l
-
-changed_kept : (s : EndLinkOpening) (side : Side) (frames : List (List ℕ)) (l : EndLink) → Kept s (with_frames_from_end side frames (record l { order_kept = false; loss_free = false }))
-changed_kept s E frames l = λ e. absurd cc
-changed_kept s R frames l = λ e. absurd cc
-
-altered_kept : (s : EndLinkOpening) (side : Side) (place mask : ℕ) (line : List (List ℕ)) (l : EndLink) → Kept s l → Kept s (alter side place mask line l)
-altered_kept s side place mask [] l h = h
-altered_kept s side place mask (octets ∷ rest) l h =
-    cond_both (nat_lt place (length octets))
-    (if mask == 0 then l else with_frames_from_end side (altered octets place mask ∷ rest) (record l { order_kept = false; loss_free = false })) l (Kept s)
-    (λ in_frame. cond_both (mask == 0) l (with_frames_from_end side (altered octets place mask ∷ rest) (record l { order_kept = false; loss_free = false })) (Kept s)
-    (λ none. h) (λ some. changed_kept s side (altered octets place mask ∷ rest) l))
-    (λ short. h)
-
-link_tick_holds : Below → (s : EndLinkOpening) (l : EndLink) (now : ℕ) → Holds s l → Holds s (tick now l)
-link_tick_holds below s l now h =
+link_tick_holds : Below → (s : EndLinkOpening) (now : ℕ) (l : EndLink) → Holds s l → Holds s (tick (end_kind s.finder) now l)
+link_tick_holds below s now l h =
     let to : ℕ = max l.moment now in
     let first : EndLink = record l { moment = to; loss_free = l.loss_free && not (is_end_expired_at to l.e || is_end_expired_at to l.r) } in
     tick_holds below s R (give E event.Tick first) (tick_holds below s E first (other_parts s l to l.passes l.order_kept (l.loss_free && not (is_end_expired_at to l.e || is_end_expired_at to l.r)) h))
 
-pub step_keeps : Below → (s : EndLinkOpening) (st : EndLinkStep) (l : EndLink) → FitsStep st → Kept s l → Kept s (end_link_step s.finder st l)
-step_keeps below s (Send side user) l fits h e = send_holds below s side l user fits (h (sym (give_kept side (event.Send user) l) ∙ e))
-step_keeps below s (Pass side) l fits h e = pass_holds below s side l (h (sym (passed_kept s side (frames_from_end l side) l) ∙ e))
-step_keeps below s (Lose E) l fits h e = e_lost below s l l.from_e refl (h (sym (lost_kept E l.from_e l) ∙ e))
-step_keeps below s (Lose R) l fits h e = r_lost below s l l.from_r refl (h (sym (lost_kept R l.from_r l) ∙ e))
-step_keeps below s (Repeat E) l fits h e = e_repeated below s l l.from_e refl (h (sym (repeated_kept E l.from_e l) ∙ e))
-step_keeps below s (Repeat R) l fits h e = r_repeated below s l l.from_r refl (h (sym (repeated_kept R l.from_r l) ∙ e))
-step_keeps below s (Alter side place mask) l fits h e = altered_kept s side place mask (frames_from_end l side) l h e
-step_keeps below s (Put side octets) l fits h e = changed_kept s side (octets ∷ frames_from_end l side) l e
-step_keeps below s (Take side) l fits h e = take_holds below s side l (h (sym (give_kept side event.Take l) ∙ e))
-step_keeps below s (UserRelease side sub) l fits h e =
-    leave_holds below s side (record l { loss_free = false }) sub
-    (other_parts s l l.moment l.passes l.order_kept false (h (sym (give_kept side (event.Leave sub) (record l { loss_free = false })) ∙ e)))
-step_keeps below s (Drain most) l fits h e = drained_holds below s most l (h (sym (drained_kept s most l) ∙ e))
-step_keeps below s (Tick moment) l fits h e = link_tick_holds below s l moment (h e)
+-- ---- what each event keeps
 
-pub run_keeps : Below → (s : EndLinkOpening) (steps : List EndLinkStep) (l : EndLink) → AllFit steps → Kept s l → Kept s (end_link_run s.finder l steps)
-run_keeps below s [] l fits h = h
-run_keeps below s (st ∷ rest) l fits h = run_keeps below s rest (end_link_step s.finder st l) fits.1 (step_keeps below s st l fits.0 h)
+pub each_holds : Below → (s : EndLinkOpening) → KeepsEachInOrder (end_kind s.finder) AreOctets (Holds s)
+each_holds below s = record {
+  sent = λ side user l. send_holds below s side l user;
+  passed = λ side l. pass_holds below s side (frames_from l side) l refl;
+  lost = λ side l. lost_holds below s side (frames_from l side) l refl;
+  repeated = λ side l. repeated_holds below s side (frames_from l side) l refl;
+  took = take_holds below s;
+  released = λ side sub l h. leave_holds below s side (record l { loss_free = false }) sub (other_parts s l l.moment l.passes l.order_kept false h);
+  ticked = link_tick_holds below s;
+}

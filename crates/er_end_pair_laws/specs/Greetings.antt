@@ -5,8 +5,9 @@ use Rattle.t70_header.specs.Blocks.{last_block}
 use Rattle.x224_tpdu.specs.Spelling.{connection_request, connection_confirm, disconnect_request}
 use Rattle.x224_tpdu.specs.Function.{reading}
 use Rattle.sapdu.specs.Spelling.{Au1, Au2, read_of}
+use Rattle.pair_model.specs.Steps.{PairStep}
 use Rattle.er_end_pair_laws.specs.Openings.{EndLinkOpening, Agree}
-use Rattle.er_end_pair_laws.specs.Steps.{EndLinkStep, AllFit}
+use Rattle.er_end_pair_laws.specs.Steps.{AllFit}
 use Rattle.er_end_pair_laws.specs.Laws.{end_link_after}
 
 -- a payload is the block of a CR whose user data is the AU1 of the engine
@@ -35,5 +36,5 @@ StartsWith P (payload ∷ payloads) = P payload
 
 abbrev pub Greets : Type 0
 Greets =
-    (s : EndLinkOpening) (steps : List EndLinkStep) → AllFit steps → Agree s → (end_link_after s steps).order_kept ≡ true
+    (s : EndLinkOpening) (steps : List PairStep) → AllFit steps → Agree s → (end_link_after s steps).order_kept ≡ true
     → StartsWith (IsCallBlock s) (end_link_after s steps).r.core.line.taken × StartsWith (IsAnswerBlock s) (end_link_after s steps).e.core.line.taken

@@ -6,29 +6,30 @@ use Rattle.hdlc_station_model.specs.Events.{news}
 use Rattle.hdlc_station_model.specs.Lines.{IsPrefix}
 use Rattle.er_end_model.specs.Steps.{is_connected}
 use Rattle.er_end_model.specs.Bounds.{end_bound}
+use Rattle.pair_model.specs.Steps.{PairStep, drained, pair_run}
 use Rattle.er_end_pair_laws.specs.Openings.{EndLinkOpening, Agree}
 use Rattle.er_end_pair_laws.specs.Reasons.{IsLosingLineRelease}
-use Rattle.er_end_pair_laws.specs.Links.{EndLink, opened_end_link}
+use Rattle.er_end_pair_laws.specs.Links.{EndLink, end_kind, opened_end_link}
 use Rattle.er_end_pair_laws.specs.Phases.{AreInStep}
-use Rattle.er_end_pair_laws.specs.Steps.{EndLinkStep, AllFit, end_link_run, drained}
+use Rattle.er_end_pair_laws.specs.Steps.{AllFit}
 
 -- the link behind a list of steps
-abbrev pub end_link_after : EndLinkOpening → List EndLinkStep → EndLink
-end_link_after s steps = end_link_run s.finder (opened_end_link s) steps
+abbrev pub end_link_after : EndLinkOpening → List PairStep → EndLink
+end_link_after s steps = pair_run (end_kind s.finder) (opened_end_link s) steps
 
 -- ---- an order-keeping line: it may lose and repeat
 
 -- what an end accepted is a prefix of what the other sent, whatever the keys
 abbrev pub Prefix : Type 0
 Prefix =
-    (s : EndLinkOpening) (steps : List EndLinkStep) → AllFit steps → (end_link_after s steps).order_kept ≡ true
+    (s : EndLinkOpening) (steps : List PairStep) → AllFit steps → (end_link_after s steps).order_kept ≡ true
     → IsPrefix (end_link_after s steps).r.core.upper.accepted (end_link_after s steps).e.core.upper.sent
     × IsPrefix (end_link_after s steps).e.core.upper.accepted (end_link_after s steps).r.core.upper.sent
 
 -- where the keys agree, each release is one of those that such a line allows
 abbrev pub LosingLineReasons : Type 0
 LosingLineReasons =
-    (s : EndLinkOpening) (steps : List EndLinkStep) → AllFit steps → Agree s → (end_link_after s steps).order_kept ≡ true
+    (s : EndLinkOpening) (steps : List PairStep) → AllFit steps → Agree s → (end_link_after s steps).order_kept ≡ true
     → IsLosingLineRelease (end_link_after s steps).e.core.released × IsLosingLineRelease (end_link_after s steps).r.core.released
 
 -- the first frame that waits is one frame at the other end, and nothing besides
@@ -37,7 +38,7 @@ IsOneFrame stream line = (octets : List ℕ) (rest : List (List ℕ)) → line �
 
 abbrev pub OneFrame : Type 0
 OneFrame =
-    (s : EndLinkOpening) (steps : List EndLinkStep) → AllFit steps → (end_link_after s steps).order_kept ≡ true
+    (s : EndLinkOpening) (steps : List PairStep) → AllFit steps → (end_link_after s steps).order_kept ≡ true
     → IsOneFrame (end_link_after s steps).r.stream (end_link_after s steps).from_e × IsOneFrame (end_link_after s steps).e.stream (end_link_after s steps).from_r
 
 -- ---- a loss-free line, where the keys agree
@@ -45,7 +46,7 @@ OneFrame =
 -- the two safety sides are in step
 abbrev pub InStep : Type 0
 InStep =
-    (s : EndLinkOpening) (steps : List EndLinkStep) → AllFit steps → Agree s → (end_link_after s steps).loss_free ≡ true
+    (s : EndLinkOpening) (steps : List PairStep) → AllFit steps → Agree s → (end_link_after s steps).loss_free ≡ true
     → AreInStep s.engine s.rbc s.kmac s.ra s.rb (end_link_after s steps).e.core.safe.safety (end_link_after s steps).r.core.safe.safety
 
 -- no frame waits, and every accepted message was taken
@@ -63,7 +64,7 @@ pub record HasAll (l : EndLink) : Type 0 where
 
 abbrev pub Delivery : Type 0
 Delivery =
-    (s : EndLinkOpening) (steps : List EndLinkStep) → AllFit steps → Agree s → (end_link_after s steps).loss_free ≡ true → IsEmpty (end_link_after s steps) → HasAll (end_link_after s steps)
+    (s : EndLinkOpening) (steps : List PairStep) → AllFit steps → Agree s → (end_link_after s steps).loss_free ≡ true → IsEmpty (end_link_after s steps) → HasAll (end_link_after s steps)
 
 -- the greatest number of deliveries
 abbrev pub bound : Settings → EndLink → ℕ
@@ -71,16 +72,16 @@ bound settings l = end_bound settings l.e.core.upper.sent l.r.core.upper.sent
 
 abbrev pub DeliveryBound : Type 0
 DeliveryBound =
-    (s : EndLinkOpening) (steps : List EndLinkStep) → AllFit steps → Agree s → (end_link_after s steps).loss_free ≡ true → (end_link_after s steps).passes ≤ bound s.settings (end_link_after s steps)
+    (s : EndLinkOpening) (steps : List PairStep) → AllFit steps → Agree s → (end_link_after s steps).loss_free ≡ true → (end_link_after s steps).passes ≤ bound s.settings (end_link_after s steps)
 
 -- never more than 254 frames wait in one direction: at modulo 128 at most 127 I frames, and an RR for each of the other direction
 abbrev pub FewWait : Type 0
 FewWait =
-    (s : EndLinkOpening) (steps : List EndLinkStep) → AllFit steps → Agree s → (end_link_after s steps).loss_free ≡ true
+    (s : EndLinkOpening) (steps : List PairStep) → AllFit steps → Agree s → (end_link_after s steps).loss_free ≡ true
     → (length (end_link_after s steps).from_e ≤ 254) × (length (end_link_after s steps).from_r ≤ 254)
 
 -- a drain of as many passes leaves no frame waiting
 abbrev pub DrainEmpties : Type 0
 DrainEmpties =
-    (s : EndLinkOpening) (steps : List EndLinkStep) (most : ℕ) → AllFit steps → Agree s → (end_link_after s steps).loss_free ≡ true → bound s.settings (end_link_after s steps) ≤ most
-    → ((drained s.finder most (end_link_after s steps)).from_e ≡ []) × ((drained s.finder most (end_link_after s steps)).from_r ≡ [])
+    (s : EndLinkOpening) (steps : List PairStep) (most : ℕ) → AllFit steps → Agree s → (end_link_after s steps).loss_free ≡ true → bound s.settings (end_link_after s steps) ≤ most
+    → ((drained (end_kind s.finder) most (end_link_after s steps)).from_e ≡ []) × ((drained (end_kind s.finder) most (end_link_after s steps)).from_r ≡ [])

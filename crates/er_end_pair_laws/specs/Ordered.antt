@@ -8,9 +8,10 @@ use Rattle.x224_class2.specs.Segments.{messages_in}
 use Rattle.x224_class2.specs.Tpdus.{GivenTpdu, Cr, Cc, Dt, Ak, Dr, Dc}
 use Rattle.er_end_model.specs.Layers.{Core}
 use Rattle.er_end_model.specs.Steps.{is_connected}
+use Rattle.pair_model.specs.Steps.{PairStep}
 use Rattle.er_end_pair_laws.specs.Openings.{EndLinkOpening, Agree}
 use Rattle.er_end_pair_laws.specs.Phases.{IsEnginesPhase, IsCentres}
-use Rattle.er_end_pair_laws.specs.Steps.{EndLinkStep, AllFit}
+use Rattle.er_end_pair_laws.specs.Steps.{AllFit}
 use Rattle.er_end_pair_laws.specs.Laws.{end_link_after}
 
 -- the first TPDU that was given is a CC
@@ -65,5 +66,5 @@ pub record AreOrdered (engine rbc : ℕ) (kmac : TripleKey) (ra rb : ℕ) (e r :
 
 abbrev pub InStepWhileOrdered : Type 0
 InStepWhileOrdered =
-    (s : EndLinkOpening) (steps : List EndLinkStep) → AllFit steps → Agree s → (end_link_after s steps).order_kept ≡ true
+    (s : EndLinkOpening) (steps : List PairStep) → AllFit steps → Agree s → (end_link_after s steps).order_kept ≡ true
     → AreOrdered s.engine s.rbc s.kmac s.ra s.rb (end_link_after s steps).e.core (end_link_after s steps).r.core

@@ -1,38 +1,19 @@
 -- What two ends recover from: a line that lost and repeated frames, and then for a while loses none, by T1 of their stations alone
 -- (ISO/IEC 13239, asynchronous balanced mode; this profile).
-use Rattle.std.specs.Prelude.{ℕ, ◌≡◌, max, true, false, List, [], ◌∷◌, ◌++◌, None}
+use Rattle.std.specs.Prelude.{ℕ, ◌≡◌, max, true, false, List, ◌∷◌, ◌++◌, None}
 use Rattle.hdlc_station_model.specs.Repeating.{MayRepeat}
 use Rattle.er_end_model.specs.Layers.{model}
 use Rattle.er_end_model.specs.Steps.{new_event_at, is_spent}
 use Rattle.er_end_model.specs.Ends.{End}
+use Rattle.pair_model.specs.Steps.{PairStep, Tick, NoFrameWaits, ArePassesAndTakes}
 use Rattle.er_end_pair_laws.specs.Openings.{EndLinkOpening, Agree}
 use Rattle.er_end_pair_laws.specs.Links.{EndLink}
-use Rattle.er_end_pair_laws.specs.Steps.{EndLinkStep, Send, Pass, Lose, Repeat, Alter, Put, Take, UserRelease, Drain, Tick, AllFit}
+use Rattle.er_end_pair_laws.specs.Steps.{AllFit}
 use Rattle.er_end_pair_laws.specs.Laws.{end_link_after, IsEmpty, HasAll}
-
--- the line gives a frame, or a user takes what was accepted
-abbrev pub IsPassOrTake : EndLinkStep → Type 0
-IsPassOrTake (Send side user) = ⊥
-IsPassOrTake (Pass side) = Unit {0}
-IsPassOrTake (Lose side) = ⊥
-IsPassOrTake (Repeat side) = ⊥
-IsPassOrTake (Alter side place mask) = ⊥
-IsPassOrTake (Put side octets) = ⊥
-IsPassOrTake (Take side) = Unit {0}
-IsPassOrTake (UserRelease side sub) = ⊥
-IsPassOrTake (Drain most) = ⊥
-IsPassOrTake (Tick moment) = ⊥
-
-abbrev pub ArePassesAndTakes : List EndLinkStep → Type 0
-ArePassesAndTakes [] = Unit {0}
-ArePassesAndTakes (s ∷ steps) = IsPassOrTake s × ArePassesAndTakes steps
 
 -- neither end was released
 abbrev pub AreLive : EndLink → Type 0
 AreLive l = (l.e.core.released ≡ None) × (l.r.core.released ≡ None)
-
-abbrev pub NoFrameWaits : EndLink → Type 0
-NoFrameWaits l = (l.from_e ≡ []) × (l.from_r ≡ [])
 
 -- an end at a moment: T1 of its station doesn't run, or is found expired and the station doesn't give up yet; and the time for the set-up isn't
 -- spent
@@ -52,14 +33,14 @@ pub record IsRecovered (l : EndLink) : Type 0 where
 -- expired; then all that waits is given, and all that was accepted is taken
 abbrev pub Recovery : Type 0
 Recovery =
-    (s : EndLinkOpening) (steps : List EndLinkStep) → AllFit steps → Agree s → (end_link_after s steps).order_kept ≡ true → AreLive (end_link_after s steps)
-    → (first : List EndLinkStep) → ArePassesAndTakes first → NoFrameWaits (end_link_after s (steps ++ first))
+    (s : EndLinkOpening) (steps : List PairStep) → AllFit steps → Agree s → (end_link_after s steps).order_kept ≡ true → AreLive (end_link_after s steps)
+    → (first : List PairStep) → ArePassesAndTakes first → NoFrameWaits (end_link_after s (steps ++ first))
     → (now : ℕ) → GoOn now (end_link_after s (steps ++ first))
-    → (second : List EndLinkStep) → ArePassesAndTakes second → IsEmpty (end_link_after s (steps ++ first ++ Tick now ∷ second))
+    → (second : List PairStep) → ArePassesAndTakes second → IsEmpty (end_link_after s (steps ++ first ++ Tick now ∷ second))
     → IsRecovered (end_link_after s (steps ++ first ++ Tick now ∷ second))
 
 -- while frames are given and messages taken, no live end is released
 abbrev pub PassesRelease : Type 0
 PassesRelease =
-    (s : EndLinkOpening) (steps : List EndLinkStep) → AllFit steps → Agree s → (end_link_after s steps).order_kept ≡ true → AreLive (end_link_after s steps)
-    → (passes : List EndLinkStep) → ArePassesAndTakes passes → AreLive (end_link_after s (steps ++ passes))
+    (s : EndLinkOpening) (steps : List PairStep) → AllFit steps → Agree s → (end_link_after s steps).order_kept ≡ true → AreLive (end_link_after s steps)
+    → (passes : List PairStep) → ArePassesAndTakes passes → AreLive (end_link_after s (steps ++ passes))

@@ -2,8 +2,8 @@
 //! lose, repeat and alter frames: what each end accepts, why it is released, and that T1 repairs what was lost; and over lines that lose nothing:
 //! that all arrives, by how many deliveries, how many frames wait, and how far both safety sides are.
 //!
-//! The definitions of the link and of its steps stand in `specs/Links.antt` and `specs/Steps.antt`, the statements in
-//! `specs/Laws.antt` and `specs/Recovery.antt`; `laws` proves them. Nothing here runs.
+//! The link and its steps stand in `pair_model/specs`, what an end does on it in `specs/Links.antt`, the statements in `specs/Laws.antt` and
+//! `specs/Recovery.antt`; `laws` proves them. Nothing here runs.
 #![tactic(auto)]
 
 pub mod laws;

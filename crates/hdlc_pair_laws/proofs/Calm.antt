@@ -1,7 +1,7 @@
 -- A line that lost nothing and repeated nothing: no station sees a gap, and none asks for a number. With the shape of what flows, beside what holds
 -- of each station alone.
-use Rattle.std.proofs.Common.{if◌then◌else◌, ◌≡◌, ℕ, zero, suc, ◌+◌, ◌≤◌, inl, inr, max, Bool, true, false, List, [], ◌∷◌, ◌++◌, length, Option, Some, None, refl, sym, ◌∙◌, ap, subst, append-nil}
-use Rattle.std.specs.Prelude.{nat_le, ◌==◌, nat_lt}
+use Rattle.std.proofs.Common.{◌≡◌, ℕ, zero, suc, ◌+◌, ◌≤◌, inl, inr, max, Bool, true, false, List, [], ◌∷◌, ◌++◌, length, None, refl, sym, ◌∙◌, ap, subst, append-nil}
+use Rattle.std.specs.Prelude.{nat_le}
 use Rattle.std.specs.List.{filter}
 use Rattle.std.proofs.lemmas.Bool.{cond_both}
 use Rattle.er_base.specs.declared.side.Side.{Side}
@@ -14,10 +14,10 @@ use Rattle.hdlc_station_model.specs.Sending.{can_send, waiting, sends_next, send
 use Rattle.hdlc_station_model.specs.Receiving.{acknowledges, marks_busy, agrees, comes_up}
 use Rattle.hdlc_station_model.specs.Selective.{receives_as}
 use Rattle.hdlc_station_model.specs.Calls.{hands, finishes, ticks}
-use Rattle.hdlc_station_model.specs.Events.{quits, is_late}
-use Rattle.hdlc_station_model.specs.Lines.{altered, next_of}
-use Rattle.hdlc_pair_laws.specs.Links.{StationLink, frames_from_station, with_frames_from_station, did, opened_station_link}
-use Rattle.hdlc_pair_laws.specs.Steps.{StationLinkStep, Send, Pass, Lose, Repeat, Alter, Put, UserRelease, Drain, Tick, may_hand_down, send, lose, repeat, alter, release, tick_at, tick, is_overfull, pass_next, drained, station_link_step, station_link_run}
+use Rattle.hdlc_station_model.specs.Events.{is_late}
+use Rattle.pair_model.specs.Steps.{PairStep, send, tick_at, tick}
+use Rattle.pair_model.specs.Walks.{all_send_any, runs_keep_free}
+use Rattle.hdlc_pair_laws.specs.Links.{StationLink, station_kind, opened_station_link}
 use Rattle.hdlc_pair_laws.specs.Laws.{StationLinkOpening, after}
 use Rattle.hdlc_pair_laws.specs.Invariant.{IsStationPair, Both}
 use Rattle.hdlc_pair_laws.specs.Keeping.{found}
@@ -26,14 +26,14 @@ use Rattle.hdlc_pair_laws.specs.Flowing.{Still, Asked, Agreed, Shape, Flushed, M
 use Rattle.hdlc_pair_laws.proofs.Events.{finishes_keeps, hands_keeps, ticks_keeps}
 use Rattle.hdlc_pair_laws.proofs.Hearing.{row_as}
 use Rattle.hdlc_pair_laws.proofs.Opened.{span_of, opened_stands}
-use Rattle.hdlc_pair_laws.proofs.Runs.{Frames, short_enough, at_moment}
+use Rattle.hdlc_pair_laws.proofs.Acts.{Frames, at_moment, unmoved_keeps, sends, e_begun, r_begun}
+use Rattle.hdlc_pair_laws.proofs.Runs.{short_enough}
 use Rattle.hdlc_pair_laws.proofs.Telling.{phases_stay, ticks_tell}
 use Rattle.hdlc_pair_laws.proofs.Flows.{still_swap, takes_next, heard_live, heard_row, info_is, rr_is, not_due}
 use Rattle.hdlc_pair_laws.proofs.Delivers.{called_cannot, sets_up, agreed_row}
-use Rattle.hdlc_pair_laws.proofs.Delivered.{passed_free, drained_free, sent_free, both_false}
 use Rattle.hdlc_pair_laws.proofs.LossFree.{unsent, flow_keeps}
 use Rattle.hdlc_pair_laws.proofs.SoundCalls.{hands_leaves, ticks_leaves}
-use Rattle.hdlc_pair_laws.proofs.Sounds.{Claim, Sounds, e_does, r_does, e_ready, r_ready, e_own, r_own, same, ToR, ToE, passed}
+use Rattle.hdlc_pair_laws.proofs.Sounds.{Claim, Sounds, e_does, r_does, e_own, r_own, same, ToR, ToE, passed}
 use Rattle.hdlc_pair_laws.proofs.SoundRuns.{wide_at}
 
 -- ---- one station
@@ -176,143 +176,87 @@ module _ (laws : Frames) (wd : ℕ) where
         ),
       )
 
+module _ (laws : Frames) (selective : Bool) (wd : ℕ) where
+  flow : FlowKeeps
+  flow = flow_keeps laws.back
+
   -- ---- the steps
 
-  sent_calm : (side : Side) (l : StationLink) (p : List ℕ) → Sounds wd Calm l → Sounds wd Calm (send side p l)
-  sent_calm E l p h =
+  sent_calm : (side : Side) (p : List ℕ) (l : StationLink) → Sounds selective wd Calm l → Sounds selective wd Calm (send (station_kind selective) side p l)
+  sent_calm E p l h =
       let q = h.claim in
-      let t : Station = hands l.moment p l.e in
-      cond_both (may_hand_down p l.e) (did E (finishes t) l) l (Sounds wd Calm)
-      (λ may. e_does wd Calm Calm l h (finishes t)
-      (finishes_keeps l.selective h.k h.fe t h.fr l.r (hands_keeps l.selective h.k h.fe l.moment l.e h.fr l.r p (short_enough p l.e may) (e_ready wd Calm l h)))
-      (hands_leaves true wd h.fe l.moment p l.e h.stands.pair.0.0.given (e_own wd Calm l h))
-      (λ idle. ap is_up (phases_stay.finishes t ∙ phases_stay.hands l.moment p l.e) ∙ h.first idle) (
+      let e : Station = l.e.station in
+      let r : Station = l.r.station in
+      let t : Station = hands l.moment p e in
+      sends selective (Sounds selective wd Calm) E p l
+      (λ may. e_does selective wd Calm Calm l h (finishes t)
+      (finishes_keeps selective h.k h.fe t h.fr r (hands_keeps selective h.k h.fe l.moment e h.fr r p (short_enough p e may) (e_begun selective l h.stands)))
+      (hands_leaves true wd h.fe l.moment p e h.stands.pair.0.0.given (e_own selective wd Calm l h))
+      (λ idle. ap is_up (phases_stay.finishes t ∙ phases_stay.hands l.moment p e) ∙ h.first idle) (
         q.0,
         (
-          keeps.finished true q.0 h.fe t h.fr l.r
-              (keeps.handed true q.0 h.fe l.moment p l.e h.fr l.r (calling_begins q.0 h.fe l.e h.fr l.r h.stands.quiet_x h.stands.pair.0.0.given q.1.0)),
-          finishes_calm t (hands_calm l.moment p l.e q.1.1),
+          flow.finished true q.0 h.fe t h.fr r (flow.handed true q.0 h.fe l.moment p e h.fr r (calling_begins q.0 h.fe e h.fr r h.stands.quiet_x h.stands.pair.0.0.given q.1.0)),
+          finishes_calm t (hands_calm l.moment p e q.1.1),
           q.1.2,
         ),
-      ))
-      (λ refused. h)
-  sent_calm R l p h =
+      )) h
+  sent_calm R p l h =
       let q = h.claim in
-      let t : Station = hands l.moment p l.r in
-      cond_both (may_hand_down p l.r) (did R (finishes t) l) l (Sounds wd Calm)
-      (λ may. r_does wd Calm Calm l h (finishes t)
-      (finishes_keeps l.selective h.k h.fr t h.fe l.e (hands_keeps l.selective h.k h.fr l.moment l.r h.fe l.e p (short_enough p l.r may) (r_ready wd Calm l h)))
-      (hands_leaves false wd h.fr l.moment p l.r h.stands.pair.1.0.given (r_own wd Calm l h)) (
+      let e : Station = l.e.station in
+      let r : Station = l.r.station in
+      let t : Station = hands l.moment p r in
+      sends selective (Sounds selective wd Calm) R p l
+      (λ may. r_does selective wd Calm Calm l h (finishes t)
+      (finishes_keeps selective h.k h.fr t h.fe e (hands_keeps selective h.k h.fr l.moment r h.fe e p (short_enough p r may) (r_begun selective l h.stands)))
+      (hands_leaves false wd h.fr l.moment p r h.stands.pair.1.0.given (r_own selective wd Calm l h)) (
         q.0,
         (
-          keeps.finished false q.0 h.fr t h.fe l.e
-              (keeps.handed false q.0 h.fr l.moment p l.r h.fe l.e (called_begins q.0 h.fe l.e h.fr l.r h.stands.quiet_y h.stands.pair.1.0.given q.1.0)),
+          flow.finished false q.0 h.fr t h.fe e (flow.handed false q.0 h.fr l.moment p r h.fe e (called_begins q.0 h.fe e h.fr r h.stands.quiet_y h.stands.pair.1.0.given q.1.0)),
           q.1.1,
-          finishes_calm t (hands_calm l.moment p l.r q.1.2),
+          finishes_calm t (hands_calm l.moment p r q.1.2),
         ),
-      ))
-      (λ refused. h)
+      )) h
 
-  e_ticked : (l : StationLink) → is_late l.moment l.e ≡ false → Sounds wd Calm l → Sounds wd Calm (tick_at E l)
+  e_ticked : (l : StationLink) → is_late l.moment l.e.station ≡ false → Sounds selective wd Calm l → Sounds selective wd Calm (tick_at (station_kind selective) E l)
   e_ticked l late h =
       let q = h.claim in
-      let t : Station = ticks l.moment l.e in
-      e_does wd Calm Calm l h (finishes t)
-      (finishes_keeps l.selective h.k h.fe t h.fr l.r (ticks_keeps l.selective h.k h.fe l.moment l.e h.fr l.r (e_ready wd Calm l h)))
-      (ticks_leaves true wd h.fe l.moment l.e h.stands.pair.0.0.given (e_own wd Calm l h))
-      (λ idle. ap is_up (phases_stay.finishes t) ∙ ticks_tell.asleep l.moment l.e (h.first idle)) (
+      let e : Station = l.e.station in
+      let r : Station = l.r.station in
+      let t : Station = ticks l.moment e in
+      e_does selective wd Calm Calm l h (finishes t) (finishes_keeps selective h.k h.fe t h.fr r (ticks_keeps selective h.k h.fe l.moment e h.fr r (e_begun selective l h.stands)))
+      (ticks_leaves true wd h.fe l.moment e h.stands.pair.0.0.given (e_own selective wd Calm l h))
+      (λ idle. ap is_up (phases_stay.finishes t) ∙ ticks_tell.asleep l.moment e (h.first idle)) (
         q.0,
         (
-          keeps.finished true q.0 h.fe t h.fr l.r
-              (keeps.ticked true q.0 h.fe l.moment l.e h.fr l.r late (calling_begins q.0 h.fe l.e h.fr l.r h.stands.quiet_x h.stands.pair.0.0.given q.1.0)),
-          finishes_calm t (ticks_calm l.moment l.e late q.1.1),
+          flow.finished true q.0 h.fe t h.fr r (flow.ticked true q.0 h.fe l.moment e h.fr r late (calling_begins q.0 h.fe e h.fr r h.stands.quiet_x h.stands.pair.0.0.given q.1.0)),
+          finishes_calm t (ticks_calm l.moment e late q.1.1),
           q.1.2,
         ),
       )
 
-  r_ticked : (l : StationLink) → is_late l.moment l.r ≡ false → Sounds wd Calm l → Sounds wd Calm (tick_at R l)
+  r_ticked : (l : StationLink) → is_late l.moment l.r.station ≡ false → Sounds selective wd Calm l → Sounds selective wd Calm (tick_at (station_kind selective) R l)
   r_ticked l late h =
       let q = h.claim in
-      let t : Station = ticks l.moment l.r in
-      r_does wd Calm Calm l h (finishes t)
-      (finishes_keeps l.selective h.k h.fr t h.fe l.e (ticks_keeps l.selective h.k h.fr l.moment l.r h.fe l.e (r_ready wd Calm l h)))
-      (ticks_leaves false wd h.fr l.moment l.r h.stands.pair.1.0.given (r_own wd Calm l h)) (
+      let e : Station = l.e.station in
+      let r : Station = l.r.station in
+      let t : Station = ticks l.moment r in
+      r_does selective wd Calm Calm l h (finishes t) (finishes_keeps selective h.k h.fr t h.fe e (ticks_keeps selective h.k h.fr l.moment r h.fe e (r_begun selective l h.stands)))
+      (ticks_leaves false wd h.fr l.moment r h.stands.pair.1.0.given (r_own selective wd Calm l h)) (
         q.0,
         (
-          keeps.finished false q.0 h.fr t h.fe l.e
-              (keeps.ticked false q.0 h.fr l.moment l.r h.fe l.e late (called_begins q.0 h.fe l.e h.fr l.r h.stands.quiet_y h.stands.pair.1.0.given q.1.0)),
+          flow.finished false q.0 h.fr t h.fe e (flow.ticked false q.0 h.fr l.moment r h.fe e late (called_begins q.0 h.fe e h.fr r h.stands.quiet_y h.stands.pair.1.0.given q.1.0)),
           q.1.1,
-          finishes_calm t (ticks_calm l.moment l.r late q.1.2),
+          finishes_calm t (ticks_calm l.moment r late q.1.2),
         ),
       )
 
-  -- as long as nothing was lost
-  abbrev Clean : StationLink → Type 0
-  Clean l = l.loss_free ≡ true → Sounds wd Calm l
+  ticked_calm : (now : ℕ) (l : StationLink) → is_late (max l.moment now) l.e.station ≡ false → is_late (max l.moment now) l.r.station ≡ false → Sounds selective wd Calm l
+      → Sounds selective wd Calm (tick (station_kind selective) now l)
+  ticked_calm now l timely_e timely_r h =
+      let first : StationLink = at_moment (max l.moment now) l in
+      r_ticked (tick_at (station_kind selective) E first) timely_r (e_ticked first timely_e (same selective wd Calm l h _ l.passes l.order_kept _))
 
-  ticked_calm : (now : ℕ) (l : StationLink) → Clean l → Clean (tick now l)
-  ticked_calm now l h e =
-      let to : ℕ = max l.moment now in
-      let f = both_false l.loss_free (is_late to l.e) (is_late to l.r) e in
-      let first : StationLink = at_moment to l in
-      r_ticked (tick_at E first) f.2 (e_ticked first f.1 (same wd Calm l (h f.0) _ l.passes l.order_kept _))
-
-  next_calm : (side : Option Side) (overfull : Bool) (l : StationLink) → Sounds wd Calm l → Sounds wd Calm (pass_next side overfull l)
-  next_calm None overfull l h = h
-  next_calm (Some side) true l h = h
-  next_calm (Some side) false l h = (passed wd Calm laws to_r to_e side l h).0
-
-  drained_calm : (most : ℕ) (l : StationLink) → Sounds wd Calm l → Sounds wd Calm (drained most l)
-  drained_calm zero l h = h
-  drained_calm (suc most) l h =
-      let next : Option Side = next_of l.from_e l.from_r in
-      drained_calm most (pass_next next (is_overfull l) l) (next_calm next (is_overfull l) l h)
-
-  lost_calm : (side : Side) (line : List (List ℕ)) (l : StationLink) → Clean l → Clean (lose side line l)
-  lost_calm side [] l h = h
-  lost_calm E (octets ∷ rest) l h = λ e. absurd cc
-  lost_calm R (octets ∷ rest) l h = λ e. absurd cc
-
-  repeated_calm : (side : Side) (line : List (List ℕ)) (l : StationLink) → Clean l → Clean (repeat side line l)
-  repeated_calm side [] l h = h
-  repeated_calm E (octets ∷ rest) l h = λ e. absurd cc
-  repeated_calm R (octets ∷ rest) l h = λ e. absurd cc
-
-  changed_calm : (side : Side) (frames : List (List ℕ)) (l : StationLink) → Clean (with_frames_from_station side frames (record l { order_kept = false; loss_free = false }))
-  changed_calm E frames l = λ e. absurd cc
-  changed_calm R frames l = λ e. absurd cc
-
-  altered_calm : (side : Side) (place mask : ℕ) (line : List (List ℕ)) (l : StationLink) → Clean l → Clean (alter side place mask line l)
-  altered_calm side place mask [] l h = h
-  altered_calm side place mask (octets ∷ rest) l h =
-      cond_both (nat_lt place (length octets))
-      (if mask == 0 then l else with_frames_from_station side (altered octets place mask ∷ rest) (record l { order_kept = false; loss_free = false })) _ Clean
-      (λ in_frame. cond_both (mask == 0) l (with_frames_from_station side (altered octets place mask ∷ rest) (record l { order_kept = false; loss_free = false })) Clean
-      (λ none. h) (λ some. changed_calm side (altered octets place mask ∷ rest) l))
-      (λ short. h)
-
-  released_calm : (side : Side) (sub : ℕ) (l : StationLink) → Clean (release side sub l)
-  released_calm E sub l =
-      cond_both (is_down l.e.phase) (record l { loss_free = false }) (did E (quits sub l.e) (record l { loss_free = false })) Clean (λ d e. absurd cc) (λ d e. absurd cc)
-  released_calm R sub l =
-      cond_both (is_down l.r.phase) (record l { loss_free = false }) (did R (quits sub l.r) (record l { loss_free = false })) Clean (λ d e. absurd cc) (λ d e. absurd cc)
-
-  step_calm : (s : StationLinkStep) (l : StationLink) → Clean l → Clean (station_link_step s l)
-  step_calm (Send side p) l h = λ e. sent_calm side l p (h (sym (sent_free side p l) ∙ e))
-  step_calm (Pass side) l h = λ e. (passed wd Calm laws to_r to_e side l (h (sym (passed_free side (frames_from_station l side) l) ∙ e))).0
-  step_calm (Lose side) l h = lost_calm side (frames_from_station l side) l h
-  step_calm (Repeat side) l h = repeated_calm side (frames_from_station l side) l h
-  step_calm (Alter side place mask) l h = altered_calm side place mask (frames_from_station l side) l h
-  step_calm (Put side octets) l h = changed_calm side (octets ∷ frames_from_station l side) l
-  step_calm (UserRelease side sub) l h = released_calm side sub l
-  step_calm (Drain most) l h = λ e. drained_calm most l (h (sym (drained_free most l) ∙ e))
-  step_calm (Tick moment) l h = ticked_calm moment l h
-
-  run_calm : (steps : List StationLinkStep) (l : StationLink) → Clean l → Clean (station_link_run l steps)
-  run_calm [] l h = h
-  run_calm (s ∷ rest) l h = run_calm rest (station_link_step s l) (step_calm s l h)
-
-opened_calm : (s : StationLinkOpening) → Sounds s.window Calm (opened_station_link s.selective s.extended s.window s.n2 s.t1 s.moment)
+opened_calm : (s : StationLinkOpening) → Sounds s.selective s.window Calm (opened_station_link s.selective s.extended s.window s.n2 s.t1 s.moment)
 opened_calm s = record {
   k = span_of s.selective s.extended s.window;
   fe = SetUp ∷ [];
@@ -331,5 +275,13 @@ opened_calm s = record {
   );
 }
 
-pub after_calm : Frames → (s : StationLinkOpening) (steps : List StationLinkStep) → (after s steps).loss_free ≡ true → Sounds s.window Calm (after s steps)
-after_calm laws s steps = run_calm laws s.window steps (opened_station_link s.selective s.extended s.window s.n2 s.t1 s.moment) (λ e. opened_calm s)
+pub after_calm : Frames → (s : StationLinkOpening) (steps : List PairStep) → (after s steps).loss_free ≡ true → Sounds s.selective s.window Calm (after s steps)
+after_calm laws s steps =
+    let b : Bool = s.selective in
+    let wd : ℕ = s.window in
+    runs_keep_free (station_kind b) (λ user. Unit {0}) (Sounds b wd Calm) (record {
+      sent = λ side user l any. sent_calm laws b wd side user l;
+      passed = λ side l h. (passed b wd Calm laws (to_r laws wd) (to_e laws wd) side l h).0;
+      took = unmoved_keeps (Sounds b wd Calm);
+      ticked = ticked_calm laws b wd;
+    }) steps (opened_station_link b s.extended wd s.n2 s.t1 s.moment) (all_send_any steps) (opened_calm s)

@@ -5,13 +5,13 @@ use Rattle.std.specs.Prelude.{nat_lt}
 use Rattle.std.proofs.lemmas.Bool.{or_cases, ltb-true}
 use Rattle.hdlc_station_model.specs.Frames.{Frame, Info, Rr, Rej, Srej, SetUp, Disc, Dm, Ua}
 use Rattle.hdlc_station_model.specs.Stations.{Station}
-use Rattle.hdlc_pair_laws.specs.Links.{StationLink}
-use Rattle.hdlc_pair_laws.specs.Steps.{is_overfull, drained}
+use Rattle.pair_model.specs.Steps.{is_overfull, drained}
+use Rattle.hdlc_pair_laws.specs.Links.{StationLink, station_kind}
 use Rattle.hdlc_pair_laws.specs.Laws.{after, DrainEmpties, FewWait}
 use Rattle.hdlc_pair_laws.specs.Invariant.{Way, Climbs, IsStationPair, IsSpan, infos, receive_numbers_in_frames}
 use Rattle.hdlc_pair_laws.specs.Flowing.{Consecutive, AllData, AreReceiveReadyNumbersRising, Shape}
 use Rattle.hdlc_pair_laws.proofs.Ways.{way_bounds}
-use Rattle.hdlc_pair_laws.proofs.Runs.{Frames}
+use Rattle.hdlc_pair_laws.proofs.Acts.{Frames}
 use Rattle.hdlc_pair_laws.proofs.Delivers.{Flows}
 use Rattle.hdlc_pair_laws.proofs.Delivered.{drained_empties, bound_flows, after_flows}
 
@@ -87,15 +87,15 @@ few_at selective k n lx x ly y p shape =
           (omega (arith, fx), omega (arith, fy))
     ]
 
-few_frames : (l : StationLink) → Flows l → (length l.from_e ≤ 254) × (length l.from_r ≤ 254)
-few_frames l g =
-    let few = few_at l.selective g.k l.passes g.fe l.e g.fr l.r g.stands.pair g.shape in
+few_frames : (selective : Bool) (l : StationLink) → Flows selective l → (length l.from_e ≤ 254) × (length l.from_r ≤ 254)
+few_frames selective l g =
+    let few = few_at selective g.k l.passes g.fe l.e.station g.fr l.r.station g.stands.pair g.shape in
     let e : length l.from_e ≡ length g.fe = ap length g.stands.lined_x ∙ length-map g.fe _ in
     let r : length l.from_r ≡ length g.fr = ap length g.stands.lined_y ∙ length-map g.fr _ in
     (omega (arith, few.0), omega (arith, few.1))
 
 pub few_wait : Frames → FewWait
-few_wait laws s steps free = few_frames (after s steps) (after_flows laws s steps free)
+few_wait laws s steps free = few_frames s.selective (after s steps) (after_flows laws s steps free)
 
 -- ---- a drain
 
@@ -113,14 +113,14 @@ no_length (f ∷ fs) h = absurd (let u : ⊥ = omega arith in u)
 pub drain_empties : Frames → DrainEmpties
 drain_empties laws s steps most free enough =
     let l : StationLink = after s steps in
-    let d : StationLink = drained most l in
-    let h = drained_empties laws most l (after_flows laws s steps free) in
-    let b = bound_flows d h.flows in
-    let be : length d.e.handed ≡ length l.e.handed = ap length h.handed_e in
-    let br : length d.r.handed ≡ length l.r.handed = ap length h.handed_r in
+    let d : StationLink = drained (station_kind s.selective) most l in
+    let h = drained_empties laws s.selective most l (after_flows laws s steps free) in
+    let b = bound_flows s.selective d h.flows in
+    let be : length d.e.station.handed ≡ length l.e.station.handed = ap length h.handed_e in
+    let br : length d.r.station.handed ≡ length l.r.station.handed = ap length h.handed_r in
     elim h.ends [
       | inl none ↦ none
-      | inr (inl full) ↦ absurd (not_overfull d (few_frames d h.flows) full)
+      | inr (inl full) ↦ absurd (not_overfull d (few_frames s.selective d h.flows) full)
       | inr (inr more) ↦
           let ze : length h.flows.fe ≡ 0 = omega arith in
           let zr : length h.flows.fr ≡ 0 = omega arith in

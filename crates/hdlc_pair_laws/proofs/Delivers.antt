@@ -3,7 +3,6 @@ use Rattle.std.proofs.Common.{if◌then◌else◌, ◌≡◌, ℕ, zero, suc, �
 use Rattle.std.specs.Prelude.{nat_lt}
 use Rattle.std.proofs.lemmas.Bool.{cond_both}
 use Rattle.er_base.specs.declared.side.Side.TheVariants.{E, R}
-use Rattle.hdlc_frames.specs.Framing.{Verdict}
 use Rattle.hdlc_frames.specs.Laws.{ControlReadsBack}
 use Rattle.hdlc_station_model.specs.declared.phase.Phase.{Phase}
 use Rattle.hdlc_station_model.specs.declared.phase.Phase.TheVariants.{Idle, Setting, Up}
@@ -13,23 +12,23 @@ use Rattle.hdlc_station_model.specs.Sending.{can_send, waiting, sends_next, send
 use Rattle.hdlc_station_model.specs.Receiving.{row_idle, agrees, comes_up}
 use Rattle.hdlc_station_model.specs.Calls.{hands, finishes, ticks}
 use Rattle.hdlc_station_model.specs.Events.{is_late}
-use Rattle.hdlc_pair_laws.specs.Links.{StationLink, did, hears_each, station_link_behind_octets}
-use Rattle.hdlc_pair_laws.specs.Steps.{pass, tick_at}
+use Rattle.pair_model.specs.Steps.{pass, tick_at}
+use Rattle.hdlc_pair_laws.specs.Links.{StationLink, station_kind}
 use Rattle.hdlc_pair_laws.specs.Invariant.{IsStationPair, Both}
 use Rattle.hdlc_pair_laws.specs.Keeping.{found}
-use Rattle.hdlc_pair_laws.specs.Flowing.{one_if, Still, AtRest, Fresh, Shape}
+use Rattle.hdlc_pair_laws.specs.Flowing.{one_if, Still, Fresh, Shape}
 use Rattle.hdlc_pair_laws.proofs.Events.{finishes_keeps, hands_keeps, ticks_keeps}
-use Rattle.hdlc_pair_laws.proofs.Lines.{octets_of, Stands, turned, begun, acted, First, first_of_line, answered, one_event, flag_behind, answered_keeps}
-use Rattle.hdlc_pair_laws.proofs.Runs.{Frames}
+use Rattle.hdlc_pair_laws.proofs.Lines.{First, first_of_line, answered}
+use Rattle.hdlc_pair_laws.proofs.Acts.{Frames, did, StandsAt, e_begun, r_begun, e_acted, r_acted, e_gives, r_gives}
 use Rattle.hdlc_pair_laws.proofs.Hearing.{row_as}
 use Rattle.hdlc_pair_laws.proofs.Flows.{still_swap, still_back, Within, ends_well, heard_live, heard_row, answered_flows, handed_flows, not_due, ticked_flows}
 
-pub record Flows (l : StationLink) : Type 0 where
+pub record Flows (selective : Bool) (l : StationLink) : Type 0 where
   pub k : ℕ
   pub fe : List Frame
   pub fr : List Frame
-  pub stands : Stands l.selective k fe l.e fr l.r l.from_e l.from_r l.read_e l.read_r
-  pub shape : Shape l.passes fe l.e fr l.r
+  pub stands : StandsAt selective k fe fr l
+  pub shape : Shape l.passes fe l.e.station fr l.r.station
 
 -- ---- stations that can't send yet
 
@@ -75,35 +74,6 @@ quiet_ticks now x live late cannot owes =
     ∙ ap (λ t. finishes (sends_waiting t)) (not_due now x late)
     ∙ quiet (sees now x) cannot owes
 
--- ---- an event at an end
-
-e_flows : (l : StationLink) (g : Flows l) (x : Station) → Both l.selective g.k g.fe x g.fr l.r → Shape l.passes (g.fe ++ x.said) x g.fr l.r → Flows (did E x l)
-e_flows l g x b shape = record {
-  k = g.k;
-  fe = g.fe ++ x.said;
-  fr = g.fr;
-  stands = acted l.selective g.k g.fe l.e g.fr l.r l.from_e l.from_r l.read_e l.read_r x g.fr l.from_r l.read_e g.stands g.stands.lined_y g.stands.flag_x b;
-  shape = shape;
-}
-
-r_flows : (l : StationLink) (g : Flows l) (x : Station) → Both l.selective g.k g.fr x g.fe l.e → Shape l.passes g.fe l.e (g.fr ++ x.said) x → Flows (did R x l)
-r_flows l g x b shape =
-    let t = turned l.selective g.k g.fe l.e g.fr l.r l.from_e l.from_r l.read_e l.read_r g.stands in
-    let a = acted l.selective g.k g.fr l.r g.fe l.e l.from_r l.from_e l.read_r l.read_e x g.fe l.from_e l.read_r t t.lined_y t.flag_x b in
-    record {
-      k = g.k;
-      fe = g.fe;
-      fr = g.fr ++ x.said;
-      stands = turned l.selective g.k (g.fr ++ x.said) _ g.fe l.e _ _ _ _ a;
-      shape = shape;
-    }
-
-e_ready : (l : StationLink) (g : Flows l) → Both l.selective g.k g.fe l.e g.fr l.r
-e_ready l g = begun l.selective g.k g.fe l.e g.fr l.r l.from_e l.from_r l.read_e l.read_r g.stands
-
-r_ready : (l : StationLink) (g : Flows l) → Both l.selective g.k g.fr l.r g.fe l.e
-r_ready l g = begun l.selective g.k g.fr l.r g.fe l.e l.from_r l.from_e l.read_r l.read_e (turned l.selective g.k g.fe l.e g.fr l.r l.from_e l.from_r l.read_e l.read_r g.stands)
-
 -- nothing is said between two calls
 unsaid : (w : List Frame) (x : Station) → x.said ≡ [] → w ++ x.said ≡ w
 unsaid w x h = ap (λ (t : List Frame). w ++ t) h ∙ append-nil w
@@ -114,63 +84,72 @@ within_e n lx x ly y h s = subst (λ (t : List Frame). Still true n t x ly y) (s
 within_r : (n : ℕ) (lx : List Frame) (x : Station) (ly : List Frame) (y : Station) → x.said ≡ [] → Still false n lx x ly y → Within false n lx x ly y
 within_r n lx x ly y h s = subst (λ (t : List Frame). Still false n t x ly y) (sym (unsaid lx x h)) s
 
--- ---- a payload is handed down
+module _ (selective : Bool) where
+  -- ---- an event at an end
 
-pub e_sends : (l : StationLink) (p : List ℕ) → length p ≤ 1026 → Flows l → Flows (did E (finishes (hands l.moment p l.e)) l)
-e_sends l p short g =
-    e_flows l g (finishes (hands l.moment p l.e)) (finishes_keeps l.selective g.k g.fe (hands l.moment p l.e) g.fr l.r (hands_keeps l.selective g.k g.fe l.moment l.e g.fr l.r p short (e_ready l g)))
-    (elim g.shape [
-      | inl a ↦ subst (λ (t : Station). Shape l.passes (g.fe ++ t.said) t g.fr l.r) (sym (quiet_hands l.moment p l.e (ap is_down a.0) (early_cannot l.e (ap is_up a.0)) a.4.4))
-          (inl (a.0, a.1, unsaid g.fe l.e g.stands.quiet_x ∙ a.2, a.3, a.4, a.5, a.6))
-      | inr (inl a) ↦ subst (λ (t : Station). Shape l.passes (g.fe ++ t.said) t g.fr l.r) (sym (quiet_hands l.moment p l.e (ap is_down a.0) (early_cannot l.e (ap is_up a.0)) a.4.4))
-          (inr (inl (a.0, a.1, unsaid g.fe l.e g.stands.quiet_x ∙ a.2, a.3, a.4, a.5, a.6)))
-      | inr (inr a) ↦
-          let d = handed_flows true l.passes g.fe l.moment p l.e g.fr l.r g.stands.pair.0.0.given (within_e l.passes g.fe l.e g.fr l.r g.stands.quiet_x a.0) in
-          inr (inr (d.0, d.1, a.2))
-    ])
+  e_flows : (l : StationLink) (g : Flows selective l) (x : Station) → Both selective g.k g.fe x g.fr l.r.station → Shape l.passes (g.fe ++ x.said) x g.fr l.r.station → Flows selective (did E x l)
+  e_flows l g x b shape = record { k = g.k; fe = g.fe ++ x.said; fr = g.fr; stands = e_acted selective l g.stands x b; shape = shape }
 
-pub r_sends : (l : StationLink) (p : List ℕ) → length p ≤ 1026 → Flows l → Flows (did R (finishes (hands l.moment p l.r)) l)
-r_sends l p short g =
-    r_flows l g (finishes (hands l.moment p l.r)) (finishes_keeps l.selective g.k g.fr (hands l.moment p l.r) g.fe l.e (hands_keeps l.selective g.k g.fr l.moment l.r g.fe l.e p short (r_ready l g)))
-    (elim g.shape [
-      | inl a ↦ subst (λ (t : Station). Shape l.passes g.fe l.e (g.fr ++ t.said) t) (sym (quiet_hands l.moment p l.r (ap is_down a.1) (called_cannot l.r a.5) a.5.4))
-          (inl (a.0, a.1, a.2, unsaid g.fr l.r g.stands.quiet_y ∙ a.3, a.4, a.5, a.6))
-      | inr (inl a) ↦ subst (λ (t : Station). Shape l.passes g.fe l.e (g.fr ++ t.said) t) (sym (quiet_hands l.moment p l.r (ap is_down a.1) (called_cannot l.r a.5) a.5.4))
-          (inr (inl (a.0, a.1, a.2, unsaid g.fr l.r g.stands.quiet_y ∙ a.3, a.4, a.5, a.6)))
-      | inr (inr a) ↦
-          let d = handed_flows false l.passes g.fr l.moment p l.r g.fe l.e g.stands.pair.1.0.given
-          (within_r l.passes g.fr l.r g.fe l.e g.stands.quiet_y (still_swap l.passes g.fe l.e g.fr l.r a.0)) in
-          inr (inr (still_back l.passes (g.fr ++ (finishes (hands l.moment p l.r)).said) (finishes (hands l.moment p l.r)) g.fe l.e d.0, a.1, d.1))
-    ])
+  r_flows : (l : StationLink) (g : Flows selective l) (x : Station) → Both selective g.k g.fr x g.fe l.e.station → Shape l.passes g.fe l.e.station (g.fr ++ x.said) x → Flows selective (did R x l)
+  r_flows l g x b shape = record { k = g.k; fe = g.fe; fr = g.fr ++ x.said; stands = r_acted selective l g.stands x b; shape = shape }
 
--- ---- a tick that finds no expired timer
+  -- ---- a payload is handed down
 
-pub e_ticks : (l : StationLink) → is_late l.moment l.e ≡ false → Flows l → Flows (tick_at E l)
-e_ticks l late g =
-    e_flows l g (finishes (ticks l.moment l.e)) (finishes_keeps l.selective g.k g.fe (ticks l.moment l.e) g.fr l.r (ticks_keeps l.selective g.k g.fe l.moment l.e g.fr l.r (e_ready l g)))
-    (elim g.shape [
-      | inl a ↦ subst (λ (t : Station). Shape l.passes (g.fe ++ t.said) t g.fr l.r) (sym (quiet_ticks l.moment l.e (ap is_down a.0) late (early_cannot l.e (ap is_up a.0)) a.4.4))
-          (inl (a.0, a.1, unsaid g.fe l.e g.stands.quiet_x ∙ a.2, a.3, a.4, a.5, a.6))
-      | inr (inl a) ↦ subst (λ (t : Station). Shape l.passes (g.fe ++ t.said) t g.fr l.r) (sym (quiet_ticks l.moment l.e (ap is_down a.0) late (early_cannot l.e (ap is_up a.0)) a.4.4))
-          (inr (inl (a.0, a.1, unsaid g.fe l.e g.stands.quiet_x ∙ a.2, a.3, a.4, a.5, a.6)))
-      | inr (inr a) ↦
-          let d = ticked_flows true l.passes g.fe l.moment l.e g.fr l.r late g.stands.pair.0.0.given (within_e l.passes g.fe l.e g.fr l.r g.stands.quiet_x a.0) in
-          inr (inr (d.0, d.1, a.2))
-    ])
+  pub e_sends : (l : StationLink) (p : List ℕ) → length p ≤ 1026 → Flows selective l → Flows selective (did E (finishes (hands l.moment p l.e.station)) l)
+  e_sends l p short g =
+      e_flows l g (finishes (hands l.moment p l.e.station)) (finishes_keeps selective g.k g.fe (hands l.moment p l.e.station) g.fr l.r.station (hands_keeps selective g.k g.fe l.moment l.e.station g.fr l.r.station p short (e_begun selective l g.stands)))
+      (elim g.shape [
+        | inl a ↦ subst (λ (t : Station). Shape l.passes (g.fe ++ t.said) t g.fr l.r.station) (sym (quiet_hands l.moment p l.e.station (ap is_down a.0) (early_cannot l.e.station (ap is_up a.0)) a.4.4))
+            (inl (a.0, a.1, unsaid g.fe l.e.station g.stands.quiet_x ∙ a.2, a.3, a.4, a.5, a.6))
+        | inr (inl a) ↦ subst (λ (t : Station). Shape l.passes (g.fe ++ t.said) t g.fr l.r.station) (sym (quiet_hands l.moment p l.e.station (ap is_down a.0) (early_cannot l.e.station (ap is_up a.0)) a.4.4))
+            (inr (inl (a.0, a.1, unsaid g.fe l.e.station g.stands.quiet_x ∙ a.2, a.3, a.4, a.5, a.6)))
+        | inr (inr a) ↦
+            let d = handed_flows true l.passes g.fe l.moment p l.e.station g.fr l.r.station g.stands.pair.0.0.given (within_e l.passes g.fe l.e.station g.fr l.r.station g.stands.quiet_x a.0) in
+            inr (inr (d.0, d.1, a.2))
+      ])
 
-pub r_ticks : (l : StationLink) → is_late l.moment l.r ≡ false → Flows l → Flows (tick_at R l)
-r_ticks l late g =
-    r_flows l g (finishes (ticks l.moment l.r)) (finishes_keeps l.selective g.k g.fr (ticks l.moment l.r) g.fe l.e (ticks_keeps l.selective g.k g.fr l.moment l.r g.fe l.e (r_ready l g)))
-    (elim g.shape [
-      | inl a ↦ subst (λ (t : Station). Shape l.passes g.fe l.e (g.fr ++ t.said) t) (sym (quiet_ticks l.moment l.r (ap is_down a.1) late (called_cannot l.r a.5) a.5.4))
-          (inl (a.0, a.1, a.2, unsaid g.fr l.r g.stands.quiet_y ∙ a.3, a.4, a.5, a.6))
-      | inr (inl a) ↦ subst (λ (t : Station). Shape l.passes g.fe l.e (g.fr ++ t.said) t) (sym (quiet_ticks l.moment l.r (ap is_down a.1) late (called_cannot l.r a.5) a.5.4))
-          (inr (inl (a.0, a.1, a.2, unsaid g.fr l.r g.stands.quiet_y ∙ a.3, a.4, a.5, a.6)))
-      | inr (inr a) ↦
-          let d = ticked_flows false l.passes g.fr l.moment l.r g.fe l.e late g.stands.pair.1.0.given
-          (within_r l.passes g.fr l.r g.fe l.e g.stands.quiet_y (still_swap l.passes g.fe l.e g.fr l.r a.0)) in
-          inr (inr (still_back l.passes (g.fr ++ (finishes (ticks l.moment l.r)).said) (finishes (ticks l.moment l.r)) g.fe l.e d.0, a.1, d.1))
-    ])
+  pub r_sends : (l : StationLink) (p : List ℕ) → length p ≤ 1026 → Flows selective l → Flows selective (did R (finishes (hands l.moment p l.r.station)) l)
+  r_sends l p short g =
+      r_flows l g (finishes (hands l.moment p l.r.station)) (finishes_keeps selective g.k g.fr (hands l.moment p l.r.station) g.fe l.e.station (hands_keeps selective g.k g.fr l.moment l.r.station g.fe l.e.station p short (r_begun selective l g.stands)))
+      (elim g.shape [
+        | inl a ↦ subst (λ (t : Station). Shape l.passes g.fe l.e.station (g.fr ++ t.said) t) (sym (quiet_hands l.moment p l.r.station (ap is_down a.1) (called_cannot l.r.station a.5) a.5.4))
+            (inl (a.0, a.1, a.2, unsaid g.fr l.r.station g.stands.quiet_y ∙ a.3, a.4, a.5, a.6))
+        | inr (inl a) ↦ subst (λ (t : Station). Shape l.passes g.fe l.e.station (g.fr ++ t.said) t) (sym (quiet_hands l.moment p l.r.station (ap is_down a.1) (called_cannot l.r.station a.5) a.5.4))
+            (inr (inl (a.0, a.1, a.2, unsaid g.fr l.r.station g.stands.quiet_y ∙ a.3, a.4, a.5, a.6)))
+        | inr (inr a) ↦
+            let d = handed_flows false l.passes g.fr l.moment p l.r.station g.fe l.e.station g.stands.pair.1.0.given
+            (within_r l.passes g.fr l.r.station g.fe l.e.station g.stands.quiet_y (still_swap l.passes g.fe l.e.station g.fr l.r.station a.0)) in
+            inr (inr (still_back l.passes (g.fr ++ (finishes (hands l.moment p l.r.station)).said) (finishes (hands l.moment p l.r.station)) g.fe l.e.station d.0, a.1, d.1))
+      ])
+
+  -- ---- a tick that finds no expired timer
+
+  pub e_ticks : (l : StationLink) → is_late l.moment l.e.station ≡ false → Flows selective l → Flows selective (tick_at (station_kind selective) E l)
+  e_ticks l late g =
+      e_flows l g (finishes (ticks l.moment l.e.station)) (finishes_keeps selective g.k g.fe (ticks l.moment l.e.station) g.fr l.r.station (ticks_keeps selective g.k g.fe l.moment l.e.station g.fr l.r.station (e_begun selective l g.stands)))
+      (elim g.shape [
+        | inl a ↦ subst (λ (t : Station). Shape l.passes (g.fe ++ t.said) t g.fr l.r.station) (sym (quiet_ticks l.moment l.e.station (ap is_down a.0) late (early_cannot l.e.station (ap is_up a.0)) a.4.4))
+            (inl (a.0, a.1, unsaid g.fe l.e.station g.stands.quiet_x ∙ a.2, a.3, a.4, a.5, a.6))
+        | inr (inl a) ↦ subst (λ (t : Station). Shape l.passes (g.fe ++ t.said) t g.fr l.r.station) (sym (quiet_ticks l.moment l.e.station (ap is_down a.0) late (early_cannot l.e.station (ap is_up a.0)) a.4.4))
+            (inr (inl (a.0, a.1, unsaid g.fe l.e.station g.stands.quiet_x ∙ a.2, a.3, a.4, a.5, a.6)))
+        | inr (inr a) ↦
+            let d = ticked_flows true l.passes g.fe l.moment l.e.station g.fr l.r.station late g.stands.pair.0.0.given (within_e l.passes g.fe l.e.station g.fr l.r.station g.stands.quiet_x a.0) in
+            inr (inr (d.0, d.1, a.2))
+      ])
+
+  pub r_ticks : (l : StationLink) → is_late l.moment l.r.station ≡ false → Flows selective l → Flows selective (tick_at (station_kind selective) R l)
+  r_ticks l late g =
+      r_flows l g (finishes (ticks l.moment l.r.station)) (finishes_keeps selective g.k g.fr (ticks l.moment l.r.station) g.fe l.e.station (ticks_keeps selective g.k g.fr l.moment l.r.station g.fe l.e.station (r_begun selective l g.stands)))
+      (elim g.shape [
+        | inl a ↦ subst (λ (t : Station). Shape l.passes g.fe l.e.station (g.fr ++ t.said) t) (sym (quiet_ticks l.moment l.r.station (ap is_down a.1) late (called_cannot l.r.station a.5) a.5.4))
+            (inl (a.0, a.1, a.2, unsaid g.fr l.r.station g.stands.quiet_y ∙ a.3, a.4, a.5, a.6))
+        | inr (inl a) ↦ subst (λ (t : Station). Shape l.passes g.fe l.e.station (g.fr ++ t.said) t) (sym (quiet_ticks l.moment l.r.station (ap is_down a.1) late (called_cannot l.r.station a.5) a.5.4))
+            (inr (inl (a.0, a.1, a.2, unsaid g.fr l.r.station g.stands.quiet_y ∙ a.3, a.4, a.5, a.6)))
+        | inr (inr a) ↦
+            let d = ticked_flows false l.passes g.fr l.moment l.r.station g.fe l.e.station late g.stands.pair.1.0.given
+            (within_r l.passes g.fr l.r.station g.fe l.e.station g.stands.quiet_y (still_swap l.passes g.fe l.e.station g.fr l.r.station a.0)) in
+            inr (inr (still_back l.passes (g.fr ++ (finishes (ticks l.moment l.r.station)).said) (finishes (ticks l.moment l.r.station)) g.fe l.e.station d.0, a.1, d.1))
+      ])
 
 -- ---- the set-up frame comes to the called station, its answer to the calling one
 
@@ -204,79 +183,12 @@ agreed_answer law selective k now lx x fs y setting h =
 
 -- ---- a frame is passed
 
--- the link behind the pass, one delivery more; what was handed down stays
-pub record Passed (l l' : StationLink) : Type 0 where
-  pub flows : Flows l'
-  pub count : l'.passes ≡ l.passes + 1
-  pub handed_e : l'.e.handed ≡ l.e.handed
-  pub handed_r : l'.r.handed ≡ l.r.handed
-
-abbrev from_e_passed : StationLink → List (List ℕ) → List ℕ → Station → StationLink
-from_e_passed l rest read x = did R x (record l { from_e = rest; passes = l.passes + 1; read_r = read })
-
-abbrev from_r_passed : StationLink → List (List ℕ) → List ℕ → Station → StationLink
-from_r_passed l rest read x = did E x (record l { from_r = rest; passes = l.passes + 1; read_e = read })
-
-e_passed_to : (l : StationLink) (g : Flows l) (octets : List ℕ) (rest : List (List ℕ)) (f : First l.e octets rest g.fe) (x : Station)
-    → Both l.selective g.k g.fr x f.frames l.e → Shape (l.passes + 1) f.frames l.e (g.fr ++ x.said) x → x.handed ≡ l.r.handed
-    → Passed l (from_e_passed l rest (l.read_r ++ octets_of l.e f.frame) x)
-e_passed_to l g octets rest f x b shape handed =
-    let t = turned l.selective g.k g.fe l.e g.fr l.r l.from_e l.from_r l.read_e l.read_r g.stands in
-    let a = acted l.selective g.k g.fr l.r g.fe l.e l.from_r l.from_e l.read_r l.read_e x f.frames rest (l.read_r ++ octets_of l.e f.frame) t f.rest_are (flag_behind l.e f.frame l.read_r) b in
-    record {
-      flows = record {
-        k = g.k;
-        fe = f.frames;
-        fr = g.fr ++ x.said;
-        stands = turned l.selective g.k (g.fr ++ x.said) _ f.frames l.e _ _ _ _ a;
-        shape = shape;
-      };
-      count = refl;
-      handed_e = refl;
-      handed_r = handed;
-    }
-
-r_passed_to : (l : StationLink) (g : Flows l) (octets : List ℕ) (rest : List (List ℕ)) (f : First l.r octets rest g.fr) (x : Station)
-    → Both l.selective g.k g.fe x f.frames l.r → Shape (l.passes + 1) (g.fe ++ x.said) x f.frames l.r → x.handed ≡ l.e.handed
-    → Passed l (from_r_passed l rest (l.read_e ++ octets_of l.r f.frame) x)
-r_passed_to l g octets rest f x b shape handed =
-    let a = acted l.selective g.k g.fe l.e g.fr l.r l.from_e l.from_r l.read_e l.read_r x f.frames rest (l.read_e ++ octets_of l.r f.frame) g.stands f.rest_are (flag_behind l.r f.frame l.read_e) b in
-    record {
-      flows = record { k = g.k; fe = g.fe ++ x.said; fr = f.frames; stands = a; shape = shape };
-      count = refl;
-      handed_e = handed;
-      handed_r = refl;
-    }
-
 -- a list is this frame and those behind it
 first_is : (f g : Frame) (fs gs : List Frame) (l : List Frame) → l ≡ f ∷ fs → l ≡ g ∷ gs → (f ≡ g) × (fs ≡ gs)
 first_is f g fs gs l p q = let e : f ∷ fs ≡ g ∷ gs = sym p ∙ q in (cc, cc)
 
 none_first : (f : Frame) (fs l : List Frame) → l ≡ f ∷ fs → l ≡ [] → ⊥
 none_first f fs l p q = let e : f ∷ fs ≡ [] = sym p ∙ q in cc
-
-e_arrives : Frames → (l : StationLink) (g : Flows l) (octets : List ℕ) (rest : List (List ℕ)) (f : First l.e octets rest g.fe)
-    → IsStationPair l.selective g.k g.fr l.r (f.frame ∷ f.frames) l.e → Both l.selective g.k g.fr l.r (f.frame ∷ f.frames) l.e
-    → Passed l (from_e_passed l rest (l.read_r ++ octets_of l.e f.frame) (answered l.selective l.moment l.e f.frame l.r))
-e_arrives laws l g octets rest f p b =
-    let kept = answered_keeps laws.back l.selective g.k g.fr l.moment l.r f.frame f.frames l.e b in
-    elim g.shape [
-      | inl a ↦
-          let first = first_is f.frame SetUp f.frames [] g.fe f.all a.2 in
-          let q = subst (λ (z : Frame). IsStationPair l.selective g.k g.fr l.r (z ∷ f.frames) l.e) first.0 p in
-          let e = ap (λ (z : Frame). answered l.selective l.moment l.e z l.r) first.0 ∙ asked_answer laws.back l.selective g.k l.moment g.fr l.r f.frames l.e a.1 a.5 q in
-          let x : Station = agrees true (comes_up (sees l.moment l.r)) in
-          subst (λ (t : Station). Passed l (from_e_passed l rest (l.read_r ++ octets_of l.e f.frame) t)) (sym e)
-          (e_passed_to l g octets rest f x (subst (λ (t : Station). Both l.selective g.k g.fr t f.frames l.e) e kept)
-          (inr (inl (a.0, refl, first.1, ap (λ (t : List Frame). t ++ x.said) a.3 ∙ ap (λ (t : List Frame). t ++ Ua true ∷ []) g.stands.quiet_y, a.4, a.5, ap (λ t. t + 1) a.6))) refl)
-      | inr (inl a) ↦ absurd (none_first f.frame f.frames g.fe f.all a.2)
-      | inr (inr a) ↦
-          let s = within_r l.passes g.fr l.r g.fe l.e g.stands.quiet_y (still_swap l.passes g.fe l.e g.fr l.r a.0) in
-          let d = answered_flows laws.back l.selective false l.passes g.k g.fr l.moment l.r f.frame f.frames l.e g.stands.pair.1.0.given b
-          (subst (λ (t : List Frame). Within false l.passes g.fr l.r t l.e) f.all s) in
-          e_passed_to l g octets rest f (answered l.selective l.moment l.e f.frame l.r) kept
-          (inr (inr (still_back (l.passes + 1) (g.fr ++ (answered l.selective l.moment l.e f.frame l.r).said) (answered l.selective l.moment l.e f.frame l.r) f.frames l.e d.0, a.1, d.1))) d.2
-    ]
 
 -- the calling station is up, and what was handed to it before flows
 pub up_flows : (n : ℕ) (w : List Frame) (x : Station) (y : Station) → x.said ≡ [] → w ≡ [] → y.phase ≡ Up → n ≤ 2 → Fresh true x → Fresh false y → Within true n w (record x { phase = Up }) [] y
@@ -290,52 +202,87 @@ up_flows n w x y quiet none up few hx hy =
       record { own = λ e. absurd (true≢false (sym e ∙ hx.4)); peers = λ e. absurd (true≢false (sym e ∙ hy.4)) },
     )
 
-r_arrives : Frames → (l : StationLink) (g : Flows l) (octets : List ℕ) (rest : List (List ℕ)) (f : First l.r octets rest g.fr)
-    → IsStationPair l.selective g.k g.fe l.e (f.frame ∷ f.frames) l.r → Both l.selective g.k g.fe l.e (f.frame ∷ f.frames) l.r
-    → Passed l (from_r_passed l rest (l.read_e ++ octets_of l.r f.frame) (answered l.selective l.moment l.r f.frame l.e))
-r_arrives laws l g octets rest f p b =
-    let kept = answered_keeps laws.back l.selective g.k g.fe l.moment l.e f.frame f.frames l.r b in
-    elim g.shape [
-      | inl a ↦ absurd (none_first f.frame f.frames g.fr f.all a.3)
-      | inr (inl a) ↦
-          let first = first_is f.frame (Ua true) f.frames [] g.fr f.all a.3 in
-          let q = subst (λ (z : Frame). IsStationPair l.selective g.k g.fe l.e (z ∷ f.frames) l.r) first.0 p in
-          let e = ap (λ (z : Frame). answered l.selective l.moment l.r z l.e) first.0 ∙ agreed_answer laws.back l.selective g.k l.moment g.fe l.e f.frames l.r a.0 q in
-          let z : Station = comes_up (record (sees l.moment l.e) { timer = None; expiries = 0 }) in
-          let s = up_flows (l.passes + 1) g.fe (record (sees l.moment l.e) { timer = None; expiries = 0; deed = z.deed }) l.r g.stands.quiet_x a.2 a.1 (omega (arith, a.6)) a.4 a.5 in
-          let d = ends_well true (l.passes + 1) g.fe z [] l.r g.stands.pair.0.0.given s in
-          let x : Station = finishes (sends_waiting z) in
-          subst (λ (t : Station). Passed l (from_r_passed l rest (l.read_e ++ octets_of l.r f.frame) t)) (sym e)
-          (e_is_up l g octets rest f x (subst (λ (t : Station). Both l.selective g.k g.fe t f.frames l.r) e kept)
-          (subst (λ (t : List Frame). Still true (l.passes + 1) (g.fe ++ x.said) x t l.r) (sym first.1) d.0) d.1 (a.5.4, inl (called_cannot l.r a.5)) d.2)
-      | inr (inr a) ↦
-          let s = within_e l.passes g.fe l.e g.fr l.r g.stands.quiet_x a.0 in
-          let d = answered_flows laws.back l.selective true l.passes g.k g.fe l.moment l.e f.frame f.frames l.r g.stands.pair.0.0.given b
-          (subst (λ (t : List Frame). Within true l.passes g.fe l.e t l.r) f.all s) in
-          r_passed_to l g octets rest f (answered l.selective l.moment l.r f.frame l.e) kept (inr (inr (d.0, d.1, a.2))) d.2
-    ] where
-      e_is_up : (l : StationLink) (g : Flows l) (octets : List ℕ) (rest : List (List ℕ)) (f : First l.r octets rest g.fr) (x : Station) → Both l.selective g.k g.fe x f.frames l.r
-          → Still true (l.passes + 1) (g.fe ++ x.said) x f.frames l.r → AtRest x → AtRest l.r → x.handed ≡ l.e.handed
-          → Passed l (from_r_passed l rest (l.read_e ++ octets_of l.r f.frame) x)
-      e_is_up l g octets rest f x b still rests others handed = r_passed_to l g octets rest f x b (inr (inr (still, rests, others))) handed
+-- the link behind the pass, one delivery more; what was handed down stays
+pub record Passed (selective : Bool) (l l' : StationLink) : Type 0 where
+  pub flows : Flows selective l'
+  pub count : l'.passes ≡ l.passes + 1
+  pub handed_e : l'.e.station.handed ≡ l.e.station.handed
+  pub handed_r : l'.r.station.handed ≡ l.r.station.handed
 
-pub e_pass : Frames → (l : StationLink) (g : Flows l) (octets : List ℕ) (rest : List (List ℕ)) → l.from_e ≡ octets ∷ rest → Passed l (pass E (octets ∷ rest) l)
-e_pass laws l g octets rest e =
-    let f = first_of_line l.e octets rest g.fe (sym e ∙ g.stands.lined_x) in
-    let t = turned l.selective g.k g.fe l.e g.fr l.r l.from_e l.from_r l.read_e l.read_r g.stands in
-    let p : IsStationPair l.selective g.k g.fr l.r (f.frame ∷ f.frames) l.e = subst (λ (q : List Frame). IsStationPair l.selective g.k g.fr l.r q l.e) f.all t.pair in
-    let b : Both l.selective g.k g.fr l.r (f.frame ∷ f.frames) l.e = subst (λ (q : List Frame). Both l.selective g.k g.fr l.r q l.e) f.all (r_ready l g) in
-    subst (λ (os : List ℕ). Passed l (station_link_behind_octets R os (record l { from_e = rest; passes = l.passes + 1 }))) (sym f.octets_are)
-    (subst (λ (vs : List Verdict). Passed l (hears_each R vs (record l { from_e = rest; passes = l.passes + 1; read_r = l.read_r ++ octets_of l.e f.frame })))
-    (sym (one_event laws.parts laws.alone l.selective g.k g.fr l.r f.frame f.frames l.e l.read_r t.flag_x p))
-    (e_arrives laws l g octets rest f p b))
+-- what flows behind the answer x of r to the first frame of e, and of e to the first one of r
+abbrev FlowsToR : (n : ℕ) (fs : List Frame) (e : Station) (fr : List Frame) (was x : Station) → Type 0
+FlowsToR n fs e fr was x = Shape n fs e (fr ++ x.said) x × (x.handed ≡ was.handed)
 
-pub r_pass : Frames → (l : StationLink) (g : Flows l) (octets : List ℕ) (rest : List (List ℕ)) → l.from_r ≡ octets ∷ rest → Passed l (pass R (octets ∷ rest) l)
-r_pass laws l g octets rest e =
-    let f = first_of_line l.r octets rest g.fr (sym e ∙ g.stands.lined_y) in
-    let p : IsStationPair l.selective g.k g.fe l.e (f.frame ∷ f.frames) l.r = subst (λ (q : List Frame). IsStationPair l.selective g.k g.fe l.e q l.r) f.all g.stands.pair in
-    let b : Both l.selective g.k g.fe l.e (f.frame ∷ f.frames) l.r = subst (λ (q : List Frame). Both l.selective g.k g.fe l.e q l.r) f.all (e_ready l g) in
-    subst (λ (os : List ℕ). Passed l (station_link_behind_octets E os (record l { from_r = rest; passes = l.passes + 1 }))) (sym f.octets_are)
-    (subst (λ (vs : List Verdict). Passed l (hears_each E vs (record l { from_r = rest; passes = l.passes + 1; read_e = l.read_e ++ octets_of l.r f.frame })))
-    (sym (one_event laws.parts laws.alone l.selective g.k g.fe l.e f.frame f.frames l.r l.read_e g.stands.flag_x p))
-    (r_arrives laws l g octets rest f p b))
+abbrev FlowsToE : (n : ℕ) (fe : List Frame) (was x : Station) (fs : List Frame) (r : Station) → Type 0
+FlowsToE n fe was x fs r = Shape n (fe ++ x.said) x fs r × (x.handed ≡ was.handed)
+
+module _ (laws : Frames) (selective : Bool) (l : StationLink) (g : Flows selective l) (octets : List ℕ) (rest : List (List ℕ)) where
+  e_arrives : (f : First l.e.station octets rest g.fe) → Both selective g.k g.fr l.r.station (f.frame ∷ f.frames) l.e.station
+      → FlowsToR (l.passes + 1) f.frames l.e.station g.fr l.r.station (answered selective l.moment l.e.station f.frame l.r.station)
+  e_arrives f b =
+      let e : Station = l.e.station in
+      let r : Station = l.r.station in
+      elim g.shape [
+        | inl a ↦
+            let first = first_is f.frame SetUp f.frames [] g.fe f.all a.2 in
+            let q = subst (λ (z : Frame). IsStationPair selective g.k (g.fr ++ r.said) r (z ∷ f.frames) e) first.0 b in
+            let is = ap (λ (z : Frame). answered selective l.moment e z r) first.0 ∙ asked_answer laws.back selective g.k l.moment (g.fr ++ r.said) r f.frames e a.1 a.5 q in
+            let x : Station = agrees true (comes_up (sees l.moment r)) in
+            subst (FlowsToR (l.passes + 1) f.frames e g.fr r) (sym is)
+            (inr (inl (a.0, refl, first.1, ap (λ (t : List Frame). t ++ x.said) a.3 ∙ ap (λ (t : List Frame). t ++ Ua true ∷ []) g.stands.quiet_y, a.4, a.5, ap (λ t. t + 1) a.6)), refl)
+        | inr (inl a) ↦ absurd (none_first f.frame f.frames g.fe f.all a.2)
+        | inr (inr a) ↦
+            let s = within_r l.passes g.fr r g.fe e g.stands.quiet_y (still_swap l.passes g.fe e g.fr r a.0) in
+            let x : Station = answered selective l.moment e f.frame r in
+            let d = answered_flows laws.back selective false l.passes g.k g.fr l.moment r f.frame f.frames e g.stands.pair.1.0.given b
+            (subst (λ (t : List Frame). Within false l.passes g.fr r t e) f.all s) in
+            (inr (inr (still_back (l.passes + 1) (g.fr ++ x.said) x f.frames e d.0, a.1, d.1)), d.2)
+      ]
+
+  r_arrives : (f : First l.r.station octets rest g.fr) → Both selective g.k g.fe l.e.station (f.frame ∷ f.frames) l.r.station
+      → FlowsToE (l.passes + 1) g.fe l.e.station (answered selective l.moment l.r.station f.frame l.e.station) f.frames l.r.station
+  r_arrives f b =
+      let e : Station = l.e.station in
+      let r : Station = l.r.station in
+      elim g.shape [
+        | inl a ↦ absurd (none_first f.frame f.frames g.fr f.all a.3)
+        | inr (inl a) ↦
+            let first = first_is f.frame (Ua true) f.frames [] g.fr f.all a.3 in
+            let q = subst (λ (z : Frame). IsStationPair selective g.k (g.fe ++ e.said) e (z ∷ f.frames) r) first.0 b in
+            let is = ap (λ (z : Frame). answered selective l.moment r z e) first.0 ∙ agreed_answer laws.back selective g.k l.moment (g.fe ++ e.said) e f.frames r a.0 q in
+            let z : Station = comes_up (record (sees l.moment e) { timer = None; expiries = 0 }) in
+            let s = up_flows (l.passes + 1) g.fe (record (sees l.moment e) { timer = None; expiries = 0; deed = z.deed }) r g.stands.quiet_x a.2 a.1 (omega (arith, a.6)) a.4 a.5 in
+            let d = ends_well true (l.passes + 1) g.fe z [] r g.stands.pair.0.0.given s in
+            let x : Station = finishes (sends_waiting z) in
+            subst (λ (t : Station). FlowsToE (l.passes + 1) g.fe e t f.frames r) (sym is)
+            (inr (inr (subst (λ (t : List Frame). Still true (l.passes + 1) (g.fe ++ x.said) x t r) (sym first.1) d.0, d.1, (a.5.4, inl (called_cannot r a.5)))), d.2)
+        | inr (inr a) ↦
+            let s = within_e l.passes g.fe e g.fr r g.stands.quiet_x a.0 in
+            let d = answered_flows laws.back selective true l.passes g.k g.fe l.moment e f.frame f.frames r g.stands.pair.0.0.given b
+            (subst (λ (t : List Frame). Within true l.passes g.fe e t r) f.all s) in
+            (inr (inr (d.0, d.1, a.2)), d.2)
+      ]
+
+  pub e_pass : l.from_e ≡ octets ∷ rest → Passed selective l (pass (station_kind selective) E (octets ∷ rest) l)
+  e_pass e =
+      let f = first_of_line l.e.station octets rest g.fe (sym e ∙ g.stands.lined_x) in
+      e_gives selective l g.stands laws (Passed selective l) octets rest f (λ b stands.
+      let d = e_arrives f b in
+      record {
+        flows = record { k = g.k; fe = f.frames; fr = g.fr ++ (answered selective l.moment l.e.station f.frame l.r.station).said; stands = stands; shape = d.0 };
+        count = refl;
+        handed_e = refl;
+        handed_r = d.1;
+      })
+
+  pub r_pass : l.from_r ≡ octets ∷ rest → Passed selective l (pass (station_kind selective) R (octets ∷ rest) l)
+  r_pass e =
+      let f = first_of_line l.r.station octets rest g.fr (sym e ∙ g.stands.lined_y) in
+      r_gives selective l g.stands laws (Passed selective l) octets rest f (λ b stands.
+      let d = r_arrives f b in
+      record {
+        flows = record { k = g.k; fe = g.fe ++ (answered selective l.moment l.r.station f.frame l.e.station).said; fr = f.frames; stands = stands; shape = d.0 };
+        count = refl;
+        handed_e = d.1;
+        handed_r = refl;
+      })

@@ -5,20 +5,21 @@ use Rattle.er_base.specs.declared.side.Side.TheVariants.{E, R}
 use Rattle.hdlc_frames.specs.Laws.{ControlReadsBack}
 use Rattle.hdlc_station_model.specs.Frames.{Frame, Info, Rr, Rej, Srej, SetUp, Disc, Dm, Ua}
 use Rattle.hdlc_station_model.specs.Stations.{Station}
-use Rattle.hdlc_pair_laws.specs.Links.{StationLink, frames_from_station, opened_station_link}
-use Rattle.hdlc_pair_laws.specs.Steps.{Lose, lose, station_link_step, station_link_run}
-use Rattle.hdlc_pair_laws.specs.Laws.{after, IsEmpty}
+use Rattle.pair_model.specs.Links.{frames_from}
+use Rattle.pair_model.specs.Steps.{Lose, lose, pair_run, NoFrameWaits}
+use Rattle.pair_model.specs.Walks.{pair_run_append}
+use Rattle.hdlc_pair_laws.specs.Links.{StationLink, station_kind, opened_station_link}
+use Rattle.hdlc_pair_laws.specs.Laws.{after}
 use Rattle.hdlc_pair_laws.specs.Invariant.{infos, receive_numbers_in_frames}
 use Rattle.hdlc_pair_laws.specs.Flowing.{Consecutive, EndsAtNumber, AllData, Still, Shape}
 use Rattle.hdlc_pair_laws.specs.Filling.{TwoWait, GapsAreFilled}
 use Rattle.hdlc_pair_laws.specs.Recovery.{IsRecovered}
-use Rattle.hdlc_pair_laws.specs.Mending.{Own, AllExchange, HasAllSentComing, Mends, leads}
-use Rattle.hdlc_pair_laws.proofs.Lines.{turned, first_of_line, lost, none_on_line}
-use Rattle.hdlc_pair_laws.proofs.Runs.{Frames}
+use Rattle.hdlc_pair_laws.specs.Mending.{AllExchange, HasAllSentComing, Mends, leads}
+use Rattle.hdlc_pair_laws.proofs.Lines.{first_of_line, none_on_line}
+use Rattle.hdlc_pair_laws.proofs.Acts.{Frames}
 use Rattle.hdlc_pair_laws.proofs.Flows.{still_swap}
 use Rattle.hdlc_pair_laws.proofs.Mending.{mends_swap}
-use Rattle.hdlc_pair_laws.proofs.Sounds.{Claim, Sounds, own_gone, same, ToR, ToE, passes_keep}
-use Rattle.hdlc_pair_laws.proofs.SoundRuns.{run_append}
+use Rattle.hdlc_pair_laws.proofs.Sounds.{Claim, Sounds, e_loses, r_loses, ToR, ToE, passes_keep}
 use Rattle.hdlc_pair_laws.proofs.Ticks.{leads_all, comes_all}
 use Rattle.hdlc_pair_laws.proofs.Recovered.{mended}
 use Rattle.hdlc_pair_laws.proofs.Filling.{HasRej, Gap, Filled, consecutive_lacks}
@@ -112,14 +113,14 @@ lost_held : (c : Bool) (n : ℕ) (f : Frame) (fs : List Frame) (x : Station) (ly
     → HeldFilled fs x ly y
 lost_held c n (Info m r q) fs x ly y h asked two =
     let v : ℕ = length y.taken in
-    let station_link_run : Consecutive v ((v, q) ∷ infos fs) x.sent = (refl, h.0.2.1) in
+    let all : Consecutive v ((v, q) ∷ infos fs) x.sent = (refl, h.0.2.1) in
     inr (record {
       nr = r;
       payload = q;
       least = x.sent;
       mends = (
         (
-          (all_come v x.sent y.held ((v, q) ∷ infos fs) station_link_run, λ owes none. h.0.3 owes),
+          (all_come v x.sent y.held ((v, q) ∷ infos fs) all, λ owes none. h.0.3 owes),
           all_come (length x.taken) y.sent x.held (infos ly) h.1.2,
           (tt, data_exchange fs h.2.1),
           data_exchange ly h.3,
@@ -195,50 +196,30 @@ to_e law wd R true k now fe e f fs r wide quiet b own_e own_r rests_e rests_r h 
 to_e law wd E false k now fe e f fs r wide quiet b own_e own_r rests_e rests_r h = sender_step law k now fe e f fs r quiet b own_e.5 h
 to_e law wd R false k now fe e f fs r wide quiet b own_e own_r rests_e rests_r h = receiver_step law k now fe e f fs r quiet b own_e.5 h
 
-lost_fills : (wd : ℕ) (side : Side) (l : StationLink) → TwoWait side l → (line : List (List ℕ)) → frames_from_station l side ≡ line → Sounds wd Calm l → Sounds wd (Fills side) (lose side line l)
-lost_fills wd E l two [] e h =
-    let q = h.claim in
-    absurd (no_line true q.0 h.fe l.e h.fr l.r (none_on_line l.e h.fe (sym e ∙ h.stands.lined_x)) (calling_still q.0 h.fe l.e h.fr l.r q.1.0 (omega (arith, two))) two)
-lost_fills wd R l two [] e h =
-    let q = h.claim in
-    absurd (no_line false q.0 h.fr l.r h.fe l.e (none_on_line l.r h.fr (sym e ∙ h.stands.lined_y)) (called_still q.0 h.fe l.e h.fr l.r q.1.0 (omega (arith, two))) two)
-lost_fills wd E l two (octets ∷ rest) e h =
-    let q = h.claim in
-    let f = first_of_line l.e octets rest h.fe (sym e ∙ h.stands.lined_x) in
-    let t = turned l.selective h.k h.fe l.e h.fr l.r l.from_e l.from_r l.read_e l.read_r h.stands in
-    record {
-      k = h.k;
-      fe = f.frames;
-      fr = h.fr;
-      stands = turned l.selective h.k h.fr l.r f.frames l.e l.from_r rest l.read_r l.read_e (lost l.selective h.k h.fr l.r h.fe l.e l.from_r l.from_e l.read_r l.read_e octets rest t f);
-      own_e = own_gone true wd f.frame f.frames l.e (subst (λ q. Own true wd q l.e) f.all h.own_e);
-      own_r = h.own_r;
-      rests_e = h.rests_e;
-      rests_r = h.rests_r;
-      first = h.first;
-      wide = h.wide;
-      begun = h.begun;
-      claim = lost_as l.selective true q.0 f.frame f.frames l.e h.fr l.r
-          (subst (λ (s : List Frame). Still true q.0 s l.e h.fr l.r) f.all (calling_still q.0 h.fe l.e h.fr l.r q.1.0 (omega (arith, two)))) q.1.2 two;
-    }
-lost_fills wd R l two (octets ∷ rest) e h =
-    let q = h.claim in
-    let f = first_of_line l.r octets rest h.fr (sym e ∙ h.stands.lined_y) in
-    record {
-      k = h.k;
-      fe = h.fe;
-      fr = f.frames;
-      stands = lost l.selective h.k h.fe l.e h.fr l.r l.from_e l.from_r l.read_e l.read_r octets rest h.stands f;
-      own_e = h.own_e;
-      own_r = own_gone false wd f.frame f.frames l.r (subst (λ q. Own false wd q l.r) f.all h.own_r);
-      rests_e = h.rests_e;
-      rests_r = h.rests_r;
-      first = h.first;
-      wide = h.wide;
-      begun = h.begun;
-      claim = lost_as l.selective false q.0 f.frame f.frames l.r h.fe l.e
-          (subst (λ (s : List Frame). Still false q.0 s l.r h.fe l.e) f.all (called_still q.0 h.fe l.e h.fr l.r q.1.0 (omega (arith, two)))) q.1.1 two;
-    }
+module _ (selective : Bool) (wd : ℕ) where
+  lost_fills : (side : Side) (l : StationLink) → TwoWait side l → (line : List (List ℕ)) → frames_from l side ≡ line → Sounds selective wd Calm l → Sounds selective wd (Fills side) (lose side line l)
+  lost_fills E l two [] e h =
+      let q = h.claim in
+      absurd (no_line true q.0 h.fe l.e.station h.fr l.r.station (none_on_line l.e.station h.fe (sym e ∙ h.stands.lined_x))
+      (calling_still q.0 h.fe l.e.station h.fr l.r.station q.1.0 (omega (arith, two))) two)
+  lost_fills R l two [] e h =
+      let q = h.claim in
+      absurd (no_line false q.0 h.fr l.r.station h.fe l.e.station (none_on_line l.r.station h.fr (sym e ∙ h.stands.lined_y))
+      (called_still q.0 h.fe l.e.station h.fr l.r.station q.1.0 (omega (arith, two))) two)
+  lost_fills E l two (octets ∷ rest) e h =
+      let q = h.claim in
+      let x : Station = l.e.station in
+      let y : Station = l.r.station in
+      let f = first_of_line x octets rest h.fe (sym e ∙ h.stands.lined_x) in
+      e_loses selective wd Calm (Fills E) l octets rest h f
+      (lost_as selective true q.0 f.frame f.frames x h.fr y (subst (λ (s : List Frame). Still true q.0 s x h.fr y) f.all (calling_still q.0 h.fe x h.fr y q.1.0 (omega (arith, two)))) q.1.2 two)
+  lost_fills R l two (octets ∷ rest) e h =
+      let q = h.claim in
+      let x : Station = l.r.station in
+      let y : Station = l.e.station in
+      let f = first_of_line x octets rest h.fr (sym e ∙ h.stands.lined_y) in
+      r_loses selective wd Calm (Fills R) l octets rest h f
+      (lost_as selective false q.0 f.frame f.frames x h.fe y (subst (λ (s : List Frame). Still false q.0 s x h.fe y) f.all (called_still q.0 h.fe y h.fr x q.1.0 (omega (arith, two)))) q.1.1 two)
 
 -- ---- no frame waits any more
 
@@ -278,19 +259,22 @@ side_mends : (side : Side) (selective : Bool) (fe : List Frame) (e : Station) (f
 side_mends E selective fe e fr r ee er h = filled_mends selective fe e fr r ee er h
 side_mends R selective fe e fr r ee er h = mends_swap selective fr r fe e (filled_mends selective fr r fe e er ee h)
 
-emptied : (wd : ℕ) (side : Side) (l : StationLink) → 1 ≤ wd → Sounds wd (Fills side) l → IsEmpty l → IsRecovered l
-emptied wd side l some g empty =
-    let ee = none_on_line l.e g.fe (sym empty.0 ∙ g.stands.lined_x) in
-    let er = none_on_line l.r g.fr (sym empty.1 ∙ g.stands.lined_y) in
-    let m = mended l.selective g.k wd g.fe l.e g.fr l.r some ee er g.stands.pair g.own_e g.own_r g.rests_e g.rests_r (inr (inr (side_mends side l.selective g.fe l.e g.fr l.r ee er g.claim))) in
+emptied : (selective : Bool) (wd : ℕ) (side : Side) (l : StationLink) → 1 ≤ wd → Sounds selective wd (Fills side) l → NoFrameWaits l → IsRecovered l
+emptied selective wd side l some g empty =
+    let e : Station = l.e.station in
+    let r : Station = l.r.station in
+    let ee = none_on_line e g.fe (sym empty.0 ∙ g.stands.lined_x) in
+    let er = none_on_line r g.fr (sym empty.1 ∙ g.stands.lined_y) in
+    let m = mended selective g.k wd g.fe e g.fr r some ee er g.stands.pair g.own_e g.own_r g.rests_e g.rests_r (inr (inr (side_mends side selective g.fe e g.fr r ee er g.claim))) in
     record { e_up = m.x_up; r_up = m.y_up; at_r = m.at_y; at_e = m.at_x }
 
 pub gaps_are_filled : Frames → GapsAreFilled
 gaps_are_filled laws s steps free side two passes p end =
     let l : StationLink = after s steps in
-    let o : StationLink = opened_station_link s.selective s.extended s.window s.n2 s.t1 s.moment in
-    let split : station_link_run o (steps ++ Lose side ∷ passes) ≡ station_link_run l (Lose side ∷ passes) = run_append steps (Lose side ∷ passes) o in
-    let h = after_calm laws s steps free in
-    let g = lost_fills s.window side l two (frames_from_station l side) refl h in
-    let r = (passes_keep s.window (Fills side) laws (to_r laws.back s.window side) (to_e laws.back s.window side) passes (station_link_step (Lose side) l) p g).0 in
-    subst IsRecovered (sym split) (emptied s.window side (station_link_run l (Lose side ∷ passes)) s.some r (subst IsEmpty split end))
+    let b : Bool = s.selective in
+    let w : ℕ = s.window in
+    let lossy : StationLink = lose side (frames_from l side) l in
+    let split : after s (steps ++ Lose side ∷ passes) ≡ pair_run (station_kind b) lossy passes = pair_run_append (station_kind b) steps (Lose side ∷ passes) (opened_station_link b s.extended w s.n2 s.t1 s.moment) in
+    let g = lost_fills b w side l two (frames_from l side) refl (after_calm laws s steps free) in
+    let r = (passes_keep b w (Fills side) laws (to_r laws.back w side) (to_e laws.back w side) passes lossy p g).0 in
+    subst IsRecovered (sym split) (emptied b w side (pair_run (station_kind b) lossy passes) s.some r (subst NoFrameWaits split end))

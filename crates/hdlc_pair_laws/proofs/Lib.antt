@@ -8,6 +8,7 @@ pub mod GoBackRows
 pub mod SelectiveRows
 pub mod Events
 pub mod Lines
+pub mod Acts
 pub mod Opened
 pub mod Runs
 pub mod Flows

@@ -1,11 +1,11 @@
 -- A link that was just opened: the set-up frame waits, and the invariant of a losing line holds.
 use Rattle.std.proofs.Common.{ℕ, ◌-◌, ◌≤◌, inl, Bool, true, false, [], ◌∷◌, refl, arith}
 use Rattle.hdlc_station_model.specs.Frames.{SetUp, modulo}
-use Rattle.hdlc_pair_laws.specs.Links.{StationLink, opened_station_link}
+use Rattle.hdlc_pair_laws.specs.Links.{opened_station_link}
 use Rattle.hdlc_pair_laws.specs.Laws.{IsNarrow, StationLinkOpening}
 use Rattle.hdlc_pair_laws.specs.Invariant.{IsSpan}
 use Rattle.hdlc_pair_laws.proofs.Holding.{holds_nothing}
-use Rattle.hdlc_pair_laws.proofs.Lines.{Stands}
+use Rattle.hdlc_pair_laws.proofs.Acts.{StandsAt}
 
 -- the greatest window of a link with go-back; with selective reject the window itself does
 abbrev pub span_of : (selective extended : Bool) → ℕ → ℕ
@@ -18,8 +18,8 @@ span_is true extended window h = (h, omega arith)
 span_is false true window h = (refl, omega arith)
 span_is false false window h = (refl, omega arith)
 
-pub opened_stands : (s : StationLinkOpening) → let l : StationLink = opened_station_link s.selective s.extended s.window s.n2 s.t1 s.moment in
-    Stands s.selective (span_of s.selective s.extended s.window) (SetUp ∷ []) l.e [] l.r l.from_e l.from_r l.read_e l.read_r
+pub opened_stands : (s : StationLinkOpening)
+    → StandsAt s.selective (span_of s.selective s.extended s.window) (SetUp ∷ []) [] (opened_station_link s.selective s.extended s.window s.n2 s.t1 s.moment)
 opened_stands s =
     let b = span_is s.selective s.extended s.window s.narrow in
     record {

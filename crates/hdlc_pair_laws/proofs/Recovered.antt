@@ -8,11 +8,12 @@ use Rattle.hdlc_station_model.specs.Frames.{Frame, SetUp, Ua}
 use Rattle.hdlc_station_model.specs.Stations.{Station, is_up, is_down, settled}
 use Rattle.hdlc_station_model.specs.Selective.{held_for, is_found}
 use Rattle.hdlc_station_model.specs.Calls.{finishes, ticks}
-use Rattle.hdlc_pair_laws.specs.Links.{StationLink, opened_station_link}
-use Rattle.hdlc_pair_laws.specs.Steps.{StationLinkStep, Tick, tick_at, tick, station_link_step, station_link_run}
-use Rattle.hdlc_pair_laws.specs.Laws.{StationLinkOpening, after, IsEmpty}
+use Rattle.pair_model.specs.Steps.{PairStep, Tick, tick_at, tick, pair_run, NoFrameWaits, ArePassesAndTakes}
+use Rattle.pair_model.specs.Walks.{pair_run_append}
+use Rattle.hdlc_pair_laws.specs.Links.{StationLink, station_kind, opened_station_link}
+use Rattle.hdlc_pair_laws.specs.Laws.{StationLinkOpening, after}
 use Rattle.hdlc_pair_laws.specs.Invariant.{IsStationPair}
-use Rattle.hdlc_pair_laws.specs.Recovery.{ArePasses, AreLive, GoOn, IsRecovered, Recovery}
+use Rattle.hdlc_pair_laws.specs.Recovery.{AreLive, GoOn, IsRecovered, Recovery}
 use Rattle.hdlc_station_model.specs.Repeating.{MayRepeat}
 use Rattle.hdlc_pair_laws.specs.Timers.{IsRenewed, Renewal}
 use Rattle.hdlc_pair_laws.specs.Mending.{Timed, Own, Rested, HasAllSentComing, Mends, HalfTicked, Ticked, Reached}
@@ -20,12 +21,12 @@ use Rattle.hdlc_pair_laws.specs.Repairs.{IsMended}
 use Rattle.hdlc_pair_laws.proofs.Ways.{way_bounds}
 use Rattle.hdlc_pair_laws.proofs.Events.{finishes_keeps, ticks_keeps}
 use Rattle.hdlc_pair_laws.proofs.Lines.{none_on_line}
-use Rattle.hdlc_pair_laws.proofs.Runs.{Frames, at_moment}
+use Rattle.hdlc_pair_laws.proofs.Acts.{Frames, at_moment, e_begun, r_begun}
 use Rattle.hdlc_pair_laws.proofs.Delivered.{all_sent, whole}
 use Rattle.hdlc_pair_laws.proofs.Telling.{phases_stay, ticks_tell}
 use Rattle.hdlc_pair_laws.proofs.SoundCalls.{ticks_leaves}
-use Rattle.hdlc_pair_laws.proofs.Sounds.{Claim, Sounds, e_does, r_does, e_ready, r_ready, e_own, r_own, same, passes_keep}
-use Rattle.hdlc_pair_laws.proofs.SoundRuns.{NoClaim, Sound, passes_sound, after_sound, run_append}
+use Rattle.hdlc_pair_laws.proofs.Sounds.{Claim, Sounds, e_does, r_does, e_own, r_own, same, passes_keep}
+use Rattle.hdlc_pair_laws.proofs.SoundRuns.{NoClaim, Sound, passes_sound, after_sound}
 use Rattle.hdlc_pair_laws.proofs.Recovers.{Recovers, turned_reached, settled_reached, finished_reached, recovers_to_r, recovers_to_e}
 use Rattle.hdlc_pair_laws.proofs.Ticks.{calling_ticks, called_ticks}
 
@@ -35,39 +36,43 @@ use Rattle.hdlc_pair_laws.proofs.Ticks.{calling_ticks, called_ticks}
 abbrev HalfRecovers : Claim
 HalfRecovers selective fe e fr r = Reached HalfTicked selective true fe e fr r
 
-e_ticks : (wd : ℕ) (l : StationLink) → Sound wd l → AreLive l → IsEmpty l → MayRepeat l.moment l.e → Sounds wd HalfRecovers (tick_at E l)
-e_ticks wd l g live empty may =
-    let t : Station = ticks l.moment l.e in
-    let x : Station = finishes t in
-    let ne : g.fe ≡ [] = none_on_line l.e g.fe (sym empty.0 ∙ g.stands.lined_x) in
-    let nr : g.fr ≡ [] = none_on_line l.r g.fr (sym empty.1 ∙ g.stands.lined_y) in
-    e_does wd NoClaim HalfRecovers l g x
-    (finishes_keeps l.selective g.k g.fe t g.fr l.r (ticks_keeps l.selective g.k g.fe l.moment l.e g.fr l.r (e_ready wd NoClaim l g)))
-    (ticks_leaves true wd g.fe l.moment l.e g.stands.pair.0.0.given (e_own wd NoClaim l g))
-    (λ idle. ap is_up (phases_stay.finishes t) ∙ ticks_tell.asleep l.moment l.e (g.first idle))
-    (settled_reached HalfTicked l.selective true (g.fe ++ x.said) x g.fr l.r
-    (finished_reached HalfTicked l.selective true g.fe t g.fr l.r tt
-    (calling_ticks l.selective g.k wd g.fe l.moment l.e g.fr l.r ne nr g.stands.quiet_x g.stands.pair g.own_e g.own_r g.rests_e g.rests_r (g.first, g.begun) live.0 live.1 may)))
+module _ (selective : Bool) (wd : ℕ) where
+  e_ticks : (l : StationLink) → Sound selective wd l → AreLive l → NoFrameWaits l → MayRepeat l.moment l.e.station → Sounds selective wd HalfRecovers (tick_at (station_kind selective) E l)
+  e_ticks l g live empty may =
+      let e : Station = l.e.station in
+      let r : Station = l.r.station in
+      let t : Station = ticks l.moment e in
+      let x : Station = finishes t in
+      let ne : g.fe ≡ [] = none_on_line e g.fe (sym empty.0 ∙ g.stands.lined_x) in
+      let nr : g.fr ≡ [] = none_on_line r g.fr (sym empty.1 ∙ g.stands.lined_y) in
+      e_does selective wd NoClaim HalfRecovers l g x (finishes_keeps selective g.k g.fe t g.fr r (ticks_keeps selective g.k g.fe l.moment e g.fr r (e_begun selective l g.stands)))
+      (ticks_leaves true wd g.fe l.moment e g.stands.pair.0.0.given (e_own selective wd NoClaim l g))
+      (λ idle. ap is_up (phases_stay.finishes t) ∙ ticks_tell.asleep l.moment e (g.first idle))
+      (settled_reached HalfTicked selective true (g.fe ++ x.said) x g.fr r
+      (finished_reached HalfTicked selective true g.fe t g.fr r tt
+      (calling_ticks selective g.k wd g.fe l.moment e g.fr r ne nr g.stands.quiet_x g.stands.pair g.own_e g.own_r g.rests_e g.rests_r (g.first, g.begun) live.0 live.1 may)))
 
-r_ticks : (wd : ℕ) (l : StationLink) → Sounds wd HalfRecovers l → MayRepeat l.moment l.r → Sounds wd Recovers (tick_at R l)
-r_ticks wd l g may =
-    let t : Station = ticks l.moment l.r in
-    let x : Station = finishes t in
-    let h = turned_reached HalfTicked l.selective true g.fe l.e g.fr l.r g.claim in
-    let unsaid : g.fr ++ l.r.said ≡ g.fr = ap (λ (v : List Frame). g.fr ++ v) g.stands.quiet_y ∙ append-nil g.fr in
-    r_does wd HalfRecovers Recovers l g x
-    (finishes_keeps l.selective g.k g.fr t g.fe l.e (ticks_keeps l.selective g.k g.fr l.moment l.r g.fe l.e (r_ready wd HalfRecovers l g)))
-    (ticks_leaves false wd g.fr l.moment l.r g.stands.pair.1.0.given (r_own wd HalfRecovers l g))
-    (turned_reached Ticked l.selective false (g.fr ++ x.said) (settled x) g.fe l.e (settled_reached Ticked l.selective false (g.fr ++ x.said) x g.fe l.e
-    (finished_reached Ticked l.selective false g.fr t g.fe l.e tt
-    (called_ticks l.selective g.k wd g.fr l.moment l.r g.fe l.e g.stands.quiet_y (r_ready wd HalfRecovers l g) g.own_r
-    (subst (λ (v : List Frame). Reached HalfTicked l.selective false v l.r g.fe l.e) (sym unsaid) h) may))))
+  r_ticks : (l : StationLink) → Sounds selective wd HalfRecovers l → MayRepeat l.moment l.r.station → Sounds selective wd Recovers (tick_at (station_kind selective) R l)
+  r_ticks l g may =
+      let e : Station = l.e.station in
+      let r : Station = l.r.station in
+      let t : Station = ticks l.moment r in
+      let x : Station = finishes t in
+      let h = turned_reached HalfTicked selective true g.fe e g.fr r g.claim in
+      let b = r_begun selective l g.stands in
+      let unsaid : g.fr ++ r.said ≡ g.fr = ap (λ (v : List Frame). g.fr ++ v) g.stands.quiet_y ∙ append-nil g.fr in
+      r_does selective wd HalfRecovers Recovers l g x (finishes_keeps selective g.k g.fr t g.fe e (ticks_keeps selective g.k g.fr l.moment r g.fe e b))
+      (ticks_leaves false wd g.fr l.moment r g.stands.pair.1.0.given (r_own selective wd HalfRecovers l g))
+      (turned_reached Ticked selective false (g.fr ++ x.said) (settled x) g.fe e (settled_reached Ticked selective false (g.fr ++ x.said) x g.fe e
+      (finished_reached Ticked selective false g.fr t g.fe e tt
+      (called_ticks selective g.k wd g.fr l.moment r g.fe e g.stands.quiet_y b g.own_r
+      (subst (λ (v : List Frame). Reached HalfTicked selective false v r g.fe e) (sym unsaid) h) may))))
 
-both_ticked : (wd : ℕ) (l : StationLink) (now : ℕ) → Sound wd l → AreLive l → IsEmpty l → GoOn now l → Sounds wd Recovers (tick now l)
-both_ticked wd l now h live empty may =
-    let first : StationLink = at_moment (max l.moment now) l in
-    let g : Sound wd first = same wd NoClaim l h _ l.passes l.order_kept _ in
-    r_ticks wd (tick_at E first) (e_ticks wd first g live empty may.0) may.1
+  both_ticked : (l : StationLink) (now : ℕ) → Sound selective wd l → AreLive l → NoFrameWaits l → GoOn now l → Sounds selective wd Recovers (tick (station_kind selective) now l)
+  both_ticked l now h live empty may =
+      let first : StationLink = at_moment (max l.moment now) l in
+      let g : Sound selective wd first = same selective wd NoClaim l h _ l.passes l.order_kept _ in
+      r_ticks (tick_at (station_kind selective) E first) (e_ticks first g live empty may.0) may.1
 
 -- ---- no frame waits any more
 
@@ -122,9 +127,11 @@ mended selective k wd lx x ly y some ex ey p own_x own_y rests_x rests_y h =
     (subst (λ (t : List Frame). Own true wd t x) ex own_x) (subst (λ (t : List Frame). Own false wd t y) ey own_y) rests_x rests_y
     (subst (λ (t : List Frame). Reached Ticked selective true t x [] y) ex (subst (λ (t : List Frame). Reached Ticked selective true lx x t y) ey h))
 
-emptied : (wd : ℕ) (l : StationLink) → 1 ≤ wd → Sounds wd Recovers l → IsEmpty l → IsMended l.e l.r
-emptied wd l some g empty =
-    mended l.selective g.k wd g.fe l.e g.fr l.r some (none_on_line l.e g.fe (sym empty.0 ∙ g.stands.lined_x)) (none_on_line l.r g.fr (sym empty.1 ∙ g.stands.lined_y))
+emptied : (selective : Bool) (wd : ℕ) (l : StationLink) → 1 ≤ wd → Sounds selective wd Recovers l → NoFrameWaits l → IsMended l.e.station l.r.station
+emptied selective wd l some g empty =
+    let e : Station = l.e.station in
+    let r : Station = l.r.station in
+    mended selective g.k wd g.fe e g.fr r some (none_on_line e g.fe (sym empty.0 ∙ g.stands.lined_x)) (none_on_line r g.fr (sym empty.1 ∙ g.stands.lined_y))
     g.stands.pair g.own_e g.own_r g.rests_e g.rests_r g.claim
 
 -- ---- the laws
@@ -134,30 +141,32 @@ record Behind (l : StationLink) : Type 0 where
   recovered : IsRecovered l
   renewed : IsRenewed l
 
-behind : Frames → (wd : ℕ) (l : StationLink) → 1 ≤ wd → Sound wd l → AreLive l → IsEmpty l → (now : ℕ) → GoOn now l
-    → (second : List StationLinkStep) → ArePasses second → IsEmpty (station_link_run l (Tick now ∷ second)) → Behind (station_link_run l (Tick now ∷ second))
-behind laws wd l some h live empty now may second passes end =
-    let g = both_ticked wd l now h live empty may in
-    let r = (passes_keep wd Recovers laws (recovers_to_r laws.back wd) (recovers_to_e laws.back wd) second (station_link_step (Tick now) l) passes g).0 in
-    let e = emptied wd (station_link_run l (Tick now ∷ second)) some r end in
+behind : Frames → (selective : Bool) (wd : ℕ) (l : StationLink) → 1 ≤ wd → Sound selective wd l → AreLive l → NoFrameWaits l → (now : ℕ) → GoOn now l
+    → (second : List PairStep) → ArePassesAndTakes second → NoFrameWaits (pair_run (station_kind selective) l (Tick now ∷ second)) → Behind (pair_run (station_kind selective) l (Tick now ∷ second))
+behind laws selective wd l some h live empty now may second passes end =
+    let g = both_ticked selective wd l now h live empty may in
+    let r = (passes_keep selective wd Recovers laws (recovers_to_r laws.back wd) (recovers_to_e laws.back wd) second (tick (station_kind selective) now l) passes g).0 in
+    let e = emptied selective wd (pair_run (station_kind selective) l (Tick now ∷ second)) some r end in
     record {
       recovered = record { e_up = e.x_up; r_up = e.y_up; at_r = e.at_y; at_e = e.at_x };
       renewed = record { e_stopped = e.x_stopped.0; r_stopped = e.y_stopped.0; e_none = e.x_stopped.1; r_none = e.y_stopped.1 };
     }
 
-all_behind : Frames → (s : StationLinkOpening) (steps : List StationLinkStep) → (after s steps).order_kept ≡ true → AreLive (after s steps)
-    → (first : List StationLinkStep) → ArePasses first → IsEmpty (after s (steps ++ first))
+all_behind : Frames → (s : StationLinkOpening) (steps : List PairStep) → (after s steps).order_kept ≡ true → AreLive (after s steps)
+    → (first : List PairStep) → ArePassesAndTakes first → NoFrameWaits (after s (steps ++ first))
     → (now : ℕ) → GoOn now (after s (steps ++ first))
-    → (second : List StationLinkStep) → ArePasses second → IsEmpty (after s (steps ++ first ++ Tick now ∷ second))
+    → (second : List PairStep) → ArePassesAndTakes second → NoFrameWaits (after s (steps ++ first ++ Tick now ∷ second))
     → Behind (after s (steps ++ first ++ Tick now ∷ second))
 all_behind laws s steps kept live first passes empty now may second more end =
-    let o : StationLink = opened_station_link s.selective s.extended s.window s.n2 s.t1 s.moment in
+    let b : Bool = s.selective in
+    let wd : ℕ = s.window in
+    let o : StationLink = opened_station_link b s.extended wd s.n2 s.t1 s.moment in
     let l : StationLink = after s (steps ++ first) in
-    let split : station_link_run o (steps ++ first) ≡ station_link_run (after s steps) first = run_append steps first o in
-    let h = passes_sound s.window laws first (after s steps) passes (after_sound laws s steps kept) in
-    let join : station_link_run o (steps ++ first ++ Tick now ∷ second) ≡ station_link_run l (Tick now ∷ second) = run_append (steps ++ first) (Tick now ∷ second) o in
+    let split : after s (steps ++ first) ≡ pair_run (station_kind b) (after s steps) first = pair_run_append (station_kind b) steps first o in
+    let h = passes_sound b wd laws first (after s steps) passes (after_sound laws s steps kept) in
+    let join : after s (steps ++ first ++ Tick now ∷ second) ≡ pair_run (station_kind b) l (Tick now ∷ second) = pair_run_append (station_kind b) (steps ++ first) (Tick now ∷ second) o in
     subst Behind (sym join)
-    (behind laws s.window l s.some (subst (Sound s.window) (sym split) h.0) (subst AreLive (sym split) (h.1 live)) empty now may second more (subst IsEmpty join end))
+    (behind laws b wd l s.some (subst (Sound b wd) (sym split) h.0) (subst AreLive (sym split) (h.1 live)) empty now may second more (subst NoFrameWaits join end))
 
 pub recovery : Frames → Recovery
 recovery laws s steps kept live first passes empty now may second more end =

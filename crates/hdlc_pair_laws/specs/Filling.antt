@@ -3,21 +3,22 @@
 use Rattle.std.specs.Prelude.{◌≡◌, ◌+◌, ◌≤◌, true, List, ◌∷◌, ◌++◌, length}
 use Rattle.er_base.specs.declared.side.Side.{Side}
 use Rattle.er_base.specs.Sides.{other}
-use Rattle.hdlc_pair_laws.specs.Links.{StationLink, station_of}
-use Rattle.hdlc_pair_laws.specs.Steps.{StationLinkStep, Lose}
-use Rattle.hdlc_pair_laws.specs.Laws.{StationLinkOpening, after, IsEmpty}
-use Rattle.hdlc_pair_laws.specs.Recovery.{ArePasses, IsRecovered}
+use Rattle.pair_model.specs.Links.{end_of_side}
+use Rattle.pair_model.specs.Steps.{PairStep, Lose, NoFrameWaits, ArePassesAndTakes}
+use Rattle.hdlc_pair_laws.specs.Links.{StationLink}
+use Rattle.hdlc_pair_laws.specs.Laws.{StationLinkOpening, after}
+use Rattle.hdlc_pair_laws.specs.Recovery.{IsRecovered}
 
 -- at least two I frames of this end weren't taken yet: on a loss-free line they wait
 abbrev pub TwoWait : Side → StationLink → Type 0
-TwoWait side l = length (station_of l (other side)).taken + 2 ≤ (station_of l side).sent
+TwoWait side l = length (end_of_side l (other side)).station.taken + 2 ≤ (end_of_side l side).station.sent
 
 -- on a line that was loss-free so far the first frame that waits from an end is lost, whichever frame it is, while two I frames or more wait from
 -- it. Then what waits is given, and no moment comes at which T1 could be found expired. Once no frame waits, each end took all that the other was
 -- handed
 abbrev pub GapsAreFilled : Type 0
 GapsAreFilled =
-    (s : StationLinkOpening) (steps : List StationLinkStep) → (after s steps).loss_free ≡ true
+    (s : StationLinkOpening) (steps : List PairStep) → (after s steps).loss_free ≡ true
     → (side : Side) → TwoWait side (after s steps)
-    → (passes : List StationLinkStep) → ArePasses passes → IsEmpty (after s (steps ++ Lose side ∷ passes))
+    → (passes : List PairStep) → ArePassesAndTakes passes → NoFrameWaits (after s (steps ++ Lose side ∷ passes))
     → IsRecovered (after s (steps ++ Lose side ∷ passes))

@@ -1,5 +1,4 @@
 pub mod Links
-pub mod Steps
 pub mod Laws
 pub mod Invariant
 pub mod Flowing

@@ -1,80 +1,77 @@
 -- Two stations of one kind, with go-back or with selective reject, over two lines (ISO/IEC 13239, asynchronous balanced mode): e is the
 -- calling station, r the called one. Each line is the list of the frames that wait on it, as octets. An end reads all octets that it is
 -- given as one stream (this profile).
-use Rattle.std.specs.Prelude.{ℕ, Bool, true, false, List, [], ◌∷◌, ◌++◌}
-use Rattle.er_base.specs.declared.side.Side.{Side}
-use Rattle.er_base.specs.declared.side.Side.TheVariants.{E, R}
+use Rattle.std.specs.Prelude.{ℕ, nat_le, nat_lt, Bool, true, false, not, ◌&&◌, if◌then◌else◌, List, [], ◌∷◌, ◌++◌, length, is_some}
 use Rattle.hdlc_frames.specs.Framing.{Verdict}
-use Rattle.hdlc_station_model.specs.Stations.{Station, made, settled}
-use Rattle.hdlc_station_model.specs.Calls.{starts, finishes}
+use Rattle.hdlc_station_model.specs.Stations.{Station, made, settled, is_down}
+use Rattle.hdlc_station_model.specs.Sending.{waiting}
+use Rattle.hdlc_station_model.specs.Calls.{starts, hands, finishes, ticks}
 use Rattle.hdlc_station_model.specs.Selective.{receives_as}
-use Rattle.hdlc_station_model.specs.Events.{said_octets, news}
+use Rattle.hdlc_station_model.specs.Events.{said_octets, news, quits, is_late}
+use Rattle.pair_model.specs.Links.{EndKind, PairLink, opened_pair_link}
 
-pub record StationLink : Type 0 where
-  -- whether both stations have selective reject
-  pub selective : Bool
-  pub e : Station
-  pub r : Station
-  -- the frames that e sent and that wait, the first to be passed first, and those of r
-  pub from_e : List (List ℕ)
-  pub from_r : List (List ℕ)
-  -- all octets that e was given so far, and those that r was given
-  pub read_e : List ℕ
-  pub read_r : List ℕ
-  pub moment : ℕ
-  -- the deliveries so far
-  pub passes : ℕ
-  -- whether no frame that waited was altered, and none was put in
-  pub order_kept : Bool
-  -- whether besides none was lost or repeated, no user released, and no tick found an expired timer
-  pub loss_free : Bool
+-- a station as an end of a link
+pub record StationOnLine : Type 0 where
+  pub station : Station
+  -- all octets that it was given so far
+  pub stream : List ℕ
 
-abbrev pub station_of : StationLink → Side → Station
-station_of l E = l.e
-station_of l R = l.r
-
-abbrev pub frames_from_station : StationLink → Side → List (List ℕ)
-frames_from_station l E = l.from_e
-frames_from_station l R = l.from_r
-
-abbrev pub with_frames_from_station : Side → List (List ℕ) → StationLink → StationLink
-with_frames_from_station E frames l = record l { from_e = frames }
-with_frames_from_station R frames l = record l { from_r = frames }
+abbrev pub StationLink : Type 0
+StationLink = PairLink StationOnLine
 
 -- ---- an event at an end
 
--- an end did this: its frames join those that wait
-abbrev pub did : Side → Station → StationLink → StationLink
-did E s l = record l { e = settled s; from_e = l.from_e ++ said_octets s }
-did R s l = record l { r = settled s; from_r = l.from_r ++ said_octets s }
+-- a call of a station led here: its frames are those that the call sent
+abbrev pub station_behind_call : StationOnLine → Station → StationOnLine × List (List ℕ)
+station_behind_call x s = (record x { station = settled s }, said_octets s)
 
--- ---- octets come to an end
+-- nothing is done
+abbrev pub unmoved : StationOnLine → StationOnLine × List (List ℕ)
+unmoved x = (x, [])
 
--- each is one event, and the answer that is still owed follows it
-abbrev pub hears_each : Side → List Verdict → StationLink → StationLink
-hears_each side [] l = l
-hears_each side (verdict ∷ verdicts) l =
-    hears_each side verdicts (did side (finishes (receives_as l.selective l.moment verdict (station_of l side))) l)
+-- each frame that octets close is one event, and the answer that is still owed follows it
+abbrev pub station_behind_each : (selective : Bool) → (now : ℕ) → List Verdict → Station → Station
+station_behind_each selective now [] s = s
+station_behind_each selective now (verdict ∷ verdicts) s =
+    station_behind_each selective now verdicts (settled (finishes (receives_as selective now verdict s)))
 
-abbrev pub station_link_behind_octets : Side → List ℕ → StationLink → StationLink
-station_link_behind_octets E octets l = hears_each E (news l.read_e octets) (record l { read_e = l.read_e ++ octets })
-station_link_behind_octets R octets l = hears_each R (news l.read_r octets) (record l { read_r = l.read_r ++ octets })
+-- the frames that it sends then
+abbrev pub frames_behind_each : (selective : Bool) → (now : ℕ) → List Verdict → Station → List (List ℕ)
+frames_behind_each selective now [] s = []
+frames_behind_each selective now (verdict ∷ verdicts) s =
+    let x = finishes (receives_as selective now verdict s) in said_octets x ++ frames_behind_each selective now verdicts (settled x)
+
+abbrev pub behind_octets : (selective : Bool) → (now : ℕ) → List ℕ → StationOnLine → StationOnLine × List (List ℕ)
+behind_octets selective now octets x =
+    let verdicts = news x.stream octets in (
+      record { station = station_behind_each selective now verdicts x.station; stream = x.stream ++ octets },
+      frames_behind_each selective now verdicts x.station,
+    )
+
+-- a station takes a payload of 1 to 1,026 octets while it isn't released and fewer than 16 wait to be sent
+abbrev pub may_hand_down : List ℕ → Station → Bool
+may_hand_down payload s = not (is_some s.released) && (nat_le 1 (length payload) && nat_le (length payload) 1026) && nat_lt (waiting s) 16
+
+-- stations of a kind: what is handed down is a payload, what a station takes it gives up at once, and one that was released before does nothing
+-- at a release by its user
+abbrev pub station_kind : (selective : Bool) → EndKind StationOnLine
+station_kind selective = record {
+  start = λ now x. station_behind_call x (finishes (starts now x.station));
+  receive = behind_octets selective;
+  send = λ now payload x. if may_hand_down payload x.station then station_behind_call x (finishes (hands now payload x.station)) else unmoved x;
+  take = λ now x. unmoved x;
+  release = λ now sub x. if is_down x.station.phase then unmoved x else station_behind_call x (quits sub x.station);
+  tick = λ now x. station_behind_call x (finishes (ticks now x.station));
+  is_late = λ now x. is_late now x.station;
+}
 
 -- ---- a link that is opened
+
+-- a station that was just made, to which nothing came
+abbrev pub made_on_line : (calling extended : Bool) (window n2 t1 : ℕ) → StationOnLine
+made_on_line calling extended window n2 t1 = record { station = made calling extended window n2 t1; stream = [] }
 
 -- two stations of one kind with the same settings, of which the calling one starts at this moment
 abbrev pub opened_station_link : (selective extended : Bool) (window n2 t1 moment : ℕ) → StationLink
 opened_station_link selective extended window n2 t1 moment =
-    did E (finishes (starts moment (made true extended window n2 t1))) (record {
-      selective = selective;
-      e = made true extended window n2 t1;
-      r = made false extended window n2 t1;
-      from_e = [];
-      from_r = [];
-      read_e = [];
-      read_r = [];
-      moment = moment;
-      passes = 0;
-      order_kept = true;
-      loss_free = true;
-    })
+    opened_pair_link (station_kind selective) moment (made_on_line true extended window n2 t1) (made_on_line false extended window n2 t1)

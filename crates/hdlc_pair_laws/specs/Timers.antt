@@ -8,10 +8,10 @@ use Rattle.hdlc_station_model.specs.Frames.{Frame, Info, Rr, Rej, Srej, SetUp, D
 use Rattle.hdlc_station_model.specs.Stations.{Station}
 use Rattle.hdlc_station_model.specs.Calls.{starts, hands, finishes, ticks, closes}
 use Rattle.hdlc_station_model.specs.Selective.{receives_as}
+use Rattle.pair_model.specs.Steps.{PairStep, Tick, NoFrameWaits, ArePassesAndTakes}
 use Rattle.hdlc_pair_laws.specs.Links.{StationLink}
-use Rattle.hdlc_pair_laws.specs.Steps.{StationLinkStep, Tick}
-use Rattle.hdlc_pair_laws.specs.Laws.{StationLinkOpening, after, IsEmpty}
-use Rattle.hdlc_pair_laws.specs.Recovery.{ArePasses, AreLive, GoOn}
+use Rattle.hdlc_pair_laws.specs.Laws.{StationLinkOpening, after}
+use Rattle.hdlc_pair_laws.specs.Recovery.{AreLive, GoOn}
 
 -- T1 runs exactly while an I frame is unacknowledged, or while the set-up is unanswered; where it doesn't run no expiry is counted
 abbrev pub TimedAt : Phase → Station → Type 0
@@ -22,23 +22,23 @@ TimedAt Down s = s.timer ≡ None
 
 abbrev pub TimersRun : Type 0
 TimersRun =
-    (s : StationLinkOpening) (steps : List StationLinkStep) → (after s steps).order_kept ≡ true
-    → TimedAt (after s steps).e.phase (after s steps).e × TimedAt (after s steps).r.phase (after s steps).r
+    (s : StationLinkOpening) (steps : List PairStep) → (after s steps).order_kept ≡ true
+    → TimedAt (after s steps).e.station.phase (after s steps).e.station × TimedAt (after s steps).r.station.phase (after s steps).r.station
 
 -- T1 runs at neither station, and no expiry is counted
 pub record IsRenewed (l : StationLink) : Type 0 where
-  pub e_stopped : l.e.timer ≡ None
-  pub r_stopped : l.r.timer ≡ None
-  pub e_none : l.e.expiries ≡ 0
-  pub r_none : l.r.expiries ≡ 0
+  pub e_stopped : l.e.station.timer ≡ None
+  pub r_stopped : l.r.station.timer ≡ None
+  pub e_none : l.e.station.expiries ≡ 0
+  pub r_none : l.r.station.expiries ≡ 0
 
 -- a recovery leaves nothing of the loss: all N2 expiries are left for the next one
 abbrev pub Renewal : Type 0
 Renewal =
-    (s : StationLinkOpening) (steps : List StationLinkStep) → (after s steps).order_kept ≡ true → AreLive (after s steps)
-    → (first : List StationLinkStep) → ArePasses first → IsEmpty (after s (steps ++ first))
+    (s : StationLinkOpening) (steps : List PairStep) → (after s steps).order_kept ≡ true → AreLive (after s steps)
+    → (first : List PairStep) → ArePassesAndTakes first → NoFrameWaits (after s (steps ++ first))
     → (now : ℕ) → GoOn now (after s (steps ++ first))
-    → (second : List StationLinkStep) → ArePasses second → IsEmpty (after s (steps ++ first ++ Tick now ∷ second))
+    → (second : List PairStep) → ArePassesAndTakes second → NoFrameWaits (after s (steps ++ first ++ Tick now ∷ second))
     → IsRenewed (after s (steps ++ first ++ Tick now ∷ second))
 
 -- ---- when T1 expires, by what a call says

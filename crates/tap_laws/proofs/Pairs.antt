@@ -11,8 +11,9 @@ use Rattle.safety_automaton.specs.Rules.{IsOpen}
 use Rattle.er_end_model.specs.Ends.{End, Moment, opened, end_run}
 use Rattle.er_end_model.specs.Ends as end
 use Rattle.er_end_model.specs.Origins.{StreamIsWhole}
+use Rattle.pair_model.specs.Steps.{PairStep}
 use Rattle.er_end_pair_laws.specs.Openings.{EndLinkOpening, Agree}
-use Rattle.er_end_pair_laws.specs.Steps.{EndLinkStep, AllFit}
+use Rattle.er_end_pair_laws.specs.Steps.{AllFit}
 use Rattle.er_end_pair_laws.specs.Laws.{end_link_after, Prefix}
 use Rattle.er_end_pair_laws.specs.Greetings.{Greets}
 use Rattle.tap_model.specs.Hearing.{heard, items}
@@ -92,7 +93,7 @@ module _ (low : Lower) (s : EndLinkOpening) (basic : s.settings.modulo ≡ 8) wh
         is_live = low.live (calling_of s) events;
       })
 
-  module _ (steps : List EndLinkStep) (fit : AllFit steps) (agree : Agree s) (kept : (end_link_after s steps).order_kept ≡ true) where
+  module _ (steps : List PairStep) (fit : AllFit steps) (agree : Agree s) (kept : (end_link_after s steps).order_kept ≡ true) where
     abbrev e : End
     e = (end_link_after s steps).e
 

@@ -5,8 +5,9 @@ use Rattle.std.specs.Prelude.{◌≡◌, true, List, Some, None}
 use Rattle.er_base.specs.declared.side.Side.{Side}
 use Rattle.er_base.specs.declared.side.Side.TheVariants.{E, R}
 use Rattle.er_end_model.specs.Ends.{End}
+use Rattle.pair_model.specs.Steps.{PairStep}
 use Rattle.er_end_pair_laws.specs.Openings.{EndLinkOpening, Agree}
-use Rattle.er_end_pair_laws.specs.Steps.{EndLinkStep, AllFit}
+use Rattle.er_end_pair_laws.specs.Steps.{AllFit}
 use Rattle.er_end_pair_laws.specs.Laws.{end_link_after}
 use Rattle.tap_model.specs.Hearing.{heard, items}
 use Rattle.tap_model.specs.Verdicts.{Known, known_of, Judged, judged_from, good_texts}
@@ -29,5 +30,5 @@ pub record FindsAccepted (s : EndLinkOpening) (e r : End) : Type 0 where
 
 abbrev pub PairsAudited : Type 0
 PairsAudited =
-    (s : EndLinkOpening) (steps : List EndLinkStep) → AllFit steps → Agree s → s.settings.modulo ≡ 8 → (end_link_after s steps).order_kept ≡ true
+    (s : EndLinkOpening) (steps : List PairStep) → AllFit steps → Agree s → s.settings.modulo ≡ 8 → (end_link_after s steps).order_kept ≡ true
     → FindsAccepted s (end_link_after s steps).e (end_link_after s steps).r

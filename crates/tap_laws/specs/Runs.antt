@@ -2,8 +2,8 @@
 use Rattle.std.specs.Prelude.{◌≡◌, List, ◌∷◌}
 use Rattle.er_end_model.specs.Ends.{Call, Answer, Start, End, Moment, end_run}
 use Rattle.er_end_model.specs.Ends as end
+use Rattle.pair_model.specs.Steps.{PairStep}
 use Rattle.er_end_pair_laws.specs.Openings.{EndLinkOpening}
-use Rattle.er_end_pair_laws.specs.Steps.{EndLinkStep}
 use Rattle.er_end_pair_laws.specs.Laws.{end_link_after}
 use Rattle.tap_laws.specs.Progress.{AllLookUp}
 
@@ -28,4 +28,4 @@ pub record AreRuns (s : EndLinkOpening) (e r : End) : Type 0 where
 
 -- behind all steps
 abbrev pub EndsAreRuns : Type 0
-EndsAreRuns = (s : EndLinkOpening) (steps : List EndLinkStep) → AreRuns s (end_link_after s steps).e (end_link_after s steps).r
+EndsAreRuns = (s : EndLinkOpening) (steps : List PairStep) → AreRuns s (end_link_after s steps).e (end_link_after s steps).r
