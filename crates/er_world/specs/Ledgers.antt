@@ -75,6 +75,12 @@ pub record Marks (side : Side) (forged : Bool) (old new : Ledger) : Type 0 where
   pub of_e : new.e_mistrusts ≡ (old.e_mistrusts || (is_side E side && forged))
   pub of_r : new.r_mistrusts ≡ (old.r_mistrusts || (is_side R side && forged))
 
+-- a text that was sealed is kept, with its session keys
+pub record KeepsSealing (sealing : Sealing) (old new : Ledger) : Type 0 where
+  pub gains : Gains (sealing ∷ []) old.pairs new.pairs
+  pub of_e : new.e_mistrusts ≡ old.e_mistrusts
+  pub of_r : new.r_mistrusts ≡ old.r_mistrusts
+
 -- what an end did is kept
 pub record KeepsInLedger (side : Side) (t : Told) (forged : Bool) (old new : Ledger) : Type 0 where
   pub gains : Gains (told_pairs t) old.pairs new.pairs

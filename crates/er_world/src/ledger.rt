@@ -1,17 +1,23 @@
 //! What is kept of all that came at a link.
 
-ghost use Rattle.std.specs.Prelude.{◌≡◌, [], false, List, IfOk, OnOk};
-ghost use Rattle.safety_pair_laws.specs.Facts.{MarkedFact};
+ghost use Rattle.std.specs.Prelude.{◌≡◌, [], false, not, List, IfOk, OnOk};
+ghost use Rattle.std.specs.List.{list_any};
+ghost use Rattle.safety_pair_laws.specs.Facts.{MarkedFact, is_sealing};
 ghost use Rattle.drill_model.specs.Outcomes.{DrillOutcome};
 ghost use Rattle.drill_ends.specs.Tellings.{AreTold};
-ghost use Rattle.er_world.specs.Ledgers.{HoldsLedger, KeepsInLedger, Marks, TellsOne, TellsAll, forged_by, mistrusts_of};
+ghost use Rattle.er_world.specs.ToldLines.{IsNext};
+ghost use Rattle.er_world.specs.Ledgers.{HoldsLedger, KeepsSealing, Marks, TellsOne, TellsAll, mistrusts_of};
 
+use crate::lines::{
+    print_accepted, print_connected, print_frame, print_none, print_refused, print_released,
+    print_taken, print_up,
+};
 use crate::place::Place;
 use crate::sealed_pairs::SealedPairs;
-use crate::telling::{next_told, print_told, queue};
 use crate::waiting::Waiting;
+use des_block::TripleKey;
 use drill_ends::Told;
-use er_base::{NoMemory, Side};
+use er_base::{NoMemory, Octets, Side};
 use std::alloc::Global;
 use std::collections::VecDeque;
 
@@ -22,6 +28,13 @@ pub struct Ledger {
     pairs: SealedPairs,
     e_mistrusts: bool,
     r_mistrusts: bool,
+}
+
+/// Takes the first thing that was told.
+fn next_told(list: &mut VecDeque<Told>) -> Option<Told>
+    ensures { IsNext list.old.items result list.new.items }
+{
+    list.pop_front()
 }
 
 impl Ledger {
@@ -46,32 +59,12 @@ impl Ledger {
         }
     }
 
-    /// Whether what an end did is forged.
-    fn is_forged(&self, alloc: Global, side: Side, told: &Told) -> Result<bool, NoMemory>
-        ensures { IfOk result (λ forged. forged ≡ forged_by self.now side told.now) }
+    /// Whether a text that was verified under these session keys is none that an end of the link had sealed under them.
+    fn is_forged(&self, alloc: Global, key: TripleKey, text: &Octets) -> Result<bool, NoMemory>
+        ensures { IfOk result (λ forged. forged ≡ not (list_any (is_sealing key text.now) self.now.pairs)) }
     {
-        match told {
-            Told::Sealed { .. } => Ok(false),
-            Told::Verified { key, text } => {
-                let text = Vec::from_slice(alloc, text.as_slice())?;
-                Ok(!self.pairs.contains(*key, text))
-            }
-            Told::Connected { key, text, .. } => {
-                let text = Vec::from_slice(alloc, text.as_slice())?;
-                Ok(!self.pairs.contains(*key, text) || self.mistrusts(side))
-            }
-            Told::Accepted { key, text, .. } => {
-                let text = Vec::from_slice(alloc, text.as_slice())?;
-                Ok(!self.pairs.contains(*key, text))
-            }
-            Told::Up => Ok(false),
-            Told::Arrived(_) => Ok(false),
-            Told::Took(_) => Ok(false),
-            Told::NothingToTake => Ok(false),
-            Told::Refused(_) => Ok(false),
-            Told::Released(_) => Ok(false),
-            Told::Frame(_) => Ok(false),
-        }
+        let text = Vec::from_slice(alloc, text.as_slice())?;
+        Ok(!self.pairs.contains(key, text))
     }
 
     /// Keeps the mark of a text that was verified in the set-up of an end.
@@ -84,29 +77,12 @@ impl Ledger {
         }
     }
 
-    /// Keeps what later marks need of what an end did.
-    fn keep(&mut self, alloc: Global, side: Side, told: &Told, forged: bool) -> Result<(), NoMemory>
-        ensures { OnOk result (KeepsInLedger side told.now forged self.old self.new) }
+    /// Keeps that an end sealed a text under these session keys.
+    fn keep(&mut self, alloc: Global, key: TripleKey, text: &Octets) -> Result<(), NoMemory>
+        ensures { OnOk result (KeepsSealing (record { key = key; text = text.now }) self.old self.new) }
     {
-        match told {
-            Told::Sealed { key, text } => {
-                let text = Vec::from_slice(alloc, text.as_slice())?;
-                self.pairs.insert(*key, text)
-            }
-            Told::Verified { .. } => {
-                self.mark(side, forged);
-                Ok(())
-            }
-            Told::Connected { .. } => Ok(()),
-            Told::Accepted { .. } => Ok(()),
-            Told::Up => Ok(()),
-            Told::Arrived(_) => Ok(()),
-            Told::Took(_) => Ok(()),
-            Told::NothingToTake => Ok(()),
-            Told::Refused(_) => Ok(()),
-            Told::Released(_) => Ok(()),
-            Told::Frame(_) => Ok(()),
-        }
+        let text = Vec::from_slice(alloc, text.as_slice())?;
+        self.pairs.insert(key, text)
     }
 
     /// One thing that an end did is marked, printed, kept and queued.
@@ -120,10 +96,34 @@ impl Ledger {
     ) -> Result<(), NoMemory>
         ensures { OnOk result (TellsOne place told self.old self.new waiting.old waiting.new out.old.items out.new.items) }
     {
-        let forged = self.is_forged(alloc, place.side, &told)?;
-        print_told(alloc, place, &told, forged, out)?;
-        self.keep(alloc, place.side, &told, forged)?;
-        queue(told, waiting)
+        match told {
+            Told::Sealed { key, text } => self.keep(alloc, key, &text),
+            Told::Verified { key, text } => {
+                let forged = self.is_forged(alloc, key, &text)?;
+                self.mark(place.side, forged);
+                Ok(())
+            }
+            Told::Connected { peer, key, text } => {
+                let forged = self.is_forged(alloc, key, &text)? || self.mistrusts(place.side);
+                print_connected(alloc, place, peer, forged, out)
+            }
+            Told::Accepted { user, key, text } => {
+                let forged = self.is_forged(alloc, key, &text)?;
+                print_accepted(alloc, place, user.as_slice(), forged, out)
+            }
+            Told::Up => print_up(alloc, place, out),
+            Told::Arrived(payload) => {
+                print_accepted(alloc, place, payload.as_slice(), false, out)
+            }
+            Told::Took(message) => print_taken(alloc, place, message.as_slice(), out),
+            Told::NothingToTake => print_none(alloc, place, out),
+            Told::Refused(refused) => print_refused(alloc, place, &refused, out),
+            Told::Released(release) => print_released(alloc, place, &release, out),
+            Told::Frame(octets) => {
+                print_frame(alloc, place, octets.as_slice(), out)?;
+                waiting.push(octets)
+            }
+        }
     }
 
     /// All that an end did at one event, in its order.

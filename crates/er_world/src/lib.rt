@@ -10,7 +10,6 @@ mod openings;
 mod place;
 mod port;
 mod sealed_pairs;
-mod telling;
 mod waiting;
 mod world;
 

@@ -4,8 +4,9 @@ ghost use Rattle.std.specs.Prelude.{ℕ, ◌≡◌, [], List, Bool, IfOk};
 ghost use Rattle.er_base.specs.declared.side.Side.TheVariants.{E};
 ghost use Rattle.er_settings.specs.Values.{Settings as AnySettings};
 ghost use Rattle.safety_pair_laws.specs.Openings.{OfFixed, OfKeys};
-ghost use Rattle.drill_model.specs.Links.{OfPair, OfStations, OfStacks, opened_link};
-ghost use Rattle.er_world.specs.KeptLinks.{LinkWent};
+ghost use Rattle.drill_model.specs.Ends.{Start};
+ghost use Rattle.drill_model.specs.Links.{OfPair, OfStations, OfStacks, give, opened_link};
+ghost use Rattle.er_world.specs.KeptLinks.{LinkDoes, LinkWent, new_link};
 
 use crate::link::Link;
 use crate::place::Place;
@@ -16,6 +17,23 @@ use er_end::End;
 use er_settings::Settings;
 use safety_automaton::{Role, Safe};
 use std::alloc::Global;
+
+/// A link of two ends that were just made, of which the first begins the set-up. In one place, since a prover reads both ends at each `?`.
+fn begun(
+    alloc: Global,
+    place: Place,
+    e: DrillEnd,
+    r: DrillEnd,
+    keys: OneKey,
+    moment: Moment,
+    out: &mut Vec<u8>,
+) -> Result<Link, NoMemory>
+    ensures { IfOk result (λ link. LinkDoes (λ l. give l place.side Start) place.show place.number (new_link e r keys moment) link out.old.items out.new.items) }
+{
+    let mut link = Link::new(alloc, e, r, keys, moment);
+    link.give(alloc, place, &EndEvent::Start, out)?;
+    Ok(link)
+}
 
 /// A link between two ends that are connected under these session keys, the engine's first, opened at a moment.
 pub fn fixed(
@@ -57,9 +75,15 @@ pub fn called(
     let rbc = rbc.get();
     let e = DrillEnd::Safe(Safe::initiator(engine, rbc, ke, rb));
     let r = DrillEnd::Safe(Safe::responder(rbc, ra));
-    let mut link = Link::new(alloc, e, r, OneKey::new(engine, rbc, kr), moment);
-    link.give(alloc, place, &EndEvent::Start, out)?;
-    Ok(link)
+    begun(
+        alloc,
+        place,
+        e,
+        r,
+        OneKey::new(engine, rbc, kr),
+        moment,
+        out,
+    )
 }
 
 /// A link between two stacks, opened at a moment; the engine's has begun the set-up.
@@ -88,9 +112,15 @@ pub fn stacked(
     let rbc = rbc.get();
     let e = DrillEnd::Stack(End::call(alloc, settings, engine, rbc, ke, rb, moment.get())?);
     let r = DrillEnd::Stack(End::answer(alloc, settings, rbc, ra, moment.get())?);
-    let mut link = Link::new(alloc, e, r, OneKey::new(engine, rbc, kr), moment);
-    link.give(alloc, place, &EndEvent::Start, out)?;
-    Ok(link)
+    begun(
+        alloc,
+        place,
+        e,
+        r,
+        OneKey::new(engine, rbc, kr),
+        moment,
+        out,
+    )
 }
 
 /// A link between two stations, both with selective reject or both without, opened at a moment; the calling one has begun the set-up.
@@ -106,7 +136,5 @@ pub fn wired(
 {
     let e = DrillEnd::Station(StationEnd::new(alloc, true, plan)?);
     let r = DrillEnd::Station(StationEnd::new(alloc, false, plan)?);
-    let mut link = Link::new(alloc, e, r, OneKey::new(0, 0, None), moment);
-    link.give(alloc, place, &EndEvent::Start, out)?;
-    Ok(link)
+    begun(alloc, place, e, r, OneKey::new(0, 0, None), moment, out)
 }

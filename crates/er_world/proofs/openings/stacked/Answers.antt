@@ -1,4 +1,5 @@
-use Rattle.std.proofs.Common.{ℕ, sym, subst}
+use Rattle.std.proofs.Common.{ℕ, refl, sym, subst}
+use Rattle.std.proofs.lemmas.Result.{IfOk-weaker}
 use Rattle.er_base.specs.declared.side.Side.TheVariants.{E}
 use Rattle.er_settings.specs.Ranges.{AllAllowed}
 use Rattle.er_end_model.specs.Ends.{Call, Answer}
@@ -11,13 +12,15 @@ use Rattle.er_world.proofs.openings.stacked.Goals as goal
 pub returns : goal.returns
 returns c =
     let allowed : AllAllowed c.args.settings.now = subst AllAllowed c.settings.view_is c.settings.invariant in
-    λ is now at.
+    IfOk-weaker c.begun.result _ _
+    (λ link does is now at.
     rw (sym c.get-engine.ensures.same, sym c.get-rbc.ensures.same)
-    (opens_stacked c.keys.ensures c.get-engine.result c.get-rbc.result c.args.ke c.args.kr c.args.ra c.args.rb _ _ _ c.args.moment c.new-link.result c.give.new.self c.args.settings.now c.args.place c.args.place.show c.args.place.number
-    c.args.out.now.items c.give.new.out.items
-    c.new-link.ensures
+    (opens_stacked c.keys.ensures c.get-engine.result c.get-rbc.result c.args.ke c.args.kr c.args.ra c.args.rb _ _ _ c.args.moment _ link c.args.settings.now c.args.place c.args.place.show c.args.place.number
+    c.args.out.now.items c.begun.new.out.items
+    refl
     (subst (λ (m : ℕ). StandsStack c.in_ok-call.field-0 (stacks.opened (Call c.args.settings.now c.get-engine.result c.get-rbc.result c.args.ke c.args.rb m))) c.get.ensures.same
     (stack_stands c.standing.ensures.made c.stacks_report.ensures.opens (Call c.args.settings.now c.get-engine.result c.get-rbc.result c.args.ke c.args.rb c.get.result) allowed c.get.ensures.within c.in_ok-call.field-0 c.in_ok-call.ensures))
     (subst (λ (m : ℕ). StandsStack c.in_ok-answer.field-0 (stacks.opened (Answer c.args.settings.now c.get-rbc.result c.args.ra m))) c.get-2.ensures.same
     (stack_stands c.standing.ensures.made c.stacks_report.ensures.opens (Answer c.args.settings.now c.get-rbc.result c.args.ra c.get-2.result) allowed c.get-2.ensures.within c.in_ok-answer.field-0 c.in_ok-answer.ensures))
-    c.new.ensures (place_at c.args.place E is) c.in_ok-give.ensures now at)
+    c.new.ensures (place_at c.args.place E is) does now at))
+    c.begun.ensures

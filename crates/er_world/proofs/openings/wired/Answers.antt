@@ -1,3 +1,5 @@
+use Rattle.std.proofs.Common.{refl}
+use Rattle.std.proofs.lemmas.Result.{IfOk-weaker}
 use Rattle.er_base.specs.declared.side.Side.TheVariants.{E}
 use Rattle.er_world.proofs.LinkRows.{place_at}
 use Rattle.er_world.proofs.Opening.{opens_wired}
@@ -5,7 +7,9 @@ use Rattle.er_world.proofs.openings.wired.Goals as goal
 
 pub returns : goal.returns
 returns c =
-    λ is now at.
-    opens_wired c.args.plan.now.selective _ _ _ c.args.moment c.new-link.result c.give.new.self c.args.plan.now.settings c.args.place c.args.place.show c.args.place.number
-    c.args.out.now.items c.give.new.out.items
-    c.new-link.ensures c.in_ok-new.ensures c.in_ok-new-2.ensures c.new-3.ensures (place_at c.args.place E is) c.in_ok-give.ensures now at
+    IfOk-weaker c.begun.result _ _
+    (λ link does is now at.
+    opens_wired c.args.plan.now.selective _ _ _ c.args.moment _ link c.args.plan.now.settings c.args.place c.args.place.show c.args.place.number
+    c.args.out.now.items c.begun.new.out.items
+    refl c.in_ok-new.ensures c.in_ok-new-2.ensures c.new-3.ensures (place_at c.args.place E is) does now at)
+    c.begun.ensures
