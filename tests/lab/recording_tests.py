@@ -1,8 +1,13 @@
 """tools/recording: the parts of recordings, of cut ones, of long ones; and each part against the built program, which replays it to itself."""
+import contextlib
+import importlib.machinery
+import importlib.util
+import io
 import os
 import subprocess
 import sys
 import tempfile
+from unittest import mock
 
 KEYS = "examples/recorded-session.keys"
 SESSION = "examples/recorded-session.trace"
@@ -15,6 +20,26 @@ def split(text, *words):
     """What is printed of a text, what is told, and the status."""
     run = subprocess.run([sys.executable, "tools/recording", *words], input=text, stdout=subprocess.PIPE, stderr=subprocess.PIPE, check=False)
     return run.stdout, run.stderr.decode().split("\n")[:-1], run.returncode
+
+
+def tool():
+    """tools/recording as a module."""
+    loader = importlib.machinery.SourceFileLoader("recording_tool", "tools/recording")
+    module = importlib.util.module_from_spec(importlib.util.spec_from_loader(loader.name, loader))
+    loader.exec_module(module)
+    return module
+
+
+def split_here(main, text, *words):
+    """What `split` answers, of the tool's `main` in this process: a process of its own takes a tenth of a second, and a recording is cut at hundreds of octets."""
+    out, told = io.TextIOWrapper(io.BytesIO()), io.StringIO()
+    given = (("argv", ["recording", *words]), ("stdin", io.TextIOWrapper(io.BytesIO(text))), ("stdout", out), ("stderr", told))
+    with contextlib.ExitStack() as stack:
+        for name, value in given:
+            stack.enter_context(mock.patch.object(sys, name, value))
+        status = main()
+    out.flush()
+    return out.buffer.getvalue(), told.getvalue().split("\n")[:-1], status
 
 
 def parts(text, *words):
@@ -69,8 +94,11 @@ def cut_ones(judge):
     # Behind which octet each event begins, and the end.
     events = [end for end in ends[1:-1] if text[end:end + 1] == b">"] + [len(text)]
     faults = []
+    main = tool().main
     for place in [*range(len(HEADER) + 1, 700), *range(701, len(text), 97)]:
-        left, told, status = split(text[:place], "--whole")
+        left, told, status = split_here(main, text[:place], "--whole")
+        if place % 40 == 0 and split(text[:place], "--whole") != (left, told, status):
+            faults.append((place, "in a process of its own"))
         if place in ends:
             wanted, count = text[:place], 0
         elif text[max(end for end in ends if end < place):][:1] == b"<":

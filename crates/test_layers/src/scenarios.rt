@@ -517,18 +517,10 @@ fn has_bound(
 fn takes_texts_and_files_up_to_their_limits(rt: HostRuntime) -> Result<(), Fail> {
     let send = "drill 1 safe;send 1 e ";
     let put = "drill 1 safe;put 1 e ";
+    let comment = "drill 1 safe;#";
     let (text, file) = ((2, Why::Value), (0, Why::Long));
     assert!(rt; has_bound(rt.alloc(), send, b'5', 8_214, 8_216, text)?);
     assert!(rt; has_bound(rt.alloc(), put, b'a', 8_213, 8_215, text)?);
-    assert!(rt;
-        has_bound(
-            rt.alloc(),
-            "drill 1 safe;",
-            b'\n',
-            16_777_216,
-            16_777_217,
-            file
-        )?
-    );
+    assert!(rt; has_bound(rt.alloc(), comment, b'x', 16_777_216, 16_777_217, file)?);
     Ok(())
 }
