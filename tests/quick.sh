@@ -1,5 +1,5 @@
 #!/usr/bin/env bash
-# What can be tried without a proof, from a fresh clone, in four to six minutes on two processors: bash tests/quick.sh
+# What can be tried without a proof, from a fresh clone, in some five minutes on two slow processors: bash tests/quick.sh
 # Compiles every crate with the toolchain's checks, runs every test, and each row and script of tests/ that needs no proved library, on the program
 # as it is compiled unproved; all processors that it may use are kept busy. At its end it says what it leaves to the gate. Words name crates or
 # scripts, and then only these are tried: bash tests/quick.sh hdlc_fcs rows. Closes with 'N passed, M failed'.
