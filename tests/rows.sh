@@ -1,6 +1,7 @@
 #!/usr/bin/env bash
 # Runs the built program on each folder of tests/rows: `args` has its words, one a line; the folder's other files lie where it
 # runs; `stdout` and `status` are what it must print and end with. Each file of examples/ has such a folder, example-NAME.
+# Then on a drill file of as many lines as one may have, and on one octet more.
 # PROGRAM names another program than the built one, and then nothing is built. Closes with 'N passed, M failed'.
 set -u
 [ -n "${PROGRAM:-}" ] && PROGRAM=$(realpath "$PROGRAM")
@@ -58,6 +59,20 @@ for example in examples/*; do
     echo "examples/$name has no row"
   fi
 done
+
+# A drill file of so many octets, all behind the header empty lines: what it must end with and print.
+lines_to() {
+  local work
+  work=$(mktemp -d)
+  { printf 'drill 1 safe\n'; head -c "$(($1 - 13))" /dev/zero | tr '\0' '\n'; } > "$work/lines.drill"
+  printf '%s' "$2" > "$work/status"
+  printf '%s' "$3" > "$work/stdout"
+  judge "a drill file of $1 octets" "$work" drill lines.drill
+  rm -rf "$work"
+}
+
+lines_to 16777216 0 ''
+lines_to 16777217 3 $'! line 0 long\n'
 
 echo "$passed passed, $failed failed"
 [ "$failed" -eq 0 ] && [ "$passed" -gt 0 ]
