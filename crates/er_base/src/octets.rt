@@ -28,4 +28,11 @@ impl Octets {
     {
         self.list.as_slice()
     }
+
+    /// Gives the list away.
+    pub fn into_vec(self) -> Vec<u8>
+        ensures { result.items ≡ self }
+    {
+        self.list
+    }
 }

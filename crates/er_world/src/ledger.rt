@@ -60,11 +60,10 @@ impl Ledger {
     }
 
     /// Whether a text that was verified under these session keys is none that an end of the link had sealed under them.
-    fn is_forged(&self, alloc: Global, key: TripleKey, text: &Octets) -> Result<bool, NoMemory>
-        ensures { IfOk result (λ forged. forged ≡ not (list_any (is_sealing key text.now) self.now.pairs)) }
+    fn is_forged(&self, key: TripleKey, text: Octets) -> bool
+        ensures { result ≡ not (list_any (is_sealing key text) self.now.pairs) }
     {
-        let text = Vec::from_slice(alloc, text.as_slice())?;
-        Ok(!self.pairs.contains(key, text))
+        !self.pairs.contains(key, text.into_vec())
     }
 
     /// Keeps the mark of a text that was verified in the set-up of an end.
@@ -78,11 +77,10 @@ impl Ledger {
     }
 
     /// Keeps that an end sealed a text under these session keys.
-    fn keep(&mut self, alloc: Global, key: TripleKey, text: &Octets) -> Result<(), NoMemory>
-        ensures { OnOk result (KeepsSealing (record { key = key; text = text.now }) self.old self.new) }
+    fn keep(&mut self, key: TripleKey, text: Octets) -> Result<(), NoMemory>
+        ensures { OnOk result (KeepsSealing (record { key = key; text = text }) self.old self.new) }
     {
-        let text = Vec::from_slice(alloc, text.as_slice())?;
-        self.pairs.insert(key, text)
+        self.pairs.insert(key, text.into_vec())
     }
 
     /// One thing that an end did is marked, printed, kept and queued.
@@ -97,18 +95,18 @@ impl Ledger {
         ensures { OnOk result (TellsOne place told self.old self.new waiting.old waiting.new out.old.items out.new.items) }
     {
         match told {
-            Told::Sealed { key, text } => self.keep(alloc, key, &text),
+            Told::Sealed { key, text } => self.keep(key, text),
             Told::Verified { key, text } => {
-                let forged = self.is_forged(alloc, key, &text)?;
+                let forged = self.is_forged(key, text);
                 self.mark(place.side, forged);
                 Ok(())
             }
             Told::Connected { peer, key, text } => {
-                let forged = self.is_forged(alloc, key, &text)? || self.mistrusts(place.side);
+                let forged = self.is_forged(key, text) || self.mistrusts(place.side);
                 print_connected(alloc, place, peer, forged, out)
             }
             Told::Accepted { user, key, text } => {
-                let forged = self.is_forged(alloc, key, &text)?;
+                let forged = self.is_forged(key, text);
                 print_accepted(alloc, place, user.as_slice(), forged, out)
             }
             Told::Up => print_up(alloc, place, out),

@@ -27,8 +27,16 @@ pub fn is_intact(content: &[u8]) -> bool
 pub fn check_octets(address: u8, body: &[u8]) -> [u8; 2]
     ensures { address ∷ body.now ++ result ≡ content_of address body.now }
 {
+    check_octets_of_fields(address, body, &[])
+}
+
+/// The same of an address, and of a control field and an information field that stand apart and are the body together.
+pub fn check_octets_of_fields(address: u8, control: &[u8], information: &[u8]) -> [u8; 2]
+    ensures { address ∷ (control.now ++ information.now) ++ result ≡ content_of address (control.now ++ information.now) }
+{
     let mut check = Running::new();
     check.add(&[address]);
-    check.add(body);
+    check.add(control);
+    check.add(information);
     check.value().to_le_bytes()
 }

@@ -14,7 +14,7 @@ mod running;
 mod sequence;
 mod table;
 
-pub use contents::{LONGEST, SHORTEST, check_octets, is_intact};
+pub use contents::{LONGEST, SHORTEST, check_octets, check_octets_of_fields, is_intact};
 pub use running::Running;
 pub use sequence::fcs;
 

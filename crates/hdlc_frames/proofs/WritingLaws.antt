@@ -95,23 +95,24 @@ nothing_left held (x ∷ rest) old content e none = absurd (omega arith)
 
 -- ---- a whole frame in its parts
 
-pub spelling-parts : (a : ℕ) (body check : List ℕ) → a ∷ body ++ check ≡ content_of a body
-    → spelling a body ≡ (flag ∷ []) ++ (escaped (a ∷ []) ++ (escaped body ++ (escaped check ++ flag ∷ [])))
+-- a frame is what stands before the information field, the information field, and what stands behind it
+pub spelling-parts : (a : ℕ) (control information check : List ℕ) → a ∷ (control ++ information) ++ check ≡ content_of a (control ++ information)
+    → spelling a (control ++ information) ≡ (flag ∷ escaped (a ∷ control)) ++ (escaped information ++ (escaped check ++ flag ∷ []))
 unfolding spelling
-spelling-parts a body check e =
-    let whole : escaped (content_of a body) ≡ escaped (a ∷ []) ++ (escaped body ++ escaped check) =
-    ap escaped (sym e) ∙ escaped-append (a ∷ []) (body ++ check) ∙ ap (λ ys. escaped (a ∷ []) ++ ys) (escaped-append body check) in
+spelling-parts a control information check e =
+    let whole : escaped (content_of a (control ++ information)) ≡ escaped (a ∷ control) ++ (escaped information ++ escaped check) =
+    ap escaped (sym e ∙ ap (λ ys. a ∷ ys) (append_assoc control information check)) ∙ escaped-append (a ∷ control) (information ++ check)
+    ∙ ap (λ ys. escaped (a ∷ control) ++ ys) (escaped-append information check) in
     ap (λ ys. flag ∷ ys)
-    (ap (λ ys. ys ++ flag ∷ []) whole ∙ append_assoc (escaped (a ∷ [])) (escaped body ++ escaped check) (flag ∷ [])
-    ∙ ap (λ ys. escaped (a ∷ []) ++ ys) (append_assoc (escaped body) (escaped check) (flag ∷ [])))
+    (ap (λ ys. ys ++ flag ∷ []) whole ∙ append_assoc (escaped (a ∷ control)) (escaped information ++ escaped check) (flag ∷ [])
+    ∙ ap (λ ys. escaped (a ∷ control) ++ ys) (append_assoc (escaped information) (escaped check) (flag ∷ [])))
 
-pub length-spelling : (a : ℕ) (body check : List ℕ) → a ∷ body ++ check ≡ content_of a body
-    → length (spelling a body) ≡ length (escaped (a ∷ [])) + length (escaped body) + length (escaped check) + 2
-length-spelling a body check e =
-    let whole = ap length (spelling-parts a body check e) in
-    let one = length-append (escaped (a ∷ [])) (escaped body ++ (escaped check ++ flag ∷ [])) in
-    let two = length-append (escaped body) (escaped check ++ flag ∷ []) in
-    let three = length-append (escaped check) (flag ∷ []) in
+pub length-spelling : (a : ℕ) (control information check : List ℕ) → a ∷ (control ++ information) ++ check ≡ content_of a (control ++ information)
+    → length (spelling a (control ++ information)) ≡ length (flag ∷ escaped (a ∷ control)) + length (escaped information) + length (escaped check ++ flag ∷ [])
+length-spelling a control information check e =
+    let whole = ap length (spelling-parts a control information check e) in
+    let one = length-append (flag ∷ escaped (a ∷ control)) (escaped information ++ (escaped check ++ flag ∷ [])) in
+    let two = length-append (escaped information) (escaped check ++ flag ∷ []) in
     whole ∙ omega arith
 
 -- ---- how long a frame is

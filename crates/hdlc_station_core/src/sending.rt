@@ -11,10 +11,9 @@ ghost use Rattle.hdlc_station_core.specs.Replies.{frame_text};
 
 use crate::deeds::Reply;
 use crate::station::StationCore;
-use arrayvec::ArrayVec;
 use er_base::Room;
 use hdlc_frames::laws::{control_length, frame_length};
-use hdlc_frames::{Control, put_frame};
+use hdlc_frames::{Control, put_fields};
 use hdlc_station_model::Phase;
 
 // The modulo of the numbers.
@@ -71,7 +70,7 @@ impl StationCore {
         } else {
             control.octets(bit)
         };
-        put_frame(address, table.as_slice(), out);
+        put_fields(address, table.as_slice(), &[], out);
     }
 
     /// Writes a reply.
@@ -115,10 +114,8 @@ impl StationCore {
             control.octets(false)
         };
         let payload = self.ring.get(i as usize);
-        let mut body: ArrayVec<u8, 1028> = ArrayVec::new();
-        let _ = body.try_extend_from_slice(table.as_slice());
-        let _ = body.try_extend_from_slice(payload.octets());
-        put_frame(address_of(!self.calling), body.as_slice(), out);
+        let receiver = address_of(!self.calling);
+        put_fields(receiver, table.as_slice(), payload.octets(), out);
     }
 
     // Sends the I frames of so many payloads from the one on that is `first` places behind V(A).

@@ -44,7 +44,7 @@ impl SealedText {
         let header = pdu.kind().header(flag);
         let receiver = EtcsNumber::new(da);
         match *pdu {
-            SaPdu::Au1 { .. } | SaPdu::Di { .. } => SealedText::addressed(receiver).with_length(),
+            SaPdu::Au1 { .. } | SaPdu::Di { .. } => SealedText::of_none(receiver),
             SaPdu::Au2 {
                 id,
                 feature,
@@ -66,6 +66,15 @@ impl SealedText {
         self.octets.as_slice()
     }
 
+    // The text of an SaPDU of which no part is sealed.
+    fn of_none(receiver: EtcsNumber) -> SealedText
+        ensures { IsLengthAndOctets (three receiver) result }
+    {
+        let mut text = SealedText::addressed(receiver);
+        text.put_length();
+        text
+    }
+
     // The text of an AU2.
     fn of_au2(
         receiver: EtcsNumber,
@@ -83,7 +92,8 @@ impl SealedText {
         text.put(&[feature]);
         text.put(&eight_of(ra));
         text.put(&eight_of(rb));
-        text.with_length()
+        text.put_length();
+        text
     }
 
     // The text of an AU3.
@@ -94,7 +104,8 @@ impl SealedText {
         text.put(&[header]);
         text.put(&eight_of(ra));
         text.put(&eight_of(rb));
-        text.with_length()
+        text.put_length();
+        text
     }
 
     // The text of an AR.
@@ -103,7 +114,8 @@ impl SealedText {
     {
         let mut text = SealedText::addressed(receiver);
         text.put(&[header]);
-        text.with_length()
+        text.put_length();
+        text
     }
 
     // The text of a DT.
@@ -114,7 +126,8 @@ impl SealedText {
         let mut text = SealedText::addressed(receiver);
         text.put(&[header]);
         text.put(user);
-        text.with_length()
+        text.put_length();
+        text
     }
 
     // Two octets for the length of what follows them, and the receiver's number.
@@ -137,15 +150,14 @@ impl SealedText {
         self.octets.try_extend_from_slice(octets).unwrap();
     }
 
-    // The text whose first two octets are the length of what follows them.
-    fn with_length(mut self) -> SealedText
-        requires { 2 ≤ length self }
-        ensures { result ≡ two (length self - 2) ++ drop 2 self }
+    // Writes the length of what follows the first two octets over them.
+    fn put_length(&mut self)
+        requires { 2 ≤ length self.old }
+        ensures { self.new ≡ two (length self.old - 2) ++ drop 2 self.old }
     {
         let length = self.octets.len() - 2;
         let [high, low] = two_of(length as u16);
         self.octets[0] = high;
         self.octets[1] = low;
-        self
     }
 }
