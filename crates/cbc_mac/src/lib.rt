@@ -7,7 +7,5 @@
 mod chaining;
 pub mod laws;
 mod mac_key;
-#[cfg(test)]
-mod tests;
 
 pub use mac_key::{MacKey, mac};

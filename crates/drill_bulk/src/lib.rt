@@ -5,7 +5,5 @@
 #![tactic(auto)]
 
 mod bulk;
-#[cfg(test)]
-mod tests;
 
 pub use bulk::{MOST_MESSAGES, steps};

@@ -3,6 +3,7 @@ use Rattle.std.proofs.Common.{◌≡◌, ℕ, List, [], ◌∷◌, ◌++◌, ref
 use Rattle.pair_model.specs.Links.{EndKind, PairLink}
 use Rattle.pair_model.specs.Steps.{PairStep, NoFrameWaits, IsPassOrTake, ArePassesAndTakes, pair_step, pair_run}
 use Rattle.pair_model.specs.Steps as on_pair
+use Rattle.pair_model.specs.Walks.{pair_run_append}
 use Rattle.drill_model.specs.Outcomes.{Occurrence}
 use Rattle.drill_model.specs.Links.{Link, LinkStep, Pass, Take, Tick, link_step}
 use Rattle.drill_model.specs.Recovery.{NoneWaits}
@@ -36,17 +37,10 @@ module _ {A : Type 0} (v : Level A) (acts : Acts v) where
       → (let t = link_step l (Tick moment) in Given v (pair_step v.kind (on_pair.Tick moment) p) t.0 (history ++ t.1))
   tick_kept l history p moment s = record { steps = []; are = tt; sees = step_sees v acts l history p (Tick moment) s }
 
--- ---- one run behind another, and one step between two
-
-module _ {A : Type 0} (kind : EndKind A) where
-  run_then : (p : PairLink A) (xs zs : List PairStep) (s : PairStep) → pair_run kind p (xs ++ s ∷ zs) ≡ pair_run kind (pair_step kind s (pair_run kind p xs)) zs
-  run_then p [] zs s = refl
-  run_then p (x ∷ xs) zs s = run_then (pair_step kind x p) xs zs s
-
-  pub run_through : (p : PairLink A) (xs ys zs : List PairStep) (s : PairStep)
-      → pair_run kind p (xs ++ ys ++ s ∷ zs) ≡ pair_run kind (pair_step kind s (pair_run kind (pair_run kind p xs) ys)) zs
-  run_through p [] ys zs s = run_then p ys zs s
-  run_through p (x ∷ xs) ys zs s = run_through (pair_step kind x p) xs ys zs s
+-- one run behind another, and a step between the second and a third
+pub run_through : {A : Type 0} (kind : EndKind A) (p : PairLink A) (xs ys zs : List PairStep) (s : PairStep)
+    → pair_run kind p (xs ++ ys ++ s ∷ zs) ≡ pair_run kind (pair_step kind s (pair_run kind (pair_run kind p xs) ys)) zs
+run_through kind p xs ys zs s = pair_run_append kind xs (ys ++ s ∷ zs) p ∙ pair_run_append kind ys (s ∷ zs) (pair_run kind p xs)
 
 pub none_waits : {A : Type 0} (v : Level A) (l : Link) (history : List Occurrence) (p : PairLink A) → Sees v l history p → NoneWaits l → NoFrameWaits p
 none_waits v l history p s none = (sym s.from_e_is ∙ none.0, sym s.from_r_is ∙ none.1)

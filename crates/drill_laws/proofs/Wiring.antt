@@ -75,51 +75,44 @@ accepted_grows s history more = flat_map-append (accepted_of s) history more
 pub releases_grow : (history more : List Occurrence) → releases_in (history ++ more) ≡ releases_in history ++ releases_in more
 releases_grow history more = flat_map-append (λ (o : Occurrence). released_in o.outcome) history more
 
--- the history behind these occurrences at one side, as a whole
-pub record Grows (side : Side) (history : List Occurrence) (os : List DrillOutcome) (handed taken : List (List ℕ)) (releases : List Release) (disorder disturbed : Bool)
-    : Type 0 where
-  pub sent_own : sent_by side (history ++ map (at_end side) os) ≡ sent_by side history ++ handed
-  pub sent_other : sent_by (other side) (history ++ map (at_end side) os) ≡ sent_by (other side) history
-  pub accepted_own : accepted_by side (history ++ map (at_end side) os) ≡ accepted_by side history ++ taken
-  pub accepted_other : accepted_by (other side) (history ++ map (at_end side) os) ≡ accepted_by (other side) history
-  pub releases_are : releases_in (history ++ map (at_end side) os) ≡ releases_in history ++ releases
+sent_nothing : (s side : Side) (os : List DrillOutcome) → flat_map sent_in os ≡ [] → sent_by s (map (at_end side) os) ≡ []
+sent_nothing E E os none = sent_e_e os ∙ none
+sent_nothing E R os none = sent_e_r os
+sent_nothing R E os none = sent_r_e os
+sent_nothing R R os none = sent_r_r os ∙ none
+
+accepted_nothing : (s side : Side) (os : List DrillOutcome) → flat_map accepted_in os ≡ [] → accepted_by s (map (at_end side) os) ≡ []
+accepted_nothing E E os none = accepted_e_e os ∙ none
+accepted_nothing E R os none = accepted_e_r os
+accepted_nothing R E os none = accepted_r_e os
+accepted_nothing R R os none = accepted_r_r os ∙ none
+
+-- the history behind occurrences at one side, in which nothing was sent, accepted or released
+pub record Lined (side : Side) (history : List Occurrence) (os : List DrillOutcome) (disorder disturbed : Bool) : Type 0 where
+  pub sent : (s : Side) → sent_by s (history ++ map (at_end side) os) ≡ sent_by s history
+  pub accepted : (s : Side) → accepted_by s (history ++ map (at_end side) os) ≡ accepted_by s history
+  pub releases_are : releases_in (history ++ map (at_end side) os) ≡ releases_in history
   pub disorder_is : is_disordered (history ++ map (at_end side) os) ≡ (is_disordered history || disorder)
   pub disturbed_is : is_disturbed (history ++ map (at_end side) os) ≡ (is_disturbed history || disturbed)
   pub facts : facts_in (history ++ map (at_end side) os) ≡ facts_in history
 
-pub grows_of : (side : Side) (history : List Occurrence) (os : List DrillOutcome) (handed taken : List (List ℕ)) (releases : List Release) (disorder disturbed : Bool) (passes : ℕ)
-    → Says os handed taken releases disorder disturbed passes → Grows side history os handed taken releases disorder disturbed
-grows_of E history os handed taken releases disorder disturbed passes h =
-    let more : List Occurrence = map (at_end E) os in
+pub lined_of : (side : Side) (history : List Occurrence) (os : List DrillOutcome) (disorder disturbed : Bool) (passes : ℕ)
+    → Says os [] [] [] disorder disturbed passes → Lined side history os disorder disturbed
+lined_of side history os disorder disturbed passes h =
+    let more : List Occurrence = map (at_end side) os in
     record {
-      sent_own = sent_grows E history more ∙ ap (λ (xs : List (List ℕ)). sent_by E history ++ xs) (sent_e_e os ∙ h.handed_is);
-      sent_other = sent_grows R history more ∙ ap (λ (xs : List (List ℕ)). sent_by R history ++ xs) (sent_r_e os) ∙ append-nil (sent_by R history);
-      accepted_own = accepted_grows E history more ∙ ap (λ (xs : List (List ℕ)). accepted_by E history ++ xs) (accepted_e_e os ∙ h.taken_is);
-      accepted_other = accepted_grows R history more ∙ ap (λ (xs : List (List ℕ)). accepted_by R history ++ xs) (accepted_r_e os) ∙ append-nil (accepted_by R history);
+      sent = λ s. sent_grows s history more ∙ ap (λ (xs : List (List ℕ)). sent_by s history ++ xs) (sent_nothing s side os h.handed_is) ∙ append-nil (sent_by s history);
+      accepted = λ s. accepted_grows s history more ∙ ap (λ (xs : List (List ℕ)). accepted_by s history ++ xs) (accepted_nothing s side os h.taken_is)
+          ∙ append-nil (accepted_by s history);
       releases_are = releases_grow history more
-          ∙ ap (λ (xs : List Release). releases_in history ++ xs) (flat_mapped (λ (o : Occurrence). released_in o.outcome) released_in E (λ o. refl) os ∙ h.releases_are);
+          ∙ ap (λ (xs : List Release). releases_in history ++ xs) (flat_mapped (λ (o : Occurrence). released_in o.outcome) released_in side (λ o. refl) os ∙ h.releases_are)
+          ∙ append-nil (releases_in history);
       disorder_is = list_any-append (λ (o : Occurrence). is_disorder o.outcome) history more
-          ∙ ap (λ (b : Bool). is_disordered history || b) (any_mapped is_disorder E os ∙ h.disorder_is);
+          ∙ ap (λ (b : Bool). is_disordered history || b) (any_mapped is_disorder side os ∙ h.disorder_is);
       disturbed_is = list_any-append (λ (o : Occurrence). is_disturbance o.outcome) history more
-          ∙ ap (λ (b : Bool). is_disturbed history || b) (any_mapped is_disturbance E os ∙ h.disturbed_is);
+          ∙ ap (λ (b : Bool). is_disturbed history || b) (any_mapped is_disturbance side os ∙ h.disturbed_is);
       facts = flat_map-append (λ (o : Occurrence). facts_at o.side o.outcome) history more
-          ∙ ap (λ (fs : List SideFact). facts_in history ++ fs) (h.facts E) ∙ append-nil (facts_in history);
-    }
-grows_of R history os handed taken releases disorder disturbed passes h =
-    let more : List Occurrence = map (at_end R) os in
-    record {
-      sent_own = sent_grows R history more ∙ ap (λ (xs : List (List ℕ)). sent_by R history ++ xs) (sent_r_r os ∙ h.handed_is);
-      sent_other = sent_grows E history more ∙ ap (λ (xs : List (List ℕ)). sent_by E history ++ xs) (sent_e_r os) ∙ append-nil (sent_by E history);
-      accepted_own = accepted_grows R history more ∙ ap (λ (xs : List (List ℕ)). accepted_by R history ++ xs) (accepted_r_r os ∙ h.taken_is);
-      accepted_other = accepted_grows E history more ∙ ap (λ (xs : List (List ℕ)). accepted_by E history ++ xs) (accepted_e_r os) ∙ append-nil (accepted_by E history);
-      releases_are = releases_grow history more
-          ∙ ap (λ (xs : List Release). releases_in history ++ xs) (flat_mapped (λ (o : Occurrence). released_in o.outcome) released_in R (λ o. refl) os ∙ h.releases_are);
-      disorder_is = list_any-append (λ (o : Occurrence). is_disorder o.outcome) history more
-          ∙ ap (λ (b : Bool). is_disordered history || b) (any_mapped is_disorder R os ∙ h.disorder_is);
-      disturbed_is = list_any-append (λ (o : Occurrence). is_disturbance o.outcome) history more
-          ∙ ap (λ (b : Bool). is_disturbed history || b) (any_mapped is_disturbance R os ∙ h.disturbed_is);
-      facts = flat_map-append (λ (o : Occurrence). facts_at o.side o.outcome) history more
-          ∙ ap (λ (fs : List SideFact). facts_in history ++ fs) (h.facts R) ∙ append-nil (facts_in history);
+          ∙ ap (λ (fs : List SideFact). facts_in history ++ fs) (h.facts side) ∙ append-nil (facts_in history);
     }
 
 -- how many of them were passed
@@ -367,7 +360,7 @@ module _ {A : Type 0} (v : Level A) where
       → Sees v l history p → Says os [] [] [] disorder disturbed n → passes ≡ p.passes + n → order ≡ (p.order_kept && not disorder) → free ≡ (p.loss_free && not disturbed)
       → Sees v (with_waiting l side frames) (history ++ map (at_end side) os) (lined side frames order free passes p)
   lined_sees l history p E os frames disorder disturbed order free n passes s says count_is order_is free_is =
-      let g = grows_of E history os [] [] [] disorder disturbed n says in
+      let g = lined_of E history os disorder disturbed n says in
       record {
         opening_is = s.opening_is;
         e_is = s.e_is;
@@ -377,18 +370,18 @@ module _ {A : Type 0} (v : Level A) where
         moment_is = s.moment_is;
         stands_e = s.stands_e;
         stands_r = s.stands_r;
-        sent_e = g.sent_own ∙ append-nil (sent_by E history) ∙ s.sent_e;
-        sent_r = g.sent_other ∙ s.sent_r;
-        accepted_e = g.accepted_own ∙ append-nil (accepted_by E history) ∙ s.accepted_e;
-        accepted_r = g.accepted_other ∙ s.accepted_r;
+        sent_e = g.sent E ∙ s.sent_e;
+        sent_r = g.sent R ∙ s.sent_r;
+        accepted_e = g.accepted E ∙ s.accepted_e;
+        accepted_r = g.accepted R ∙ s.accepted_r;
         order = g.disorder_is ∙ ap (λ (b : Bool). b || disorder) s.order ∙ not_and p.order_kept disorder ∙ ap not (sym order_is);
         free = g.disturbed_is ∙ ap (λ (b : Bool). b || disturbed) s.free ∙ not_and p.loss_free disturbed ∙ ap not (sym free_is);
         count = deliveries_grow history (map (at_end E) os) ∙ ap₂ (λ (i j : ℕ). i + j) s.count (passes_of E os [] [] [] disorder disturbed n says) ∙ sym count_is;
         tells = subst v.Tells (sym g.facts) s.tells;
-        releases = subst (AllByRecursion (IsOfPair v p)) (sym (g.releases_are ∙ append-nil (releases_in history))) s.releases;
+        releases = subst (AllByRecursion (IsOfPair v p)) (sym g.releases_are) s.releases;
       }
   lined_sees l history p R os frames disorder disturbed order free n passes s says count_is order_is free_is =
-      let g = grows_of R history os [] [] [] disorder disturbed n says in
+      let g = lined_of R history os disorder disturbed n says in
       record {
         opening_is = s.opening_is;
         e_is = s.e_is;
@@ -398,13 +391,13 @@ module _ {A : Type 0} (v : Level A) where
         moment_is = s.moment_is;
         stands_e = s.stands_e;
         stands_r = s.stands_r;
-        sent_r = g.sent_own ∙ append-nil (sent_by R history) ∙ s.sent_r;
-        sent_e = g.sent_other ∙ s.sent_e;
-        accepted_r = g.accepted_own ∙ append-nil (accepted_by R history) ∙ s.accepted_r;
-        accepted_e = g.accepted_other ∙ s.accepted_e;
+        sent_r = g.sent R ∙ s.sent_r;
+        sent_e = g.sent E ∙ s.sent_e;
+        accepted_r = g.accepted R ∙ s.accepted_r;
+        accepted_e = g.accepted E ∙ s.accepted_e;
         order = g.disorder_is ∙ ap (λ (b : Bool). b || disorder) s.order ∙ not_and p.order_kept disorder ∙ ap not (sym order_is);
         free = g.disturbed_is ∙ ap (λ (b : Bool). b || disturbed) s.free ∙ not_and p.loss_free disturbed ∙ ap not (sym free_is);
         count = deliveries_grow history (map (at_end R) os) ∙ ap₂ (λ (i j : ℕ). i + j) s.count (passes_of R os [] [] [] disorder disturbed n says) ∙ sym count_is;
         tells = subst v.Tells (sym g.facts) s.tells;
-        releases = subst (AllByRecursion (IsOfPair v p)) (sym (g.releases_are ∙ append-nil (releases_in history))) s.releases;
+        releases = subst (AllByRecursion (IsOfPair v p)) (sym g.releases_are) s.releases;
       }

@@ -8,8 +8,6 @@
 pub mod laws;
 mod setting_name;
 mod settings;
-#[cfg(test)]
-mod tests;
 
 pub use setting_name::SettingName;
 pub use settings::{SettingFault, Settings};

@@ -10,8 +10,6 @@ mod lister;
 mod replies;
 mod silent;
 mod tally;
-#[cfg(test)]
-mod tests;
 mod user;
 
 pub use echo::Echo;

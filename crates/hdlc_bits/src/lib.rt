@@ -19,6 +19,3 @@ pub use deframer::BitDeframer;
 pub use found::BitFound;
 pub use room::BitRoom;
 pub use writing::put_bits;
-
-#[cfg(test)]
-mod tests;

@@ -17,6 +17,3 @@ mod table;
 pub use contents::{LONGEST, SHORTEST, check_octets, check_octets_of_fields, is_intact};
 pub use running::Running;
 pub use sequence::fcs;
-
-#[cfg(test)]
-mod tests;

@@ -8,8 +8,6 @@
 mod derivation;
 mod kmac;
 mod session_keys;
-#[cfg(test)]
-mod tests;
 
 pub use derivation::derive;
 pub use kmac::Kmac;

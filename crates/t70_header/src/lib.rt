@@ -14,6 +14,3 @@ mod wrapping;
 pub use fault::BlockFault;
 pub use joiner::Joiner;
 pub use wrapping::{begin_block, wrap};
-
-#[cfg(test)]
-mod tests;

@@ -8,13 +8,25 @@ mod base;
 #[cfg(test)]
 mod base_line;
 #[cfg(test)]
+mod bit_frames;
+#[cfg(test)]
 mod block;
+#[cfg(test)]
+mod bulk_steps;
+#[cfg(test)]
+mod check_sequences;
 #[cfg(test)]
 mod ends;
 #[cfg(test)]
 mod frames;
 #[cfg(test)]
 mod key_files;
+#[cfg(test)]
+mod keys;
+#[cfg(test)]
+mod macs;
+#[cfg(test)]
+mod network_blocks;
 #[cfg(test)]
 mod outside_objects;
 #[cfg(test)]
@@ -30,6 +42,8 @@ mod scenarios;
 #[cfg(test)]
 mod selective_stations;
 #[cfg(test)]
+mod settings;
+#[cfg(test)]
 mod station_words;
 #[cfg(test)]
 mod stations;
@@ -37,3 +51,5 @@ mod stations;
 mod tpdus;
 #[cfg(test)]
 mod traces;
+#[cfg(test)]
+mod users;

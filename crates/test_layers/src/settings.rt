@@ -1,4 +1,4 @@
-use crate::{SettingFault, SettingName, Settings};
+use er_settings::{SettingFault, SettingName, Settings};
 use std::test::Fail;
 
 // Taken from the table of ranges by hand: each field at its first and last value, and just

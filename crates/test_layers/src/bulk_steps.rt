@@ -1,4 +1,4 @@
-use crate::steps;
+use drill_bulk::steps;
 use er_base::Side;
 use er_scenario::Step;
 use std::test::Fail;

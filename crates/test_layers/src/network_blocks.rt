@@ -1,6 +1,6 @@
-use crate::{BlockFault, Joiner, wrap};
 use er_base::Room;
 use std::test::Fail;
+use t70_header::{BlockFault, Joiner, wrap};
 
 // The expected octets and faults were worked out by hand from the block header of ITU-T T.70.
 

@@ -1,7 +1,7 @@
 //! Values of the check sequence from outside.
 
-use super::plain::{fcs_by_bits, fcs_by_octets};
-use super::{Running, check_octets, fcs, is_intact};
+use hdlc_fcs::plain::{fcs_by_bits, fcs_by_octets};
+use hdlc_fcs::{Running, check_octets, fcs, is_intact};
 
 // The check sequences of 300 strings of pseudo-random octets; string n has n octets. The strings go on in
 // one sequence: a number begins at 1, each octet takes it to number * 1664525 + 1013904223 modulo 2^32 and

@@ -1,4 +1,4 @@
-use crate::{Echo, Lister, Replies, SafeUser, Silent, Tally};
+use er_users::{Echo, Lister, Replies, SafeUser, Silent, Tally};
 use std::test::Fail;
 
 // What was said: the number of texts, the last of them, the leave.

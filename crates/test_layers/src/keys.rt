@@ -1,7 +1,7 @@
 //! A known answer and outside vectors.
 
-use crate::{Kmac, derive};
 use des_block::TripleKey;
+use session_keys::{Kmac, derive};
 
 // KMAC, Ra, Rb and the session keys. Made by Python's package `cryptography` 48.0.0 (OpenSSL 3), TripleDES in
 // mode ECB with one key three times for each step; the keys and numbers are the first eight octets of the

@@ -1,6 +1,6 @@
 //! Known answers and outside vectors.
 
-use crate::{MacKey, mac};
+use cbc_mac::{MacKey, mac};
 use des_block::TripleKey;
 
 const KEYS: [TripleKey; 3] = [

@@ -1,7 +1,7 @@
 //! Lines and frames from outside, in every cut into two pieces.
 
-use super::laws::frame_length;
-use super::{BitDeframer, BitFound, BitRoom, put_bits};
+use hdlc_bits::laws::frame_length;
+use hdlc_bits::{BitDeframer, BitFound, BitRoom, put_bits};
 use std::process::Abort;
 use std::test::Fail;
 
