@@ -1,5 +1,5 @@
 -- The steps that are left, as one message more is drawn.
-use Rattle.std.proofs.Common.{◌≡◌, ℕ, zero, suc, ◌+◌, ◌-◌, ◌<◌, ◌≤◌, List, [], ◌∷◌, ◌++◌, refl, sym, ap, ap₂, subst, ◌∙◌, append-nil, append_assoc, arith}
+use Rattle.std.proofs.Common.{◌≡◌, ℕ, suc, ◌+◌, ◌-◌, ◌<◌, ◌≤◌, List, [], ◌++◌, refl, sym, ap, ap₂, ◌∙◌, append-nil, append_assoc, arith}
 use Rattle.er_scenario.specs.declared.step.Step.{Step}
 use Rattle.rand_core.specs.Stream.{Stream, next_u32}
 use Rattle.drill_bulk.specs.Draws.{words_drawn}

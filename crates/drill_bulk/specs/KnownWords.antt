@@ -6,7 +6,7 @@ use Rattle.rand_core.specs.Stream.{next_u32}
 use Rattle.rand_core.specs.Steps.{stream_of, word_bytes, u32_at}
 use Rattle.rand_core.specs.Pcg32Seed.{pcg32_seed}
 use Rattle.drill_bulk.specs.Draws.{words_drawn, seeded}
-use Rattle.drill_bulk.specs.Turns.{steps_of_bulk_turn, turns}
+use Rattle.drill_bulk.specs.Turns.{turns}
 
 pub words_of_0 : words_drawn 3 (seeded 0) ≡ 298703107 ∷ 4236525527 ∷ 336081875 ∷ []
 unfolding words_drawn next_u32 stream_of pcg32_seed word_bytes u32_at

@@ -29,10 +29,10 @@ use Rattle.er_end_model.specs.Outcomes.{SendRefusal, RefusedNotConnected, Refuse
 use Rattle.er_end_model.specs.Layers.{Spoken, Core, model}
 use Rattle.er_end_model.specs.Steps.{Finds, new_event_at, with_release, hand_tpdu, close_link, send_owed_answer, send_dr, answer_dr, end_after_di, on_safety_release, why_of, with_safety_step, hand_text, skip_message, Carrier, InCr, InCc, InDt, hand_answer, keep_message, on_safety_report, on_text, on_transport_deed, on_joined_block, is_ready, connect_with_text, on_link_up, on_link_told, on_link_deed, hand_next_tpdu, has_next_tpdu, hand_waiting_tpdus, most_offers, conclude_event, step_start, step_frame, is_connected, refusal_at, refusal_of, on_send, step_send_unless, step_take, step_release, is_spent, di_of, on_expiry, step_tick, normal_disconnect}
 use Rattle.er_end_model.specs.Ends.{End as Stack, finds_expired}
-use Rattle.drill_model.specs.Outcomes.{DrillOutcome, OfSafety, Handed, Arrived, Up, Took, NothingToTake, Released as ReleasedOut, Frame, Expired, UserReleased, Passed, Lost, Repeated, Altered, Inserted, NothingWaits, IsShort}
+use Rattle.drill_model.specs.Outcomes.{DrillOutcome, OfSafety, Arrived, Up, Took, NothingToTake, Released as ReleasedOut, Frame}
 use Rattle.drill_model.specs.Outcomes as outcome
 use Rattle.drill_model.specs.Kinds.{sent_in}
-use Rattle.drill_model.specs.StationEnds.{if_up, if_arrived, all_arrived, if_released, if_expired, outcomes_told_by_station, frames_heard, handed_unless, station_send, station_release, station_tick}
+use Rattle.drill_model.specs.StationEnds.{if_up, if_arrived, all_arrived, if_released, if_expired, outcomes_told_by_station, frames_heard, handed_unless}
 use Rattle.drill_model.specs.StationEnds as stations
 use Rattle.drill_model.specs.StackEnds.{facts_told, outcomes_told_by_stack, stack_told, told_unless, told_of_take}
 use Rattle.drill_model.specs.Ends.{EndAtLevel, OfSafe, OfStation, OfStack, EndEvent, Start, Receive, Send, Take, Release as Leave, Tick, safety_event, outcomes_by, safe_end_step, station_end_step, stack_end_step, end_step}

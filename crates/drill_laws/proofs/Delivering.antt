@@ -23,7 +23,7 @@ use Rattle.hdlc_station_model.specs.Lines.{next_of}
 use Rattle.drill_model.specs.Worlds.{link_at, history_on, next_side, overfull_side, Drain, drain, drain_on, world_run}
 use Rattle.drill_model.specs.Kinds.{sent_by, accepted_by, deliveries, IsLossFree, EndsAgree, bound}
 use Rattle.drill_laws.specs.Laws.{FitsSettings, DeliversAlways}
-use Rattle.drill_model.specs.Claims.{IsConnectedEnd, HasAll, IsEmpty, IsDelivered}
+use Rattle.drill_model.specs.Claims.{IsConnectedEnd, IsEmpty, IsDelivered}
 use Rattle.drill_model.specs.Claims as claim
 use Rattle.drill_model.specs.Growth.{FactsGrow, HistoryGrows, HistoryOfOwn, HistoryOfOther}
 use Rattle.er_settings.specs.Ranges.{AllAllowed}

@@ -1,5 +1,5 @@
 -- Passes and takes of a link of the drill are those of its pair, and a tick is a tick of the pair.
-use Rattle.std.proofs.Common.{◌≡◌, ℕ, List, [], ◌∷◌, ◌++◌, refl, sym, ◌∙◌}
+use Rattle.std.proofs.Common.{◌≡◌, ℕ, List, [], ◌∷◌, ◌++◌, sym, ◌∙◌}
 use Rattle.pair_model.specs.Links.{EndKind, PairLink}
 use Rattle.pair_model.specs.Steps.{PairStep, NoFrameWaits, IsPassOrTake, ArePassesAndTakes, pair_step, pair_run}
 use Rattle.pair_model.specs.Steps as on_pair

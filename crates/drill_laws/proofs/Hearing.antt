@@ -20,7 +20,7 @@ use Rattle.er_end_model.specs.Ends.{End as Stack, hears_each, finds_expired}
 use Rattle.er_end_model.specs.Hearing.{FrameGives, EventsGive}
 use Rattle.er_end_model.specs.Outcomes.{SendRefusal}
 use Rattle.drill_model.specs.Outcomes.{DrillOutcome, OfSafety, Handed, Arrived, Up, Took, NothingToTake, Refused, Released, Frame, Expired, UserReleased, Passed, Lost, Repeated, Altered, Inserted, NothingWaits, IsShort}
-use Rattle.drill_model.specs.StationEnds.{if_up, if_arrived, all_arrived, if_released, outcomes_told_by_station, station_and_told, frames_heard, handed_unless, station_send, station_release, if_expired, station_tick, station_start}
+use Rattle.drill_model.specs.StationEnds.{if_up, if_arrived, all_arrived, if_released, outcomes_told_by_station, station_and_told, frames_heard, handed_unless, if_expired}
 use Rattle.drill_model.specs.StationEnds as on_station
 use Rattle.drill_model.specs.StackEnds.{facts_told, outcomes_told_by_stack, stack_told, told_unless, told_of_take}
 use Rattle.drill_model.specs.Ends.{EndAtLevel, OfSafe, OfStation, OfStack, EndEvent, Start, Receive, Send, Take, Release as Leave, Tick, send_refusal_from_safety as refused_as, outcomes_by, station_end_step, stack_end_step, end_step}

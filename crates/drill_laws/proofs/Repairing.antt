@@ -2,7 +2,7 @@
 use Rattle.std.proofs.Common.{◌≡◌, ℕ, ◌+◌, ◌≤◌, max, Bool, true, List, ◌∷◌, ◌++◌, length, sym, ap, ap₂, subst, ◌∙◌, inl, inr, true≢false}
 use Rattle.std.specs.Prelude.{is_some}
 use Rattle.er_base.specs.declared.side.Side.TheVariants.{E, R}
-use Rattle.pair_model.specs.Steps.{PairStep, NoFrameWaits, ArePassesAndTakes, drained, pair_step, pair_run}
+use Rattle.pair_model.specs.Steps.{PairStep, NoFrameWaits, drained, pair_step, pair_run}
 use Rattle.pair_model.specs.Steps as on_pair
 use Rattle.pair_model.specs.Walks.{pair_run_append}
 use Rattle.hdlc_pair_laws.specs.Links.{StationLink, station_kind, opened_station_link}

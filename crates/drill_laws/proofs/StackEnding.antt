@@ -13,7 +13,7 @@ use Rattle.x224_tpdu.specs.declared.fault.TpFault.{TpFault}
 use Rattle.x224_tpdu.specs.Function.{reading}
 use Rattle.x224_class2.specs.Segments.{Segment, text_so_far}
 use Rattle.x224_class2.specs.Tpdus.{GivenTpdu, Dr, Dc}
-use Rattle.x224_class2.specs.Transport.{Transport, ReceptionDeed, Nothing, Called, Confirmed, Message, Disconnected, is_new, is_calling, is_open, is_over, refusal_of_tpdu, on_request, on_confirm, on_disconnect, is_expected, on_data, number_named, on_named, on_acknowledgement, on_reading, reception, turn_of, next_tpdu, tpdu_at, TpduTurn, Rest, Opening, Acknowledgement, Data}
+use Rattle.x224_class2.specs.Transport.{Transport, ReceptionDeed, Nothing, Called, Confirmed, Message, Disconnected, is_new, is_calling, is_open, is_over, refusal_of_tpdu, is_expected, number_named, on_named, on_reading, reception}
 use Rattle.x224_class2.specs.Transport as transport
 use Rattle.x224_class2.specs.Refusals.{protocol_error, tpdu_refused, message_too_long}
 use Rattle.sapdu.specs.Spelling.{di_in}

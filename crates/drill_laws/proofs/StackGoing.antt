@@ -19,7 +19,7 @@ use Rattle.drill_model.specs.StationEnds.{if_released, if_expired}
 use Rattle.drill_model.specs.StackEnds.{facts_told, outcomes_told_by_stack, stack_told, told_unless, told_of_take}
 use Rattle.drill_model.specs.StackReports.{IsOrderly, CallsReport}
 use Rattle.drill_model.specs.Kinds.{sent_in, accepted_in, released_in, passed_in, is_disorder, is_disturbance}
-use Rattle.drill_model.specs.Ends.{EndAtLevel, OfStack, EndEvent, stack_end_step}
+use Rattle.drill_model.specs.Ends.{OfStack, EndEvent, stack_end_step}
 use Rattle.drill_model.specs.Ends as event
 use Rattle.drill_laws.proofs.Tellings.{all_kept, all_push, frames_released, frames_append}
 use Rattle.drill_laws.proofs.StackSaying.{Says, starts_went, comes_went, leaves_went, ticks_went, uses_went, sends_went, spoke_none, call_says}

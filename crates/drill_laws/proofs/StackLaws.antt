@@ -27,7 +27,7 @@ use Rattle.drill_model.specs.Ends.{EndAtLevel, OfStack}
 use Rattle.drill_model.specs.Links.{Link, LinkOpening, OfPair, OfStations, OfStacks, opened_link, LinkStep, Send, Pass, Change, Take, Release as ReleaseStep, Tick}
 use Rattle.drill_model.specs.Worlds.{DrillPlan, Drain, drain, link_at, history_on, world_run}
 use Rattle.drill_model.specs.Kinds.{releases_in, is_disturbed, IsOrderKeeping, IsLossFree, EndsAgree, deliveries, bound}
-use Rattle.drill_model.specs.Claims.{IsInOrder, IsLosingLineReason, IsConnectedEnd, HasTakenAll, HasAll, IsEmpty, IsDelivered, IsUnforged}
+use Rattle.drill_model.specs.Claims.{IsInOrder, IsLosingLineReason, IsConnectedEnd, HasTakenAll, IsEmpty, IsDelivered, IsUnforged}
 use Rattle.drill_model.specs.Claims as claim
 use Rattle.drill_model.specs.Steps.{AllFit}
 use Rattle.drill_model.specs.Growth.{FactsGrow, HistoryGrows, HistoryOfOwn, HistoryOfOther}

@@ -19,7 +19,7 @@ use Rattle.er_end_model.specs.Layers.{Spoken, model}
 use Rattle.er_end_model.specs.Steps.{new_event_at, step_start, step_tick}
 use Rattle.hdlc_station_model.specs.Events.{news}
 use Rattle.hdlc_station_model.specs.Lines.{IsPrefix}
-use Rattle.er_end_model.specs.Ends.{End as Stack, Event, Call, Answer, opened as stack_opened, finds_expired}
+use Rattle.er_end_model.specs.Ends.{End as Stack, Call, Answer, opened as stack_opened, finds_expired}
 use Rattle.er_end_model.specs.Ends as on_end
 use Rattle.pair_model.specs.Links.{end_of_side}
 use Rattle.er_end_pair_laws.specs.Links.{EndLink as Pair}

@@ -27,9 +27,9 @@ use Rattle.hdlc_station_model.specs.Events as station_events
 use Rattle.er_end_model.specs.Outcomes.{SendRefusal}
 use Rattle.er_end_model.specs.Layers.{Spoken, Core, model}
 use Rattle.er_end_model.specs.Steps.{Finds, new_event_at, step_start, step_frame, is_connected, refusal_of, step_send_unless, step_take, step_release, step_tick}
-use Rattle.er_end_model.specs.Ends.{End as Stack, finds_expired}
+use Rattle.er_end_model.specs.Ends.{finds_expired}
 use Rattle.er_end_model.specs.Ends as stacks
-use Rattle.drill_model.specs.Outcomes.{DrillOutcome, Arrived, Frame, UserReleased, Passed, NothingWaits, Occurrence, at_end}
+use Rattle.drill_model.specs.Outcomes.{DrillOutcome, Arrived, Frame, Occurrence, at_end}
 use Rattle.drill_model.specs.Outcomes as came
 use Rattle.drill_model.specs.StationEnds.{if_up, if_arrived, if_released, if_expired, outcomes_told_by_station, station_and_told, frames_heard, handed_unless}
 use Rattle.drill_model.specs.StationEnds as station
@@ -38,7 +38,7 @@ use Rattle.drill_model.specs.Ends.{EndAtLevel, OfSafe, OfStation, OfStack, EndEv
 use Rattle.drill_model.specs.Ends as event
 use Rattle.hdlc_station_model.specs.Lines.{altered}
 use Rattle.hdlc_station_model.specs.Events.{said_octets, news as station_news, quits}
-use Rattle.drill_model.specs.Waiting.{LineChange, Lose, Repeat, Alter, Put}
+use Rattle.drill_model.specs.Waiting.{Lose, Repeat, Alter, Put}
 use Rattle.drill_model.specs.Waiting as waits
 use Rattle.drill_model.specs.Links.{Link, LinkOpening, OfPair, OfStations, OfStacks, end_of, waiting_of, with_waiting, key_on, give, link_of, joined_pair, opened_link, Send, Pass, Change, Take, Release as ReleaseStep, Tick, pass, link_step}
 use Rattle.drill_model.specs.Effects.{Effect, Sends, IsRefused, Passes, Loses, Repeats, Alters, Inserts, Releases, Expires, effect_in, Effects, effects_in, RanOut, HasRunOut, of_first, of_alter, TickEffects}

@@ -14,7 +14,7 @@ use Rattle.safety_pair_laws.specs.Openings.{PairOpening, OfFixed, OfKeys, Pair, 
 use Rattle.safety_pair_laws.specs.Talks.{answer, Talks, Begins, Goes}
 use Rattle.safety_pair_laws.specs.Authentic.{TalksAreAuthentic}
 use Rattle.drill_model.specs.Outcomes.{DrillOutcome, NothingWaits, IsShort, Altered, UserReleased, Passed, Occurrence, at_end, facts_in}
-use Rattle.drill_model.specs.Ends.{EndAtLevel, OfSafe, EndEvent, Start, safety_event, outcomes_by, safe_end_step, end_step}
+use Rattle.drill_model.specs.Ends.{OfSafe, EndEvent, Start, safety_event, outcomes_by, safe_end_step}
 use Rattle.drill_model.specs.Ends as event
 use Rattle.hdlc_station_model.specs.Lines.{altered}
 use Rattle.drill_model.specs.Waiting.{LineChange, Lose, Repeat, Alter, Put, change_first}

@@ -18,7 +18,7 @@ use Rattle.safety_pair_laws.specs.Talks.{answer}
 use Rattle.safety_pair_laws.specs.Deliveries.{sent_of, accepted_of, sapdus_of, Flow, under_way, with_under_way, flow_behind_event, delivered, untouched, begun_flow, Flows, Begins, Sends, Delivers, FitsOpening}
 use Rattle.safety_pair_laws.specs.Messages as pair
 use Rattle.drill_model.specs.Outcomes.{DrillOutcome, OfSafety, Handed, Arrived, Passed, Altered, NothingWaits, IsShort, Occurrence, at_end, facts_at, facts_in, frames_in}
-use Rattle.drill_model.specs.Ends.{EndAtLevel, OfSafe, EndEvent, Start, safety_event, outcomes_by, safe_end_step, end_step}
+use Rattle.drill_model.specs.Ends.{OfSafe, EndEvent, Start, safety_event, outcomes_by, safe_end_step}
 use Rattle.drill_model.specs.Ends as event
 use Rattle.hdlc_station_model.specs.Lines.{altered}
 use Rattle.drill_model.specs.Waiting.{LineChange, Lose, Repeat, Alter, Put, change_first}

@@ -6,7 +6,7 @@ use Rattle.er_base.specs.declared.side.Side.TheVariants.{E, R}
 use Rattle.er_base.specs.Sides.{other}
 use Rattle.hdlc_station_model.specs.Lines.{altered, next_of}
 use Rattle.pair_model.specs.Links.{PairLink, end_of_side, frames_from, with_frames_from, end_did, opened_pair_link}
-use Rattle.pair_model.specs.Steps.{PairStep, NoFrameWaits, is_overfull, pass_next, drained, pair_step, pair_run}
+use Rattle.pair_model.specs.Steps.{PairStep, is_overfull, pass_next, drained, pair_step, pair_run}
 use Rattle.pair_model.specs.Steps as on_pair
 use Rattle.pair_model.specs.Walks.{pair_run_append}
 use Rattle.drill_model.specs.Outcomes.{DrillOutcome, UserReleased, Passed, Lost, Repeated, Altered, Inserted, NothingWaits, IsShort, Occurrence, at_end}

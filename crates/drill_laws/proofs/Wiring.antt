@@ -8,7 +8,6 @@ use Rattle.std.proofs.lemmas.List.Folds.{list_any-append}
 use Rattle.er_base.specs.declared.release.Release.{Release}
 use Rattle.er_base.specs.declared.side.Side.{Side}
 use Rattle.er_base.specs.declared.side.Side.TheVariants.{E, R}
-use Rattle.er_base.specs.Sides.{other}
 use Rattle.safety_pair_laws.specs.Facts.{SideFact, is_side}
 use Rattle.pair_model.specs.Links.{EndKind, PairLink, end_of_side, end_did}
 use Rattle.drill_model.specs.Outcomes.{DrillOutcome, NothingWaits, Occurrence, at_end, facts_at, facts_in, frames_in}

@@ -26,7 +26,7 @@ use Rattle.safety_automaton.specs.Keys.{no_keys}
 use Rattle.safety_automaton.specs.Rules.{IsStep, StepsOnly, AtReceived, AtDisconnect, AtConnect, StaysIdle}
 use Rattle.safety_automaton.specs.Laws.{KeysAreOwn, session_keys_of_outcome}
 use Rattle.safety_automaton.specs.Reports.{KeptSafe, report_of}
-use Rattle.safety_automaton.specs.Safety.{Safety, Phase, Ready, WaitAu1, WaitAu2, WaitAu3, WaitAr, Connected, Released, SafetyEvent, ConnectRequest, Received, DataRequest, DisconnectRequest, SafetyOutcome, SentAu1, SentAu2, SentAu3, SentAr, ReceivedAr, AcceptedDt, SentDt, Refused, ReleasedLocally, ReleasedByPeer, NothingDone, flag_of, peer_flag, session_in, sealed_by, verified_by, octets_sent_in_outcome, sends_dt, step}
+use Rattle.safety_automaton.specs.Safety.{Safety, Phase, Ready, WaitAu1, WaitAu2, WaitAu3, WaitAr, Connected, Released, SafetyEvent, ConnectRequest, Received, DataRequest, DisconnectRequest, SafetyOutcome, SentAu1, SentAu2, SentAu3, SentAr, ReceivedAr, AcceptedDt, SentDt, Refused, ReleasedLocally, ReleasedByPeer, NothingDone, flag_of, peer_flag, session_in, octets_sent_in_outcome, sends_dt, step}
 use Rattle.safety_automaton.specs.Safety.{connects as begins_side, sends as sends_side, disconnects as disconnects_side}
 use Rattle.safety_automaton.specs.Safety as refused
 use Rattle.sapdu.specs.Messages.{is_message}

@@ -1,11 +1,11 @@
 -- The end of a link at level full: a station (ISO/IEC 13239), network blocks (ITU-T T.70), a transport (ITU-T X.224 class 2) and a safety
 -- side (UNISIG SUBSET-037), one above the other; and what an event at it tells and sends (this profile).
-use Rattle.std.specs.Prelude.{ℕ, Bool, ◌&&◌, ◌||◌, not, List, [], ◌∷◌, ◌++◌, map, Option, Some, None, is_some}
+use Rattle.std.specs.Prelude.{ℕ, List, [], ◌∷◌, ◌++◌, map, Option, Some, None}
 use Rattle.hdlc_frames.specs.Framing.{Verdict}
 use Rattle.safety_pair_laws.specs.Facts.{facts_of}
-use Rattle.hdlc_station_model.specs.Events.{said_octets, is_late, news}
+use Rattle.hdlc_station_model.specs.Events.{said_octets, news}
 use Rattle.er_end_model.specs.Layers.{Spoken, Core, model}
-use Rattle.er_end_model.specs.Steps.{Finds, new_event_at, step_frame, refusal_of, is_spent}
+use Rattle.er_end_model.specs.Steps.{Finds, new_event_at, step_frame, refusal_of}
 use Rattle.er_end_model.specs.Ends.{End as Stack, Event, Start, Come, Send, Take, Leave, Tick, step_event, finds_expired}
 use Rattle.er_end_model.specs.Outcomes.{SendRefusal}
 use Rattle.drill_model.specs.Outcomes.{DrillOutcome, OfSafety, Took, NothingToTake, Refused, Frame}

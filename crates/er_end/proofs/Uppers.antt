@@ -8,7 +8,7 @@ use Rattle.x224_tpdu.specs.Spelling.{TransportPdu, connection_request, connectio
 use Rattle.x224_tpdu.specs.Function.{reading}
 use Rattle.x224_class2.specs.Refusals.{protocol_error, tpdu_refused, message_too_long}
 use Rattle.x224_class2.specs.Tpdus.{GivenTpdu}
-use Rattle.x224_class2.specs.Transport.{Transport, ReceptionDeed, Nothing, Called, Confirmed, Message, Disconnected, is_new, is_called, is_open, is_over, TpduTurn, Rest, Opening, Acknowledgement, Data, reception, untaken_count, waiting_count, next_tpdu, after_next, with_given, after_connect, after_accept, after_hand, after_taken}
+use Rattle.x224_class2.specs.Transport.{Transport, ReceptionDeed, Nothing, Called, Confirmed, Message, Disconnected, is_new, is_called, is_open, is_over, TpduTurn, Rest, Opening, Acknowledgement, Data, reception, next_tpdu, after_next, with_given, after_connect, after_accept, after_hand, after_taken}
 use Rattle.x224_class2.specs.Transport as transport
 use Rattle.x224_class2.specs.Kept.{KeptTransport, kept_over, may_be_called, kept_called, may_be_confirmed, kept_confirmed, may_be_disconnected, kept_is_expected, kept_with_data, may_acknowledge, kept_acknowledged, kept_refusal, kept_on_reading, kept_reception, kept_turn, kept_behind, kept_after_next, octets_next, kept_after_connect, kept_after_accept, kept_after_hand, kept_after_taken, distance}
 use Rattle.x224_class2.specs.Standing.{StandsForTransport, ConnectStands, AcceptStands, HandStands, TakenStands, ReceptionStands, NextStands, CountsStand}

@@ -5,11 +5,11 @@ use Rattle.er_base.specs.declared.release.Release.{Release as Why}
 use Rattle.safety_automaton.specs.Keys.{KmacEntry, key_at}
 use Rattle.er_end_model.specs.Outcomes.{Outcome, SendRefusal}
 use Rattle.er_end_model.specs.Steps.{if_connected, if_accepted, if_released, if_octets, if_taken}
-use Rattle.er_end_model.specs.Ends.{Opening, Event, End, opened, step_event, refusal_or_outcomes}
+use Rattle.er_end_model.specs.Ends.{Event, End, opened, step_event, refusal_or_outcomes}
 use Rattle.er_end_model.specs.Ends as event
 use Rattle.er_end.specs.Inboxes.{newest_of, first_in}
 use Rattle.er_end.specs.KeptEnds.{KEnd, kept_end_behind_event, told_by, used_of, refusal_of_send, after_send, waiting_in}
-use Rattle.er_end.specs.Standing.{IsAllowed, EndStands, MadeStands, StepsAlike, ShowsAlike}
+use Rattle.er_end.specs.Standing.{EndStands, MadeStands, StepsAlike, ShowsAlike}
 use Rattle.er_end.specs.Standing as standing
 use Rattle.er_end_c.specs.declared.handle.CEnd.{CEnd}
 use Rattle.er_end_c.specs.declared.held.Held.{Held}

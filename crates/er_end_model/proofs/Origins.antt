@@ -24,7 +24,7 @@ use Rattle.er_end_model.specs.Outcomes.{Outcome, ConnectedTo, Accepted, SendRefu
 use Rattle.er_end_model.specs.Outcomes as told
 use Rattle.er_end_model.specs.Steps.{Finds, new_event_at, send_dr, answer_dr, on_safety_release, why_of, with_safety_step, Carrier, InCr, InCc, InDt, hand_answer, keep_message, on_safety_report, on_text, on_transport_deed, on_joined_block, is_ready, connect_with_text, on_link_up, on_link_told, conclude_event, step_start, step_frame, refusal_of, step_send_unless, on_send, step_take, step_release, step_tick, step_break, if_connected, if_accepted, if_released, if_octets, outcomes_of, if_taken}
 use Rattle.er_end_model.specs.Layers.{Core, model}
-use Rattle.er_end_model.specs.Ends.{Event, Start, Come, Send, Take, Leave, Tick, Ended, Fault, Stalled, End, Moment, hears_each, told_of_each, refusal_or_outcomes, end_run, outcomes}
+use Rattle.er_end_model.specs.Ends.{Event, Start, Come, Send, Take, Leave, Tick, Ended, Fault, Stalled, End, Moment, told_of_each, refusal_or_outcomes, end_run, outcomes}
 use Rattle.er_end_model.specs.Ends as end
 use Rattle.er_end_model.specs.Hearing.{text_in_deed, station_behind, IsTextOf}
 use Rattle.er_end_model.specs.Origins.{BringsMessage, ConnectsWith, ByAu3, ByAr, core_behind_frames, Brings, Origin, OctetOutcomesHaveOrigin, BringsIn, RunsAreHeard, octets_brought_by_event, StreamIsWhole}

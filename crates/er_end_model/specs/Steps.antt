@@ -2,7 +2,7 @@
 -- transport and the safety side. What these answer goes down; then, while no payload waits at the station, the next TPDU is handed
 -- down in a block; last comes the answer that the station still owes. An event that releases the end does neither, unless a line says so.
 use Rattle.hdlc_station_model.specs.Receiving.{is_some_octets}
-use Rattle.std.specs.Prelude.{ℕ, zero, suc, ◌==◌, nat_lt, nat_le, max, min, Bool, true, false, not, ◌&&◌, if◌then◌else◌, List, [], ◌∷◌, ◌++◌, length, Option, Some, None, is_some, Ok, Err}
+use Rattle.std.specs.Prelude.{ℕ, zero, suc, ◌==◌, nat_le, max, min, Bool, true, false, not, ◌&&◌, if◌then◌else◌, List, [], ◌∷◌, ◌++◌, length, Option, Some, None, is_some, Ok, Err}
 use Rattle.er_base.specs.declared.release.Release.{Release}
 use Rattle.er_base.specs.declared.cause.Cause.{Cause}
 use Rattle.er_base.specs.declared.cause.Cause.TheVariants.{User, DisconnectWithoutDi, BlockRefused, SetUpTimeSpent}

@@ -14,7 +14,7 @@ use Rattle.x224_class2.specs.Transport.{waiting_count}
 use Rattle.er_end_model.specs.Outcomes.{SendRefusal}
 use Rattle.er_end_model.specs.Layers.{Core, model}
 use Rattle.er_end_model.specs.Steps.{new_event_at, refusal_at, is_connected, is_spent, step_send_unless, on_send, step_take, step_tick}
-use Rattle.er_end_model.specs.Ends.{End, finds_expired}
+use Rattle.er_end_model.specs.Ends.{finds_expired}
 use Rattle.er_end_model.specs.Ends as event
 use Rattle.pair_model.specs.Links.{end_of_side, frames_from}
 use Rattle.pair_model.specs.Steps.{pass, tick}

@@ -26,7 +26,7 @@ use Rattle.x224_class2.specs.Tpdus.{GivenTpdu, Dr}
 use Rattle.x224_class2.specs.Transport.{Transport, is_open, after_taken, after_hand, waiting_count}
 use Rattle.x224_class2.specs.declared.stage.Stage.{Stage}
 use Rattle.x224_class2.specs.declared.stage.Stage.TheVariants as stages
-use Rattle.er_end_model.specs.Outcomes.{SendRefusal, RefusedReleased, RefusedNotConnected, RefusedFull}
+use Rattle.er_end_model.specs.Outcomes.{SendRefusal, RefusedNotConnected, RefusedFull}
 use Rattle.er_end_model.specs.Outcomes as outcomes
 use Rattle.er_end_model.specs.Layers.{Core, model}
 use Rattle.er_end_model.specs.Steps.{new_event_at, send_dr, normal_disconnect, with_safety_step, hand_text, on_link_deed, conclude_event, on_frame, on_tick, on_expiry, is_spent, is_connected, di_of, on_release, on_take, on_start, on_send, refusal_at, why_of}

@@ -9,7 +9,7 @@ use Rattle.x224_class2.specs.Tpdus.{GivenTpdu}
 use Rattle.safety_automaton.specs.Safety.{initiator, responder}
 use Rattle.er_end_model.specs.Layers.{Core, model}
 use Rattle.er_end_model.specs.Steps.{new_event_at, step_start}
-use Rattle.er_end_model.specs.Ends.{End, core_made, Call, Answer}
+use Rattle.er_end_model.specs.Ends.{core_made, Call, Answer}
 use Rattle.er_end_model.specs.Ends as end
 use Rattle.pair_model.specs.Steps.{PairStep}
 use Rattle.pair_model.specs.Walks.{runs_keep_in_order}

@@ -14,7 +14,7 @@ use Rattle.x224_class2.specs.Transport.{waiting_count}
 use Rattle.er_end_model.specs.Outcomes.{SendRefusal}
 use Rattle.er_end_model.specs.Layers.{Core, model}
 use Rattle.er_end_model.specs.Steps.{new_event_at, step_frame, refusal_at, is_connected, step_send_unless, on_send, step_take, step_release, step_tick}
-use Rattle.er_end_model.specs.Ends.{End, Event, Come, hears_each, step_event}
+use Rattle.er_end_model.specs.Ends.{hears_each}
 use Rattle.er_end_model.specs.Ends as event
 use Rattle.pair_model.specs.Links.{frames_from}
 use Rattle.pair_model.specs.Steps.{pass, lose, repeat, tick}

@@ -14,7 +14,6 @@ use Rattle.link_trait.specs.Outside.{Grew}
 use Rattle.link_trait.specs.Growth.{grew_then, grew_nothing}
 use Rattle.er_program.specs.Asking.{AskedNames, AsksLast, AsksBehindKeys, Asks}
 use Rattle.er_program.specs.Commands.{Replay}
-use Rattle.er_statuses.specs.LastLines.{fetch_line}
 use Rattle.er_statuses.specs.Answers.{Answer, keys_answer}
 use Rattle.er_program.specs.Answers.{AllAreTaken, OneIsRefused, IsTraceAnswer, lines_answer, tap_answer}
 use Rattle.er_program.specs.AuditWriting.{IsTapAnswer}

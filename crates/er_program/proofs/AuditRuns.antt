@@ -1,5 +1,5 @@
 -- How the audit of a tap ends, from how its parts end.
-use Rattle.std.proofs.Common.{◌≡◌, ◌⊎◌, inl, inr, ℕ, ◌≤◌, List, [], ◌∷◌, ◌++◌, Option, Some, None, Result, Ok, Err, codes, refl, sym, subst, ap, ◌∙◌, arith}
+use Rattle.std.proofs.Common.{◌≡◌, ◌⊎◌, inl, inr, ℕ, ◌≤◌, List, [], Option, Some, None, Result, Ok, Err, codes, refl, sym, subst, ap, ◌∙◌, arith}
 use Rattle.er_base.specs.declared.no_memory.NoMemory.{NoMemory as Want}
 use Rattle.er_base.specs.declared.text_fault.TextFault.{TextFault}
 use Rattle.er_base.specs.declared.text_fault.TextFault.TheVariants as text
@@ -21,11 +21,11 @@ use Rattle.tap_model.specs.Audits.{Audits}
 use Rattle.tap_model.specs.Lines.{TapFault, NoLinkAt, TwiceAt, fault_of_tap_lines}
 use Rattle.tap_model.specs.Texts.{audit_text}
 use Rattle.er_program.specs.AuditRuns.{FirstAuditText}
-use Rattle.er_program.specs.AuditWriting.{IsLinesAnswer, IsTapAnswer, BeginsAudit, BeginsLines, BeginsSpelledTap, BeginsTap, BeginsTapFile, BeginsTapOfGood, BeginsTapBehindKeys, TellsTapFault}
+use Rattle.er_program.specs.AuditWriting.{IsLinesAnswer, IsTapAnswer, BeginsLines, BeginsSpelledTap, BeginsTap, BeginsTapFile, BeginsTapOfGood, BeginsTapBehindKeys, TellsTapFault}
 use Rattle.er_program.specs.Commands.{Audit}
 use Rattle.er_statuses.specs.LastLines.{fetch_line, fault_line, why_word}
 use Rattle.er_statuses.specs.Answers.{Answer, Files, HasFetched, keys_answer}
-use Rattle.er_program.specs.Answers.{lines_answer, tap_answer, IsTapFileAnswer, IsTapAnswerBehindKeys}
+use Rattle.er_program.specs.Answers.{lines_answer, IsTapFileAnswer, IsTapAnswerBehindKeys}
 use Rattle.er_program.specs.KeyWriting.{GaveOne, BrokeOne}
 use Rattle.er_program.specs.ReplayWriting.{BeganOne, EndsOne}
 use Rattle.er_statuses.specs.Writing.{GivesAnswer, EndsUnfetched}

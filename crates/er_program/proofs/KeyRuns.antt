@@ -6,7 +6,7 @@ use Rattle.key_store.specs.declared.key_file_fault.KeyFileFault.TheVariants as k
 use Rattle.er_base.specs.declared.no_memory.NoMemory.{NoMemory}
 use Rattle.key_store.specs.Answers.{RefusesAsKeyFileSays}
 use Rattle.key_store.specs.KeyFiles.{keys_of}
-use Rattle.link_trait.specs.Outside.{Rose, HasFile}
+use Rattle.link_trait.specs.Outside.{HasFile}
 use Rattle.er_program.specs.Commands.{Migrate}
 use Rattle.er_statuses.specs.LastLines.{fetch_line}
 use Rattle.er_statuses.specs.Answers.{Answer, Files, keys_answer}

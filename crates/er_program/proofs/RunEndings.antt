@@ -6,7 +6,7 @@ use Rattle.er_base.specs.declared.text_fault.TextFault.TheVariants as text
 use Rattle.er_base.specs.declared.why.Why.{Why}
 use Rattle.er_scenario.specs.Files.{scenario_of}
 use Rattle.er_scenario.specs.Texts.{CanBeRead}
-use Rattle.link_trait.specs.Outside.{Rose, HasStayedAsTold, HasFile}
+use Rattle.link_trait.specs.Outside.{HasFile}
 use Rattle.er_program.specs.Commands.{Misused, Drill}
 use Rattle.er_statuses.specs.LastLines.{fetch_line, usage_line, fault_line, why_word}
 use Rattle.er_statuses.specs.Answers.{Files}

@@ -1,5 +1,5 @@
 -- What a run means by its status, for the command that it was: the facts of its parts, put together.
-use Rattle.std.proofs.Common.{◌≡◌, ◌≢◌, ◌⊎◌, inl, inr, ℕ, Bool, false, List, [], Option, refl, arith}
+use Rattle.std.proofs.Common.{◌≡◌, ◌≢◌, ◌⊎◌, inl, inr, ℕ, false, List, [], Option, refl, arith}
 use Rattle.er_statuses.specs.Answers.{Files}
 use Rattle.er_serving.specs.LineCommands as line
 use Rattle.er_serving.specs.LineRuns.{GivenToLoop, IsLineStatus}

@@ -11,7 +11,6 @@ use Rattle.drill_model.specs.declared.world_fault.WorldFault.TheVariants.{NoLink
 use Rattle.drill_model.specs.Worlds.{plan_of, steps_of}
 use Rattle.drill_model.specs.Faults.{fault_behind, AllDone}
 use Rattle.drill_model.specs.Texts.{first_lines, drill_text}
-use Rattle.link_trait.specs.Outside.{HasFile, Rose}
 use Rattle.er_program.specs.Commands.{Command, Misused, Drill, Bits, Migrate, Replay, Audit, Bulk, Serve, Call}
 use Rattle.er_program.specs.BitTexts.{most_line_octets, bits_text}
 use Rattle.er_program.specs.BulkTexts.{bulk_plan, steps_of_bulk, totals_of_bulk, totals_line, FirstOverfull}
@@ -33,8 +32,7 @@ use Rattle.trace_model.specs.Replays.{AreTaken, HasFirstRefusedEvent}
 use Rattle.key_store.specs.declared.key_file_fault.KeyFileFault.{KeyFileFault}
 use Rattle.key_store.specs.declared.key_file_fault.KeyFileFault.TheVariants as keys
 use Rattle.key_store.specs.KeyFiles.{keys_of}
-use Rattle.er_statuses.specs.Answers.{Answer, Files, HasFetched, keys_answer, AreKeysRefused}
-use Rattle.er_statuses.specs.KeyLines.{keys_line}
+use Rattle.er_statuses.specs.Answers.{Answer, Files, HasFetched, keys_answer}
 use Rattle.er_statuses.specs.LastLines.{usage_line, fetch_line, fault_line, memory_line, overfull_line, why_word}
 
 -- ---- a drill

@@ -1,5 +1,5 @@
 -- A bulk run (this profile): its steps in a world of level full with the usual settings, and the one line that is printed of it.
-use Rattle.std.specs.Prelude.{ℕ, ◌≡◌, ◌<◌, false, List, [], ◌∷◌, take, slice_get, Some, None, codes}
+use Rattle.std.specs.Prelude.{ℕ, ◌≡◌, false, List, [], ◌∷◌, take, slice_get, Some, codes}
 use Rattle.std.specs.Fmt.{decimal}
 use Rattle.er_base.specs.LineTexts.{line_text}
 use Rattle.er_base.specs.declared.side.Side.{Side}

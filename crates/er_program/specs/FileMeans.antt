@@ -1,6 +1,6 @@
 -- Representation: what a run of a command that needs no wires means by its status, by what it saw of its cabinet and its sink; no claim
 -- rests on it.
-use Rattle.std.specs.Prelude.{◌≡◌, ◌⊎◌, ℕ, List, [], ◌++◌, ◌∷◌, false, Option, None}
+use Rattle.std.specs.Prelude.{◌≡◌, ℕ, List, [], ◌++◌, ◌∷◌, false, Option, None}
 use Rattle.link_trait.specs.Outside.{Grew, Rose}
 use Rattle.er_program.specs.Commands.{Command, names_of}
 use Rattle.er_serving.specs.Outsides.{Outside}

@@ -1,5 +1,5 @@
 -- What is claimed of a run of a command that needs no wires (this profile): what was done, what the sink got, and why it ended otherwise.
-use Rattle.std.specs.Prelude.{◌≡◌, ◌⊎◌, ◌≤◌, ℕ, ◌<◌, List, [], ◌∷◌, ◌++◌, length, take, Option, Some, None, Result, Ok, Err, codes}
+use Rattle.std.specs.Prelude.{◌≡◌, ◌⊎◌, ◌≤◌, ℕ, ◌<◌, List, [], ◌++◌, length, take, Option, Some, Result, Ok, Err, codes}
 use Rattle.er_base.specs.declared.why.Why.{Why}
 use Rattle.er_base.specs.declared.text_fault.TextFault.TheVariants.{At}
 use Rattle.er_scenario.specs.declared.scenario.Scenario.{Scenario}
@@ -7,10 +7,10 @@ use Rattle.er_scenario.specs.Files.{scenario_of}
 use Rattle.drill_model.specs.Worlds.{plan_of}
 use Rattle.drill_model.specs.Texts.{drill_text}
 use Rattle.drill_model.specs.Headline.{Holds}
-use Rattle.link_trait.specs.Outside.{Grew, GrewPart, Rose, HasFile}
+use Rattle.link_trait.specs.Outside.{Grew, GrewPart, HasFile}
 use Rattle.er_program.specs.Commands.{Command, Misused, Drill, Bits, Migrate, Replay, Audit, Bulk, Serve, Call}
-use Rattle.er_statuses.specs.LastLines.{usage_line, memory_line, fetch_line, fault_line, overfull_line, why_word}
-use Rattle.er_program.specs.Answers.{replay_fault_line, IsAnswer, IsScenarioAnswer, FirstFault, AreDone, first_steps, lines_of_first, fault_answer, bits_answer, IsKeysAnswer, IsTraceAnswer, IsBulkAnswer}
+use Rattle.er_statuses.specs.LastLines.{memory_line, fault_line, overfull_line, why_word}
+use Rattle.er_program.specs.Answers.{replay_fault_line, IsAnswer, IsScenarioAnswer, FirstFault, AreDone, first_steps, lines_of_first, fault_answer, IsKeysAnswer, IsTraceAnswer, IsBulkAnswer}
 use Rattle.er_statuses.specs.Answers.{Answer, HasFetched, Files, keys_answer}
 use Rattle.er_program.specs.BitTexts.{most_line_octets, verdict_lines, verdicts_in, bits_text}
 use Rattle.er_program.specs.BulkTexts.{bulk_plan, steps_of_bulk, totals_of_bulk, totals_line, FirstOverfull}
@@ -24,7 +24,6 @@ use Rattle.trace_model.specs.Printed.{text_of_trace}
 use Rattle.trace_model.specs.Replays.{AreTaken, HasFirstRefusedEvent}
 use Rattle.key_store.specs.declared.key_file_fault.KeyFileFault.{KeyFileFault}
 use Rattle.key_store.specs.KeyFiles.{keys_of}
-use Rattle.er_statuses.specs.KeyLines.{keys_line}
 use Rattle.er_program.specs.AuditRuns.{FirstAuditText}
 
 -- ---- what holds of a world

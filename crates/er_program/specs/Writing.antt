@@ -12,9 +12,8 @@ use Rattle.drill_model.specs.Texts.{step_lines}
 use Rattle.er_world.specs.Standing.{KeptWorld, Ran, IsFaultBehind}
 use Rattle.drill_model.specs.Faults.{fault_behind}
 use Rattle.link_trait.specs.Outside.{Grew, GrewPart, Rose}
-use Rattle.link_trait.specs.declared.sink.Failed.{Failed}
 use Rattle.er_program.specs.Commands.{Command, Misused, Drill, Bits, Migrate, Replay, Audit, Bulk, Serve, Call}
-use Rattle.er_statuses.specs.LastLines.{usage_line, memory_line}
+use Rattle.er_statuses.specs.LastLines.{usage_line}
 use Rattle.er_statuses.specs.Answers.{Answer, Files}
 use Rattle.er_statuses.specs.Writing.{GivesAnswer}
 use Rattle.er_program.specs.Answers.{IsDrillAnswer, IsScenarioAnswer, IsFileAnswer, IsBitsAnswer, AreDone, first_steps, lines_of_first, fault_answer, IsMigrateAnswer, IsReplayWordsAnswer, IsAuditWordsAnswer, IsBulkAnswer}

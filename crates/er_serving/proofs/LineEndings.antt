@@ -1,21 +1,20 @@
 -- How the parts of a run of `serve` or `call` end, from how their calls end.
-use Rattle.std.proofs.Common.{◌≡◌, ◌⊎◌, inl, inr, ℕ, ◌≤◌, List, [], ◌∷◌, Option, Some, None, Result, Ok, Err, IfOk, refl, sym, subst, arith}
+use Rattle.std.proofs.Common.{◌≡◌, inl, inr, ℕ, ◌≤◌, List, [], ◌∷◌, Option, None, Result, Ok, Err, IfOk, refl, subst, arith}
 use Rattle.er_base.specs.declared.no_memory.NoMemory.{NoMemory}
 use Rattle.safety_automaton.specs.Keys.{KmacEntry, key_at}
 use Rattle.key_store.specs.declared.key_file_fault.KeyFileFault.{KeyFileFault}
 use Rattle.key_store.specs.declared.key_file_fault.KeyFileFault.TheVariants as keys
 use Rattle.key_store.specs.Answers.{RefusesAsKeyFileSays}
 use Rattle.key_store.specs.KeyFiles.{keys_of}
-use Rattle.link_trait.specs.Outside.{Grew, GrewPart, Rose, HasFile}
+use Rattle.link_trait.specs.Outside.{Grew, Rose, HasFile}
 use Rattle.link_trait.specs.States.{SinkState}
 use Rattle.loop_session.specs.declared.loop_fault.LoopFault.{LoopFault}
 use Rattle.loop_session.specs.declared.loop_fault.LoopFault.TheVariants as fault
 use Rattle.readiness_loop.specs.declared.line_plan.Served.{Served}
 use Rattle.er_statuses.specs.Answers.{Files, keys_answer}
-use Rattle.er_statuses.specs.LastLines.{fetch_line}
 use Rattle.er_serving.specs.LineCommands.{LineCommand, Serve, Call, key_file_of, AsksClock}
 use Rattle.er_serving.specs.Outsides.{Outside, Traffic, traffic_of, IsLeftAlone}
-use Rattle.er_serving.specs.LineRuns.{GivenToLoop, Looped, HasNoKey, LoopFails, LoopBreaks, OfFetch, OfKeyFile, OfPair, NotLooped, Looping, RunsOut, BeforeLoop, WithinLoop, with_sink, wires_line, no_key_line}
+use Rattle.er_serving.specs.LineRuns.{GivenToLoop, Looped, LoopFails, LoopBreaks, OfFetch, OfKeyFile, OfPair, NotLooped, Looping, RunsOut, BeforeLoop, WithinLoop, with_sink, no_key_line}
 use Rattle.er_serving.specs.LineWriting.{LoopTold, HasLooped, WiresFailed, KeyLacks, InLoop, InWiresLine, InKeyLine, LoopEnds, FileBroke, FileSpent, FileEnds, NotFetched, WasRead, LineEnds}
 use Rattle.er_serving.specs.LineStatuses.{LineBroke}
 use Rattle.er_statuses.specs.Writing.{GivesAnswer, EndsUnfetched}

@@ -1,6 +1,6 @@
 -- What a run of `serve` or `call` means by its status, from how it ended.
-use Rattle.std.proofs.Common.{◌≡◌, ◌≢◌, ◌⊎◌, inl, inr, ℕ, ◌≤◌, List, [], ◌∷◌, Option, Some, None, Result, Ok, Err, refl, sym, subst, arith}
-use Rattle.safety_automaton.specs.Keys.{KmacEntry, key_at}
+use Rattle.std.proofs.Common.{◌≡◌, ◌≢◌, inl, inr, ℕ, ◌≤◌, List, [], ◌∷◌, Option, Result, Ok, Err, refl, sym, subst, arith}
+use Rattle.safety_automaton.specs.Keys.{KmacEntry}
 use Rattle.key_store.specs.declared.key_file_fault.KeyFileFault.{KeyFileFault}
 use Rattle.key_store.specs.declared.key_file_fault.KeyFileFault.TheVariants as keys
 use Rattle.key_store.specs.KeyFiles.{keys_of}
@@ -11,7 +11,7 @@ use Rattle.er_statuses.specs.KeyLines.{keys_line}
 use Rattle.er_statuses.specs.LastLines.{memory_line}
 use Rattle.er_serving.specs.LineCommands.{LineCommand, Serve, Call, key_file_of, AsksClock}
 use Rattle.er_serving.specs.Outsides.{Outside, traffic_of, IsLeftAlone, IsSteady}
-use Rattle.er_serving.specs.LineRuns.{GivenToLoop, Looped, FailsWith, LacksKey, HasLineStatus, IsStatusOfLoop, IsStatusBehindKeyFile, RunsOut, BeforeLoop, Spent, with_sink, wires_line}
+use Rattle.er_serving.specs.LineRuns.{GivenToLoop, Looped, FailsWith, LacksKey, HasLineStatus, IsStatusOfLoop, RunsOut, BeforeLoop, Spent, with_sink, wires_line}
 use Rattle.er_serving.specs.LineWriting.{HasLooped, WiresFailed, KeyLacks, FileEnded, LineEnded, NotFetched, WasRead, LineMeans}
 use Rattle.er_serving.specs.LineStatuses.{LineBroke, IsLineRun}
 use Rattle.er_statuses.specs.Writing.{Exhausts}

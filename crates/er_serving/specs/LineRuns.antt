@@ -1,5 +1,5 @@
 -- What is claimed of a run of `serve` or `call` (this profile): the statuses, what the loop did, what the sink got, and why it ended otherwise.
-use Rattle.std.specs.Prelude.{◌≡◌, ◌⊎◌, ℕ, List, [], ◌∷◌, ◌++◌, Option, Some, None, Result, Ok, Err, codes}
+use Rattle.std.specs.Prelude.{◌≡◌, ◌⊎◌, ℕ, List, [], ◌∷◌, Option, Some, None, Result, Ok, Err, codes}
 use Rattle.std.specs.Fmt.{decimal}
 use Rattle.rand_core.specs.Stream.{Stream}
 use Rattle.er_base.specs.LineTexts.{line_text}

@@ -1,5 +1,5 @@
 -- Representation: how the parts of a run of `serve` or `call` end; no claim rests on it.
-use Rattle.std.specs.Prelude.{◌≡◌, ◌≤◌, ◌⊎◌, ℕ, List, [], ◌∷◌, Option, Result, Ok, Err}
+use Rattle.std.specs.Prelude.{◌≡◌, ◌≤◌, ◌⊎◌, ℕ, List, [], ◌∷◌, Result, Ok, Err}
 use Rattle.safety_automaton.specs.Keys.{KmacEntry}
 use Rattle.key_store.specs.declared.key_file_fault.KeyFileFault.{KeyFileFault}
 use Rattle.key_store.specs.KeyFiles.{keys_of}

@@ -1,7 +1,7 @@
 -- Representation: the program's outside in the code, which is lent to it; no claim rests on it.
 use Rattle.std.specs.Prelude.{◌≡◌, ◌≤◌, ℕ, List, [], ◌∷◌, Result, IfOk}
 use Rattle.std.specs.Borrow.{GName}
-use Rattle.link_trait.specs.Outside.{Grew, GrewPart, HasStayedAsTold}
+use Rattle.link_trait.specs.Outside.{Grew, GrewPart}
 use Rattle.er_serving.specs.Outsides.{Outside, IsSteady}
 use Rattle.er_statuses.specs.declared.status.Status.{Status}
 use Rattle.er_statuses.specs.declared.stop.Stop.{Stop}

@@ -1,5 +1,5 @@
 -- The recordings of `serve` and `call`: what the sink got is read as a trace, and a replay of this trace writes it again (this profile).
-use Rattle.loop_model.specs.Ends.{ModelEnd, model_ends}
+use Rattle.loop_model.specs.Ends.{model_ends}
 use Rattle.std.specs.Prelude.{ℕ, ◌≡◌, ◌≤◌, true, false, List, length, Option, Some}
 use Rattle.rand_core.specs.Stream.{Stream}
 use Rattle.des_block.specs.declared.triple_key.TripleKey.{TripleKey}

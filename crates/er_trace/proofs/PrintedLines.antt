@@ -14,7 +14,7 @@ use Rattle.er_trace.specs.declared.said.Said.TheVariants.{Happens, Tells}
 use Rattle.er_trace.specs.Files.{event_line, refusal_line, outcome_line_check, line_says, entries_of, trace_of}
 use Rattle.er_trace.specs.Headers.{settings_allowed, settings_of_six, settings_spelled, header_settings}
 use Rattle.er_trace.specs.Laws as laws_of
-use Rattle.er_trace.specs.Laws.{PrintedLine, Told, printed_words, CanBePrinted, AllCanBePrinted, text_printed, entries_printed, PrintedIsRead}
+use Rattle.er_trace.specs.Laws.{PrintedLine, Told, printed_words, AllCanBePrinted, text_printed, entries_printed, PrintedIsRead}
 use Rattle.er_trace.specs.Outcomes.{TraceOutcome}
 use Rattle.er_trace.specs.Outcomes as of
 use Rattle.er_trace.specs.Ranges.{IsMoment, IsInRange}

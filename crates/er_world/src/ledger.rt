@@ -1,6 +1,6 @@
 //! What is kept of all that came at a link.
 
-ghost use Rattle.std.specs.Prelude.{◌≡◌, [], false, not, List, IfOk, OnOk};
+ghost use Rattle.std.specs.Prelude.{◌≡◌, [], false, not, List, OnOk};
 ghost use Rattle.std.specs.List.{list_any};
 ghost use Rattle.safety_pair_laws.specs.Facts.{MarkedFact, is_sealing};
 ghost use Rattle.drill_model.specs.Outcomes.{DrillOutcome};

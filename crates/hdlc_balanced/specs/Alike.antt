@@ -1,6 +1,6 @@
 -- Contract: how a clause speaks of a call by what is kept alone: the call is done to the one station of the model that `model_of` makes of what is
 -- kept. That it is the same for every station of the model that the code may keep is a law.
-use Rattle.std.specs.Prelude.{◌≡◌, ℕ, ◌+◌, ◌<◌, ◌≤◌, ◌==◌, false, if◌then◌else◌, List, [], ◌++◌, length, replicate, None}
+use Rattle.std.specs.Prelude.{◌≡◌, ℕ, ◌+◌, ◌≤◌, ◌==◌, if◌then◌else◌, List, [], ◌++◌, length, replicate, None}
 use Rattle.er_base.specs.Stored.{Stored}
 use Rattle.hdlc_frames.specs.Framing.{Verdict}
 use Rattle.hdlc_station_model.specs.Frames.{modulo}

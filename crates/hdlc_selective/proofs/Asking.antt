@@ -1,13 +1,12 @@
 -- Numbers that are asked for one by one are those that the model asks for.
-use Rattle.std.proofs.Common.{◌≡◌, ◌≢◌, ℕ, zero, suc, ◌+◌, ◌-◌, ◌<◌, ◌≤◌, Bool, true, false, not, ◌||◌, if◌then◌else◌, List, [], ◌∷◌, ◌++◌, length, map, Option, Some, None, ap, ap₂, ◌∙◌, inl, inr, arith, refl, sym, subst, ne_eqb, append-nil}
-use Rattle.std.specs.Prelude.{◌==◌}
+use Rattle.std.proofs.Common.{◌≡◌, ℕ, zero, suc, ◌+◌, ◌-◌, ◌<◌, ◌≤◌, Bool, true, false, not, ◌||◌, if◌then◌else◌, List, [], ◌∷◌, ◌++◌, length, map, Option, ap, ap₂, ◌∙◌, inl, inr, arith, refl, sym, ne_eqb, append-nil}
 use Rattle.std.specs.List.{filter}
 use Rattle.std.proofs.lemmas.Bool.{cases_Bool}
 use Rattle.std.proofs.lemmas.List.{append_assoc, map-append}
 use Rattle.std.proofs.lemmas.List.Elements.{filter-append}
 use Rattle.hdlc_station_model.specs.Frames.{Frame, Srej}
 use Rattle.hdlc_station_model.specs.Stations.{Station, puts}
-use Rattle.hdlc_station_model.specs.Selective.{held_for, is_found, is_one_of, numbers_from, missing_below, holds}
+use Rattle.hdlc_station_model.specs.Selective.{held_for, is_found, is_one_of, numbers_from, holds}
 use Rattle.hdlc_selective.specs.Steps.{asks_one, asks_below}
 use Rattle.hdlc_selective.proofs.Behind.{asked_append, held_others}
 

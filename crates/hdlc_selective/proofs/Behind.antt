@@ -1,10 +1,10 @@
 -- What the model holds and asks for by number, against what the places say by how far it is above V(R).
-use Rattle.std.proofs.Common.{◌≡◌, ◌≢◌, ℕ, zero, suc, ◌+◌, ◌-◌, ◌<◌, ◌≤◌, ◌⊎◌, Bool, true, false, not, ◌||◌, if◌then◌else◌, List, [], ◌∷◌, ◌++◌, length, get_or, drop, take, set, map, Option, Some, None, ap, ◌∙◌, inl, inr, arith, refl, sym, subst, add-one, eq-eqb, ne_eqb, eqb-true, length-append, length-set, get_or-drop}
+use Rattle.std.proofs.Common.{◌≡◌, ◌≢◌, ℕ, zero, suc, ◌+◌, ◌-◌, ◌<◌, ◌≤◌, Bool, true, false, not, ◌||◌, if◌then◌else◌, List, [], ◌∷◌, ◌++◌, length, get_or, drop, take, set, map, Option, Some, None, ap, ◌∙◌, inl, inr, arith, refl, sym, eq-eqb, ne_eqb, eqb-true, get_or-drop}
 use Rattle.std.specs.Prelude.{◌==◌, nat_le, replicate}
 use Rattle.std.specs.List.{filter}
 use Rattle.std.proofs.lemmas.Bool.{cases_Bool, cases_eq, cases_lt, leb-true, leb-false, eqb-false}
 use Rattle.std.proofs.lemmas.List.{get_or-set_other, get_or-set_same}
-use Rattle.hdlc_station_model.specs.Selective.{held_for, is_found, is_one_of, without_gap}
+use Rattle.hdlc_station_model.specs.Selective.{held_for, is_one_of, without_gap}
 use Rattle.hdlc_selective.specs.Places.{NumberPlace, no_place, cleared, held_in, held_at, asked_at, run_of}
 use Rattle.hdlc_selective.specs.Kept.{IsBehind, HaveDistinctNumbers}
 use Rattle.hdlc_selective.proofs.Runs.{held_dropped, asked_dropped, run_yes, run_no}

@@ -1,14 +1,14 @@
 -- Parts of a call over the core and the places.
-use Rattle.std.proofs.Common.{◌≡◌, ◌≢◌, ℕ, zero, suc, ◌+◌, ◌-◌, ◌*◌, ◌<◌, ◌≤◌, Bool, true, false, ◌||◌, if◌then◌else◌, List, [], ◌∷◌, ◌++◌, length, get_or, set, drop, take, map, Option, Some, None, ap, ap₂, ◌∙◌, inl, inr, arith, refl, sym, subst, eq-eqb, ne_eqb, append_assoc, length-append, ltb-true, ltb-false}
+use Rattle.std.proofs.Common.{◌≡◌, ℕ, ◌+◌, ◌-◌, ◌<◌, ◌≤◌, Bool, true, false, ◌||◌, if◌then◌else◌, List, [], ◌∷◌, ◌++◌, length, get_or, set, drop, take, map, Option, Some, None, ap, ap₂, ◌∙◌, arith, refl, sym, subst, eq-eqb, ne_eqb, append_assoc, length-append, ltb-true, ltb-false}
 use Rattle.std.specs.Prelude.{◌==◌, nat_le, nat_lt}
 use Rattle.std.specs.List.{filter}
 use Rattle.er_base.specs.Stored.{Stored}
 use Rattle.hdlc_station_model.specs.declared.phase.Phase.{Phase}
-use Rattle.hdlc_station_model.specs.Frames.{Frame, Srej, Rr}
+use Rattle.hdlc_station_model.specs.Frames.{Srej, Rr}
 use Rattle.hdlc_station_model.specs.Stations.{Station, Deed, no_deed, puts}
 use Rattle.hdlc_station_model.specs.Sending.{refuses_frame}
 use Rattle.hdlc_station_model.specs.Receiving.{number_shown_as, acknowledges, acknowledging, by_number, accepts, agrees}
-use Rattle.hdlc_station_model.specs.Selective.{held_for, is_found, is_one_of, without_gap, takes_run, holds, says_next, files_at, files}
+use Rattle.hdlc_station_model.specs.Selective.{held_for, is_found, is_one_of, takes_run, holds, says_next, files_at, files}
 use Rattle.hdlc_station_core.specs.declared.deeds.Told.{Told}
 use Rattle.hdlc_station_core.specs.declared.deeds.Told.TheVariants.{Nothing, CameUp, Took, Released}
 use Rattle.hdlc_station_core.specs.declared.deeds.Heard.{Heard}
@@ -21,7 +21,7 @@ use Rattle.hdlc_selective.specs.declared.deeds.SelectiveHeard.{SelectiveHeard}
 use Rattle.hdlc_selective.specs.declared.deeds.SelectiveReply.{SelectiveReply}
 use Rattle.hdlc_selective.specs.declared.deeds.SelectiveReply.TheVariants.{Plain}
 use Rattle.hdlc_selective.specs.Replies.{IsReplyWritten, HearsSo}
-use Rattle.hdlc_selective.specs.Places.{NumberPlace, no_place, cleared, held_in, held_at, asked_at, run_of, lent}
+use Rattle.hdlc_selective.specs.Places.{NumberPlace, no_place, cleared, run_of, lent}
 use Rattle.hdlc_selective.specs.Kept.{KeptStation, kept_of, Stands, Follows, Tells, WritesFramesAtMost, IsBehind, SelectiveStands, Moves, TellsSelectiveDeed}
 use Rattle.hdlc_selective.specs.Told.{told_as, deed_of, untaken}
 use Rattle.hdlc_selective.specs.Steps.{asks_one, asks_below, takes_first}

@@ -1,6 +1,6 @@
 -- Places that are cleared and stand behind the others, and runs of places that are held.
-use Rattle.std.proofs.Common.{◌≡◌, ◌≢◌, ℕ, zero, suc, ◌+◌, ◌-◌, ◌<◌, ◌≤◌, ◌⊎◌, Bool, true, false, if◌then◌else◌, List, [], ◌∷◌, ◌++◌, length, get_or, drop, take, set, map, Option, Some, None, ap, ◌∙◌, inl, inr, arith, length-append, length-drop, length-set, length-take-le, get_or-drop, refl, sym, add-one}
-use Rattle.std.proofs.lemmas.List.{get_or_append_left, get_or-append_right, get_or-set_other, get_or-set_same, get_or_past, drop_at, drop_more, take_more, append_assoc, map-append, length-map}
+use Rattle.std.proofs.Common.{◌≡◌, ℕ, zero, suc, ◌+◌, ◌-◌, ◌<◌, ◌≤◌, Bool, true, false, if◌then◌else◌, List, [], ◌∷◌, ◌++◌, length, get_or, drop, take, set, map, Some, None, ap, ◌∙◌, inl, inr, arith, length-append, length-drop, length-take-le, get_or-drop, refl, sym, add-one}
+use Rattle.std.proofs.lemmas.List.{get_or_append_left, get_or-append_right, get_or_past, drop_at, drop_more, take_more, append_assoc, map-append, length-map}
 use Rattle.std.proofs.lemmas.Bool.{cases_lt, cases_Bool}
 use Rattle.hdlc_selective.specs.Places.{NumberPlace, no_place, cleared, held_in, held_at, asked_at, run_of, lent}
 

@@ -1,6 +1,6 @@
 -- Contract: how a clause speaks of what the code keeps of a station of the model with selective reject: what the core keeps, and for each
 -- number from V(R) on, as many as the window has, a place.
-use Rattle.std.specs.Prelude.{◌≡◌, ℕ, ◌+◌, ◌<◌, ◌≤◌, Bool, false, List, [], ◌∷◌, length, Option, None}
+use Rattle.std.specs.Prelude.{◌≡◌, ℕ, ◌+◌, ◌<◌, ◌≤◌, false, List, [], ◌∷◌, length, None}
 use Rattle.er_base.specs.Stored.{Stored}
 use Rattle.hdlc_frames.specs.Framing as framing
 use Rattle.hdlc_station_model.specs.Stations.{Station, Deed, no_deed}

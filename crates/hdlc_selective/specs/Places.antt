@@ -1,5 +1,5 @@
 -- Contract: how a clause speaks of what the code holds of the frames behind a gap: by the places of the numbers from V(R) on.
-use Rattle.std.specs.Prelude.{ℕ, zero, suc, ◌-◌, Bool, true, false, if◌then◌else◌, List, [], ◌∷◌, length, drop, map, slice_index_or, Option, None, Some}
+use Rattle.std.specs.Prelude.{ℕ, zero, suc, ◌-◌, Bool, false, if◌then◌else◌, List, [], ◌∷◌, length, drop, map, slice_index_or, Option, None, Some}
 
 -- the place of a number: whether a payload is held for it, and whether it was asked for. The payload stays when it isn't held any more
 pub record NumberPlace : Type 0 where

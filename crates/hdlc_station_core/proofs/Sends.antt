@@ -1,10 +1,9 @@
 -- The steps of what a station sends, against what the code keeps.
-use Rattle.std.proofs.Common.{inl, inr, if◌then◌else◌, ◌≡◌, ℕ, zero, suc, ◌+◌, ◌-◌, ◌<◌, ◌≤◌, Bool, true, false, ◌&&◌, List, [], ◌∷◌, ◌++◌, length, Option, None, Some, is_some, refl, sym, ap, ◌∙◌, subst, arith, add-one, length-drop}
+use Rattle.std.proofs.Common.{inl, inr, if◌then◌else◌, ◌≡◌, ℕ, zero, suc, ◌+◌, ◌-◌, ◌<◌, Bool, true, false, List, [], ◌∷◌, ◌++◌, length, Option, None, Some, is_some, refl, sym, ap, ◌∙◌, subst, arith, add-one, length-drop}
 use Rattle.std.specs.Prelude.{◌==◌}
 use Rattle.std.proofs.lemmas.Bool.{cases_Bool}
 use Rattle.er_base.specs.Stored.{Stored}
 use Rattle.hdlc_station_model.specs.declared.phase.Phase.{Phase}
-use Rattle.hdlc_station_model.specs.Frames.{Frame}
 use Rattle.hdlc_station_model.specs.Stations.{Station, Deed, expiry_moment}
 use Rattle.hdlc_station_model.specs.Sending.{info_at, started, can_send, sends_next, sends_up_to, sends_again, counts_expiry}
 use Rattle.hdlc_station_core.specs.Kept.{KeptStation, kept_of, Stands, WritesFramesAtMost}

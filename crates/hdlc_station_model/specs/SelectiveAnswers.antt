@@ -3,8 +3,8 @@
 use Rattle.std.specs.Prelude.{◌≡◌, ℕ, true, false, List, [], ◌∷◌, Some, None, refl}
 use Rattle.hdlc_frames.specs.Framing.{Frame as Found}
 use Rattle.hdlc_frames.specs.ControlOctets.{control_of}
-use Rattle.hdlc_station_model.specs.declared.phase.Phase.TheVariants.{Up, Down}
-use Rattle.hdlc_station_model.specs.Frames.{Frame, Info, Rr, Srej, Dm}
+use Rattle.hdlc_station_model.specs.declared.phase.Phase.TheVariants.{Down}
+use Rattle.hdlc_station_model.specs.Frames.{Info, Rr, Srej, Dm}
 use Rattle.hdlc_station_model.specs.Stations.{Station, made, settled}
 use Rattle.hdlc_station_model.specs.Calls.{starts, hands, finishes, ticks, deadline}
 use Rattle.hdlc_station_model.specs.Selective.{selective_receives}

@@ -15,7 +15,7 @@ use Rattle.loop_model.specs.Outs.{Out, still, next, makes, acts, exactly}
 use Rattle.loop_model.specs.Signs.{order_still, order_next, order_makes}
 use Rattle.loop_model.specs.Sessions.{Session, is_released}
 use Rattle.loop_model.specs.Visits as visits
-use Rattle.loop_model.specs.Visits.{WritingState, after_write, writes_if, writes_once, writes, session_kept_or_closed, closed, stays, is_due}
+use Rattle.loop_model.specs.Visits.{WritingState, after_write, writes_once, writes, session_kept_or_closed, is_due}
 use Rattle.loop_io.specs.declared.writing.Flow.TheVariants as flow
 use Rattle.loop_io.specs.Acting.{Acted}
 use Rattle.loop_io.specs.Seeing.{seen, IsAnsweredSo, IsWrittenSo, Counts}

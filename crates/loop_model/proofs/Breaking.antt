@@ -7,7 +7,7 @@ use Rattle.loop_model.proofs.EndKeepings.{ReleaseStays, BreaksRelease}
 use Rattle.er_trace.specs.declared.event.Event.{Event}
 use Rattle.er_trace.specs.declared.event.Event.TheVariants.{Call, Answer, Octets, Send, Take, Release, Tick as Ticked, Ended, Fault, Stalled, Full, Unserved}
 use Rattle.link_trait.specs.Wires as wires
-use Rattle.link_trait.specs.Wires.{Reading, Gave, NotNow, End, Failed, Reads, Writes, Closes}
+use Rattle.link_trait.specs.Wires.{Reading, Gave, NotNow, End, Failed, Reads, Writes}
 use Rattle.link_trait.specs.declared.wires.WriteAnswer.{WriteAnswer}
 use Rattle.link_trait.specs.declared.wires.WriteAnswer.TheVariants as write
 use Rattle.loop_model.specs.Journals.{JournalEntry}

@@ -9,7 +9,7 @@ use Rattle.link_trait.specs.Wires.{Call, Reading, Gave, NotNow, End, Failed, Rea
 use Rattle.link_trait.specs.declared.wires.WriteAnswer.{WriteAnswer}
 use Rattle.link_trait.specs.declared.wires.WriteAnswer.TheVariants as write
 use Rattle.loop_model.specs.Journals.{JournalEntry, trace_lines_of}
-use Rattle.loop_model.specs.Outs.{Out, next, makes, acts, exactly, first_answer_of}
+use Rattle.loop_model.specs.Outs.{Out, next, acts, exactly, first_answer_of}
 use Rattle.loop_model.specs.Sessions.{Rules, Session, Ticks, is_released, nothing_said, handled}
 use Rattle.loop_model.specs.Outs as outs
 use Rattle.loop_model.specs.Visits.{most_read, Going, after_write, writes_once, writes, flowed, Wrote, written_unless, session_behind_writing, closed, stays, session_kept_or_closed, rests, Visit, Tick, Read, Write, Expire, Met, is_due, came, read_once, rests_behind, served, visited}

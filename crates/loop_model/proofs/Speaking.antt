@@ -1,6 +1,6 @@
 -- What the users of the connections say.
 use Rattle.loop_model.specs.Ends.{ModelEnd, model_ends}
-use Rattle.std.proofs.Common.{◌≡◌, ℕ, ◌+◌, inl, inr, true, false, ◌||◌, List, [], ◌∷◌, ◌++◌, length, length-drop, drop, Option, Some, None, refl, sym, ◌∙◌, ap, subst, append-nil, true≢false}
+use Rattle.std.proofs.Common.{◌≡◌, ℕ, ◌+◌, inl, inr, true, false, ◌||◌, List, [], ◌++◌, length, length-drop, drop, Option, Some, None, refl, sym, ◌∙◌, ap, subst, append-nil, true≢false}
 use Rattle.std.specs.Prelude.{nat_lt, ◌==◌, is_some}
 use Rattle.std.proofs.lemmas.Bool.{cases_Bool}
 use Rattle.er_base.specs.declared.release.Release.{Release}

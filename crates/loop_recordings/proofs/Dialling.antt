@@ -11,7 +11,7 @@ use Rattle.er_trace.specs.declared.event.Event.TheVariants as event
 use Rattle.er_trace.specs.Laws.{PrintedIsRead}
 use Rattle.er_users.specs.Users.{Mind}
 use Rattle.link_trait.specs.Wires as wires
-use Rattle.link_trait.specs.Wires.{Dials, Turns}
+use Rattle.link_trait.specs.Wires.{Turns}
 use Rattle.link_trait.specs.declared.wires.Conn.{Conn}
 use Rattle.link_trait.specs.declared.wires.Happening.{Happening}
 use Rattle.link_trait.specs.declared.wires.Happening.TheVariants as happening

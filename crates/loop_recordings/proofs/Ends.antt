@@ -16,7 +16,7 @@ use Rattle.er_end_model.specs.Steps.{Finds, new_event_at, Carrier, InCr, InCc, I
 use Rattle.er_end_model.specs.Layers.{Spoken, Core, model}
 use Rattle.er_end_model.specs.Ends as ends
 use Rattle.hdlc_station_model.specs.Events.{news}
-use Rattle.er_end_model.specs.Ends.{End, Opening, opened, hears_each, told_of_each}
+use Rattle.er_end_model.specs.Ends.{End, opened, hears_each, told_of_each}
 use Rattle.er_end_model.specs.Laws.{IsSane, ShowsSafetyStep, SpeaksOnce, EventsSpeakOnce}
 use Rattle.er_trace.specs.declared.event.Event.{Event}
 use Rattle.er_trace.specs.declared.event.Event.TheVariants as event

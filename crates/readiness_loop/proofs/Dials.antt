@@ -14,7 +14,6 @@ use Rattle.er_users.specs.Users.{Mind}
 use Rattle.link_trait.specs.Outside.{Grew, GrewPart, Rose}
 use Rattle.link_trait.specs.Growth.{grew_nothing, grew_then}
 use Rattle.link_trait.specs.Wires as wires
-use Rattle.link_trait.specs.Wires.{Call, given_of, taken_of}
 use Rattle.loop_model.specs.Ends.{EndOps, ModelEnd, model_ends}
 use Rattle.loop_model.specs.Journals.{trace_header, text}
 use Rattle.loop_model.specs.Deeds.{Calling, text_of, calls_of}

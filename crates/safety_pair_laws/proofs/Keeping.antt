@@ -15,7 +15,7 @@ use Rattle.safety_automaton.specs.declared.role.Role.{Role}
 use Rattle.safety_automaton.specs.Safety.{Safety, Connection, Phase, Ready, WaitAu1, WaitAu2, WaitAu3, WaitAr, Connected, Released, SafetyEvent, SafetyOutcome, SentAu1, SentAu2, SentAu3, SentAr, ReceivedAr, AcceptedDt, SentDt, Refused, ReleasedLocally, ReleasedByPeer, NothingDone, flag_of, other_role, peer_flag, au2_text, au3_text, ar_text, message_text}
 use Rattle.safety_automaton.specs.Rules.{IsReceived, SendsAu1, SendsAu2, SendsAu3, SendsAr, ReceivesAr, AcceptsDt, SendsDt, StaysIdle, AtReceived, AtDisconnect, AtConnect, IsStep}
 use Rattle.safety_automaton.specs.Laws.{TextsTell}
-use Rattle.safety_pair_laws.specs.Facts.{Fact, Sent, Sealed, Verified, Accepted, SideFact, MarkedFact, at_side, heard_in, facts_by, is_mistrust, mistrusts, was_sealed, mark, marked_from}
+use Rattle.safety_pair_laws.specs.Facts.{Fact, Verified, MarkedFact, at_side, heard_in, facts_by, is_mistrust, mistrusts, was_sealed, mark, marked_from}
 use Rattle.safety_pair_laws.specs.Facts as fact
 use Rattle.safety_pair_laws.specs.Openings.{PairOpening, OfFixed, OfKeys, role_of_side, flag_from, etcs_number_of_side, key_for}
 use Rattle.safety_pair_laws.specs.Authentic.{IsReadFrom, WasVerified, Verifies, ConnectsAs, HasSession, IsSend, IsAcceptedMessage, IsEnginesSealing, IsRbcsSealing, IsVerifiedBeforeConnection, IsOwn, IsConnection, IsAuthentic}

@@ -7,7 +7,7 @@ use Rattle.er_base.specs.declared.release.Release.{Release}
 use Rattle.er_base.specs.declared.side.Side.{Side}
 use Rattle.hdlc_frames.specs.Framing.{Verdict}
 use Rattle.hdlc_station_model.specs.declared.phase.Phase.TheVariants.{Up}
-use Rattle.hdlc_station_model.specs.Stations.{Station, settled}
+use Rattle.hdlc_station_model.specs.Stations.{settled}
 use Rattle.hdlc_station_model.specs.Stations as station
 use Rattle.t70_header.specs.Joining as joining
 use Rattle.x224_class2.specs.Segments.{text_so_far}

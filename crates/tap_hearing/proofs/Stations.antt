@@ -14,7 +14,7 @@ use Rattle.hdlc_station_model.specs.declared.phase.Phase.{Phase}
 use Rattle.hdlc_station_model.specs.declared.phase.Phase.TheVariants.{Idle, Setting, Up, Down}
 use Rattle.hdlc_station_model.specs.Stations.{Station}
 use Rattle.hdlc_station_model.specs.Sending.{station_down_for_cause, refuses_frame}
-use Rattle.hdlc_station_model.specs.Receiving.{strays, is_some_octets, errs, acknowledges, acknowledging, number_shown_as, accepts, rejects, takes, marks_busy, repeats_rejected, agrees, comes_up, sets_up_again, hears_control, hears_frame, hears}
+use Rattle.hdlc_station_model.specs.Receiving.{strays, is_some_octets, acknowledges, acknowledging, number_shown_as, accepts, rejects, takes, marks_busy, repeats_rejected, agrees, comes_up, sets_up_again, hears_control}
 use Rattle.hdlc_station_model.specs.Receiving as station
 use Rattle.tap_model.specs.Hearing.{ReadFrame}
 use Rattle.tap_hearing.proofs.Noting.{Tuned, tuned}

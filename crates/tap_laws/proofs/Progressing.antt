@@ -10,7 +10,7 @@ use Rattle.hdlc_station_model.specs.Events.{news}
 use Rattle.sapdu.specs.Messages.{is_message}
 use Rattle.safety_automaton.specs.Keys.{no_keys}
 use Rattle.safety_automaton.specs.Reports.{KeptSafe}
-use Rattle.safety_automaton.specs.Safety.{Safety, Phase, Ready, WaitAu1, WaitAu2, WaitAu3, WaitAr, Connected, Released, SafetyOutcome, Refused, DataRequest, sends, sends_dt}
+use Rattle.safety_automaton.specs.Safety.{Safety, Phase, Ready, WaitAu1, WaitAu2, WaitAu3, WaitAr, Connected, Released, SafetyOutcome, sends, sends_dt}
 use Rattle.safety_automaton.specs.Safety as safety
 use Rattle.safety_automaton.specs.Rules.{StepsOnly}
 use Rattle.safety_automaton.specs.Rules as rules

@@ -11,7 +11,7 @@ use Rattle.er_tap.specs.declared.tap_step.TapStep.{TapStep}
 use Rattle.er_tap.specs.declared.tap_step.TapStep.TheVariants.{Link, Octets}
 use Rattle.hdlc_fcs.specs.FrameCheck.{fcs_of, fcs_bits, dividend, remainder, divided_once, add_front, sent_bits}
 use Rattle.hdlc_fcs.specs.Contents.{content_of, checked_part, check_number}
-use Rattle.hdlc_frames.specs.Framing.{Verdict, Frame, BadFcs, unescaped, ends_in_escape, verdict_on_content, cut, all_but_last, between_flags, frames_of}
+use Rattle.hdlc_frames.specs.Framing.{Verdict, Frame, unescaped, ends_in_escape, verdict_on_content, cut, all_but_last, between_flags, frames_of}
 use Rattle.hdlc_frames.specs.Framing as framing
 use Rattle.hdlc_frames.specs.Spelling.{escaped_octet, escaped, spelling}
 use Rattle.hdlc_frames.specs.ControlOctets.{control_of}

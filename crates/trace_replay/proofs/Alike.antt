@@ -5,7 +5,7 @@ use Rattle.er_base.specs.declared.cause.Cause.{Cause}
 use Rattle.er_base.specs.declared.cause.Cause.TheVariants.{LineEnded, LineFailed, LineStalled}
 use Rattle.er_base.specs.Causes.{release_of}
 use Rattle.er_end_model.specs.Outcomes.{Outcome, SendRefusal}
-use Rattle.er_end_model.specs.Steps.{Finds, new_event, new_event_at, on_start, on_release, on_tick, on_take, on_break, step_break, on_send, refusal_of, step_send_unless, outcomes_of, if_taken}
+use Rattle.er_end_model.specs.Steps.{new_event_at, on_start, on_release, on_tick, on_take, step_break, on_send, refusal_of, step_send_unless, outcomes_of, if_taken}
 use Rattle.er_end_model.specs.Layers.{Core, model}
 use Rattle.hdlc_station_model.specs.Events.{news}
 use Rattle.er_end_model.specs.Ends.{End, Event, Start, Come, Send, Take, Leave, Tick, Ended, Fault, Stalled, hears_each, told_of_each, step_event, with_core, refusal_or_outcomes}

@@ -3,7 +3,7 @@ use Rattle.std.proofs.Common.{◌≡◌, ◌≤◌, ◌<◌, ◌∙◌, ◌+◌,
 use Rattle.std.specs.Prelude.{◌==◌}
 use Rattle.std.proofs.lemmas.Bool.{cases_Bool, ltb-false, ltb-true}
 use Rattle.std.proofs.lemmas.List.{take_at, take_all, take-append-drop}
-use Rattle.std.specs.BTreeMap.{get, btree_map_len, BTreeMap}
+use Rattle.std.specs.BTreeMap.{BTreeMap}
 use Rattle.std.specs.Ordering.{nat_cmp}
 use Rattle.er_base.specs.declared.release.Release.{Release}
 use Rattle.er_base.specs.LineTexts.{line_text}
@@ -20,7 +20,7 @@ use Rattle.trace_model.specs.Checks.{fault_of_trace_event, role_check, role_of, 
 use Rattle.trace_model.specs.Printed.{entry_text, entries_text, text_of_trace}
 use Rattle.trace_model.specs.Replays.{AreTaken, WroteBefore, WrotePart, Replays}
 use Rattle.trace_replay.specs.declared.connections.Connections.{Connections}
-use Rattle.trace_replay.specs.Places.{Absent, place_of_connection, has_connection, count_of, AllHold, HoldsOfAllConnections}
+use Rattle.trace_replay.specs.Places.{count_of, AllHold, HoldsOfAllConnections}
 use Rattle.trace_replay.specs.Takings.{TakesTraceEvent, Taken, HasReplayedTraceEvent, RefusesTraceEvent, Fails, ReplaysOne}
 use Rattle.trace_replay.specs.Going.{TakenTo, HasReplayedFirstEvents}
 use Rattle.trace_replay.proofs.Changes.{place_is}

@@ -1,5 +1,5 @@
 -- Messages that wait: one more, one less.
-use Rattle.std.proofs.Common.{◌≡◌, ℕ, ◌+◌, ◌%◌, ◌<◌, List, [], ◌∷◌, ◌++◌, length, drop, refl, arith, length-append}
+use Rattle.std.proofs.Common.{◌≡◌, ℕ, ◌+◌, ◌<◌, List, [], ◌∷◌, ◌++◌, length, drop, refl, arith, length-append}
 use Rattle.x224_class2.specs.Waiting.{left_of, AreNonempty, IsFirstMessageBegun, AreWaitingMessages}
 
 pub length_left : (n : ℕ) (ms : List (List ℕ)) → length (left_of n ms) ≡ length ms

@@ -1,6 +1,5 @@
 -- Representation: how the messages that wait are kept, and the ranges of what the code keeps; no claim rests on it.
 use Rattle.std.specs.Prelude.{ℕ, ◌≡◌, ◌<◌, ◌≤◌, List, [], ◌∷◌, length, drop}
-use Rattle.x224_tpdu.specs.Writing.{IsSize}
 
 -- the messages of which n octets of the first were given
 abbrev pub left_of : ℕ → List (List ℕ) → List (List ℕ)

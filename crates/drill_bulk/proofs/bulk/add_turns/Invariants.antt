@@ -1,4 +1,4 @@
-use Rattle.std.proofs.Common.{◌≡◌, ◌++◌, ℕ, ◌+◌, ◌-◌}
+use Rattle.std.proofs.Common.{◌≡◌, ◌++◌, ◌+◌, ◌-◌}
 use Rattle.drill_bulk.specs.Turns.{turns}
 use Rattle.drill_bulk.specs.Draws.{words_drawn}
 use Rattle.drill_bulk.proofs.bulk.add_turns.Given as goal

@@ -1,4 +1,4 @@
-use Rattle.std.proofs.Common.{length, ◌++◌, true, refl, ap, sym, ◌∙◌}
+use Rattle.std.proofs.Common.{length, true, refl, ap, sym, ◌∙◌}
 use Rattle.hdlc_station_model.specs.Frames.{Rr, Rej}
 use Rattle.hdlc_station_model.specs.Stations.{puts}
 use Rattle.hdlc_balanced.specs.Kept.{KeptStation}

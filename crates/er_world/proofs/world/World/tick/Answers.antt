@@ -1,7 +1,5 @@
-use Rattle.std.proofs.Common.{◌≤◌, ℕ, subst, arith}
-use Rattle.drill_model.specs.Worlds.{tick_each_link}
+use Rattle.std.proofs.Common.{◌≤◌, arith}
 use Rattle.er_world.specs.Standing.{KeptWorld}
-use Rattle.er_world.specs.WorldSteps.{WorldDoes}
 use Rattle.er_world.proofs.Ticks.{ticks_done_in}
 use Rattle.er_world.proofs.world.World.tick.Goals as goal
 

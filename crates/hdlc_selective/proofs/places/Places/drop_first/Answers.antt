@@ -1,4 +1,4 @@
-use Rattle.std.proofs.Common.{◌<◌, List, [], ◌∷◌, ◌++◌, length, get_or, drop, ap, ◌∙◌, arith}
+use Rattle.std.proofs.Common.{List, [], ◌∷◌, ◌++◌, get_or, drop, ap, ◌∙◌, arith}
 use Rattle.hdlc_selective.specs.Places.{NumberPlace, no_place, cleared}
 use Rattle.hdlc_selective.proofs.Runs.{dropped_more}
 use Rattle.hdlc_selective.proofs.places.Places.drop_first.Goals as goal

@@ -1,4 +1,4 @@
-use Rattle.std.proofs.Common.{◌≡◌, ℕ, ◌+◌, ◌<◌, length, ap, sym, ◌∙◌, subst, arith}
+use Rattle.std.proofs.Common.{◌≡◌, ℕ, ap, ◌∙◌, subst, arith}
 use Rattle.hdlc_station_model.specs.Stations.{Station}
 use Rattle.hdlc_selective.specs.Kept.{KeptStation, SelectiveStands}
 use Rattle.hdlc_selective.specs.Steps.{asks_below}

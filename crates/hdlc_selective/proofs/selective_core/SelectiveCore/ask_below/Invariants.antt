@@ -1,4 +1,4 @@
-use Rattle.std.proofs.Common.{◌≡◌, length}
+use Rattle.std.proofs.Common.{◌≡◌}
 use Rattle.hdlc_selective.specs.Kept.{Moves, WritesFramesAtMost}
 use Rattle.hdlc_selective.specs.Steps.{asks_below}
 use Rattle.hdlc_selective.proofs.selective_core.SelectiveCore.ask_below.Given as goal

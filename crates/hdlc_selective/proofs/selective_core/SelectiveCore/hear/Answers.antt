@@ -1,6 +1,5 @@
 use Rattle.hdlc_frames.specs.Framing.{BadFcs, TooShort, TooLong, Aborted}
 use Rattle.hdlc_station_model.specs.Selective.{selective_hears}
-use Rattle.hdlc_selective.proofs.Keeping.{Keeps}
 use Rattle.std.proofs.Common.{refl}
 use Rattle.hdlc_selective.proofs.Moving.{row_hears, quiet}
 use Rattle.hdlc_selective.proofs.selective_core.SelectiveCore.hear.Goals as goal

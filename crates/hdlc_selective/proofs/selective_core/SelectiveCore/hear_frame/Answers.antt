@@ -1,8 +1,7 @@
-use Rattle.std.proofs.Common.{◌≡◌, ◌≤◌, ℕ, List, length, Option, ap, sym, subst, ◌∙◌, arith}
+use Rattle.std.proofs.Common.{ℕ, List, Option, ap, sym, subst, ◌∙◌, arith}
 use Rattle.hdlc_frames.specs.declared.controls.Control.{Control}
 use Rattle.hdlc_frames.specs.ControlOctets.{control_of}
 use Rattle.hdlc_station_model.specs.Frames.{modulo}
-use Rattle.hdlc_station_model.specs.Stations.{Station}
 use Rattle.hdlc_station_model.specs.Receiving.{strays, errs, is_known_address}
 use Rattle.hdlc_station_model.specs.Selective.{selective_hears_control}
 use Rattle.hdlc_selective.specs.Kept.{KeptStation, SelectiveStands}

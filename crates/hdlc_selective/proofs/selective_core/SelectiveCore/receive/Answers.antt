@@ -1,4 +1,4 @@
-use Rattle.std.proofs.Common.{◌≡◌, ◌≤◌, ap, sym, subst, ◌∙◌, arith}
+use Rattle.std.proofs.Common.{ap, sym, subst, ◌∙◌, arith}
 use Rattle.hdlc_frames.specs.Shown.{verdict_of_octets_found}
 use Rattle.hdlc_station_model.specs.Stations.{no_deed, sees, is_down}
 use Rattle.hdlc_station_model.specs.Sending.{sends_waiting}

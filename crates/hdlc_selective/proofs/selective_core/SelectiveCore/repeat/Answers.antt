@@ -1,4 +1,4 @@
-use Rattle.std.proofs.Common.{◌≡◌, ◌-◌, ◌<◌, ◌++◌, List, ap, sym, subst, ◌∙◌, arith}
+use Rattle.std.proofs.Common.{◌-◌, ◌<◌, ◌++◌, List, ap, sym, subst, ◌∙◌, arith}
 use Rattle.hdlc_station_model.specs.Stations.{Station, no_deed}
 use Rattle.hdlc_station_model.specs.Receiving.{strays}
 use Rattle.hdlc_station_model.specs.Selective.{repeats_one}

@@ -1,5 +1,4 @@
-use Rattle.std.proofs.Common.{◌≡◌, ◌+◌, ◌≤◌, false, None, List, refl, sym, subst, arith}
-use Rattle.std.specs.Prelude.{length}
+use Rattle.std.proofs.Common.{◌+◌, false, None, List, refl, sym, subst, arith}
 use Rattle.hdlc_station_model.specs.Stations.{no_deed}
 use Rattle.hdlc_selective.specs.Places.{NumberPlace}
 use Rattle.hdlc_selective.specs.Kept.{SelectiveStands}

@@ -1,4 +1,4 @@
-use Rattle.std.proofs.Common.{◌≤◌, ap, arith}
+use Rattle.std.proofs.Common.{ap, arith}
 use Rattle.hdlc_station_core.specs.Kept.{KeptStation}
 use Rattle.hdlc_station_core.specs.Saying.{few_frames, frames_within}
 use Rattle.hdlc_station_core.proofs.station.StationCore.bounds.Goals as goal

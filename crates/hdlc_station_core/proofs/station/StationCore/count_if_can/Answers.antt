@@ -1,4 +1,4 @@
-use Rattle.std.proofs.Common.{◌≡◌, ◌+◌, ◌-◌, ◌<◌, ◌++◌, ℕ, length, Some, true, false, ap, sym, ◌∙◌, arith}
+use Rattle.std.proofs.Common.{◌≡◌, ◌+◌, ◌-◌, ◌++◌, ℕ, Some, ap, sym, ◌∙◌, arith}
 use Rattle.hdlc_station_model.specs.Sending.{can_send, sends_next}
 use Rattle.hdlc_station_core.specs.Kept.{KeptStation}
 use Rattle.hdlc_station_core.specs.Replies.{info_texts}

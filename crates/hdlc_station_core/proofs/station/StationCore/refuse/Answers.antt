@@ -1,4 +1,4 @@
-use Rattle.std.proofs.Common.{refl, ap, sym, ◌∙◌, subst, List, ℕ, ◌++◌}
+use Rattle.std.proofs.Common.{refl, ap, ◌∙◌, ◌++◌}
 use Rattle.hdlc_station_model.specs.Frames.{Dm}
 use Rattle.hdlc_station_model.specs.Stations.{no_deed}
 use Rattle.hdlc_station_core.specs.Kept.{KeptStation}

@@ -1,4 +1,4 @@
-use Rattle.std.proofs.Common.{◌≡◌, Bool, ap, sym, subst, ◌∙◌, ◌++◌, if◌then◌else◌, arith, eq-eqb, ne_eqb, false}
+use Rattle.std.proofs.Common.{◌≡◌, Bool, ap, sym, subst, ◌∙◌, ◌++◌, if◌then◌else◌, eq-eqb, ne_eqb, false}
 use Rattle.std.specs.Prelude.{◌==◌}
 use Rattle.hdlc_station_model.specs.Sending.{sends_again}
 use Rattle.hdlc_station_core.specs.Kept.{KeptStation, Stands}

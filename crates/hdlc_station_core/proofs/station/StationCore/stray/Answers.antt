@@ -1,9 +1,4 @@
-use Rattle.std.proofs.Common.{sym, subst, ◌≡◌, ◌++◌}
-use Rattle.er_base.specs.Stored.{Stored}
 use Rattle.hdlc_station_model.specs.Stations.{no_deed}
-use Rattle.hdlc_station_model.specs.Receiving.{strays}
-use Rattle.hdlc_station_core.specs.Replies.{FollowsWithInformation}
-use Rattle.hdlc_station_core.specs.declared.deeds.Heard.{Heard}
 use Rattle.hdlc_station_core.specs.Saying.{silent}
 use Rattle.hdlc_station_core.proofs.station.StationCore.stray.Goals as goal
 

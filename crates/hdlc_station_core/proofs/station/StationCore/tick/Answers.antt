@@ -1,4 +1,4 @@
-use Rattle.std.proofs.Common.{◌≡◌, ◌≤◌, ap, sym, ◌∙◌, arith, rules}
+use Rattle.std.proofs.Common.{ap, sym, ◌∙◌, arith, rules}
 use Rattle.hdlc_station_model.specs.Stations.{no_deed, sees, is_down}
 use Rattle.hdlc_station_model.specs.Sending.{expires_if_due, sends_waiting}
 use Rattle.hdlc_station_core.specs.Kept.{KeptStation}
