@@ -15,8 +15,7 @@ use Rattle.er_world.specs.declared.place.Place.{Place}
 use Rattle.er_world.specs.declared.ledger.Ledger.{Ledger}
 use Rattle.drill_ends.specs.declared.told.Told.{Told}
 use Rattle.drill_ends.specs.Tellings.{IsTold, told_outcomes_in, EachTold}
-use Rattle.er_world.specs.ToldLines.{told_line, frame_octets_in_told}
-use Rattle.er_world.specs.Ledgers.{HoldsLedger, mistrusts_of, forged_by, told_pairs, told_mark, KeepsInLedger, TellsOne, TellsAll, Telling}
+use Rattle.er_world.specs.Ledgers.{HoldsLedger, mistrusts_of, ToldRow, told_row, KeepsInLedger, TellsOne, TellsAll, Telling}
 
 or_false : (a : Bool) → (a || false) ≡ a
 or_false true = refl
@@ -30,97 +29,97 @@ mistrusts_held : (kept : Ledger) (facts : List MarkedFact) (side : Side) → Hol
 mistrusts_held kept facts E h = h.of_e
 mistrusts_held kept facts R h = h.of_r
 
--- what is told of an outcome, and what it is, are kept, queued and printed alike
-record IsRow (kept : Ledger) (before : List MarkedFact) (side : Side) (o : DrillOutcome) (t : Told) : Type 0 where
-  pub pairs : sealings (marked_from before (facts_at side o)) ≡ told_pairs t
-  pub marks : (mine : Side) → list_any (is_mistrust mine) (marked_from before (facts_at side o)) ≡ (is_side mine side && told_mark t (forged_by kept side t))
-  pub frames : frames_of_outcome o ≡ frame_octets_in_told t
-  pub line : (show : Bool) (number : ℕ)
-      → outcome_line show number side o (outcome_forged before side o) ≡ told_line (record { number = number; side = side; show = show }) t (forged_by kept side t)
+-- a row says what an outcome at a place is
+record IsRow (before : List MarkedFact) (place : Place) (o : DrillOutcome) (row : ToldRow) : Type 0 where
+  pub sealed : sealings (marked_from before (facts_at place.side o)) ≡ row.sealed
+  pub marks : (mine : Side) → list_any (is_mistrust mine) (marked_from before (facts_at place.side o)) ≡ (is_side mine place.side && row.mark)
+  pub frames : frames_of_outcome o ≡ row.frames
+  pub line : outcome_line place.show place.number place.side o (outcome_forged before place.side o) ≡ row.line
 
 no_mark : (a b : Bool) → ((a && false) || false) ≡ (b && false)
 no_mark a b = rw (and_false a, and_false b) refl
 
-row_of_fact : (kept : Ledger) (before : List MarkedFact) (side : Side) (fact : Fact) (t : Told) → HoldsLedger kept before → IsTold (OfSafety fact) t
-    → IsRow kept before side (OfSafety fact) t
-row_of_fact kept before side (Sent user key text) t h is = rw is record {
-  pairs = refl;
-  marks = λ mine. no_mark (is_side mine side) (is_side mine side);
+row_of_fact : (kept : Ledger) (before : List MarkedFact) (place : Place) (fact : Fact) (t : Told) → HoldsLedger kept before → IsTold (OfSafety fact) t
+    → IsRow before place (OfSafety fact) (told_row kept place t)
+row_of_fact kept before place (Sent user key text) t h is = rw is record {
+  sealed = refl;
+  marks = λ mine. no_mark (is_side mine place.side) (is_side mine place.side);
   frames = refl;
-  line = λ show number. refl;
+  line = refl;
 }
-row_of_fact kept before side (Sealed key text) t h is = rw is record {
-  pairs = refl;
-  marks = λ mine. no_mark (is_side mine side) (is_side mine side);
+row_of_fact kept before place (Sealed key text) t h is = rw is record {
+  sealed = refl;
+  marks = λ mine. no_mark (is_side mine place.side) (is_side mine place.side);
   frames = refl;
-  line = λ show number. refl;
+  line = refl;
 }
-row_of_fact kept before side (Verified heard key text) t h is = rw is record {
-  pairs = refl;
+row_of_fact kept before place (Verified heard key text) t h is = rw is record {
+  sealed = refl;
   marks = λ mine.
-      or_false (is_side mine side && not (was_sealed key text before))
-      ∙ ap (λ (b : Bool). is_side mine side && not b) (sym (h.same key text));
+      or_false (is_side mine place.side && not (was_sealed key text before))
+      ∙ ap (λ (b : Bool). is_side mine place.side && not b) (sym (h.same key text));
   frames = refl;
-  line = λ show number. refl;
+  line = refl;
 }
-row_of_fact kept before side (Connected heard connection text) t h is = rw is record {
-  pairs = refl;
-  marks = λ mine. no_mark (is_side mine side) (is_side mine side);
+row_of_fact kept before place (Connected heard connection text) t h is = rw is record {
+  sealed = refl;
+  marks = λ mine. no_mark (is_side mine place.side) (is_side mine place.side);
   frames = refl;
-  line = λ show number. rw (h.same connection.session text, mistrusts_held kept before side h) refl;
+  line = rw (h.same connection.session text, mistrusts_held kept before place.side h) refl;
 }
-row_of_fact kept before side (Accepted heard user key text) t h is = rw is record {
-  pairs = refl;
-  marks = λ mine. no_mark (is_side mine side) (is_side mine side);
+row_of_fact kept before place (Accepted heard user key text) t h is = rw is record {
+  sealed = refl;
+  marks = λ mine. no_mark (is_side mine place.side) (is_side mine place.side);
   frames = refl;
-  line = λ show number. rw (h.same key text) refl;
+  line = rw (h.same key text) refl;
 }
 
-row_of : (kept : Ledger) (before : List MarkedFact) (side : Side) (o : DrillOutcome) (t : Told) → HoldsLedger kept before → IsTold o t → IsRow kept before side o t
-row_of kept before side (OfSafety fact) t h is = row_of_fact kept before side fact t h is
-row_of kept before side (Refused refusal) t h is = rw (is.told_is, is.is) record {
-  pairs = refl;
-  marks = λ mine. sym (and_false (is_side mine side));
+row_of : (kept : Ledger) (before : List MarkedFact) (place : Place) (o : DrillOutcome) (t : Told) → HoldsLedger kept before → IsTold o t
+    → IsRow before place o (told_row kept place t)
+row_of kept before place (OfSafety fact) t h is = row_of_fact kept before place fact t h is
+row_of kept before place (Refused refusal) t h is = rw (is.told_is, is.is) record {
+  sealed = refl;
+  marks = λ mine. sym (and_false (is_side mine place.side));
   frames = refl;
-  line = λ show number. refl;
+  line = refl;
 }
-row_of kept before side (Released release) t h is = rw is record {
-  pairs = refl;
-  marks = λ mine. sym (and_false (is_side mine side));
+row_of kept before place (Released release) t h is = rw is record {
+  sealed = refl;
+  marks = λ mine. sym (and_false (is_side mine place.side));
   frames = refl;
-  line = λ show number. refl;
+  line = refl;
 }
-row_of kept before side (Frame octets) t h is = rw is record {
-  pairs = refl;
-  marks = λ mine. sym (and_false (is_side mine side));
+row_of kept before place (Frame octets) t h is = rw is record {
+  sealed = refl;
+  marks = λ mine. sym (and_false (is_side mine place.side));
   frames = refl;
-  line = λ show number. refl;
+  line = refl;
 }
-row_of kept before side (Arrived payload) t h is = rw is record {
-  pairs = refl;
-  marks = λ mine. sym (and_false (is_side mine side));
+row_of kept before place (Arrived payload) t h is = rw is record {
+  sealed = refl;
+  marks = λ mine. sym (and_false (is_side mine place.side));
   frames = refl;
-  line = λ show number. refl;
+  line = refl;
 }
-row_of kept before side Up t h is = rw is record {
-  pairs = refl;
-  marks = λ mine. sym (and_false (is_side mine side));
+row_of kept before place Up t h is = rw is record {
+  sealed = refl;
+  marks = λ mine. sym (and_false (is_side mine place.side));
   frames = refl;
-  line = λ show number. refl;
+  line = refl;
 }
-row_of kept before side (Took message) t h is = rw is record {
-  pairs = refl;
-  marks = λ mine. sym (and_false (is_side mine side));
+row_of kept before place (Took message) t h is = rw is record {
+  sealed = refl;
+  marks = λ mine. sym (and_false (is_side mine place.side));
   frames = refl;
-  line = λ show number. refl;
+  line = refl;
 }
-row_of kept before side NothingToTake t h is = rw is record {
-  pairs = refl;
-  marks = λ mine. sym (and_false (is_side mine side));
+row_of kept before place NothingToTake t h is = rw is record {
+  sealed = refl;
+  marks = λ mine. sym (and_false (is_side mine place.side));
   frames = refl;
-  line = λ show number. refl;
+  line = refl;
 }
-row_of kept before side o t h is = absurd is
+row_of kept before place o t h is = absurd is
 
 -- the pairs that were sealed before, and then
 was_sealed_more : (key : TripleKey) (text : List ℕ) (before more : List MarkedFact)
@@ -130,24 +129,24 @@ was_sealed_more key text before more =
     ∙ list_any-append (is_sealing key text) (sealings before) (sealings more)
 
 -- what is kept behind one outcome
-holds_more : (kept new : Ledger) (before : List MarkedFact) (side : Side) (o : DrillOutcome) (t : Told) → HoldsLedger kept before
-    → IsRow kept before side o t → KeepsInLedger side t (forged_by kept side t) kept new
-    → HoldsLedger new (before ++ marked_from before (facts_at side o))
-holds_more kept new before side o t h row keeps =
-    let more : List MarkedFact = marked_from before (facts_at side o) in
+holds_more : (kept new : Ledger) (before : List MarkedFact) (place : Place) (o : DrillOutcome) (row : ToldRow) → HoldsLedger kept before
+    → IsRow before place o row → KeepsInLedger place.side row kept new
+    → HoldsLedger new (before ++ marked_from before (facts_at place.side o))
+holds_more kept new before place o row h is keeps =
+    let more : List MarkedFact = marked_from before (facts_at place.side o) in
     record {
       same = λ key text.
           keeps.gains.same key text
-          ∙ ap (λ (b : Bool). b || list_any (is_sealing key text) (told_pairs t)) (h.same key text)
-          ∙ ap (λ (xs : List Sealing). was_sealed key text before || list_any (is_sealing key text) xs) (sym row.pairs)
+          ∙ ap (λ (b : Bool). b || list_any (is_sealing key text) row.sealed) (h.same key text)
+          ∙ ap (λ (xs : List Sealing). was_sealed key text before || list_any (is_sealing key text) xs) (sym is.sealed)
           ∙ sym (was_sealed_more key text before more);
       of_e = keeps.of_e
-          ∙ ap (λ (b : Bool). b || (is_side E side && told_mark t (forged_by kept side t))) h.of_e
-          ∙ ap (λ (b : Bool). mistrusts E before || b) (sym (row.marks E))
+          ∙ ap (λ (b : Bool). b || (is_side E place.side && row.mark)) h.of_e
+          ∙ ap (λ (b : Bool). mistrusts E before || b) (sym (is.marks E))
           ∙ sym (list_any-append (is_mistrust E) before more);
       of_r = keeps.of_r
-          ∙ ap (λ (b : Bool). b || (is_side R side && told_mark t (forged_by kept side t))) h.of_r
-          ∙ ap (λ (b : Bool). mistrusts R before || b) (sym (row.marks R))
+          ∙ ap (λ (b : Bool). b || (is_side R place.side && row.mark)) h.of_r
+          ∙ ap (λ (b : Bool). mistrusts R before || b) (sym (is.marks R))
           ∙ sym (list_any-append (is_mistrust R) before more);
     }
 
@@ -175,7 +174,8 @@ goes_on : MarksGrow → (place : Place) (facts : List MarkedFact) (outcomes : Li
     → Telling place facts outcomes list new waited more before now
 goes_on grow place facts outcomes t list kept new waited waits more before between now seen [] are h marks queued printed tells = absurd are
 goes_on grow place facts outcomes t list kept new waited waits more before between now seen (o ∷ left) are h marks queued printed tells =
-    let row : IsRow kept seen place.side o t = row_of kept seen place.side o t h are.0 in
+    let row : ToldRow = told_row kept place t in
+    let is : IsRow seen place o row = row_of kept seen place o t h are.0 in
     let first : List MarkedFact = marked_from seen (facts_at place.side o) in
     let rest : List SideFact = facts_in (map (at_end place.side) left) in
     let lines : List ℕ = link_lines place.show place.number (marks_behind (seen ++ first) (map (at_end place.side) left)) in
@@ -183,14 +183,14 @@ goes_on grow place facts outcomes t list kept new waited waits more before betwe
       seen = seen ++ first;
       left = left;
       told = are.1;
-      holds = holds_more kept new seen place.side o t h row tells.keeps;
+      holds = holds_more kept new seen place o row h is tells.keeps;
       marks = append_assoc seen first (marked_from (seen ++ first) rest)
           ∙ ap (λ (xs : List MarkedFact). seen ++ xs) (sym (grow seen (facts_at place.side o) rest))
           ∙ marks;
-      queued = ap (λ (xs : List (List ℕ)). xs ++ frames_in left) (tells.queued ∙ ap (λ (xs : List (List ℕ)). waits ++ xs) (sym row.frames))
+      queued = ap (λ (xs : List (List ℕ)). xs ++ frames_in left) (tells.queued ∙ ap (λ (xs : List (List ℕ)). waits ++ xs) (sym is.frames))
           ∙ append_assoc waits (frames_of_outcome o) (frames_in left)
           ∙ queued;
-      printed = ap (λ (xs : List ℕ). xs ++ lines) (tells.printed ∙ ap (λ (xs : List ℕ). between ++ xs) (sym (row.line place.show place.number)))
+      printed = ap (λ (xs : List ℕ). xs ++ lines) (tells.printed ∙ ap (λ (xs : List ℕ). between ++ xs) (sym is.line))
           ∙ append_assoc between (outcome_line place.show place.number place.side o (outcome_forged seen place.side o)) lines
           ∙ printed;
     }

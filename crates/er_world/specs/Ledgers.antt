@@ -1,5 +1,5 @@
 -- Representation: what the code keeps of all that came at a link, so that it marks what comes; no claim rests on it.
-use Rattle.std.specs.Prelude.{ℕ, ◌≡◌, ◌&&◌, ◌||◌, not, Bool, false, List, [], ◌∷◌, ◌++◌, map}
+use Rattle.std.specs.Prelude.{ℕ, ◌≡◌, ◌&&◌, ◌||◌, not, Bool, false, if◌then◌else◌, List, [], ◌∷◌, ◌++◌, map, Option, Some, None}
 use Rattle.std.specs.List.{list_any}
 use Rattle.er_base.specs.declared.side.Side.{Side}
 use Rattle.er_base.specs.declared.side.Side.TheVariants.{E, R}
@@ -7,14 +7,14 @@ use Rattle.des_block.specs.declared.triple_key.TripleKey.{TripleKey}
 use Rattle.safety_pair_laws.specs.Facts.{MarkedFact, Sealing, is_sealing, was_sealed, mistrusts, is_side, marked_from}
 use Rattle.drill_model.specs.Outcomes.{DrillOutcome, at_end, facts_in, frames_in}
 use Rattle.drill_model.specs.Marks.{marks_behind}
-use Rattle.drill_model.specs.Texts.{link_lines}
+use Rattle.drill_model.specs.Texts.{link_lines, up_line, connected_line, accepted_line, taken_line, none_line, refused_line, released_line, frame_line}
 use Rattle.er_world.specs.declared.place.Place.{Place}
 use Rattle.er_world.specs.declared.ledger.Ledger.{Ledger}
 use Rattle.drill_ends.specs.declared.told.Told.{Told}
 use Rattle.drill_ends.specs.declared.told.Told.TheVariants as told
 use Rattle.er_world.specs.Pairs.{Gains}
+use Rattle.drill_ends.specs.Refusals.{shown_refusal}
 use Rattle.drill_ends.specs.Tellings.{EachTold}
-use Rattle.er_world.specs.ToldLines.{told_line, frame_octets_in_told}
 
 -- what is kept is what came
 pub record HoldsLedger (kept : Ledger) (facts : List MarkedFact) : Type 0 where
@@ -27,47 +27,35 @@ abbrev pub mistrusts_of : Ledger → Side → Bool
 mistrusts_of kept E = kept.e_mistrusts
 mistrusts_of kept R = kept.r_mistrusts
 
--- whether what an end did is forged, by what is kept
-abbrev pub forged_by : Ledger → Side → Told → Bool
-forged_by kept side (told.Sealed key text) = false
-forged_by kept side (told.Verified key text) = not (list_any (is_sealing key text) kept.pairs)
-forged_by kept side (told.Connected peer key text) = not (list_any (is_sealing key text) kept.pairs) || mistrusts_of kept side
-forged_by kept side (told.Accepted user key text) = not (list_any (is_sealing key text) kept.pairs)
-forged_by kept side told.Up = false
-forged_by kept side (told.Arrived payload) = false
-forged_by kept side (told.Took message) = false
-forged_by kept side told.NothingToTake = false
-forged_by kept side (told.Refused refused) = false
-forged_by kept side (told.Released release) = false
-forged_by kept side (told.Frame octets) = false
+-- what is kept, queued and printed of one thing that an end did
+pub record ToldRow : Type 0 where
+  -- the pairs that are kept
+  pub sealed : List Sealing
+  -- whether a text of the set-up was forged
+  pub mark : Bool
+  pub frames : List (List ℕ)
+  pub line : List ℕ
 
--- the pairs that are kept of it
-abbrev pub told_pairs : Told → List Sealing
-told_pairs (told.Sealed key text) = record { key = key; text = text } ∷ []
-told_pairs (told.Verified key text) = []
-told_pairs (told.Connected peer key text) = []
-told_pairs (told.Accepted user key text) = []
-told_pairs told.Up = []
-told_pairs (told.Arrived payload) = []
-told_pairs (told.Took message) = []
-told_pairs told.NothingToTake = []
-told_pairs (told.Refused refused) = []
-told_pairs (told.Released release) = []
-told_pairs (told.Frame octets) = []
+abbrev of_line : List ℕ → ToldRow
+of_line line = record { sealed = []; mark = false; frames = []; line = line }
 
--- the mark that is kept of it
-abbrev pub told_mark : Told → (forged : Bool) → Bool
-told_mark (told.Sealed key text) forged = false
-told_mark (told.Verified key text) forged = forged
-told_mark (told.Connected peer key text) forged = false
-told_mark (told.Accepted user key text) forged = false
-told_mark told.Up forged = false
-told_mark (told.Arrived payload) forged = false
-told_mark (told.Took message) forged = false
-told_mark told.NothingToTake forged = false
-told_mark (told.Refused refused) forged = false
-told_mark (told.Released release) forged = false
-told_mark (told.Frame octets) forged = false
+-- a text is forged that neither end had sealed under these session keys, by what is kept
+abbrev is_forged_by : Ledger → TripleKey → List ℕ → Bool
+is_forged_by kept key text = not (list_any (is_sealing key text) kept.pairs)
+
+-- its row
+abbrev pub told_row : Ledger → Place → Told → ToldRow
+told_row kept place (told.Sealed key text) = record (of_line []) { sealed = record { key = key; text = text } ∷ [] }
+told_row kept place (told.Verified key text) = record (of_line []) { mark = is_forged_by kept key text }
+told_row kept place (told.Connected peer key text) = of_line (connected_line place.number place.side peer (is_forged_by kept key text || mistrusts_of kept place.side))
+told_row kept place (told.Accepted user key text) = of_line (accepted_line place.number place.side user (is_forged_by kept key text))
+told_row kept place told.Up = of_line (up_line place.number place.side)
+told_row kept place (told.Arrived payload) = of_line (accepted_line place.number place.side payload false)
+told_row kept place (told.Took message) = of_line (taken_line place.number place.side message)
+told_row kept place told.NothingToTake = of_line (none_line place.number place.side)
+told_row kept place (told.Refused refused) = of_line (refused_line place.number place.side (shown_refusal refused))
+told_row kept place (told.Released release) = of_line (released_line place.number place.side release)
+told_row kept place (told.Frame octets) = record (of_line (if place.show then frame_line place.number place.side octets else [])) { frames = octets ∷ [] }
 
 -- the mark of an end is kept
 pub record Marks (side : Side) (forged : Bool) (old new : Ledger) : Type 0 where
@@ -81,17 +69,21 @@ pub record KeepsSealing (sealing : Sealing) (old new : Ledger) : Type 0 where
   pub of_e : new.e_mistrusts ≡ old.e_mistrusts
   pub of_r : new.r_mistrusts ≡ old.r_mistrusts
 
--- what an end did is kept
-pub record KeepsInLedger (side : Side) (t : Told) (forged : Bool) (old new : Ledger) : Type 0 where
-  pub gains : Gains (told_pairs t) old.pairs new.pairs
-  pub of_e : new.e_mistrusts ≡ (old.e_mistrusts || (is_side E side && told_mark t forged))
-  pub of_r : new.r_mistrusts ≡ (old.r_mistrusts || (is_side R side && told_mark t forged))
+-- what a row says is kept
+pub record KeepsInLedger (side : Side) (row : ToldRow) (old new : Ledger) : Type 0 where
+  pub gains : Gains row.sealed old.pairs new.pairs
+  pub of_e : new.e_mistrusts ≡ (old.e_mistrusts || (is_side E side && row.mark))
+  pub of_r : new.r_mistrusts ≡ (old.r_mistrusts || (is_side R side && row.mark))
 
--- one thing that an end did was kept, queued and printed
-pub record TellsOne (place : Place) (t : Told) (old new : Ledger) (waited waits : List (List ℕ)) (before now : List ℕ) : Type 0 where
-  pub keeps : KeepsInLedger place.side t (forged_by old place.side t) old new
-  pub queued : waits ≡ waited ++ frame_octets_in_told t
-  pub printed : now ≡ before ++ told_line place t (forged_by old place.side t)
+-- what a row says is kept, queued and printed
+pub record TellsRow (side : Side) (row : ToldRow) (old new : Ledger) (waited waits : List (List ℕ)) (before now : List ℕ) : Type 0 where
+  pub keeps : KeepsInLedger side row old new
+  pub queued : waits ≡ waited ++ row.frames
+  pub printed : now ≡ before ++ row.line
+
+-- so it is with one thing that an end did
+abbrev pub TellsOne : Place → Told → (old new : Ledger) → (waited waits : List (List ℕ)) → (before now : List ℕ) → Type 0
+TellsOne place t old new waited waits before now = TellsRow place.side (told_row old place t) old new waited waits before now
 
 -- outcomes of an end, behind these facts of its link, were kept, queued and printed
 pub record TellsAll (place : Place) (facts : List MarkedFact) (outcomes : List DrillOutcome) (new : Ledger) (waited waits : List (List ℕ)) (before now : List ℕ)
@@ -99,6 +91,11 @@ pub record TellsAll (place : Place) (facts : List MarkedFact) (outcomes : List D
   pub holds : HoldsLedger new (facts ++ marked_from facts (facts_in (map (at_end place.side) outcomes)))
   pub queued : waits ≡ waited ++ frames_in outcomes
   pub printed : now ≡ before ++ link_lines place.show place.number (marks_behind facts (map (at_end place.side) outcomes))
+
+-- the first thing that was told, and the others
+abbrev pub IsNext : List Told → Option Told → List Told → Type 0
+IsNext old None new = (old ≡ []) × (new ≡ [])
+IsNext old (Some t) new = old ≡ t ∷ new
 
 -- in the midst of it: what is left leads from here to where all lead from the beginning
 pub record Telling (place : Place) (facts : List MarkedFact) (outcomes : List DrillOutcome) (list : List Told) (kept : Ledger)

@@ -1,6 +1,5 @@
 pub mod Pairs
 pub mod PairKeys
-pub mod ToldLines
 pub mod Changes
 pub mod Ledgers
 pub mod Counts

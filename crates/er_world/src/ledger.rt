@@ -5,8 +5,7 @@ ghost use Rattle.std.specs.List.{list_any};
 ghost use Rattle.safety_pair_laws.specs.Facts.{MarkedFact, is_sealing};
 ghost use Rattle.drill_model.specs.Outcomes.{DrillOutcome};
 ghost use Rattle.drill_ends.specs.Tellings.{AreTold};
-ghost use Rattle.er_world.specs.ToldLines.{IsNext};
-ghost use Rattle.er_world.specs.Ledgers.{HoldsLedger, KeepsSealing, Marks, TellsOne, TellsAll, mistrusts_of};
+ghost use Rattle.er_world.specs.Ledgers.{IsNext, HoldsLedger, KeepsSealing, Marks, TellsOne, TellsAll, mistrusts_of};
 
 use crate::lines::{
     print_accepted, print_connected, print_frame, print_none, print_refused, print_released,

@@ -1,6 +1,6 @@
 //! A session, and what is asked of it.
 
-ghost use Rattle.std.specs.Prelude.{◌≡◌, ◌≤◌, drop, length, true};
+ghost use Rattle.std.specs.Prelude.{◌≡◌, ◌≤◌, drop, length, true, IfOk};
 ghost use Rattle.er_end_model.specs.Steps.{earlier_of_moments as first_moment};
 ghost use Rattle.er_end.specs.KeptEnds.{deadline_of};
 ghost use Rattle.loop_model.specs.Sessions.{is_released};
@@ -10,6 +10,7 @@ ghost use Rattle.loop_session.specs.Keeping.{kept_ends};
 
 use crate::gone::Gone;
 use bytes::BytesMut;
+use er_base::NoMemory;
 use er_end::End;
 use er_users::SafeUser;
 use std::alloc::Global;
@@ -24,7 +25,8 @@ pub struct Session<U: SafeUser> {
     pub(crate) output: BytesMut,
     pub(crate) broken: bool,
     pub(crate) closing: Option<u64>,
-    pub(crate) end: End,
+    // On the heap: eight thousand octets, which would be copied each time that a session is moved.
+    pub(crate) end: Box<End>,
 }
 
 impl<U: SafeUser> Model for Session<U> {
@@ -35,7 +37,7 @@ impl<U: SafeUser> Model for Session<U> {
 
     ghost Value = { LoopSession KEnd };
 
-    ghost view = { λ s. record { number = s.number; end = s.end; mind = option_map U.mind s.user; told = told_then (option_map (λ g. U.mind g.user) s.gone); output = s.output.items; broken = s.broken; closing = s.closing } };
+    ghost view = { λ s. record { number = s.number; end = s.end.value; mind = option_map U.mind s.user; told = told_then (option_map (λ g. U.mind g.user) s.gone); output = s.output.items; broken = s.broken; closing = s.closing } };
 }
 
 // The first of two moments.
@@ -53,10 +55,11 @@ fn first_of(one: Option<u64>, other: Option<u64>) -> Option<u64>
 
 impl<U: SafeUser> Session<U> {
     /// The session of a connection that was opened, with this end and this user.
-    pub fn begin(alloc: Global, number: u64, end: End, user: U) -> Session<U>
-        ensures { result ≡ begun number end (U.mind user) }
+    pub fn begin(alloc: Global, number: u64, end: End, user: U) -> Result<Session<U>, NoMemory>
+        ensures { IfOk result (λ session. session ≡ begun number end (U.mind user)) }
     {
-        Session {
+        let end = Box::new(alloc, end)?;
+        Ok(Session {
             number,
             user: Some(user),
             gone: None,
@@ -64,7 +67,7 @@ impl<U: SafeUser> Session<U> {
             broken: false,
             closing: None,
             end,
-        }
+        })
     }
 
     /// The number of its connection.

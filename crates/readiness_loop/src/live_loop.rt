@@ -209,12 +209,13 @@ impl<U: SafeUser> LiveLoop<U> {
         see_settings(&plan.settings);
         let ra = randoms.next_u64();
         let end = End::answer(alloc, &plan.settings, plan.rbc.get(), ra, self.moment.get())?;
+        let session = Session::begin(alloc, conn.0, end, user)?;
         let event = Event::Answer {
             rbc: plan.rbc.get(),
             ra,
         };
         write_event(self.moment, conn.0, event, &mut self.scratch, sink)?;
-        self.book.add(Session::begin(alloc, conn.0, end, user))?;
+        self.book.add(session)?;
         Ok(())
     }
 

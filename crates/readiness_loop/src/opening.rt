@@ -54,7 +54,7 @@ impl<U: SafeUser> LiveLoop<U> {
             rb,
             self.moment.get(),
         )?;
-        let mut session = Session::begin(alloc, conn.0, end, user);
+        let mut session = Session::begin(alloc, conn.0, end, user)?;
         let call = Called { engine, rbc, rb };
         let when = When::of(self.moment, &plan.settings);
         let stays = begin_call(

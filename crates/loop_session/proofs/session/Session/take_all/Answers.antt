@@ -11,7 +11,8 @@ loop-init g c = record { went = λ r. went_none (g.S.Sink.state c.args.sink.now)
 
 pub returns-in_err-deal-clause-chooses : goal.returns-in_err-deal-clause-chooses
 returns-in_err-deal-clause-chooses g c = λ r.
-    let same : length (waiting_in c.self.inside.end) ≡ count_waiting_in_session kept_ends c.args.self.now = ap (λ (z : Session KEnd). count_waiting_in_session kept_ends z) c.self.view_is in
+    let same : length (waiting_in c.deref.result.now) ≡ count_waiting_in_session kept_ends c.args.self.now =
+    ap (λ (e : KEnd). length (waiting_in e)) c.deref.ensures ∙ ap (λ (z : Session KEnd). count_waiting_in_session kept_ends z) c.self.view_is in
     let few : c.loop.counter < count_waiting_in_session kept_ends c.args.self.now = omega (arith, c.loop-test.true, c.waiting-end.ensures.value, same) in
     let p = err_from_is_err_and c.from_residual.result c.from_residual.ensures.1 in
     rw (p.1, p.2)
@@ -30,6 +31,7 @@ loop-preserved g c = record {
 
 pub returns-clause-chooses : goal.returns-clause-chooses
 returns-clause-chooses g c = λ r.
-    let same : length (waiting_in c.self.inside.end) ≡ count_waiting_in_session kept_ends c.args.self.now = ap (λ (z : Session KEnd). count_waiting_in_session kept_ends z) c.self.view_is in
+    let same : length (waiting_in c.deref.result.now) ≡ count_waiting_in_session kept_ends c.args.self.now =
+    ap (λ (e : KEnd). length (waiting_in e)) c.deref.ensures ∙ ap (λ (z : Session KEnd). count_waiting_in_session kept_ends z) c.self.view_is in
     let all : c.loop.counter ≡ count_waiting_in_session kept_ends c.args.self.now = omega (arith, c.loop-test.false, c.loop.auto.counter-end, c.waiting-end.ensures.value, same) in
     takes_done (g.S.Sink.state c.args.sink.now) (g.S.Sink.state c.loop.sink) r c.args.moment c.args.self.now c.loop.self c.loop.counter all (c.loop.invariant.went r)
