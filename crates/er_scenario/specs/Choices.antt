@@ -4,7 +4,7 @@ use Rattle.std.specs.Option.{option_map}
 use Rattle.std.specs.Str.{bytes_eq}
 use Rattle.er_base.specs.declared.why.Why.{Why}
 use Rattle.er_base.specs.declared.why.Why.TheVariants.{Number, Value}
-use Rattle.er_base.specs.Arguments.{some_or}
+use Rattle.er_base.specs.Arguments.{◌>>=◌, some_or}
 use Rattle.er_base.specs.Numbers.{decimal_of}
 use Rattle.er_settings.specs.Values.{Settings}
 use Rattle.er_settings.specs.declared.setting_name.SettingName.{SettingName}
