@@ -1,5 +1,5 @@
 -- Passes and takes of a link of the drill are those of its pair, and a tick is a tick of the pair.
-use Rattle.std.proofs.Common.{◌≡◌, ℕ, List, [], ◌∷◌, ◌++◌, sym, ◌∙◌}
+use Rattle.std.proofs.Common.{◌≡◌, ℕ, List, [], ◌∷◌, ◌++◌, sym, ap, ◌∙◌}
 use Rattle.pair_model.specs.Links.{EndKind, PairLink}
 use Rattle.pair_model.specs.Steps.{PairStep, NoFrameWaits, IsPassOrTake, ArePassesAndTakes, pair_step, pair_run}
 use Rattle.pair_model.specs.Steps as on_pair
@@ -40,7 +40,7 @@ module _ {A : Type 0} (v : Level A) (acts : Acts v) where
 -- one run behind another, and a step between the second and a third
 pub run_through : {A : Type 0} (kind : EndKind A) (p : PairLink A) (xs ys zs : List PairStep) (s : PairStep)
     → pair_run kind p (xs ++ ys ++ s ∷ zs) ≡ pair_run kind (pair_step kind s (pair_run kind (pair_run kind p xs) ys)) zs
-run_through kind p xs ys zs s = pair_run_append kind xs (ys ++ s ∷ zs) p ∙ pair_run_append kind ys (s ∷ zs) (pair_run kind p xs)
+run_through kind p xs ys zs s = pair_run_append kind (xs ++ ys) (s ∷ zs) p ∙ ap (λ q. pair_run kind q (s ∷ zs)) (pair_run_append kind xs ys p)
 
 pub none_waits : {A : Type 0} (v : Level A) (l : Link) (history : List Occurrence) (p : PairLink A) → Sees v l history p → NoneWaits l → NoFrameWaits p
 none_waits v l history p s none = (sym s.from_e_is ∙ none.0, sym s.from_r_is ∙ none.1)
