@@ -30,9 +30,9 @@ impl Numbers {
     /// The numbers in their order, each by its default where it is none.
     pub fn or<const N: usize>(&self, defaults: [u64; N]) -> [u64; N] {
         let mut numbers = defaults;
-        for place in 0..N {
-            if let Some(Some(given)) = self.given.get(place) {
-                numbers[place] = *given;
+        for (number, given) in numbers.iter_mut().zip(self.given.iter()) {
+            if let Some(given) = given {
+                *number = *given;
             }
         }
         numbers

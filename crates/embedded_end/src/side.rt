@@ -26,12 +26,7 @@ impl Side {
     /// A radio block centre: its end waits for a call.
     pub fn centre(alloc: Global, random: u64, now: Moment) -> Result<Side, NoMemory> {
         let end = End::answer(alloc, &Settings::usual(), CENTRE, random, now.get())?;
-        Ok(Side {
-            end,
-            to_line: Vec::new(alloc),
-            to_user: Vec::new(alloc),
-            peer: None,
-        })
+        Ok(Side::new(alloc, end))
     }
 
     /// An engine: its end calls the radio block centre.
@@ -43,12 +38,7 @@ impl Side {
     ) -> Result<Side, NoMemory> {
         let settings = Settings::usual();
         let end = End::call(alloc, &settings, ENGINE, CENTRE, kmac, random, now.get())?;
-        let mut side = Side {
-            end,
-            to_line: Vec::new(alloc),
-            to_user: Vec::new(alloc),
-            peer: None,
-        };
+        let mut side = Side::new(alloc, end);
         let deeds = side.end.start(now.get());
         side.to_line.extend_from_slice(deeds.out)?;
         Ok(side)
@@ -76,5 +66,14 @@ impl Side {
             self.to_line.extend_from_slice(deeds.out)?;
         }
         Ok(())
+    }
+
+    fn new(alloc: Global, end: End) -> Side {
+        Side {
+            end,
+            to_line: Vec::new(alloc),
+            to_user: Vec::new(alloc),
+            peer: None,
+        }
     }
 }
