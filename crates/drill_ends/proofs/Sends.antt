@@ -20,10 +20,9 @@ use Rattle.sapdu.specs.Spelling.{di_in}
 use Rattle.sapdu.specs.Messages.{is_message}
 use Rattle.er_base.specs.declared.cause.Cause.TheVariants.{User, BlockRefused, SetUpTimeSpent}
 use Rattle.er_base.specs.Causes.{release_of, by_this_end}
-use Rattle.safety_automaton.specs.Keys.{no_keys}
+use Rattle.safety_automaton.specs.Safety.{no_keys, Safety, Phase, Ready, WaitAu1, WaitAu2, WaitAu3, WaitAr, Connected, Released, SafetyEvent, ConnectRequest, Received, DataRequest, DisconnectRequest, SafetyOutcome, SentAu1, SentAu2, SentAu3, SentAr, ReceivedAr, AcceptedDt, SentDt, Refused, RefusedLength, ReleasedLocally, ReleasedByPeer, NothingDone, peer_flag, sends_dt, sends as sends_side, octets_sent_in_outcome, step}
 use Rattle.safety_automaton.specs.Rules.{IsStep, StepsOnly}
 use Rattle.safety_automaton.specs.Reports.{Report, ToldAnswered, ToldConnected, ToldAccepted, ToldReleased, ToldIgnored, report_of}
-use Rattle.safety_automaton.specs.Safety.{Safety, Phase, Ready, WaitAu1, WaitAu2, WaitAu3, WaitAr, Connected, Released, SafetyEvent, ConnectRequest, Received, DataRequest, DisconnectRequest, SafetyOutcome, SentAu1, SentAu2, SentAu3, SentAr, ReceivedAr, AcceptedDt, SentDt, Refused, RefusedLength, ReleasedLocally, ReleasedByPeer, NothingDone, peer_flag, sends_dt, sends as sends_side, octets_sent_in_outcome, step}
 use Rattle.safety_pair_laws.specs.Facts.{Fact, Sent, Sealed, Verified, Connected as ConnectedFact, Accepted, facts_by, heard_in as octets_heard}
 use Rattle.er_end_model.specs.Outcomes.{SendRefusal, RefusedNotConnected, RefusedLength as RefusedLong, RefusedFull}
 use Rattle.er_end_model.specs.Layers.{Spoken, Core, model}

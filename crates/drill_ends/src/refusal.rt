@@ -1,5 +1,5 @@
 ghost use Rattle.std.specs.Prelude.{◌≡◌};
-ghost use Rattle.safety_automaton.specs.Reports.{refusal_view};
+ghost use Rattle.safety_automaton.specs.Views.{refusal_view};
 ghost use Rattle.drill_model.specs.Ends.{send_refusal_from_safety};
 ghost use Rattle.er_end.specs.Shown.{refusal_view as stack_view};
 ghost use Rattle.drill_ends.specs.Refusals.{shown_refusal};

@@ -1,9 +1,9 @@
 //! An end of level safe: a side of a safe connection, and what it tells of each event.
 
 ghost use Rattle.std.specs.Prelude.{◌≡◌, ◌++◌, [], Some, None, IfOk, OnOk};
-ghost use Rattle.safety_automaton.specs.Keys.{key_at, no_keys};
-ghost use Rattle.safety_automaton.specs.Safety.{ConnectRequest, Received, DataRequest, DisconnectRequest, session_in};
-ghost use Rattle.safety_automaton.specs.Reports.{report_view};
+ghost use Rattle.safety_automaton.specs.Keys.{key_at};
+ghost use Rattle.safety_automaton.specs.Safety.{no_keys, ConnectRequest, Received, DataRequest, DisconnectRequest, session_in};
+ghost use Rattle.safety_automaton.specs.Views.{report_view};
 ghost use Rattle.drill_model.specs.Ends.{safe_end_step, safety_event};
 ghost use Rattle.drill_model.specs.Ends as model;
 ghost use Rattle.drill_ends.specs.Events.{event_of};

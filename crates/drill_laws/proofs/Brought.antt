@@ -15,7 +15,7 @@ use Rattle.safety_pair_laws.specs.Openings.{OfFixed, OfKeys}
 use Rattle.hdlc_station_model.specs.Stations.{made}
 use Rattle.er_end_model.specs.Ends.{Call, Answer}
 use Rattle.er_end_model.specs.Ends as stacks
-use Rattle.er_end_model.specs.Hearing.{EventsGive}
+use Rattle.er_end_model.specs.Giving.{EventsGive}
 use Rattle.drill_model.specs.Outcomes.{DrillOutcome, OfSafety, NothingWaits, UserReleased, Passed, Lost, Repeated, Altered, Inserted, IsShort, Occurrence, at_end}
 use Rattle.drill_model.specs.Ends.{EndAtLevel, OfStation, OfStack, EndEvent, Start, Receive, end_step}
 use Rattle.drill_model.specs.Ends as event

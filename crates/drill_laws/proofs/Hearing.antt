@@ -17,7 +17,7 @@ use Rattle.er_end_model.specs.Layers.{Spoken, Core, model}
 use Rattle.er_end_model.specs.Steps.{new_event_at, step_start, step_frame, refusal_of, step_send_unless, step_take, step_release, step_tick}
 use Rattle.er_end_model.specs.Outcomes as stack
 use Rattle.er_end_model.specs.Ends.{End as Stack, hears_each, finds_expired}
-use Rattle.er_end_model.specs.Hearing.{FrameGives, EventsGive}
+use Rattle.er_end_model.specs.Giving.{FrameGives, EventsGive}
 use Rattle.er_end_model.specs.Outcomes.{SendRefusal}
 use Rattle.drill_model.specs.Outcomes.{DrillOutcome, OfSafety, Handed, Arrived, Up, Took, NothingToTake, Refused, Released, Frame, Expired, UserReleased, Passed, Lost, Repeated, Altered, Inserted, NothingWaits, IsShort}
 use Rattle.drill_model.specs.StationEnds.{if_up, if_arrived, all_arrived, if_released, outcomes_told_by_station, station_and_told, frames_heard, handed_unless, if_expired}

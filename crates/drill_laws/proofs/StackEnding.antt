@@ -17,10 +17,9 @@ use Rattle.x224_class2.specs.Transport.{Transport, ReceptionDeed, Nothing, Calle
 use Rattle.x224_class2.specs.Transport as transport
 use Rattle.x224_class2.specs.Refusals.{protocol_error, tpdu_refused, message_too_long}
 use Rattle.sapdu.specs.Spelling.{di_in}
-use Rattle.safety_automaton.specs.Keys.{no_keys}
+use Rattle.safety_automaton.specs.Safety.{no_keys, Safety, SafetyEvent, ConnectRequest, Received, DataRequest, DisconnectRequest, SafetyOutcome, SentAu1, SentAu2, SentAu3, SentAr, ReceivedAr, AcceptedDt, SentDt, ReleasedLocally, ReleasedByPeer, NothingDone, peer_flag, octets_sent_in_outcome, step}
 use Rattle.safety_automaton.specs.Rules.{StepsOnly, IsStep}
 use Rattle.safety_automaton.specs.Reports.{report_of}
-use Rattle.safety_automaton.specs.Safety.{Safety, SafetyEvent, ConnectRequest, Received, DataRequest, DisconnectRequest, SafetyOutcome, SentAu1, SentAu2, SentAu3, SentAr, ReceivedAr, AcceptedDt, SentDt, ReleasedLocally, ReleasedByPeer, NothingDone, peer_flag, octets_sent_in_outcome, step}
 use Rattle.safety_automaton.specs.Safety as safety
 use Rattle.safety_pair_laws.specs.Facts.{facts_of}
 use Rattle.er_end_model.specs.Outcomes.{SendRefusal}

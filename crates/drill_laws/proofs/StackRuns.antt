@@ -2,7 +2,7 @@
 use Rattle.std.proofs.Common.{List, refl, subst}
 use Rattle.er_base.specs.declared.side.Side.TheVariants.{E, R}
 use Rattle.er_settings.specs.Ranges.{AllAllowed}
-use Rattle.er_end_model.specs.Hearing.{EventsGive}
+use Rattle.er_end_model.specs.Giving.{EventsGive}
 use Rattle.drill_model.specs.Outcomes.{Occurrence}
 use Rattle.drill_model.specs.Ends.{EndAtLevel}
 use Rattle.drill_model.specs.Links.{Link}

@@ -11,8 +11,7 @@ use Rattle.er_scenario.specs.declared.step.Step.TheVariants as does
 use Rattle.safety_automaton.specs.Safety.{Safety, SafetyEvent, SafetyOutcome, SentAu1, SentAu2, SentAu3, SentAr, ReceivedAr, AcceptedDt, SentDt, Refused, ReleasedLocally, ReleasedByPeer, NothingDone}
 use Rattle.safety_pair_laws.specs.Facts.{SideFact, at_side, heard_in, facts_by, facts_of}
 use Rattle.safety_pair_laws.specs.Openings.{PairOpening, OfFixed, OfKeys, Pair, key_for, safety_of, with_safety, pair_before_events}
-use Rattle.safety_pair_laws.specs.Talks.{answer, Talks, Begins, Goes}
-use Rattle.safety_pair_laws.specs.Authentic.{TalksAreAuthentic}
+use Rattle.safety_pair_laws.specs.Talks.{answer, Talks, Begins, Goes, TalksAreAuthentic}
 use Rattle.drill_model.specs.Outcomes.{DrillOutcome, NothingWaits, IsShort, Altered, UserReleased, Passed, Occurrence, at_end, facts_in}
 use Rattle.drill_model.specs.Ends.{OfSafe, EndEvent, Start, safety_event, outcomes_by, safe_end_step}
 use Rattle.drill_model.specs.Ends as event

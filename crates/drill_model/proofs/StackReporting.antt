@@ -22,12 +22,10 @@ use Rattle.x224_class2.specs.Transport.{Transport, ReceptionDeed, Nothing, Calle
 use Rattle.x224_class2.specs.Transport as transport
 use Rattle.sapdu.specs.Spelling.{di_in, SafetyPdu as SaPdu, Au1, Au2, header, body, spelling}
 use Rattle.cbc_mac.specs.Mac.{mac_of}
-use Rattle.safety_automaton.specs.Keys.{no_keys}
+use Rattle.safety_automaton.specs.Safety.{no_keys, Safety, Phase, Ready, WaitAu1, WaitAu2, WaitAu3, WaitAr, Connected, Released, SafetyEvent, ConnectRequest, Received, DataRequest, DisconnectRequest, SafetyOutcome, SentAu1, SentAu2, SentAu3, SentAr, ReceivedAr, AcceptedDt, SentDt, Refused, ReleasedLocally, ReleasedByPeer, NothingDone, flag_of, peer_flag, session_in, octets_sent_in_outcome, sends_dt, step, connects as begins_side, sends as sends_side, disconnects as disconnects_side}
 use Rattle.safety_automaton.specs.Rules.{IsStep, StepsOnly, AtReceived, AtDisconnect, AtConnect, StaysIdle}
 use Rattle.safety_automaton.specs.Laws.{KeysAreOwn, session_keys_of_outcome}
 use Rattle.safety_automaton.specs.Reports.{KeptSafe, report_of}
-use Rattle.safety_automaton.specs.Safety.{Safety, Phase, Ready, WaitAu1, WaitAu2, WaitAu3, WaitAr, Connected, Released, SafetyEvent, ConnectRequest, Received, DataRequest, DisconnectRequest, SafetyOutcome, SentAu1, SentAu2, SentAu3, SentAr, ReceivedAr, AcceptedDt, SentDt, Refused, ReleasedLocally, ReleasedByPeer, NothingDone, flag_of, peer_flag, session_in, octets_sent_in_outcome, sends_dt, step}
-use Rattle.safety_automaton.specs.Safety.{connects as begins_side, sends as sends_side, disconnects as disconnects_side}
 use Rattle.safety_automaton.specs.Safety as refused
 use Rattle.sapdu.specs.Messages.{is_message}
 use Rattle.er_end_model.specs.Layers.{Spoken, Core, model}

@@ -34,17 +34,7 @@ abbrev pub opening_by : DrillPlan → ℕ → Step → Option LinkOpening
 opening_by plan n (does.Fixed m engine rbc ke kr) = opening_where_link_named n m (fixed_opening plan.level engine rbc ke kr)
 opening_by plan n (does.Link m engine rbc ke kr ra rb) = opening_where_link_named n m (link_opening plan.level engine rbc ke kr ra rb)
 opening_by plan n (does.Wire m) = opening_where_link_named n m (wire_opening plan.level)
-opening_by plan n (does.Send m s text) = None
-opening_by plan n (does.Pass m s) = None
-opening_by plan n (does.Lose m s) = None
-opening_by plan n (does.Repeat m s) = None
-opening_by plan n (does.Alter m s place mask) = None
-opening_by plan n (does.Put m s text) = None
-opening_by plan n (does.Copy m s i t) = None
-opening_by plan n (does.Take m s) = None
-opening_by plan n (does.Release m s sub) = None
-opening_by plan n (does.Tick moment) = None
-opening_by plan n (does.Drain m most) = None
+opening_by plan n other = None
 
 abbrev pub or_opening : Option LinkOpening → Option LinkOpening → Option LinkOpening
 or_opening None later = later

@@ -34,22 +34,13 @@ pub data Effect : Type 0 where
 
 abbrev pub effect_of : Fact → List Effect
 effect_of (Sent user key text) = Sends user ∷ []
-effect_of (Sealed key text) = []
-effect_of (Verified heard key text) = []
-effect_of (Connected heard connection text) = []
-effect_of (Accepted heard user key text) = []
+effect_of other = []
 
 -- the effect that an outcome tells of, if it tells of one
 abbrev pub effect_in : DrillOutcome → List Effect
 effect_in (OfSafety fact) = effect_of fact
 effect_in (Handed payload) = Sends payload ∷ []
-effect_in (Arrived payload) = []
-effect_in Up = []
-effect_in (Took message) = []
-effect_in NothingToTake = []
 effect_in (Refused refusal) = IsRefused ∷ []
-effect_in (Released release) = []
-effect_in (Frame octets) = []
 effect_in Expired = Expires ∷ []
 effect_in (UserReleased sub) = Releases sub ∷ []
 effect_in (Passed octets) = Passes octets ∷ []
@@ -57,8 +48,7 @@ effect_in Lost = Loses ∷ []
 effect_in Repeated = Repeats ∷ []
 effect_in Altered = Alters ∷ []
 effect_in Inserted = Inserts ∷ []
-effect_in NothingWaits = []
-effect_in (IsShort found) = []
+effect_in other = []
 
 -- an effect at an end, or at what it sent
 abbrev pub Effects : Type 0
@@ -165,20 +155,8 @@ pub data IsPartOf : List (List ℕ) → List (List ℕ) → Type 0 where
 
 -- the texts that a file has a side of link n send
 abbrev pub texts_sent_by_step : (n : ℕ) → Side → Step → List (List ℕ)
-texts_sent_by_step n side (does.Fixed m engine rbc ke kr) = []
-texts_sent_by_step n side (does.Link m engine rbc ke kr ra rb) = []
-texts_sent_by_step n side (does.Wire m) = []
 texts_sent_by_step n side (does.Send m s text) = if (m == n) && is_side s side then text ∷ [] else []
-texts_sent_by_step n side (does.Pass m s) = []
-texts_sent_by_step n side (does.Lose m s) = []
-texts_sent_by_step n side (does.Repeat m s) = []
-texts_sent_by_step n side (does.Alter m s place mask) = []
-texts_sent_by_step n side (does.Put m s text) = []
-texts_sent_by_step n side (does.Copy m s k t) = []
-texts_sent_by_step n side (does.Take m s) = []
-texts_sent_by_step n side (does.Release m s sub) = []
-texts_sent_by_step n side (does.Tick moment) = []
-texts_sent_by_step n side (does.Drain m most) = []
+texts_sent_by_step n side other = []
 
 -- what an end sent is the text of a step that sends at that side, in their order
 abbrev pub SendsAreSteps : DrillPlan → List Step → Type 0
@@ -187,37 +165,17 @@ SendsAreSteps plan steps =
 
 -- a step that alters what waits on link n, or inserts there
 abbrev pub disorders : (n : ℕ) → Step → Bool
-disorders n (does.Fixed m engine rbc ke kr) = false
-disorders n (does.Link m engine rbc ke kr ra rb) = false
-disorders n (does.Wire m) = false
-disorders n (does.Send m s text) = false
-disorders n (does.Pass m s) = false
-disorders n (does.Lose m s) = false
-disorders n (does.Repeat m s) = false
 disorders n (does.Alter m s place mask) = m == n
 disorders n (does.Put m s text) = m == n
 disorders n (does.Copy m s k t) = k == n
-disorders n (does.Take m s) = false
-disorders n (does.Release m s sub) = false
-disorders n (does.Tick moment) = false
-disorders n (does.Drain m most) = false
+disorders n other = false
 
 -- one that loses or repeats there, or has a user release
 abbrev pub disturbs : (n : ℕ) → Step → Bool
-disturbs n (does.Fixed m engine rbc ke kr) = false
-disturbs n (does.Link m engine rbc ke kr ra rb) = false
-disturbs n (does.Wire m) = false
-disturbs n (does.Send m s text) = false
-disturbs n (does.Pass m s) = false
 disturbs n (does.Lose m s) = m == n
 disturbs n (does.Repeat m s) = m == n
-disturbs n (does.Alter m s place mask) = false
-disturbs n (does.Put m s text) = false
-disturbs n (does.Copy m s k t) = false
-disturbs n (does.Take m s) = false
 disturbs n (does.Release m s sub) = m == n
-disturbs n (does.Tick moment) = false
-disturbs n (does.Drain m most) = false
+disturbs n other = false
 
 -- at each tick of the file no timer of link n had run out
 abbrev pub NoneRunsOut : DrillPlan → List Step → (n : ℕ) → Type 0

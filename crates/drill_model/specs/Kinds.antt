@@ -20,43 +20,13 @@ use Rattle.drill_model.specs.Links.{LinkOpening, OfPair, OfStations, OfStacks}
 abbrev pub sent_in : DrillOutcome → List (List ℕ)
 sent_in (OfSafety fact) = pair.sent_in fact
 sent_in (Handed payload) = payload ∷ []
-sent_in (Arrived payload) = []
-sent_in Up = []
-sent_in (Took message) = []
-sent_in NothingToTake = []
-sent_in (Refused refusal) = []
-sent_in (Released release) = []
-sent_in (Frame octets) = []
-sent_in Expired = []
-sent_in (UserReleased sub) = []
-sent_in (Passed octets) = []
-sent_in Lost = []
-sent_in Repeated = []
-sent_in Altered = []
-sent_in Inserted = []
-sent_in NothingWaits = []
-sent_in (IsShort found) = []
+sent_in other = []
 
 -- the octets that were accepted
 abbrev pub accepted_in : DrillOutcome → List (List ℕ)
 accepted_in (OfSafety fact) = pair.accepted_in fact
-accepted_in (Handed payload) = []
 accepted_in (Arrived payload) = payload ∷ []
-accepted_in Up = []
-accepted_in (Took message) = []
-accepted_in NothingToTake = []
-accepted_in (Refused refusal) = []
-accepted_in (Released release) = []
-accepted_in (Frame octets) = []
-accepted_in Expired = []
-accepted_in (UserReleased sub) = []
-accepted_in (Passed octets) = []
-accepted_in Lost = []
-accepted_in Repeated = []
-accepted_in Altered = []
-accepted_in Inserted = []
-accepted_in NothingWaits = []
-accepted_in (IsShort found) = []
+accepted_in other = []
 
 -- `sent` and `accepted` of an end, in their order
 abbrev pub sent_by : Side → List Occurrence → List (List ℕ)
@@ -67,24 +37,8 @@ accepted_by side history = flat_map (λ o. if is_side side o.side then accepted_
 
 -- a message that the user took
 abbrev pub took_in : DrillOutcome → List (List ℕ)
-took_in (OfSafety fact) = []
-took_in (Handed payload) = []
-took_in (Arrived payload) = []
-took_in Up = []
 took_in (Took message) = message ∷ []
-took_in NothingToTake = []
-took_in (Refused refusal) = []
-took_in (Released release) = []
-took_in (Frame octets) = []
-took_in Expired = []
-took_in (UserReleased sub) = []
-took_in (Passed octets) = []
-took_in Lost = []
-took_in Repeated = []
-took_in Altered = []
-took_in Inserted = []
-took_in NothingWaits = []
-took_in (IsShort found) = []
+took_in other = []
 
 abbrev pub taken_by : Side → List Occurrence → List (List ℕ)
 taken_by side history = flat_map (λ o. if is_side side o.side then took_in o.outcome else []) history
@@ -92,24 +46,8 @@ taken_by side history = flat_map (λ o. if is_side side o.side then took_in o.ou
 -- ---- releases
 
 abbrev pub released_in : DrillOutcome → List Release
-released_in (OfSafety fact) = []
-released_in (Handed payload) = []
-released_in (Arrived payload) = []
-released_in Up = []
-released_in (Took message) = []
-released_in NothingToTake = []
-released_in (Refused refusal) = []
 released_in (Released release) = release ∷ []
-released_in (Frame octets) = []
-released_in Expired = []
-released_in (UserReleased sub) = []
-released_in (Passed octets) = []
-released_in Lost = []
-released_in Repeated = []
-released_in Altered = []
-released_in Inserted = []
-released_in NothingWaits = []
-released_in (IsShort found) = []
+released_in other = []
 
 -- the releases of both ends, in their order
 abbrev pub releases_in : List Occurrence → List Release
@@ -119,24 +57,8 @@ releases_in history = flat_map (λ o. released_in o.outcome) history
 
 -- the octets of a delivery
 abbrev pub passed_in : DrillOutcome → List (List ℕ)
-passed_in (OfSafety fact) = []
-passed_in (Handed payload) = []
-passed_in (Arrived payload) = []
-passed_in Up = []
-passed_in (Took message) = []
-passed_in NothingToTake = []
-passed_in (Refused refusal) = []
-passed_in (Released release) = []
-passed_in (Frame octets) = []
-passed_in Expired = []
-passed_in (UserReleased sub) = []
 passed_in (Passed octets) = octets ∷ []
-passed_in Lost = []
-passed_in Repeated = []
-passed_in Altered = []
-passed_in Inserted = []
-passed_in NothingWaits = []
-passed_in (IsShort found) = []
+passed_in other = []
 
 -- the number of deliveries
 abbrev pub deliveries : List Occurrence → ℕ

@@ -7,7 +7,7 @@ use Rattle.hdlc_frames.specs.Framing.{unescaped, ends_in_escape, verdict_on_cont
 use Rattle.hdlc_frames.specs.Spelling.{escaped_octet, escaped, spelling}
 use Rattle.hdlc_frames.specs.ControlOctets.{control_of}
 use Rattle.er_base.specs.declared.side.Side.TheVariants.{E, R}
-use Rattle.er_settings.specs.Ranges.{usual_settings}
+use Rattle.er_settings.specs.Making.{usual_settings}
 use Rattle.er_scenario.specs.declared.level.Level.TheVariants.{Link, LinkSr}
 use Rattle.er_scenario.specs.declared.step.Step.TheVariants as does
 use Rattle.er_end_model.specs.Outcomes.{RefusedLength, RefusedFull, RefusedReleased}

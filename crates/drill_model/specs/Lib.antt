@@ -6,6 +6,7 @@ pub mod Ends
 pub mod Waiting
 pub mod Links
 pub mod Steps
+pub mod StepLevels
 pub mod Worlds
 pub mod Faults
 pub mod Marks

@@ -52,23 +52,7 @@ at_end side outcome = record { side = side; outcome = outcome }
 -- the facts of the safety layer among outcomes
 abbrev pub facts_at : Side → DrillOutcome → List SideFact
 facts_at side (OfSafety fact) = at_side side fact ∷ []
-facts_at side (Handed payload) = []
-facts_at side (Arrived payload) = []
-facts_at side Up = []
-facts_at side (Took message) = []
-facts_at side NothingToTake = []
-facts_at side (Refused refusal) = []
-facts_at side (Released release) = []
-facts_at side (Frame octets) = []
-facts_at side Expired = []
-facts_at side (UserReleased sub) = []
-facts_at side (Passed octets) = []
-facts_at side Lost = []
-facts_at side Repeated = []
-facts_at side Altered = []
-facts_at side Inserted = []
-facts_at side NothingWaits = []
-facts_at side (IsShort found) = []
+facts_at side other = []
 
 abbrev pub facts_in : List Occurrence → List SideFact
 facts_in history = flat_map (λ o. facts_at o.side o.outcome) history

@@ -17,9 +17,8 @@ use Rattle.x224_class2.specs.Tpdus.{GivenTpdu, Dr, Dc}
 use Rattle.x224_class2.specs.Transport.{ReceptionDeed, Nothing, Called, Confirmed, Message, Disconnected}
 use Rattle.x224_class2.specs.Transport as transport
 use Rattle.sapdu.specs.Spelling.{di_in}
-use Rattle.safety_automaton.specs.Keys.{no_keys}
+use Rattle.safety_automaton.specs.Safety.{no_keys, ConnectRequest, Received, DataRequest, DisconnectRequest, octets_sent_in_outcome, peer_flag, step}
 use Rattle.safety_automaton.specs.Reports.{Report, ToldAnswered, ToldConnected, ToldAccepted, ToldReleased, ToldIgnored, report_of}
-use Rattle.safety_automaton.specs.Safety.{ConnectRequest, Received, DataRequest, DisconnectRequest, octets_sent_in_outcome, peer_flag, step}
 use Rattle.er_end_model.specs.Outcomes.{Outcome, ConnectedTo, Accepted, Taken, NothingToTake, Refused, WasReleased, Octets, SendRefusal}
 use Rattle.er_end_model.specs.Steps.{Finds, new_event, new_event_at, hand_tpdu_if_may, send_dr, answer_dr, on_safety_release, why_of, with_safety_step, hand_text, accept_text, Carrier, InCr, InCc, InDt, hand_answer, on_safety_report, on_text, on_transport_deed, on_joined_block, is_ready, connect_with_text, on_link_up, on_link_told, hand_next_tpdu, has_next_tpdu, hand_waiting_tpdus, most_offers, conclude_event, on_frame, refusal_of, on_send, step_send_unless, on_take, on_release, normal_disconnect, is_spent, di_of, on_expiry, on_tick, on_break, on_start, outcomes_of, if_connected, if_accepted, if_released, if_octets, if_taken}
 use Rattle.er_end_model.specs.Ends.{Start, Come, Send, Take, Leave, Tick, Ended, Fault, Stalled, refusal_or_outcomes}

@@ -2,9 +2,10 @@
 
 ghost use Rattle.std.specs.Prelude.{◌≡◌, ◌≤◌, [], None, length, false, IfOk};
 ghost use Rattle.sapdu.specs.Spelling.{Di, spelling};
-ghost use Rattle.safety_automaton.specs.Keys.{key_at, no_keys};
-ghost use Rattle.safety_automaton.specs.Reports.{state_of, report_view, report_of, IfAccepted};
-ghost use Rattle.safety_automaton.specs.Safety.{ConnectRequest, Received, DataRequest, DisconnectRequest, step, octets_sent_in_outcome};
+ghost use Rattle.safety_automaton.specs.Keys.{key_at};
+ghost use Rattle.safety_automaton.specs.Safety.{no_keys, ConnectRequest, Received, DataRequest, DisconnectRequest, step, octets_sent_in_outcome};
+ghost use Rattle.safety_automaton.specs.Reports.{report_of};
+ghost use Rattle.safety_automaton.specs.Views.{state_of, report_view, IfAccepted};
 ghost use Rattle.safety_automaton.specs.declared.safe_state.SafeState.TheVariants as state;
 ghost use Rattle.t70_header.specs.Blocks.{last_block};
 ghost use Rattle.x224_class2.specs.Tpdus.{octets_given};

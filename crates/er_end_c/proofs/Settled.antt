@@ -6,7 +6,8 @@ use Rattle.er_settings.specs.Values.{Settings}
 use Rattle.er_settings.specs.declared.settings.SettingFault.{SettingFault}
 use Rattle.er_settings.specs.declared.setting_name.SettingName.{SettingName}
 use Rattle.er_settings.specs.declared.setting_name.SettingName.TheVariants as setting
-use Rattle.er_settings.specs.Ranges.{is_allowed, AllAllowed, IsFirstRefusedSetting, settings_of}
+use Rattle.er_settings.specs.Ranges.{is_allowed, AllAllowed}
+use Rattle.er_settings.specs.Making.{IsFirstRefusedSetting, settings_of}
 use Rattle.er_end_c.specs.declared.face.CSettings.{CSettings}
 use Rattle.er_end_c.specs.declared.handle.CEnd.{CEnd}
 use Rattle.er_end_c.specs.Makings.{are_allowed, settings_from, settings_in, fault_of_handle_making}

@@ -4,7 +4,8 @@ use Rattle.des_block.specs.declared.triple_key.TripleKey.{TripleKey}
 use Rattle.safety_automaton.specs.Keys.{KmacEntry}
 use Rattle.er_settings.specs.Values.{Settings}
 use Rattle.er_settings.specs.declared.setting_name.SettingName.TheVariants as setting
-use Rattle.er_settings.specs.Ranges.{is_allowed, settings_of}
+use Rattle.er_settings.specs.Ranges.{is_allowed}
+use Rattle.er_settings.specs.Making.{settings_of}
 use Rattle.er_end_model.specs.Ends.{Opening}
 use Rattle.er_end.specs.KeptEnds.{kept_opened}
 use Rattle.er_end_c.specs.declared.face.CSettings.{CSettings}

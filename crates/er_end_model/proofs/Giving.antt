@@ -14,12 +14,12 @@ use Rattle.x224_class2.specs.Transport.{ReceptionDeed, Nothing, Called, Confirme
 use Rattle.x224_class2.specs.Transport as transport
 use Rattle.x224_class2.specs.declared.stage.Stage.{Stage}
 use Rattle.sapdu.specs.Spelling.{di_in}
-use Rattle.safety_automaton.specs.Keys.{no_keys}
+use Rattle.safety_automaton.specs.Safety.{no_keys, Safety, SafetyEvent, ConnectRequest, Received, DataRequest, DisconnectRequest, SafetyOutcome, octets_sent_in_outcome, peer_flag, step}
 use Rattle.safety_automaton.specs.Reports.{Report, ToldAnswered, ToldConnected, ToldAccepted, ToldReleased, ToldIgnored, report_of}
-use Rattle.safety_automaton.specs.Safety.{Safety, SafetyEvent, ConnectRequest, Received, DataRequest, DisconnectRequest, SafetyOutcome, octets_sent_in_outcome, peer_flag, step}
 use Rattle.er_end_model.specs.Steps.{Finds, new_event, new_event_at, with_release, send_dr, answer_dr, on_safety_release, why_of, with_safety_step, hand_text, skip_message, Carrier, InCr, InCc, InDt, hand_answer, keep_message, on_safety_report, on_text, on_transport_deed, on_joined_block, is_ready, connect_with_text, on_link_up, on_link_told, conclude_event, step_start, step_frame, on_send, step_take, step_release, is_spent, normal_disconnect, di_of, on_expiry, step_tick, step_break}
 use Rattle.er_end_model.specs.Layers.{Spoken, Core, model}
-use Rattle.er_end_model.specs.Hearing.{text_in_deed, station_behind, IsTextOf, FrameGives, IsGiven, CallsNow, EventsGive}
+use Rattle.er_end_model.specs.Hearing.{text_in_deed, station_behind, IsTextOf}
+use Rattle.er_end_model.specs.Giving.{FrameGives, IsGiven, CallsNow, EventsGive}
 use Rattle.er_end_model.proofs.Behind.{taken_at, joined_at, heard_at}
 use Rattle.er_end_model.proofs.Speaking.{Seen, seen, seen_departs, seen_cut_off, seen_parts, seen_says, seen_concludes}
 

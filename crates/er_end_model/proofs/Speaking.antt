@@ -18,9 +18,8 @@ use Rattle.x224_class2.specs.Tpdus.{GivenTpdu, Dr, Dc}
 use Rattle.x224_class2.specs.Segments.{text_so_far}
 use Rattle.x224_class2.specs.Transport.{Transport, ReceptionDeed, Nothing, Called, Confirmed, Message, Disconnected, is_new, is_calling, is_open, is_over, TpduTurn, Rest, Opening, Acknowledgement, Data, refusal_of_tpdu, is_expected, number_named, on_named, on_reading, reception, turn_of, state_behind, with_given, next_tpdu}
 use Rattle.x224_class2.specs.Transport as transport
-use Rattle.safety_automaton.specs.Keys.{no_keys}
+use Rattle.safety_automaton.specs.Safety.{no_keys, Safety, Phase, Ready, WaitAu1, WaitAu2, WaitAu3, WaitAr, Connected, Released, SafetyEvent, ConnectRequest, Received, DataRequest, DisconnectRequest, SafetyOutcome, SentAu1, SentAu2, SentAu3, SentAr, ReceivedAr, AcceptedDt, SentDt, Refused, ReleasedLocally, ReleasedByPeer, NothingDone, sealed_by, verified_by, octets_sent_in_outcome, peer_flag, step}
 use Rattle.safety_automaton.specs.Reports.{KeptSafe, report_of, kept_side_without_texts}
-use Rattle.safety_automaton.specs.Safety.{Safety, Phase, Ready, WaitAu1, WaitAu2, WaitAu3, WaitAr, Connected, Released, SafetyEvent, ConnectRequest, Received, DataRequest, DisconnectRequest, SafetyOutcome, SentAu1, SentAu2, SentAu3, SentAr, ReceivedAr, AcceptedDt, SentDt, Refused, ReleasedLocally, ReleasedByPeer, NothingDone, sealed_by, verified_by, octets_sent_in_outcome, peer_flag, step}
 use Rattle.safety_automaton.specs.Laws.{AcceptsVerified}
 use Rattle.sapdu.specs.Messages.{is_message}
 use Rattle.sapdu.specs.Spelling.{di_in}

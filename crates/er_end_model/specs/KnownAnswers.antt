@@ -7,7 +7,7 @@ use Rattle.hdlc_frames.specs.Framing.{unescaped, ends_in_escape, verdict_on_cont
 use Rattle.hdlc_frames.specs.Spelling.{escaped_octet, escaped, spelling}
 use Rattle.hdlc_frames.specs.ControlOctets.{control_of}
 use Rattle.er_base.specs.Octets.{eight}
-use Rattle.er_settings.specs.Ranges.{usual_settings}
+use Rattle.er_settings.specs.Making.{usual_settings}
 use Rattle.des_block.specs.declared.triple_key.TripleKey.{TripleKey}
 use Rattle.er_end_model.specs.Outcomes.{Octets, WasReleased, NothingToTake, Refused, RefusedNotConnected}
 use Rattle.er_end_model.specs.Steps.{Finds, hand_waiting_tpdus}

@@ -8,9 +8,8 @@ use Rattle.hdlc_frames.specs.Framing.{Verdict}
 use Rattle.hdlc_station_model.specs.Stations.{is_down}
 use Rattle.x224_class2.specs.declared.stage.Stage.{Stage}
 use Rattle.x224_class2.specs.declared.stage.Stage.TheVariants as stages
-use Rattle.safety_automaton.specs.Keys.{no_keys}
+use Rattle.safety_automaton.specs.Safety.{no_keys, Safety, SafetyOutcome, SentAu1, SentAu2, SentAu3, SentAr, ReceivedAr, AcceptedDt, SentDt, Refused, ReleasedLocally, ReleasedByPeer, NothingDone, sealed_by, verified_by, step}
 use Rattle.safety_automaton.specs.Reports.{kept_side_without_texts}
-use Rattle.safety_automaton.specs.Safety.{Safety, SafetyOutcome, SentAu1, SentAu2, SentAu3, SentAr, ReceivedAr, AcceptedDt, SentDt, Refused, ReleasedLocally, ReleasedByPeer, NothingDone, sealed_by, verified_by, step}
 use Rattle.er_end_model.specs.Outcomes.{RefusedReleased}
 use Rattle.er_end_model.specs.Steps.{Finds, new_event_at, has_next_tpdu, hand_waiting_tpdus, most_offers, step_start, step_frame, refusal_of, on_send, step_take, step_release, step_tick, step_break, is_connected, outcomes_of}
 use Rattle.er_end_model.specs.Layers.{Spoken, Core, model}

@@ -5,6 +5,7 @@ pub mod Layers
 pub mod Ends
 pub mod Laws
 pub mod Hearing
+pub mod Giving
 pub mod Origins
 pub mod Releasing
 pub mod Timing

@@ -2,7 +2,7 @@
 //! contracts are the laws.
 
 ghost use Rattle.er_end_model.specs.Laws.{EventsSpeakOnce, ReleasedRest, OffersRest, AnyCut};
-ghost use Rattle.er_end_model.specs.Hearing.{EventsGive};
+ghost use Rattle.er_end_model.specs.Giving.{EventsGive};
 ghost use Rattle.er_end_model.specs.Releasing.{EndReleases, RunsRelease};
 ghost use Rattle.er_end_model.specs.Timing.{ExpiresAtDeadline, TimelyEnds};
 ghost use Rattle.er_end_model.specs.Origins.{OctetOutcomesHaveOrigin, RunsAreHeard, StreamIsWhole};

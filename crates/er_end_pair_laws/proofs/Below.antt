@@ -1,11 +1,10 @@
 -- The public laws of the layers below that two ends rest on.
 use Rattle.er_settings.specs.Laws.{AllowedAreBounded}
-use Rattle.t70_header.specs.Joining.{WrappedIsJoined}
+use Rattle.t70_header.specs.JoiningLaws.{WrappedIsJoined}
 use Rattle.x224_tpdu.specs.Reading.{WrittenIsShort}
-use Rattle.x224_tpdu.specs.Function.{ReadingOfWritten}
+use Rattle.x224_tpdu.specs.ReadingLaws.{ReadingOfWritten}
 use Rattle.x224_class2.specs.Laws.{CutIsJoined, JoinsInParts, SegmentsFit, SegmentsAreFew, AcknowledgesAtMost, AcknowledgesAll}
-use Rattle.sapdu.specs.Messages.{IsTested}
-use Rattle.sapdu.specs.Spelling.{SpellsFew}
+use Rattle.sapdu.specs.SpellingLaws.{IsTested, SpellsFew}
 use Rattle.hdlc_station_model.specs.Laws.{ReceivesGive, TicksGive, HandsKeep, OthersKeep}
 use Rattle.hdlc_pair_laws.specs.Keeping.{CallsKeep, ReceivesTell, TicksTell, PhasesStay}
 use Rattle.er_end_pair_laws.proofs.Follows.{SafetyLaws}

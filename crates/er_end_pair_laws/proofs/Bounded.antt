@@ -5,7 +5,8 @@ use Rattle.std.proofs.lemmas.List.{length-map}
 use Rattle.std.proofs.lemmas.List.Sums.{sum_by-cons}
 use Rattle.er_base.specs.Octets.{eight}
 use Rattle.cbc_mac.specs.Mac.{mac_of}
-use Rattle.sapdu.specs.Spelling.{Au3, SpellsItsLength}
+use Rattle.sapdu.specs.Spelling.{Au3}
+use Rattle.sapdu.specs.SpellingLaws.{SpellsItsLength}
 use Rattle.safety_automaton.specs.Safety.{au3_text, ar_text, message_text}
 use Rattle.x224_class2.specs.Segments.{Segment, segments_of as cut, messages_in}
 use Rattle.x224_class2.specs.Tpdus.{GivenTpdu}

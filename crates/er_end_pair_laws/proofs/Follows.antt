@@ -4,7 +4,8 @@ use Rattle.er_base.specs.declared.release.Release.{Release}
 use Rattle.des_block.specs.declared.triple_key.TripleKey.{TripleKey}
 use Rattle.cbc_mac.specs.Mac.{mac_of}
 use Rattle.cbc_mac.specs.Laws.{MacBelow}
-use Rattle.sapdu.specs.Spelling.{SafetyPdu, Au1, Au2, Au3, Ar, Dt, spelling, read_of, IsReadBack}
+use Rattle.sapdu.specs.Spelling.{SafetyPdu, Au1, Au2, Au3, Ar, Dt, spelling, read_of}
+use Rattle.sapdu.specs.SpellingLaws.{IsReadBack}
 use Rattle.safety_automaton.specs.Safety.{Safety, Connection, Phase, Ready, WaitAu1, WaitAu2, WaitAu3, WaitAr, Connected, Released, Received, SafetyOutcome, SentAu1, SentAu2, SentAu3, SentAr, ReceivedAr, AcceptedDt, SentDt, Refused, ReleasedLocally, ReleasedByPeer, NothingDone, peer_flag, au2_text, au3_text, ar_text, message_text, octets_sent_in_outcome, step}
 use Rattle.safety_automaton.specs.Rules.{IsOpen, IsReceived, IsStep, StaysIdle, AtReceived, AtDisconnect, AtConnect, StepsOnly, StepsEach}
 use Rattle.safety_automaton.specs.Laws.{SendsFew}

@@ -13,9 +13,8 @@ use Rattle.des_block.specs.declared.triple_key.TripleKey.{TripleKey}
 use Rattle.cbc_mac.specs.Mac.{mac_of}
 use Rattle.sapdu.specs.Spelling.{Dt, Di, spelling, di_in}
 use Rattle.sapdu.specs.Messages.{is_message, IsMessage}
-use Rattle.safety_automaton.specs.Keys.{no_keys}
+use Rattle.safety_automaton.specs.Safety.{no_keys, Safety, Phase, Ready, WaitAu1, WaitAu2, WaitAu3, WaitAr, Connected, Released, DataRequest, DisconnectRequest, SafetyOutcome, Refused, RefusedLength, sends_dt, message_text, octets_sent_in_outcome, step}
 use Rattle.safety_automaton.specs.Rules.{IsOpen}
-use Rattle.safety_automaton.specs.Safety.{Safety, Phase, Ready, WaitAu1, WaitAu2, WaitAu3, WaitAr, Connected, Released, DataRequest, DisconnectRequest, SafetyOutcome, Refused, RefusedLength, sends_dt, message_text, octets_sent_in_outcome, step}
 use Rattle.hdlc_station_model.specs.Frames.{Frame}
 use Rattle.hdlc_station_model.specs.Stations.{Station, no_deed, settled}
 use Rattle.hdlc_station_model.specs.Calls as station

@@ -11,8 +11,7 @@ use Rattle.hdlc_frames.specs.Framing.{Verdict}
 use Rattle.hdlc_station_model.specs.Stations.{Station}
 use Rattle.hdlc_station_model.specs.Calls as station
 use Rattle.t70_header.specs.Blocks.{last_block}
-use Rattle.safety_automaton.specs.Keys.{no_keys}
-use Rattle.safety_automaton.specs.Safety.{DataRequest, step, octets_sent_in_outcome}
+use Rattle.safety_automaton.specs.Safety.{no_keys, DataRequest, step, octets_sent_in_outcome}
 use Rattle.x224_class2.specs.Transport.{is_open, waiting_count}
 use Rattle.er_end_model.specs.Layers.{Core, model}
 use Rattle.er_end_model.specs.Steps.{Finds, with_safety_step, on_link_deed, conclude_event, on_frame, on_tick, on_expiry, send_dr, di_of, is_spent, on_take, on_send, on_release, on_start, hand_next_tpdu, has_next_tpdu, hand_waiting_tpdus, most_offers, send_owed_answer}

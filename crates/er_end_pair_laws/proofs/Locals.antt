@@ -1,7 +1,7 @@
 -- What holds of one side of a transport connection by itself: of its fields, of the TPDUs that it gave, and of those that it heard.
 use Rattle.std.proofs.Common.{◌≡◌, ℕ, ◌+◌, ◌≤◌, Bool, true, false, List, [], ◌∷◌, length, take}
 use Rattle.std.specs.List.{flat_map}
-use Rattle.x224_tpdu.specs.Writing.{IsWritable}
+use Rattle.x224_tpdu.specs.Spellings.{IsWritable}
 use Rattle.x224_class2.specs.Segments.{Segment, segments_of, messages_in, text_so_far}
 use Rattle.x224_class2.specs.Tpdus.{GivenTpdu, Cr, Cc, Dt, Ak, Dr, Dc, pdu_given}
 use Rattle.er_end_pair_laws.proofs.Lists.{Each, number, Climbs, Ends}

@@ -8,7 +8,7 @@ use Rattle.hdlc_station_model.specs.Frames.{Frame}
 use Rattle.hdlc_station_model.specs.Stations.{is_down}
 use Rattle.hdlc_station_model.specs.Calls.{hands}
 use Rattle.t70_header.specs.Blocks.{last_block}
-use Rattle.x224_tpdu.specs.Writing.{IsSize}
+use Rattle.x224_tpdu.specs.Spellings.{IsSize}
 use Rattle.x224_class2.specs.Segments.{Segment}
 use Rattle.x224_class2.specs.Tpdus.{GivenTpdu, Cr, Cc, Dt, Ak, pdu_given}
 use Rattle.x224_class2.specs.Transport.{Transport, is_over, TpduTurn, Rest, Opening as Opens_next, Acknowledgement, Data, turn_among, turn_of, ack_of, tpdu_at, state_behind, with_given, next_tpdu}

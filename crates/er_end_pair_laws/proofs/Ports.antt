@@ -4,7 +4,8 @@ use Rattle.std.specs.Prelude.{nat_lt, nat_le, ◌==◌, min, if◌then◌else◌
 use Rattle.std.proofs.lemmas.Bool.{cases_Bool, cases_lt, le-leb, le-ltb}
 use Rattle.std.proofs.lemmas.List.{length-take-le}
 use Rattle.x224_tpdu.specs.Spelling.{TransportPdu}
-use Rattle.x224_tpdu.specs.Function.{reading, ReadingOfWritten}
+use Rattle.x224_tpdu.specs.Function.{reading}
+use Rattle.x224_tpdu.specs.ReadingLaws.{ReadingOfWritten}
 use Rattle.x224_tpdu.specs.declared.fault.TpFault.{TpFault}
 use Rattle.x224_class2.specs.Segments.{Segment, text_so_far}
 use Rattle.x224_class2.specs.Tpdus.{GivenTpdu, Dt, Ak, pdu_given, octets_given}

@@ -13,10 +13,9 @@ use Rattle.hdlc_pair_laws.specs.Flowing.{Midway, Ended}
 use Rattle.hdlc_pair_laws.specs.LossFree.{FlowKeeps, FlowBounds}
 use Rattle.t70_header.specs.Blocks.{last_block}
 use Rattle.t70_header.specs.Joining as joining
-use Rattle.sapdu.specs.Spelling.{SpellsItsLength}
-use Rattle.safety_automaton.specs.Keys.{no_keys}
+use Rattle.sapdu.specs.SpellingLaws.{SpellsItsLength}
+use Rattle.safety_automaton.specs.Safety.{no_keys, ConnectRequest, step, octets_sent_in_outcome}
 use Rattle.safety_automaton.specs.Reports.{Report, ToldAnswered, ToldConnected, ToldAccepted, ToldReleased, ToldIgnored}
-use Rattle.safety_automaton.specs.Safety.{ConnectRequest, step, octets_sent_in_outcome}
 use Rattle.x224_class2.specs.Tpdus.{GivenTpdu, Dr, Dc}
 use Rattle.x224_class2.specs.Transport.{ReceptionDeed, Nothing, Called, Confirmed, Message, Disconnected, is_new, is_open, waiting_count}
 use Rattle.x224_class2.specs.Transport as transport

@@ -3,7 +3,7 @@ use Rattle.std.proofs.Common.{◌≡◌, ℕ, zero, suc, ◌+◌, ◌<◌, ◌�
 use Rattle.std.specs.Prelude.{slice_index_or}
 use Rattle.std.proofs.lemmas.List.{take_more, length-take-le}
 use Rattle.std.proofs.Math.Nat.{mod-lt}
-use Rattle.x224_tpdu.specs.Writing.{IsSize}
+use Rattle.x224_tpdu.specs.Spellings.{IsSize}
 use Rattle.x224_class2.specs.Segments.{Segment}
 use Rattle.x224_class2.specs.Tpdus.{GivenTpdu, Cr, Cc, Dt, Ak, Dr, Dc}
 use Rattle.er_end_pair_laws.proofs.Lists.{Each, each_push, number, number_push, Climbs, climbs_push, flat_none, flat_one}

@@ -6,7 +6,7 @@ use Rattle.std.proofs.lemmas.Option.{same_Some}
 use Rattle.er_base.specs.declared.no_memory.NoMemory.{NoMemory as Want}
 use Rattle.er_base.specs.declared.side.Side.{Side}
 use Rattle.er_settings.specs.Values.{Settings}
-use Rattle.er_settings.specs.Ranges.{usual_settings}
+use Rattle.er_settings.specs.Making.{usual_settings}
 use Rattle.er_scenario.specs.declared.level.Level.{Level}
 use Rattle.er_scenario.specs.declared.level.Level.TheVariants as level
 use Rattle.er_scenario.specs.declared.step.Step.{Step}

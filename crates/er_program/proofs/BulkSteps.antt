@@ -8,7 +8,8 @@ use Rattle.rand_core.specs.Stream.{Stream, next_u32}
 use Rattle.er_base.specs.Octets.{AreOctets}
 use Rattle.er_base.specs.declared.side.Side.{Side}
 use Rattle.er_base.specs.Sides.{other}
-use Rattle.er_settings.specs.Ranges.{AllAllowed, usual_settings}
+use Rattle.er_settings.specs.Ranges.{AllAllowed}
+use Rattle.er_settings.specs.Making.{usual_settings}
 use Rattle.er_scenario.specs.declared.level.Level.TheVariants as level
 use Rattle.er_scenario.specs.declared.step.Step.{Step}
 use Rattle.er_scenario.specs.declared.step.Step.TheVariants as does

@@ -13,7 +13,8 @@ use Rattle.er_scenario.specs.Table.{levels_of, has_level}
 use Rattle.er_scenario.specs.StepRanges.{IsInRange}
 use Rattle.er_scenario.specs.Texts.{name_of, IsReadableStep, AreReadableSteps}
 use Rattle.drill_model.specs.declared.world_fault.WorldFault.{WorldFault}
-use Rattle.drill_model.specs.Steps.{IsOfLevel, HasEtcsNumbers, HasMoment}
+use Rattle.drill_model.specs.Steps.{HasEtcsNumbers}
+use Rattle.drill_model.specs.StepLevels.{IsOfLevel, HasMoment}
 use Rattle.drill_model.specs.Worlds.{plan_of, steps_of}
 use Rattle.drill_model.specs.Texts.{step_lines, first_lines, last_lines, drill_text}
 use Rattle.drill_model.specs.Growth.{TextGrows}

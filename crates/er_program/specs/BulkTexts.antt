@@ -3,7 +3,7 @@ use Rattle.std.specs.Prelude.{ℕ, ◌≡◌, false, List, [], ◌∷◌, take, 
 use Rattle.std.specs.Fmt.{decimal}
 use Rattle.er_base.specs.LineTexts.{line_text}
 use Rattle.er_base.specs.declared.side.Side.{Side}
-use Rattle.er_settings.specs.Ranges.{usual_settings}
+use Rattle.er_settings.specs.Making.{usual_settings}
 use Rattle.er_scenario.specs.declared.level.Level.TheVariants as level
 use Rattle.er_scenario.specs.declared.step.Step.{Step}
 use Rattle.drill_model.specs.declared.totals.Totals.{Totals}

@@ -3,7 +3,8 @@
 ghost use Rattle.std.specs.Prelude.{◌≡◌, ◌≤◌, List, false};
 ghost use Rattle.er_scenario.specs.declared.step.Step.{Step as AnyStep};
 ghost use Rattle.er_scenario.specs.Texts.{CanBeRead};
-ghost use Rattle.drill_model.specs.Steps.{IsOfLevel, HasEtcsNumbers, HasMoment};
+ghost use Rattle.drill_model.specs.Steps.{HasEtcsNumbers};
+ghost use Rattle.drill_model.specs.StepLevels.{IsOfLevel, HasMoment};
 ghost use Rattle.drill_model.specs.Worlds.{DrillPlan};
 ghost use Rattle.er_world.specs.Standing.{Ran};
 ghost use Rattle.er_program.specs.Writing.{Drills, StepsOne};

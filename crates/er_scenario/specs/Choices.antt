@@ -10,7 +10,8 @@ use Rattle.er_settings.specs.Values.{Settings}
 use Rattle.er_settings.specs.declared.setting_name.SettingName.{SettingName}
 use Rattle.er_settings.specs.declared.setting_name.SettingName.TheVariants.{Window, Credit, Size, T1, N2, Setup}
 use Rattle.er_settings.specs.Names.{setting_named}
-use Rattle.er_settings.specs.Ranges.{is_allowed, usual_settings}
+use Rattle.er_settings.specs.Ranges.{is_allowed}
+use Rattle.er_settings.specs.Making.{usual_settings}
 use Rattle.er_scenario.specs.declared.level.Level.{Level}
 use Rattle.er_scenario.specs.declared.level.Level.TheVariants as level
 use Rattle.er_scenario.specs.declared.choices.Choices.{Choices}

@@ -6,7 +6,7 @@ use Rattle.er_base.specs.declared.text_fault.TextFault.TheVariants.{At}
 use Rattle.er_base.specs.Lines.{lines_of, rows_of}
 use Rattle.er_base.specs.Numbers.{decimal_of}
 use Rattle.er_base.specs.Words.{words_of}
-use Rattle.er_settings.specs.Ranges.{settings_of}
+use Rattle.er_settings.specs.Making.{settings_of}
 use Rattle.er_scenario.specs.declared.level.Level.TheVariants.{Link, LinkSr}
 use Rattle.er_scenario.specs.declared.scenario.Scenario.{Scenario}
 use Rattle.er_scenario.specs.Choices.{chosen_by}

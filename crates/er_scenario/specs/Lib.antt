@@ -1,4 +1,5 @@
 pub mod StepRanges
+pub mod StepNumbers
 pub mod Table
 pub mod Choices
 pub mod Files

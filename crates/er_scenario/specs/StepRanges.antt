@@ -3,14 +3,11 @@ use Rattle.std.specs.Prelude.{ℕ, ◌<◌, ◌≤◌, ◌^◌, List, length, sl
 use Rattle.des_block.specs.declared.triple_key.TripleKey.{TripleKey}
 use Rattle.er_scenario.specs.declared.step.Step.{Step}
 use Rattle.er_scenario.specs.declared.step.Step.TheVariants.{Fixed, Link, Wire, Send, Pass, Lose, Repeat, Alter, Put, Copy, Take, Release, Tick, Drain}
+use Rattle.er_scenario.specs.StepNumbers.{IsEtcsNumber, IsMoment}
 
 -- a link: 1 to 64
 abbrev pub IsLink : ℕ → Type 0
 IsLink n = (1 ≤ n) × (n ≤ 64)
-
--- an ETCS number, below 2 ^ 24
-abbrev pub IsEtcsNumber : ℕ → Type 0
-IsEtcsNumber n = n < 16777216
 
 -- keys of 64 bits
 abbrev pub IsKey : TripleKey → Type 0
@@ -24,10 +21,6 @@ IsOptionalKey (Some key) = IsKey key
 -- at most 4,096 octets
 abbrev pub IsStepText : List ℕ → Type 0
 IsStepText text = (length text ≤ 4096) × ((k : ℕ) → k < length text → slice_index text k < 256)
-
--- a moment in milliseconds, at most 10 ^ 15
-abbrev pub IsMoment : ℕ → Type 0
-IsMoment n = n ≤ 1000000000000000
 
 -- a step whose numbers are in their ranges
 abbrev pub IsInRange : Step → Type 0

@@ -3,7 +3,8 @@
 ghost use Rattle.std.specs.Prelude.{◌≡◌, ◌<◌, ◌≤◌, IfOk};
 ghost use Rattle.er_base.specs.Rows.{AnswersAsWordsSay};
 ghost use Rattle.er_scenario.specs.Table.{three_keys, key_argument, optional_key_argument, mask_from, mask_argument};
-ghost use Rattle.er_scenario.specs.StepRanges.{IsLink, IsEtcsNumber, IsKey, IsOptionalKey, IsStepText};
+ghost use Rattle.er_scenario.specs.StepRanges.{IsLink, IsKey, IsOptionalKey, IsStepText};
+ghost use Rattle.er_scenario.specs.StepNumbers.{IsEtcsNumber};
 ghost use Rattle.er_base.specs.Arguments.{number_argument, text_argument};
 
 use des_block::TripleKey;

@@ -4,7 +4,7 @@ use Rattle.std.specs.Prelude.{ℕ, ◌≡◌, ◌≤◌, true, false, List, leng
 use Rattle.rand_core.specs.Stream.{Stream}
 use Rattle.des_block.specs.declared.triple_key.TripleKey.{TripleKey}
 use Rattle.er_users.specs.Users.{Mind}
-use Rattle.er_settings.specs.Ranges.{usual_settings}
+use Rattle.er_settings.specs.Making.{usual_settings}
 use Rattle.safety_automaton.specs.Keys.{key_at}
 use Rattle.er_end_model.specs.Steps.{Finds}
 use Rattle.loop_model.specs.Loops.{Plan, Halt, beginning, serves, dials}

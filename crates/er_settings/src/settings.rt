@@ -1,5 +1,6 @@
 ghost use Rattle.std.specs.Prelude.{◌≡◌, MatchResult, IfOk};
-ghost use Rattle.er_settings.specs.Ranges.{Allows, IsModulo, AllAllowed, IsFirstRefusedSetting, settings_of, usual_settings};
+ghost use Rattle.er_settings.specs.Ranges.{Allows, IsModulo, AllAllowed};
+ghost use Rattle.er_settings.specs.Making.{IsFirstRefusedSetting, settings_of, usual_settings};
 
 use crate::setting_name::SettingName;
 use std::marker::Model;

@@ -3,7 +3,8 @@ use Rattle.std.proofs.Common.{◌≡◌, ℕ, false, Some, None, refl, inl, inr}
 use Rattle.std.proofs.lemmas.Bool.{cases_Bool}
 use Rattle.er_settings.specs.declared.setting_name.SettingName.{SettingName}
 use Rattle.er_settings.specs.declared.setting_name.SettingName.TheVariants.{Window, Credit, Size, T1, N2, Setup}
-use Rattle.er_settings.specs.Ranges.{is_allowed, Allows, AllAllowed, IsFirstRefusedSetting, settings_of}
+use Rattle.er_settings.specs.Ranges.{is_allowed, Allows, AllAllowed}
+use Rattle.er_settings.specs.Making.{IsFirstRefusedSetting, settings_of}
 use Rattle.er_trace.specs.Headers.{settings_allowed}
 
 pub allowed_some : (w c z t n u : ℕ) → AllAllowed (settings_of 8 w c z t n u) → settings_allowed w c z t n u ≡ Some (settings_of 8 w c z t n u)

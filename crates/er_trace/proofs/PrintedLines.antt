@@ -7,7 +7,8 @@ use Rattle.er_base.specs.LineTexts.{AreSolid, IsSolid, IsLine, AreLines, LinesAr
 use Rattle.er_base.specs.Numbers.{decimal_of, NamesWhatIsPrinted}
 use Rattle.er_settings.specs.Values.{Settings}
 use Rattle.er_settings.specs.Laws.{AllowedAreBounded}
-use Rattle.er_settings.specs.Ranges.{AllAllowed, settings_of}
+use Rattle.er_settings.specs.Ranges.{AllAllowed}
+use Rattle.er_settings.specs.Making.{settings_of}
 use Rattle.er_trace.specs.declared.event.Event.{Event}
 use Rattle.er_trace.specs.declared.event.Event.TheVariants.{Call, Answer, Octets, Send, Take, Release, Tick, Ended, Fault, Stalled, Full, Unserved}
 use Rattle.er_trace.specs.declared.said.Said.TheVariants.{Happens, Tells}

@@ -4,7 +4,8 @@ use Rattle.std.specs.Str.{bytes_eq}
 use Rattle.er_base.specs.Numbers.{decimal_of}
 use Rattle.er_settings.specs.Values.{Settings}
 use Rattle.er_settings.specs.declared.setting_name.SettingName.TheVariants.{Window, Credit, Size, T1, N2, Setup}
-use Rattle.er_settings.specs.Ranges.{is_allowed, settings_of}
+use Rattle.er_settings.specs.Ranges.{is_allowed}
+use Rattle.er_settings.specs.Making.{settings_of}
 
 -- the settings of modulo 8 with these values, where each is in its range
 unfoldable pub settings_allowed : (window credit size t1 n2 setup : ℕ) → Option Settings

@@ -6,7 +6,8 @@ use Rattle.std.proofs.lemmas.Bool.Decides.{nat_tests}
 use Rattle.std.proofs.lemmas.Nat.{and_mask}
 use Rattle.hdlc_frames.specs.declared.controls.Control.{Control}
 use Rattle.hdlc_frames.specs.declared.controls.Control.TheVariants.{Info, Rr, Rnr, Rej, Srej, Sabm, Sabme, Disc, Ua, Dm, Frmr}
-use Rattle.hdlc_frames.specs.Controls.{octets_modulo_8, octets_modulo_128, control_octets, poll_final_value, extended_bit_of, IsBelow, HasControl, HasNoControl}
+use Rattle.hdlc_frames.specs.Controls.{octets_modulo_8, octets_modulo_128, control_octets, poll_final_value, extended_bit_of}
+use Rattle.hdlc_frames.specs.Bodies.{IsBelow, HasControl, HasNoControl}
 use Rattle.hdlc_frames.specs.ControlOctets.{control_at, control_modulo_8, extended_unnumbered_at, extended_numbered_at, extended_numbered_of, control_modulo_128, control_of}
 use Rattle.hdlc_frames.specs.Laws.{ControlIsTable, ControlReadsBack}
 

@@ -2,7 +2,8 @@
 -- function of the module `laws`.
 use Rattle.std.specs.Prelude.{◌≡◌, ◌↔◌, ℕ, zero, suc, ◌+◌, ◌*◌, ◌<◌, ◌≤◌, Bool, List, slice_index, Some, [], ◌∷◌, ◌++◌, length, take, drop, map, flat_map}
 use Rattle.std.specs.Option.{option_to_list}
-use Rattle.hdlc_frames.specs.Controls.{HasControl, IsBelow, control_octets}
+use Rattle.hdlc_frames.specs.Controls.{control_octets}
+use Rattle.hdlc_frames.specs.Bodies.{HasControl, IsBelow}
 use Rattle.hdlc_frames.specs.ControlOctets.{control_of}
 use Rattle.hdlc_frames.specs.declared.controls.Control.{Control}
 use Rattle.hdlc_frames.specs.Framing.{flag, Verdict, Frame, frames_of}

@@ -9,5 +9,6 @@ pub mod Resting
 pub mod Laws
 pub mod FirstClose
 pub mod Controls
+pub mod Bodies
 pub mod ControlOctets
 pub mod KnownAnswers

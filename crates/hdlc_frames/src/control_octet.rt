@@ -1,7 +1,7 @@
 //! The control of a body read.
 
 ghost use Rattle.std.specs.Prelude.{◌≡◌, MatchOption, option_map};
-ghost use Rattle.hdlc_frames.specs.Controls.{HasControl, HasNoControl};
+ghost use Rattle.hdlc_frames.specs.Bodies.{HasControl, HasNoControl};
 ghost use Rattle.hdlc_frames.specs.ControlOctets.{
   control_of,
   control_modulo_8,

@@ -55,7 +55,8 @@ pub(crate) const DM: u8 = 0x0f;
 pub(crate) const FRMR: u8 = 0x87;
 
 impl Control {
-    ghost use Rattle.hdlc_frames.specs.Controls.{IsBelow, control_octets};
+    ghost use Rattle.hdlc_frames.specs.Controls.{control_octets};
+    ghost use Rattle.hdlc_frames.specs.Bodies.{IsBelow};
 
     /// The octet of this control with numbers modulo 8, below which its numbers are. The P bit of SABM and
     /// DISC is their own, that of every other control is `poll_final`. SABME has no octet here.

@@ -1,7 +1,8 @@
 -- A frame that a station sent, read by the other one: it comes to the row of its control, with its numbers modulo the modulo.
 use Rattle.std.proofs.Common.{if◌then◌else◌, ◌≡◌, ℕ, ◌<◌, ◌≤◌, Bool, true, false, not, List, length, Some, refl, arith}
 use Rattle.std.proofs.Math.Nat.{mod-lt}
-use Rattle.hdlc_frames.specs.Controls.{control_octets, IsBelow}
+use Rattle.hdlc_frames.specs.Controls.{control_octets}
+use Rattle.hdlc_frames.specs.Bodies.{IsBelow}
 use Rattle.hdlc_frames.specs.ControlOctets.{control_of}
 use Rattle.hdlc_frames.specs.declared.controls.Control.{Control}
 use Rattle.hdlc_frames.specs.Framing.{Verdict, Frame as Frame_found}

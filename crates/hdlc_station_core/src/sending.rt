@@ -3,7 +3,8 @@
 ghost use Rattle.std.specs.Prelude.{◌≡◌, ◌+◌, ◌-◌, ◌*◌, ◌%◌, ◌<◌, ◌≤◌, ◌==◌, [], ◌++◌, ℕ, length, true, false, if◌then◌else◌};
 ghost use Rattle.std.specs.Option.{IsSome};
 ghost use Rattle.er_base.specs.Stored.{Stored, HasRoom, Appends};
-ghost use Rattle.hdlc_frames.specs.Controls.{IsBelow, control_octets};
+ghost use Rattle.hdlc_frames.specs.Controls.{control_octets};
+ghost use Rattle.hdlc_frames.specs.Bodies.{IsBelow};
 ghost use Rattle.hdlc_station_model.specs.Frames.{modulo, set_up, address_of};
 ghost use Rattle.hdlc_station_model.specs.Stations.{is_up, is_down, puts};
 ghost use Rattle.hdlc_station_model.specs.Sending.{info_at, can_send, waiting, sends_next, sends_up_to, sends_waiting, sends_again, starts_timer, settles};

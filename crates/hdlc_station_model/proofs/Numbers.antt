@@ -6,7 +6,7 @@ use Rattle.std.proofs.lemmas.Option.{none-some}
 use Rattle.er_base.specs.Octets.{AreOctets}
 use Rattle.hdlc_frames.specs.declared.controls.Control.{Control}
 use Rattle.hdlc_frames.specs.declared.controls.Control.TheVariants.{Info, Rr, Rnr, Rej, Srej, Sabm, Sabme, Disc, Ua, Dm, Frmr}
-use Rattle.hdlc_frames.specs.Controls.{HasNoControl}
+use Rattle.hdlc_frames.specs.Bodies.{HasNoControl}
 use Rattle.hdlc_frames.specs.ControlOctets.{control_of}
 use Rattle.hdlc_frames.specs.Laws.{ControlIsTable}
 use Rattle.hdlc_station_model.specs.Frames.{modulo, address_of}

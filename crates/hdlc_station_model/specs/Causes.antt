@@ -8,7 +8,7 @@ use Rattle.er_base.specs.Causes.{release_of}
 use Rattle.er_base.specs.Octets.{AreOctets}
 use Rattle.hdlc_frames.specs.declared.controls.Control.{Control}
 use Rattle.hdlc_frames.specs.declared.controls.Control.TheVariants.{Info, Rr, Rnr, Rej, Srej, Sabm, Sabme, Disc, Ua, Dm, Frmr}
-use Rattle.hdlc_frames.specs.Controls.{HasControl, HasNoControl}
+use Rattle.hdlc_frames.specs.Bodies.{HasControl, HasNoControl}
 use Rattle.hdlc_frames.specs.Framing.{Verdict, Frame, BadFcs, TooShort, TooLong, Aborted}
 use Rattle.hdlc_station_model.specs.declared.phase.Phase.TheVariants.{Idle, Setting, Up, Down}
 use Rattle.hdlc_station_model.specs.Frames.{modulo, address_of}

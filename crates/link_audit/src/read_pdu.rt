@@ -16,7 +16,8 @@ pub struct ReadPdu<'i> {
 impl<'i> Model for ReadPdu<'i> {
     ghost use Rattle.std.specs.Prelude.{Bool};
     ghost use Rattle.sapdu.specs.Reading as reading;
-    ghost use Rattle.sapdu.specs.Spelling.{SafetyPdu, Fits};
+    ghost use Rattle.sapdu.specs.Spelling.{SafetyPdu};
+    ghost use Rattle.sapdu.specs.SpellingLaws.{Fits};
 
     ghost Value = { SafetyPdu × Bool };
 

@@ -17,9 +17,8 @@ use Rattle.x224_class2.specs.Tpdus.{GivenTpdu, Dr, Dc}
 use Rattle.x224_class2.specs.Transport.{ReceptionDeed, Nothing, Called, Confirmed, Message, Disconnected}
 use Rattle.x224_class2.specs.Transport as transport
 use Rattle.sapdu.specs.Spelling.{di_in}
-use Rattle.safety_automaton.specs.Keys.{no_keys}
+use Rattle.safety_automaton.specs.Safety.{no_keys, ConnectRequest, Received, DataRequest, DisconnectRequest, octets_sent_in_outcome, peer_flag, step}
 use Rattle.safety_automaton.specs.Reports.{Report, ToldAnswered, ToldConnected, ToldAccepted, ToldReleased, ToldIgnored, report_of}
-use Rattle.safety_automaton.specs.Safety.{ConnectRequest, Received, DataRequest, DisconnectRequest, octets_sent_in_outcome, peer_flag, step}
 use Rattle.er_end_model.specs.Outcomes.{Outcome, ConnectedTo, Accepted, Taken, NothingToTake, Refused, WasReleased, Octets, SendRefusal}
 use Rattle.er_end_model.specs.Laws.{ReleasedRest}
 use Rattle.er_end_model.specs.Layers.{Core, model}

@@ -1,6 +1,6 @@
 -- The public laws of the layers below on which the bounds rest.
 use Rattle.hdlc_frames.specs.Laws.{FrameLength, ControlLength}
-use Rattle.x224_tpdu.specs.Function.{ReadingIsInRange, ReadingSpells}
+use Rattle.x224_tpdu.specs.ReadingLaws.{ReadingIsInRange, ReadingSpells}
 use Rattle.x224_class2.specs.Laws.{CutIsJoined, SegmentsFit}
 use Rattle.safety_automaton.specs.Rules.{StepsOnly}
 use Rattle.safety_automaton.specs.Laws.{MakesValid, StaysValid, LengthsAre, SendsFew}

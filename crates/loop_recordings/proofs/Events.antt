@@ -6,7 +6,7 @@ use Rattle.er_base.specs.declared.release.Release.{Release}
 use Rattle.er_base.specs.declared.cause.Cause.{Cause}
 use Rattle.er_base.specs.declared.cause.Cause.TheVariants.{SetUpTimeSpent, User, LineEnded, LineFailed, LineStalled}
 use Rattle.er_base.specs.Causes.{release_of}
-use Rattle.er_settings.specs.Ranges.{usual_settings}
+use Rattle.er_settings.specs.Making.{usual_settings}
 use Rattle.des_block.specs.declared.triple_key.TripleKey.{TripleKey}
 use Rattle.er_trace.specs.declared.entry.Entry.{Entry}
 use Rattle.er_trace.specs.declared.event.Event.{Event as Trace_event}
@@ -18,8 +18,7 @@ use Rattle.hdlc_station_model.specs.Stations.{settled}
 use Rattle.hdlc_station_model.specs.Calls as station
 use Rattle.hdlc_station_model.specs.Events.{news}
 use Rattle.sapdu.specs.Messages.{is_message}
-use Rattle.safety_automaton.specs.Keys.{no_keys}
-use Rattle.safety_automaton.specs.Safety.{Safety, SafetyEvent, DataRequest, DisconnectRequest, SafetyOutcome, octets_sent_in_outcome, step as speaks}
+use Rattle.safety_automaton.specs.Safety.{no_keys, Safety, SafetyEvent, DataRequest, DisconnectRequest, SafetyOutcome, octets_sent_in_outcome, step as speaks}
 use Rattle.safety_automaton.specs.Laws.{IsValid}
 use Rattle.er_end_model.specs.Outcomes.{SendRefusal, RefusedNotConnected, RefusedLength, RefusedFull, Outcome}
 use Rattle.er_end_model.specs.Steps.{Finds, new_event, new_event_at, send_dr, normal_disconnect, with_safety_step, hand_text, on_link_deed, conclude_event, step_start, step_frame, is_connected, refusal_at}

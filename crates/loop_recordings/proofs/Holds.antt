@@ -16,10 +16,8 @@ use Rattle.x224_class2.specs.Tpdus.{GivenTpdu, Dr, Dc, octets_given}
 use Rattle.x224_class2.specs.Transport.{Transport, ReceptionDeed, Nothing, Called, Confirmed, Message, Disconnected, is_open, waiting_count, reception, after_hand}
 use Rattle.x224_class2.specs.Transport as transport
 use Rattle.sapdu.specs.Spelling.{di_in}
-use Rattle.safety_automaton.specs.Keys.{no_keys}
+use Rattle.safety_automaton.specs.Safety.{no_keys, Safety, SafetyEvent, ConnectRequest, Received, SafetyOutcome, SentAu1, SentAu2, SentAu3, SentAr, ReceivedAr, AcceptedDt, SentDt, Refused, ReleasedLocally, ReleasedByPeer, NothingDone, peer_flag, octets_sent_in_outcome, step}
 use Rattle.safety_automaton.specs.Reports.{Report, ToldAnswered, ToldConnected, ToldAccepted, ToldReleased, ToldIgnored, report_of}
-use Rattle.safety_automaton.specs.Safety.{Safety, SafetyEvent, ConnectRequest, Received, SafetyOutcome, SentAu1, SentAu2, SentAu3, SentAr, ReceivedAr, AcceptedDt}
-use Rattle.safety_automaton.specs.Safety.{SentDt, Refused, ReleasedLocally, ReleasedByPeer, NothingDone, peer_flag, octets_sent_in_outcome, step}
 use Rattle.safety_automaton.specs.Rules.{IsStep}
 use Rattle.safety_automaton.specs.Laws.{IsValid, HasOutcomeLength}
 use Rattle.er_end_model.specs.Steps.{Finds, hand_tpdu_if_may, close_link, send_owed_answer, send_dr, answer_dr, on_safety_release, why_of, normal_disconnect, with_safety_step, hand_text, accept_text}

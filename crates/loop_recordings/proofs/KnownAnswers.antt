@@ -4,7 +4,7 @@ use Rattle.bit_lists.specs.LowestFirst.{low_bits, low_number}
 use Rattle.hdlc_fcs.specs.FrameCheck.{fcs_of, fcs_bits, dividend, remainder, divided_once, add_front, sent_bits}
 use Rattle.hdlc_fcs.specs.Contents.{content_of}
 use Rattle.hdlc_frames.specs.Spelling.{escaped_octet, escaped, spelling}
-use Rattle.er_settings.specs.Ranges.{usual_settings}
+use Rattle.er_settings.specs.Making.{usual_settings}
 use Rattle.er_trace.specs.declared.entry.Entry.{Entry}
 use Rattle.er_trace.specs.declared.event.Event.TheVariants as event
 use Rattle.er_end_model.specs.Outcomes.{ConnectedTo, Accepted, Taken, Octets, Refused, RefusedFull}

@@ -3,7 +3,8 @@ use Rattle.loop_model.specs.Ends.{ModelEnd}
 use Rattle.std.proofs.Common.{◌≡◌, ℕ, ◌+◌, ◌<◌, ◌≤◌, ◌^◌, inl, List, [], ◌∷◌, ◌++◌, map, length, Ok, refl, sym, ◌∙◌, ap, subst, append_assoc, arith}
 use Rattle.er_base.specs.LineTexts.{line_text, lines_text}
 use Rattle.er_settings.specs.Values.{Settings}
-use Rattle.er_settings.specs.Ranges.{AllAllowed, usual_settings}
+use Rattle.er_settings.specs.Ranges.{AllAllowed}
+use Rattle.er_settings.specs.Making.{usual_settings}
 use Rattle.safety_automaton.specs.Keys.{key_at}
 use Rattle.er_end_model.specs.Outcomes.{SendRefusal, RefusedReleased, RefusedNotConnected, RefusedLength, RefusedFull, Outcome, ConnectedTo, Accepted, Taken, NothingToTake, Refused, WasReleased, Octets}
 use Rattle.er_end_model.specs.Steps.{Finds}

@@ -5,7 +5,7 @@ use Rattle.std.specs.Prelude.{◌==◌, nat_lt, nat_le, not, ◌&&◌, if◌then
 use Rattle.x224_tpdu.specs.declared.fault.TpFault.{TpFault}
 use Rattle.x224_tpdu.specs.Spelling.{TransportPdu, connection_request, connection_confirm, disconnect_request, disconnect_confirm, data_tpdu, acknowledgement, tpdu_error}
 use Rattle.x224_tpdu.specs.Spelling.{user_in, header_without_length_indicator}
-use Rattle.x224_tpdu.specs.Writing.{IsSize}
+use Rattle.x224_tpdu.specs.Spellings.{IsSize}
 use Rattle.x224_tpdu.specs.Function.{reading}
 use Rattle.x224_class2.specs.Segments.{text_so_far}
 use Rattle.x224_class2.specs.Transport.{Transport, ReceptionDeed, Nothing, Called, Confirmed, Message, Disconnected, Refused, is_new, is_calling, is_open, is_over}

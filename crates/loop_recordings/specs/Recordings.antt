@@ -2,7 +2,7 @@
 use Rattle.loop_model.specs.Ends.{ModelEnd, model_ends}
 use Rattle.std.specs.Prelude.{ℕ, ◌≡◌, ◌≤◌, max, true, List, [], ◌∷◌, length, Some, Ok}
 use Rattle.des_block.specs.declared.triple_key.TripleKey.{TripleKey}
-use Rattle.er_settings.specs.Ranges.{usual_settings}
+use Rattle.er_settings.specs.Making.{usual_settings}
 use Rattle.safety_automaton.specs.Keys.{key_at}
 use Rattle.er_end_model.specs.Steps.{Finds}
 use Rattle.er_trace.specs.declared.trace.Trace.{Trace}

@@ -8,7 +8,7 @@ use Rattle.safety_automaton.specs.declared.phase.Stage.TheVariants as stage
 use Rattle.safety_automaton.specs.declared.phase.Phase.{Phase as CodePhase}
 use Rattle.safety_automaton.specs.declared.phase.Phase.TheVariants as code
 use Rattle.safety_automaton.specs.declared.safe_state.SafeState.TheVariants as state
-use Rattle.safety_automaton.specs.Reports.{state_of}
+use Rattle.safety_automaton.specs.Views.{state_of}
 use Rattle.safety_automaton.specs.Kept.{stage_view, phase_view}
 use Rattle.safety_automaton.specs.declared.role.Role.{Role}
 use Rattle.safety_automaton.specs.declared.role.Role.TheVariants.{Initiator, Responder}

@@ -3,11 +3,13 @@ use Rattle.std.proofs.Common.{◌≡◌, ◌∙◌, ◌+◌, ℕ, ◌≤◌, Boo
 use Rattle.er_base.specs.Octets.{eight}
 use Rattle.des_block.specs.declared.triple_key.TripleKey.{TripleKey}
 use Rattle.cbc_mac.specs.Mac.{mac_of}
-use Rattle.sapdu.specs.Spelling.{SafetyPdu, Au1, Au2, Au3, Ar, Dt, Di, spelling, IsSpelledBack}
+use Rattle.sapdu.specs.Spelling.{SafetyPdu, Au1, Au2, Au3, Ar, Dt, Di, spelling}
+use Rattle.sapdu.specs.SpellingLaws.{IsSpelledBack}
 use Rattle.safety_automaton.specs.Safety.{Safety, SafetyEvent, ConnectRequest, Received, DataRequest, DisconnectRequest, SafetyOutcome, SentAu1, SentAu2, SentAu3, SentAr, ReceivedAr, AcceptedDt, SentDt, Refused, ReleasedLocally, ReleasedByPeer, NothingDone, flag_of, octets_sent_in_outcome, step}
 use Rattle.er_base.specs.Stored.{Stored}
 use Rattle.er_base.specs.Stored.{Appends}
-use Rattle.safety_automaton.specs.Reports.{Report, report_of, IfAccepted}
+use Rattle.safety_automaton.specs.Reports.{Report, report_of}
+use Rattle.safety_automaton.specs.Views.{IfAccepted}
 use Rattle.safety_automaton.specs.Rules.{IsStep}
 use Rattle.safety_automaton.specs.Laws.{IsValidEvent, HasOutcomeLength, LengthsAre, most_sent, SendsFew}
 use Rattle.safety_automaton.proofs.Only.{steps_only}

@@ -2,7 +2,8 @@
 use Rattle.std.proofs.Common.{◌≡◌, ℕ, ◌<◌, ◌^◌, List, Option, Ok, refl, sym, subst}
 use Rattle.des_block.specs.declared.triple_key.TripleKey.{TripleKey}
 use Rattle.cbc_mac.specs.Mac.{mac_of}
-use Rattle.sapdu.specs.Spelling.{SafetyPdu, Dt, Fits, spelling, read_of, IsReadBack, IsSpelledBack}
+use Rattle.sapdu.specs.Spelling.{SafetyPdu, Dt, spelling, read_of}
+use Rattle.sapdu.specs.SpellingLaws.{Fits, IsReadBack, IsSpelledBack}
 use Rattle.safety_automaton.specs.Safety.{Safety, Connected, SafetyEvent, Received, SafetyOutcome, SentAu1, SentAu2, SentAu3, SentAr, ReceivedAr, AcceptedDt, SentDt, Refused, ReleasedLocally, ReleasedByPeer, NothingDone, peer_flag, step}
 use Rattle.safety_automaton.specs.Rules.{IsReceived, IsStep, AcceptsDt, StaysIdle, AtReceived, AtDisconnect, AtConnect}
 use Rattle.safety_automaton.specs.Laws.{IsVerifiedMessage, AcceptsVerified, VerifiedAccepts, AcceptsSpelled, SpelledAccepts, SpelledIsReceived, ReceivedIsSpelled, ComesConnected, WasConnected, HasSentAr, HasReceivedAr, ConnectsOnly, ReleasedRests}

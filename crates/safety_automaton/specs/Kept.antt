@@ -11,7 +11,8 @@ use Rattle.safety_automaton.specs.declared.phase.Stage.TheVariants as stage
 use Rattle.safety_automaton.specs.declared.phase.Phase.{Phase as CodePhase}
 use Rattle.safety_automaton.specs.declared.phase.Phase.TheVariants as code
 use Rattle.safety_automaton.specs.Safety.{Safety, Phase, Ready, WaitAu1, WaitAu2, WaitAu3, WaitAr, Connected, Released, SafetyOutcome, sealed_by, verified_by, octets_sent_in_outcome, flag_of}
-use Rattle.safety_automaton.specs.Reports.{KeptSafe, report_view, report_of, SendsAs}
+use Rattle.safety_automaton.specs.Reports.{KeptSafe, report_of}
+use Rattle.safety_automaton.specs.Views.{report_view, SendsAs}
 
 -- a phase in which the session keys are known, at a side of this number
 abbrev pub stage_view : (me peer : ℕ) → TripleKey → Stage → Phase

@@ -37,7 +37,3 @@ IsApartFrom entry (other ∷ others) = (AreAtOnce entry other → ⊥) × IsApar
 abbrev pub AreKmacEntriesApart : List KmacEntry → Type 0
 AreKmacEntriesApart [] = Unit {0}
 AreKmacEntriesApart (entry ∷ entries) = IsApartFrom entry entries × AreKmacEntriesApart entries
-
--- a look-up that finds nothing, for events at which no key is looked up
-abbrev pub no_keys : ℕ → ℕ → Option TripleKey
-no_keys engine rbc = None

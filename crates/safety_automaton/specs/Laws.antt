@@ -5,7 +5,8 @@ use Rattle.er_base.specs.Octets.{eight, AreOctets}
 use Rattle.er_base.specs.declared.release.Release.{Release}
 use Rattle.des_block.specs.declared.triple_key.TripleKey.{TripleKey}
 use Rattle.cbc_mac.specs.Mac.{mac_of}
-use Rattle.sapdu.specs.Spelling.{SafetyPdu, Dt, Fits, spelling, read_of}
+use Rattle.sapdu.specs.Spelling.{SafetyPdu, Dt, spelling, read_of}
+use Rattle.sapdu.specs.SpellingLaws.{Fits}
 use Rattle.sapdu.specs.Messages.{IsMessage}
 use Rattle.safety_automaton.specs.declared.role.Role.{Role}
 use Rattle.safety_automaton.specs.declared.role.Role.TheVariants.{Initiator, Responder}

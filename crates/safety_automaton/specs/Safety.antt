@@ -329,3 +329,7 @@ octets_sent_in_outcome (Refused refusal) = []
 octets_sent_in_outcome (ReleasedLocally release octets) = octets
 octets_sent_in_outcome (ReleasedByPeer release) = []
 octets_sent_in_outcome NothingDone = []
+
+-- a look-up that finds nothing, for events at which no key is looked up
+abbrev pub no_keys : ℕ → ℕ → Option TripleKey
+no_keys engine rbc = None

@@ -1,5 +1,5 @@
 ghost use Rattle.std.specs.Prelude.{◌≡◌};
-ghost use Rattle.sapdu.specs.Spelling.{HasUserOctets, HasNumber};
+ghost use Rattle.sapdu.specs.SpellingLaws.{HasUserOctets, HasNumber};
 ghost use Rattle.sapdu.specs.Reading.{view};
 ghost use Rattle.safety_automaton.specs.Kept.{pdu_view};
 

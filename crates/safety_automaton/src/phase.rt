@@ -1,7 +1,7 @@
 ghost use Rattle.std.specs.Prelude.{ℕ, ◌≡◌, ◌==◌, List, Option};
 ghost use Rattle.cbc_mac.specs.Mac.{mac_of};
 ghost use Rattle.safety_automaton.specs.Safety.{session_in};
-ghost use Rattle.safety_automaton.specs.Reports.{state_of};
+ghost use Rattle.safety_automaton.specs.Views.{state_of};
 ghost use Rattle.safety_automaton.specs.Kept.{phase_view, connected_of, HasNoTexts};
 
 use crate::safe_state::SafeState;

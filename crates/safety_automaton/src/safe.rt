@@ -1,11 +1,12 @@
 //! One side of a safe connection: its calls.
 
 ghost use Rattle.std.specs.Prelude.{◌≡◌, ◌+◌, ◌≤◌, ◌<◌, ◌^◌, length, option_map, None, OnOk, OnErr};
-ghost use Rattle.sapdu.specs.Messages.{HasRoomForSapdu};
+ghost use Rattle.sapdu.specs.Rooms.{HasRoomForSapdu};
 ghost use Rattle.des_block.specs.declared.triple_key.TripleKey.{TripleKey};
-ghost use Rattle.safety_automaton.specs.Keys.{key_at, no_keys};
-ghost use Rattle.safety_automaton.specs.Safety.{flag_of, initiator, responder, fixed, ConnectRequest, Received, DataRequest, DisconnectRequest, Released, step, sealed_by, verified_by, octets_sent_in_outcome, session_in, releases};
-ghost use Rattle.safety_automaton.specs.Reports.{kept_side_without_texts, state_of, report_view, report_of, SendsAs, IfAccepted};
+ghost use Rattle.safety_automaton.specs.Keys.{key_at};
+ghost use Rattle.safety_automaton.specs.Safety.{no_keys, flag_of, initiator, responder, fixed, ConnectRequest, Received, DataRequest, DisconnectRequest, Released, step, sealed_by, verified_by, octets_sent_in_outcome, session_in, releases};
+ghost use Rattle.safety_automaton.specs.Reports.{kept_side_without_texts, report_of};
+ghost use Rattle.safety_automaton.specs.Views.{state_of, report_view, SendsAs, IfAccepted};
 ghost use Rattle.safety_automaton.specs.Laws.{IsValid};
 ghost use Rattle.safety_automaton.specs.declared.safe_state.SafeState.TheVariants as state;
 ghost use Rattle.er_base.specs.Stored.{Appends};

@@ -11,7 +11,8 @@ use Rattle.des_block.specs.declared.triple_key.TripleKey.{TripleKey}
 use Rattle.cbc_mac.specs.Mac.{mac_of}
 use Rattle.cbc_mac.specs.Laws.{MacBelow}
 use Rattle.session_keys.specs.Session.{session_of}
-use Rattle.sapdu.specs.Spelling.{SafetyPdu, Au1, Au2, Au3, Ar, Fits, IsReadBack, spelling, read_of}
+use Rattle.sapdu.specs.Spelling.{SafetyPdu, Au1, Au2, Au3, Ar, spelling, read_of}
+use Rattle.sapdu.specs.SpellingLaws.{Fits, IsReadBack}
 use Rattle.safety_automaton.specs.declared.role.Role.TheVariants.{Initiator, Responder}
 use Rattle.safety_automaton.specs.Safety.{Safety, Connection, WaitAu2, WaitAu3, WaitAr, initiator, responder, fixed, ConnectRequest, Received, DataRequest, Refusal, RefusedNotConnected, RefusedLength, SafetyOutcome, SentAu1, SentAu2, SentAu3, SentAr, ReceivedAr, SentDt, Refused, au2_text, au3_text, ar_text, message_text}
 use Rattle.safety_automaton.specs.Rules.{IsInSetUp, SendsAu1, SendsAu2, SendsAu3, SendsAr, ReceivesAr, SendsDt, RefusesDataRequest, StepsEach}

@@ -10,7 +10,8 @@ use Rattle.des_block.specs.declared.triple_key.TripleKey.{TripleKey}
 use Rattle.cbc_mac.specs.Mac.{mac_of}
 use Rattle.cbc_mac.specs.Laws.{MacBelow}
 use Rattle.sapdu.specs.Messages.{IsMessage}
-use Rattle.sapdu.specs.Spelling.{Dt, Fits, IsReadBack, spelling, read_of}
+use Rattle.sapdu.specs.Spelling.{Dt, spelling, read_of}
+use Rattle.sapdu.specs.SpellingLaws.{Fits, IsReadBack}
 use Rattle.safety_automaton.specs.declared.role.Role.TheVariants.{Initiator, Responder}
 use Rattle.safety_automaton.specs.Safety.{Safety, fixed, Received, DataRequest, Refusal, RefusedLength, SafetyOutcome, AcceptedDt, SentDt, Refused, message_text}
 use Rattle.safety_automaton.specs.Rules.{AcceptsDt, SendsDt, RefusesDataRequest, StepsEach}

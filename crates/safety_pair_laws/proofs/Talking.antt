@@ -11,8 +11,7 @@ use Rattle.safety_automaton.specs.Rules.{StepsOnly}
 use Rattle.safety_automaton.specs.Laws.{TextsTell}
 use Rattle.safety_pair_laws.specs.Facts.{SideFact, MarkedFact, at_side, heard_in, facts_of, marked_from, marked}
 use Rattle.safety_pair_laws.specs.Openings.{PairOpening, OfFixed, OfKeys, Pair, key_for, safety_of, with_safety, pair_before_events}
-use Rattle.safety_pair_laws.specs.Talks.{answer, Talks, Begins, Goes}
-use Rattle.safety_pair_laws.specs.Authentic.{TalksAreAuthentic}
+use Rattle.safety_pair_laws.specs.Talks.{answer, Talks, Begins, Goes, TalksAreAuthentic}
 use Rattle.safety_pair_laws.proofs.Along.{Along, along-append, along-at}
 use Rattle.safety_pair_laws.proofs.Honest.{AllHonest}
 use Rattle.safety_pair_laws.proofs.Keeping.{CanCall, CanAnswer, IsSteady, steady_more, IsFine, IsProper, proper_step}

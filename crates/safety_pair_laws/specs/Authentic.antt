@@ -11,8 +11,7 @@ use Rattle.session_keys.specs.Session.{session_of}
 use Rattle.sapdu.specs.Spelling.{SafetyPdu, Au2, Au3, Ar, Dt, read_of}
 use Rattle.safety_automaton.specs.Safety.{Connection, au2_text, au3_text, ar_text, message_text}
 use Rattle.safety_pair_laws.specs.Facts.{Fact, Sent, Sealed, Verified, Connected, Accepted, SideFact, MarkedFact, marked}
-use Rattle.safety_pair_laws.specs.Openings.{PairOpening, OfFixed, OfKeys, Pair, flag_from, etcs_number_of_side}
-use Rattle.safety_pair_laws.specs.Talks.{Talks}
+use Rattle.safety_pair_laws.specs.Openings.{PairOpening, OfFixed, OfKeys, flag_from, etcs_number_of_side}
 
 -- what was heard is this SaPDU with the direction flag of that side
 abbrev pub IsReadFrom : Side → (heard : List ℕ) → SafetyPdu → Type 0
@@ -232,7 +231,3 @@ IsAuthentic opening before side (Accepted heard user key text) forged = IsAccept
 abbrev pub Authentic : PairOpening → List SideFact → Type 0
 Authentic opening facts =
     (before after : List MarkedFact) (f : MarkedFact) → marked facts ≡ before ++ f ∷ after → IsAuthentic opening before f.side f.fact f.forged
-
--- of all that two sides say to each other, whatever lies between them
-abbrev pub TalksAreAuthentic : Type 0
-TalksAreAuthentic = (opening : PairOpening) (facts : List SideFact) (pair : Pair) → Talks opening facts pair → Authentic opening facts

@@ -1,6 +1,6 @@
 //! What is claimed of two sides of a safe connection.
 
-ghost use Rattle.safety_pair_laws.specs.Authentic.{TalksAreAuthentic};
+ghost use Rattle.safety_pair_laws.specs.Talks.{TalksAreAuthentic};
 ghost use Rattle.safety_pair_laws.specs.Deliveries.{FlowsDeliver};
 ghost use Rattle.safety_pair_laws.specs.Marks.{MarksGrow};
 

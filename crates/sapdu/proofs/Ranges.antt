@@ -4,8 +4,10 @@ use Rattle.er_base.specs.Octets.{two, three, eight, AreOctets}
 use Rattle.sapdu.specs.declared.kind.SaKind.{SaKind}
 use Rattle.sapdu.specs.declared.kind.SaKind.TheVariants as kind
 use Rattle.sapdu.specs.Kinds.{row_of_sapdu_kind}
-use Rattle.sapdu.specs.Spelling.{SafetyPdu, Au1, Au2, Au3, Ar, Dt, Di, Fits, HasUserOctets, df, kind_of, header, SpellsOctets}
-use Rattle.sapdu.specs.Sealed.{sealed_part, addressed, SealsOctets}
+use Rattle.sapdu.specs.Spelling.{SafetyPdu, Au1, Au2, Au3, Ar, Dt, Di, df, kind_of, header}
+use Rattle.sapdu.specs.SpellingLaws.{Fits, HasUserOctets, SpellsOctets}
+use Rattle.sapdu.specs.Sealed.{sealed_part, addressed}
+use Rattle.sapdu.specs.SealedLaws.{SealsOctets}
 use Rattle.sapdu.proofs.Facts.{Facts, PartFacts, octets_before}
 
 no_octets : AreOctets []

@@ -7,7 +7,8 @@ use Rattle.sapdu.specs.declared.kind.SaKind.{SaKind}
 use Rattle.sapdu.specs.declared.kind.SaKind.TheVariants as kind
 use Rattle.sapdu.specs.declared.fault.SaFault.{SaFault}
 use Rattle.sapdu.specs.Kinds.{SapduKindRow, row_of_sapdu_kind, kind_with}
-use Rattle.sapdu.specs.Spelling.{SafetyPdu, Au1, Au2, Au3, Ar, Dt, Di, Fits, HasUserOctets, df, kind_of, body, fields_of, fault_of_length, read_of, IsReadBack, SpellsOne}
+use Rattle.sapdu.specs.Spelling.{SafetyPdu, Au1, Au2, Au3, Ar, Dt, Di, df, kind_of, body, fields_of, fault_of_length, read_of}
+use Rattle.sapdu.specs.SpellingLaws.{Fits, HasUserOctets, IsReadBack, SpellsOne}
 use Rattle.sapdu.specs.Representation.{IsLong}
 use Rattle.sapdu.proofs.Facts.{Facts, number_in_front, number_in_back}
 

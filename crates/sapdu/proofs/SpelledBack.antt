@@ -8,7 +8,8 @@ use Rattle.sapdu.specs.declared.fault.SaFault.TheVariants.{Short, Long}
 use Rattle.sapdu.specs.declared.kind.SaKind.{SaKind}
 use Rattle.sapdu.specs.declared.kind.SaKind.TheVariants as kind
 use Rattle.sapdu.specs.Kinds.{SapduKindRow, row_of_sapdu_kind, kind_among, kind_with, kinds}
-use Rattle.sapdu.specs.Spelling.{SafetyPdu, Fits, df, kind_of, body, spelling, fields_of, fault_of_length, read_behind, IsSpelledBack}
+use Rattle.sapdu.specs.Spelling.{SafetyPdu, df, kind_of, body, spelling, fields_of, fault_of_length, read_behind}
+use Rattle.sapdu.specs.SpellingLaws.{Fits, IsSpelledBack}
 use Rattle.sapdu.specs.Representation.{IsBody, IsLong}
 use Rattle.sapdu.proofs.Facts.{Facts, PartFacts}
 use Rattle.sapdu.proofs.ReadBack.{value_or}

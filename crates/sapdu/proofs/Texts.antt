@@ -5,8 +5,10 @@ use Rattle.er_base.specs.Octets.{two, three, eight, number_in}
 use Rattle.sapdu.specs.declared.kind.SaKind.{SaKind}
 use Rattle.sapdu.specs.declared.kind.SaKind.TheVariants as kind
 use Rattle.sapdu.specs.Kinds.{kind_with}
-use Rattle.sapdu.specs.Spelling.{SafetyPdu, Au1, Au2, Au3, Ar, Dt, Di, Fits, kind_of, header}
-use Rattle.sapdu.specs.Sealed.{HasMac, sealed_part, addressed, Content, OfAu2, OfAu3, OfDt, OfNone, sealed_content_of_sapdu, SealedSapdu, padded_text, SameHeading, SealsOne}
+use Rattle.sapdu.specs.Spelling.{SafetyPdu, Au1, Au2, Au3, Ar, Dt, Di, kind_of, header}
+use Rattle.sapdu.specs.SpellingLaws.{Fits}
+use Rattle.sapdu.specs.Sealed.{sealed_part, addressed}
+use Rattle.sapdu.specs.SealedLaws.{HasMac, Content, OfAu2, OfAu3, OfDt, OfNone, sealed_content_of_sapdu, SealedSapdu, padded_text, SameHeading, SealsOne}
 use Rattle.sapdu.proofs.Facts.{Facts, number_in_front, number_in_back}
 use Rattle.sapdu.proofs.ReadBack.{kind_read, flag_read}
 

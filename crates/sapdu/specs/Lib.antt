@@ -1,6 +1,9 @@
 pub mod Messages
+pub mod Rooms
 pub mod Kinds
 pub mod Spelling
+pub mod SpellingLaws
 pub mod Reading
 pub mod Sealed
+pub mod SealedLaws
 pub mod Representation

@@ -1,6 +1,5 @@
 -- A message of the user has 1 to 1,023 octets (this profile), so that the longest SaPDU, its DT, has 1,032.
-use Rattle.std.specs.Prelude.{ℕ, ◌≤◌, ◌↔◌, ◌≡◌, ◌&&◌, nat_le, Bool, true, List, length}
-use Rattle.er_base.specs.Stored.{Stored, HasRoom}
+use Rattle.std.specs.Prelude.{ℕ, ◌≤◌, ◌&&◌, nat_le, Bool, List, length}
 
 -- the most octets of a message, and of an SaPDU
 abbrev pub most_user_octets : ℕ
@@ -16,10 +15,3 @@ IsMessage user = (1 ≤ length user) × (length user ≤ most_user_octets)
 -- the same as a test
 abbrev pub is_message : List ℕ → Bool
 is_message user = nat_le 1 (length user) && nat_le (length user) most_user_octets
-
-abbrev pub IsTested : Type 0
-IsTested = (user : List ℕ) → (is_message user ≡ true) ↔ IsMessage user
-
--- there is room for any SaPDU
-abbrev pub HasRoomForSapdu : Stored → Type 0
-HasRoomForSapdu out = HasRoom out most_octets

@@ -3,7 +3,8 @@ use Rattle.std.specs.Prelude.{ℕ, ◌≡◌, Bool, List, None, Some, Result, Ok
 use Rattle.sapdu.specs.declared.fault.SaFault.{SaFault}
 use Rattle.sapdu.specs.declared.pdu.SaPdu.{SaPdu}
 use Rattle.sapdu.specs.declared.pdu.SaPdu.TheVariants as code
-use Rattle.sapdu.specs.Spelling.{SafetyPdu, Au1, Au2, Au3, Ar, Dt, Di, Fits, spelling, first_fault}
+use Rattle.sapdu.specs.Spelling.{SafetyPdu, Au1, Au2, Au3, Ar, Dt, Di, spelling}
+use Rattle.sapdu.specs.SpellingLaws.{Fits, first_fault}
 
 -- an SaPDU as plain data
 abbrev pub view : SaPdu → SafetyPdu

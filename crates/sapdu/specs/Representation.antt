@@ -3,7 +3,8 @@ use Rattle.std.specs.Prelude.{ℕ, ◌≡◌, ◌≤◌, List, ◌++◌, length}
 use Rattle.er_base.specs.Octets.{two}
 use Rattle.sapdu.specs.declared.kind.SaKind.{SaKind}
 use Rattle.sapdu.specs.Kinds.{SapduKindRow}
-use Rattle.sapdu.specs.Spelling.{SafetyPdu, Fits, kind_of, body}
+use Rattle.sapdu.specs.Spelling.{SafetyPdu, kind_of, body}
+use Rattle.sapdu.specs.SpellingLaws.{Fits}
 
 -- these are the octets behind the header of an SaPDU of this kind
 abbrev pub IsBody : SaKind → List ℕ → SafetyPdu → Type 0

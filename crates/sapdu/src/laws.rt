@@ -1,8 +1,7 @@
 //! What the definitions of this crate imply, as facts that a caller can cite.
 
-ghost use Rattle.sapdu.specs.Messages.{IsTested};
-ghost use Rattle.sapdu.specs.Spelling.{IsReadBack, IsSpelledBack, SpellsOne, IsReadAsDi, SpellsOctets, SpellsItsLength, SpellsFew};
-ghost use Rattle.sapdu.specs.Sealed.{SealsOne, TellsHeading, TellsUser, SealsOctets, SealsFew};
+ghost use Rattle.sapdu.specs.SpellingLaws.{IsTested, IsReadBack, IsSpelledBack, SpellsOne, IsReadAsDi, SpellsOctets, SpellsItsLength, SpellsFew};
+ghost use Rattle.sapdu.specs.SealedLaws.{SealsOne, TellsHeading, TellsUser, SealsOctets, SealsFew};
 
 use er_base::laws::{octets_of_numbers, octets_of_parts};
 

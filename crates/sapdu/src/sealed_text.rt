@@ -1,6 +1,6 @@
 ghost use Rattle.std.specs.Prelude.{◌≡◌, ◌+◌, ◌-◌, ◌<◌, ◌≤◌, ◌^◌, [], ◌∷◌, ◌++◌, length, drop};
 ghost use Rattle.er_base.specs.Octets.{two, three, eight};
-ghost use Rattle.sapdu.specs.Spelling.{HasUserOctets, HasNumber};
+ghost use Rattle.sapdu.specs.SpellingLaws.{HasUserOctets, HasNumber};
 ghost use Rattle.sapdu.specs.Sealed.{sealed_text};
 ghost use Rattle.sapdu.specs.Messages.{IsMessage};
 ghost use Rattle.sapdu.specs.Representation.{IsLengthAndOctets};

@@ -1,6 +1,7 @@
 ghost use Rattle.std.specs.Prelude.{◌≡◌, length};
 ghost use Rattle.er_base.specs.Stored.{HasRoom, Appends};
-ghost use Rattle.sapdu.specs.Spelling.{spelling, HasUserOctets, HasNumber};
+ghost use Rattle.sapdu.specs.Spelling.{spelling};
+ghost use Rattle.sapdu.specs.SpellingLaws.{HasUserOctets, HasNumber};
 ghost use Rattle.sapdu.specs.Reading.{view};
 
 use crate::pdu::SaPdu;

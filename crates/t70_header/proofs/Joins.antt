@@ -4,8 +4,9 @@ use Rattle.std.proofs.lemmas.List.{append-nil}
 use Rattle.std.proofs.lemmas.Bool.{lt-ltb, le-ltb, le-leb, cases_lt}
 use Rattle.t70_header.specs.declared.fault.BlockFault.{BlockFault}
 use Rattle.t70_header.specs.declared.fault.BlockFault.TheVariants.{Header, Long}
-use Rattle.t70_header.specs.Blocks.{last_block, more_of, content_of_block, joined_contents, AllMore}
-use Rattle.t70_header.specs.Joining.{BlockJoiningResult, block_step, answer_to_last_block, fault_of_header, HasFault, JoinedBehind, Joined}
+use Rattle.t70_header.specs.Blocks.{last_block, more_of, content_of_block}
+use Rattle.t70_header.specs.JoiningLaws.{joined_contents, AllMore, answer_to_last_block, HasFault, JoinedBehind, Joined}
+use Rattle.t70_header.specs.Joining.{BlockJoiningResult, block_step, fault_of_header}
 
 -- a block's header has the more-bit, or doesn't, or is none
 header_cases : (header : Option Bool) → (header ≡ None) ⊎ ((header ≡ Some true) ⊎ (header ≡ Some false))

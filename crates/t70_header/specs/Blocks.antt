@@ -1,6 +1,6 @@
 -- The blocks of ITU-T T.70: a header of two octets, 01 and then 00 or, where more blocks of the same
 -- TPDU follow, 80; behind it the block's octets of the TPDU.
-use Rattle.std.specs.Prelude.{ℕ, ◌≡◌, ◌==◌, ◌&&◌, nat_le, if◌then◌else◌, Bool, true, false, List, [], ◌∷◌, ◌++◌, length, slice_index, drop, Option, Some, None}
+use Rattle.std.specs.Prelude.{ℕ, ◌==◌, ◌&&◌, nat_le, if◌then◌else◌, Bool, true, false, List, ◌∷◌, length, slice_index, drop, Option, Some, None}
 
 -- the one block of a TPDU that isn't cut
 abbrev pub last_block : List ℕ → List ℕ
@@ -19,13 +19,3 @@ more_of block =
 -- the octets behind the header
 abbrev pub content_of_block : List ℕ → List ℕ
 content_of_block block = drop 2 block
-
--- the octets of several blocks, joined
-abbrev pub joined_contents : List (List ℕ) → List ℕ
-joined_contents [] = []
-joined_contents (block ∷ blocks) = content_of_block block ++ joined_contents blocks
-
--- each of the blocks has the more-bit
-abbrev pub AllMore : List (List ℕ) → Type 0
-AllMore [] = Unit {0}
-AllMore (block ∷ blocks) = (more_of block ≡ Some true) × AllMore blocks

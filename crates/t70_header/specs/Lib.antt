@@ -1,3 +1,4 @@
 pub mod Blocks
 pub mod Joining
+pub mod JoiningLaws
 pub mod Resting

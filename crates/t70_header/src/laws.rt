@@ -1,7 +1,7 @@
 //! What follows from the definitions of the blocks alone, for whoever rests on them. The functions do
 //! nothing; their contracts are the laws.
 
-ghost use Rattle.t70_header.specs.Joining.{AddingJoins, HoldsOnlyWhatWaits, WrappedIsJoined};
+ghost use Rattle.t70_header.specs.JoiningLaws.{AddingJoins, HoldsOnlyWhatWaits, WrappedIsJoined};
 
 /// What [`crate::Joiner::add`] answers to blocks one after the other is what those blocks come to:
 /// they are joined up to the first one without the more-bit, or the first faulty one is named.

@@ -9,8 +9,7 @@ use Rattle.hdlc_station_model.specs.Stations.{Station, Deed, is_down, sees, puts
 use Rattle.hdlc_station_model.specs.Frames.{SetUp}
 use Rattle.hdlc_station_model.specs.Sending.{gives_up, counts_expiry, starts_timer, sends_again, is_due, expires, expires_if_due, sends_waiting}
 use Rattle.hdlc_station_model.specs.Calls as station
-use Rattle.safety_automaton.specs.Keys.{no_keys}
-use Rattle.safety_automaton.specs.Safety.{Safety, SafetyOutcome, DataRequest, DisconnectRequest, octets_sent_in_outcome, step}
+use Rattle.safety_automaton.specs.Safety.{no_keys, Safety, SafetyOutcome, DataRequest, DisconnectRequest, octets_sent_in_outcome, step}
 use Rattle.er_end_model.specs.Outcomes.{SendRefusal}
 use Rattle.er_end_model.specs.Steps.{new_event, new_event_at, with_release, send_dr, normal_disconnect, with_safety_step, hand_text, conclude_event, step_start, on_send, step_send_unless, step_take, step_release, is_spent, di_of, on_expiry, step_tick, step_break}
 use Rattle.er_end_model.specs.Layers.{Core, model}

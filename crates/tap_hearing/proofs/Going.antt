@@ -11,8 +11,7 @@ use Rattle.hdlc_station_model.specs.Stations.{settled}
 use Rattle.hdlc_station_model.specs.Stations as station
 use Rattle.t70_header.specs.Joining as joining
 use Rattle.x224_class2.specs.Segments.{text_so_far}
-use Rattle.safety_automaton.specs.Keys.{no_keys}
-use Rattle.safety_automaton.specs.Safety.{Safety, SafetyOutcome, ConnectRequest, octets_sent_in_outcome, step}
+use Rattle.safety_automaton.specs.Safety.{no_keys, Safety, SafetyOutcome, ConnectRequest, octets_sent_in_outcome, step}
 use Rattle.er_end_model.specs.Steps.{Finds, new_event_at, with_safety_step, is_ready, connect_with_text, on_link_up, on_joined_block, on_link_deed, conclude_event, step_frame}
 use Rattle.er_end_model.specs.Layers.{Core, model}
 use Rattle.er_end_model.specs.Hearing.{station_behind}

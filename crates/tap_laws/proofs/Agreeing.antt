@@ -7,6 +7,7 @@ use Rattle.er_base.specs.declared.side.Side.{Side}
 use Rattle.er_base.specs.declared.side.Side.TheVariants.{E, R}
 use Rattle.t70_header.specs.Blocks.{last_block}
 use Rattle.t70_header.specs.Joining as joining
+use Rattle.t70_header.specs.JoiningLaws.{WrappedIsJoined}
 use Rattle.x224_tpdu.specs.declared.fault.TpFault.{TpFault}
 use Rattle.x224_tpdu.specs.Spelling.{TransportPdu, connection_request, connection_confirm, disconnect_request}
 use Rattle.x224_tpdu.specs.Function.{reading}
@@ -64,7 +65,7 @@ all_head finds o c front g a n is = front_head n.first front g (n.second ∷ n.t
 
 -- ---- the first payload
 
-module _ (wrapped : joining.WrappedIsJoined) where
+module _ (wrapped : WrappedIsJoined) where
   -- of a block that holds a whole TPDU
   first_heard : (tpdu : List ℕ) (pdu : TransportPdu) (rest : List (List ℕ)) → length tpdu ≤ 1024 → reading tpdu ≡ Ok pdu
       → heard_of (last_block tpdu ∷ rest) ≡ texts_from 0 [] (pdu ∷ pdus_in (tpdus_from [] rest))

@@ -16,9 +16,8 @@ use Rattle.x224_class2.specs.Transport.{ReceptionDeed, Nothing, Called, Confirme
 use Rattle.x224_class2.specs.Transport as transport
 use Rattle.sapdu.specs.Messages.{is_message}
 use Rattle.sapdu.specs.Spelling.{di_in}
-use Rattle.safety_automaton.specs.Keys.{no_keys}
+use Rattle.safety_automaton.specs.Safety.{no_keys, Safety, Phase, Ready, WaitAu1, WaitAu2, WaitAu3, WaitAr, Connected, Released, ConnectRequest, Received, DataRequest, DisconnectRequest, SafetyOutcome, SentAu1, SentAu2, SentAu3, SentAr, ReceivedAr, AcceptedDt, SentDt, Refused, ReleasedLocally, ReleasedByPeer, NothingDone, connects, sends, sends_dt, octets_sent_in_outcome, peer_flag, step}
 use Rattle.safety_automaton.specs.Reports.{report_of}
-use Rattle.safety_automaton.specs.Safety.{Safety, Phase, Ready, WaitAu1, WaitAu2, WaitAu3, WaitAr, Connected, Released, ConnectRequest, Received, DataRequest, DisconnectRequest, SafetyOutcome, SentAu1, SentAu2, SentAu3, SentAr, ReceivedAr, AcceptedDt, SentDt, Refused, ReleasedLocally, ReleasedByPeer, NothingDone, connects, sends, sends_dt, octets_sent_in_outcome, peer_flag, step}
 use Rattle.safety_automaton.specs.Rules.{IsOpen, StepsOnly, IsStep, AtReceived, AtDisconnect, AtConnect}
 use Rattle.er_end_model.specs.Outcomes.{SendRefusal}
 use Rattle.er_end_model.specs.Steps.{Finds, new_event, new_event_at, with_release, send_dr, end_after_di, answer_dr, on_safety_release, why_of, normal_disconnect, with_safety_step, hand_text, skip_message, Carrier, InCr, InCc, InDt, hand_answer, keep_message, on_safety_report, on_text, on_transport_deed, on_joined_block, is_ready, on_link_up, on_link_told, hand_next_tpdu, has_next_tpdu, hand_waiting_tpdus, most_offers, conclude_event, step_start, step_frame, refusal_of, step_send_unless, step_take, step_release, is_spent, di_of, on_expiry, step_tick, step_break}

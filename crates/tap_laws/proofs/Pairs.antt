@@ -5,7 +5,7 @@ use Rattle.er_base.specs.declared.side.Side.TheVariants.{E, R}
 use Rattle.des_block.specs.declared.triple_key.TripleKey.{TripleKey}
 use Rattle.hdlc_station_model.specs.Lines.{IsPrefix}
 use Rattle.session_keys.specs.Session.{session_of}
-use Rattle.t70_header.specs.Joining.{WrappedIsJoined}
+use Rattle.t70_header.specs.JoiningLaws.{WrappedIsJoined}
 use Rattle.sapdu.specs.Spelling.{SafetyPdu, Au1, Au2, Au3, Ar, Dt, Di, read_of}
 use Rattle.safety_automaton.specs.Rules.{IsOpen}
 use Rattle.er_end_model.specs.Ends.{End, Moment, opened, end_run}

@@ -19,7 +19,7 @@ use Rattle.x224_tpdu.specs.Parameters.{parameters_in}
 use Rattle.x224_tpdu.specs.Function.{reading}
 use Rattle.sapdu.specs.declared.fault.SaFault.TheVariants.{Short}
 use Rattle.sapdu.specs.Spelling.{Au1, Au2, Au3, Ar, Dt, Di}
-use Rattle.er_settings.specs.Ranges.{usual_settings}
+use Rattle.er_settings.specs.Making.{usual_settings}
 use Rattle.er_end_model.specs.Steps.{Finds, hand_waiting_tpdus}
 use Rattle.er_end_model.specs.Ends.{Opening, Answer, Come, Moment, opened}
 use Rattle.tap_model.specs.declared.audit_verdict.AuditVerdict.{AuditVerdict}

@@ -1,4 +1,4 @@
-ghost use Rattle.sapdu.specs.Spelling.{HasUserOctets, HasNumber};
+ghost use Rattle.sapdu.specs.SpellingLaws.{HasUserOctets, HasNumber};
 ghost use Rattle.sapdu.specs.Reading.{view};
 
 use er_base::{NoMemory, Room, decimal, octets_of};

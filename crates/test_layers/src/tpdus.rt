@@ -1,6 +1,6 @@
 ghost use Rattle.std.specs.Prelude.{◌≡◌, ◌≤◌, length};
-ghost use Rattle.x224_tpdu.specs.Spelling.{pdu_of};
-ghost use Rattle.x224_tpdu.specs.Writing.{IsWritable, written_octets};
+ghost use Rattle.x224_tpdu.specs.Spellings.{pdu_of, IsWritable};
+ghost use Rattle.x224_tpdu.specs.Writing.{written_octets};
 
 use er_base::{NoMemory, Room, octets_of};
 use std::alloc::Global;

@@ -1,6 +1,7 @@
 ghost use Rattle.std.specs.Prelude.{◌≡◌, false, IfOk};
 ghost use Rattle.er_scenario.specs.declared.level.Level.TheVariants as level;
-ghost use Rattle.drill_model.specs.Steps.{IsOfLevel, HasEtcsNumbers, HasMoment};
+ghost use Rattle.drill_model.specs.Steps.{HasEtcsNumbers};
+ghost use Rattle.drill_model.specs.StepLevels.{IsOfLevel, HasMoment};
 
 use des_block::TripleKey;
 use er_base::{NoMemory, Octets, Side, decimal_word};

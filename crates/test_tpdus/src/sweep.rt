@@ -1,6 +1,6 @@
 ghost use Rattle.std.specs.Prelude.{◌≡◌, ◌≤◌, ◌<◌, ◌↔◌, IsTrue, IfSome, length};
 ghost use Rattle.x224_tpdu.specs.declared.kind.Kind.TheVariants.{Er};
-ghost use Rattle.x224_tpdu.specs.Spelling.{pdu_of, kind_in};
+ghost use Rattle.x224_tpdu.specs.Spellings.{pdu_of, kind_in};
 
 use crate::counts::Counts;
 use crate::table::OF_TWELVE;

@@ -3,7 +3,7 @@ use Rattle.std.proofs.Common.{ℕ, ◌≤◌, eqb, ◌||◌, inl, inr, arith}
 use Rattle.std.proofs.lemmas.Bool.{leb-true, eqb-true, and_parts, or_cases}
 use Rattle.er_settings.specs.Ranges.{Allows}
 use Rattle.er_settings.specs.declared.setting_name.SettingName.TheVariants.{Credit, Size}
-use Rattle.x224_tpdu.specs.Writing.{IsSize}
+use Rattle.x224_tpdu.specs.Spellings.{IsSize}
 
 pub credit_most : (modulo n : ℕ) → Allows modulo Credit n → n ≤ 15
 credit_most modulo n h = leb-true _ _ (and_parts _ _ h).1

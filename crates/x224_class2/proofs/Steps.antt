@@ -5,8 +5,10 @@ use Rattle.er_settings.specs.Values.{Settings}
 use Rattle.er_settings.specs.Ranges.{AllAllowed}
 use Rattle.x224_tpdu.specs.declared.fault.TpFault.{TpFault}
 use Rattle.x224_tpdu.specs.Spelling.{TransportPdu, connection_request, connection_confirm, disconnect_request, disconnect_confirm, data_tpdu, acknowledgement, tpdu_error}
-use Rattle.x224_tpdu.specs.Writing.{IsSize, IsWritable, written_octets}
-use Rattle.x224_tpdu.specs.Function.{reading, IsInRange, ReadingIsInRange}
+use Rattle.x224_tpdu.specs.Writing.{written_octets}
+use Rattle.x224_tpdu.specs.Spellings.{IsSize, IsWritable}
+use Rattle.x224_tpdu.specs.Function.{reading}
+use Rattle.x224_tpdu.specs.ReadingLaws.{IsInRange, ReadingIsInRange}
 use Rattle.x224_class2.specs.Segments.{Segment, segments_of, messages_behind, messages_in, text_so_far}
 use Rattle.x224_class2.specs.Tpdus.{GivenTpdu, Cr, Cc, Dt, Ak, pdu_given}
 use Rattle.x224_class2.specs.Refusals.{dr_reason, protocol_error, tpdu_refused, message_too_long}

@@ -1,7 +1,7 @@
 -- Known answers, worked out by hand from ITU-T X.224 and from the rules of this profile: segments, numbers, and what a side gives and
 -- refuses.
 use Rattle.std.specs.Prelude.{◌≡◌, ℕ, zero, suc, true, false, List, [], ◌∷◌, Some, None, Ok, Err, refl}
-use Rattle.er_settings.specs.Ranges.{settings_of}
+use Rattle.er_settings.specs.Making.{settings_of}
 use Rattle.er_settings.specs.Values.{Settings}
 use Rattle.x224_tpdu.specs.Spelling.{connection_request, connection_confirm, disconnect_request, disconnect_confirm, data_tpdu, acknowledgement}
 use Rattle.x224_tpdu.specs.declared.fault.TpFault.TheVariants.{Class, Parameter}

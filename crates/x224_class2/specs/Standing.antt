@@ -3,7 +3,7 @@
 use Rattle.std.specs.Prelude.{ℕ, ◌≡◌, ◌+◌, ◌-◌, ◌%◌, ◌<◌, ◌≤◌, suc, Bool, true, false, List, [], ◌∷◌, ◌++◌, length, map, drop, Option, Some, is_some, MatchOption}
 use Rattle.er_settings.specs.Values.{Settings}
 use Rattle.er_settings.specs.Ranges.{AllAllowed}
-use Rattle.x224_tpdu.specs.Writing.{IsSize, IsWritable}
+use Rattle.x224_tpdu.specs.Spellings.{IsSize, IsWritable}
 use Rattle.x224_class2.specs.Segments.{Segment, segments_of, messages_in, text_so_far, ack_number, AllCarried}
 use Rattle.x224_class2.specs.Tpdus.{GivenTpdu, pdu_given}
 use Rattle.x224_class2.specs.Transport.{Transport, is_called, is_open, is_new, side_made, after_connect, after_accept, after_hand, after_taken, waiting_count, untaken_count, reception, next_tpdu, after_next}

@@ -1,5 +1,5 @@
 ghost use Rattle.std.specs.Prelude.{◌≡◌, ◌≤◌, min};
-ghost use Rattle.x224_tpdu.specs.Writing.{IsSize};
+ghost use Rattle.x224_tpdu.specs.Spellings.{IsSize};
 
 use std::marker::Model;
 
@@ -11,7 +11,7 @@ pub struct Size {
 
 impl Model for Size {
     ghost use Rattle.std.specs.Prelude.{ℕ};
-    ghost use Rattle.x224_tpdu.specs.Writing.{IsSize};
+    ghost use Rattle.x224_tpdu.specs.Spellings.{IsSize};
 
     ghost Value = { ℕ };
 

@@ -7,10 +7,11 @@ use Rattle.x224_tpdu.specs.declared.kind.Kind.{Kind}
 use Rattle.x224_tpdu.specs.declared.kind.Kind.TheVariants.{Cr, Cc, Dr, Dc, Dt, Ak, Er}
 use Rattle.x224_tpdu.specs.Kinds.{kind_of_tpdu_code, least_user, most_user}
 use Rattle.x224_tpdu.specs.Parameters.{parameters_in, size_octet}
-use Rattle.x224_tpdu.specs.Spelling.{TransportPdu, NamesSize}
+use Rattle.x224_tpdu.specs.Spelling.{TransportPdu}
+use Rattle.x224_tpdu.specs.Spellings.{NamesSize, IsSize}
 use Rattle.x224_tpdu.specs.Faults.{Layout, layout_of, parameter_part, rule_1, rule_2, rule_3, rule_4, rule_5, rule_6, rule_7, rule_8, kind_rules, first_of, size_fault, number_fault, user_fault, first_fault}
-use Rattle.x224_tpdu.specs.Writing.{IsSize}
-use Rattle.x224_tpdu.specs.Function.{size_of, value_by, tpdu_of_faultless_octets, fault_or, reading, IsInRange}
+use Rattle.x224_tpdu.specs.Function.{size_of, value_by, tpdu_of_faultless_octets, fault_or, reading}
+use Rattle.x224_tpdu.specs.ReadingLaws.{IsInRange}
 use Rattle.x224_tpdu.proofs.RoundTrip.{named_is_size}
 
 -- an answer without a fault

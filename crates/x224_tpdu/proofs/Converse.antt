@@ -9,7 +9,8 @@ use Rattle.x224_tpdu.specs.declared.kind.Kind.{Kind}
 use Rattle.x224_tpdu.specs.declared.kind.Kind.TheVariants.{Cr, Cc, Dr, Dc, Dt, Ak, Er}
 use Rattle.x224_tpdu.specs.Kinds.{kind_of_tpdu_code}
 use Rattle.x224_tpdu.specs.Parameters.{parameter_octets, parameters_in, first_refused, size_octet}
-use Rattle.x224_tpdu.specs.Spelling.{TransportPdu, header_without_length_indicator, Spells}
+use Rattle.x224_tpdu.specs.Spelling.{TransportPdu, header_without_length_indicator}
+use Rattle.x224_tpdu.specs.Spellings.{Spells}
 use Rattle.x224_tpdu.specs.Faults.{Layout, layout_of, rule_1, rule_2, rule_3, kind_rules, first_of, part_fault, first_fault}
 use Rattle.x224_tpdu.specs.Parts.{ArePartsOfTpdu, parameters_of}
 use Rattle.x224_tpdu.specs.Function.{value_in, value_by, tpdu_of_faultless_octets, reading}

@@ -5,11 +5,13 @@ use Rattle.x224_tpdu.specs.declared.fault.TpFault.{TpFault}
 use Rattle.x224_tpdu.specs.declared.kind.Kind.TheVariants.{Er}
 use Rattle.x224_tpdu.specs.declared.tpdu.Tpdu.{Tpdu}
 use Rattle.x224_tpdu.specs.Parameters.{size_octet}
-use Rattle.x224_tpdu.specs.Spelling.{TransportPdu, connection_request, connection_confirm, disconnect_request, disconnect_confirm, data_tpdu, acknowledgement, tpdu_error, pdu_of, kind_in, NamesSize, Spells}
+use Rattle.x224_tpdu.specs.Spelling.{TransportPdu, connection_request, connection_confirm, disconnect_request, disconnect_confirm, data_tpdu, acknowledgement, tpdu_error}
+use Rattle.x224_tpdu.specs.Spellings.{pdu_of, kind_in, NamesSize, Spells, IsSize, IsWritable}
 use Rattle.x224_tpdu.specs.Faults.{first_fault}
-use Rattle.x224_tpdu.specs.Writing.{IsSize, size_code, own_parameters, IsWritable, written_octets}
+use Rattle.x224_tpdu.specs.Writing.{size_code, own_parameters, written_octets}
 use Rattle.x224_tpdu.specs.Reading.{Reads}
-use Rattle.x224_tpdu.specs.Function.{fault_or, tpdu_of_faultless_octets, reading, answer_of}
+use Rattle.x224_tpdu.specs.Function.{fault_or, tpdu_of_faultless_octets, reading}
+use Rattle.x224_tpdu.specs.ReadingLaws.{answer_of}
 use Rattle.x224_tpdu.proofs.Spelled.{shown}
 
 pub spells_one : (octets : List ℕ) (p q : TransportPdu) → Spells p octets → Spells q octets → p ≡ q

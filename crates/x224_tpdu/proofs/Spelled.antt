@@ -8,7 +8,8 @@ use Rattle.x224_tpdu.specs.declared.kind.Kind.{Kind}
 use Rattle.x224_tpdu.specs.declared.kind.Kind.TheVariants.{Cr, Cc, Dr, Dc, Dt, Ak, Er}
 use Rattle.x224_tpdu.specs.Kinds.{kind_of_tpdu_code, least_user, most_user}
 use Rattle.x224_tpdu.specs.Parameters.{Parameter, parameter_octets, parameters_in, first_refused, size_octet}
-use Rattle.x224_tpdu.specs.Spelling.{TransportPdu, connection_request, connection_confirm, disconnect_request, disconnect_confirm, data_tpdu, acknowledgement, tpdu_error, NamesSize, spelling, Spells}
+use Rattle.x224_tpdu.specs.Spelling.{TransportPdu, connection_request, connection_confirm, disconnect_request, disconnect_confirm, data_tpdu, acknowledgement, tpdu_error, spelling}
+use Rattle.x224_tpdu.specs.Spellings.{NamesSize, Spells}
 use Rattle.x224_tpdu.specs.Faults.{Layout, layout_of, rule_1, rule_2, rule_3, rule_4, rule_5, rule_6, rule_7, rule_8, rules, kind_rules, first_of, part_fault, size_fault, user_fault, first_fault}
 use Rattle.x224_tpdu.specs.Function.{size_of, value_in, value_by, tpdu_of_faultless_octets}
 use Rattle.x224_tpdu.proofs.Cutting.{in_nil, in_whole}

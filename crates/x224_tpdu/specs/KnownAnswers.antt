@@ -4,7 +4,8 @@ use Rattle.std.specs.Prelude.{◌≡◌, true, [], ◌∷◌, Some, Ok, Err, ref
 use Rattle.std.proofs.Common.{lit<, lit≤}
 use Rattle.x224_tpdu.specs.declared.fault.TpFault.TheVariants.{Empty, Length, Code, Parameter, Value, Class, UserData}
 use Rattle.x224_tpdu.specs.Parameters.{parameters_in}
-use Rattle.x224_tpdu.specs.Spelling.{connection_request, connection_confirm, disconnect_request, disconnect_confirm, data_tpdu, acknowledgement, tpdu_error, Spells}
+use Rattle.x224_tpdu.specs.Spelling.{connection_request, connection_confirm, disconnect_request, disconnect_confirm, data_tpdu, acknowledgement, tpdu_error}
+use Rattle.x224_tpdu.specs.Spellings.{Spells}
 use Rattle.x224_tpdu.specs.Faults.{first_fault}
 use Rattle.x224_tpdu.specs.Function.{reading}
 

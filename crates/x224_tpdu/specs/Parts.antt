@@ -9,7 +9,8 @@ use Rattle.x224_tpdu.specs.declared.parts.Parts.{Parts}
 use Rattle.x224_tpdu.specs.declared.tpdu.Tpdu.{Tpdu}
 use Rattle.x224_tpdu.specs.Kinds.{kind_of_tpdu_code}
 use Rattle.x224_tpdu.specs.Parameters.{Parameter, parameters_in, first_refused, size_octet, parameter_octets}
-use Rattle.x224_tpdu.specs.Spelling.{TransportPdu, pdu_of, kind_in, user_in, FitsTpduFields, HasParameters, header_without_length_indicator}
+use Rattle.x224_tpdu.specs.Spelling.{TransportPdu, user_in, header_without_length_indicator}
+use Rattle.x224_tpdu.specs.Spellings.{pdu_of, kind_in, FitsTpduFields, HasParameters}
 use Rattle.x224_tpdu.specs.Faults.{Layout, layout_of, rule_1, rule_2, rule_4, rule_5, kind_rules, first_of, parameter_part, part_fault}
 
 -- the parts as the rules speak of them

@@ -3,9 +3,10 @@ use Rattle.std.specs.Prelude.{◌≡◌, ◌≢◌, ◌≤◌, ℕ, List, length
 use Rattle.x224_tpdu.specs.declared.tpdu.Tpdu.{Tpdu}
 use Rattle.x224_tpdu.specs.declared.fault.TpFault.{TpFault}
 use Rattle.x224_tpdu.specs.declared.kind.Kind.TheVariants.{Er}
-use Rattle.x224_tpdu.specs.Spelling.{TransportPdu, pdu_of, kind_in, Spells}
+use Rattle.x224_tpdu.specs.Spelling.{TransportPdu}
+use Rattle.x224_tpdu.specs.Spellings.{pdu_of, kind_in, Spells, IsWritable}
 use Rattle.x224_tpdu.specs.Faults.{first_fault}
-use Rattle.x224_tpdu.specs.Writing.{IsWritable, written_octets}
+use Rattle.x224_tpdu.specs.Writing.{written_octets}
 
 -- the TPDU that the octets spell, or their first fault
 abbrev pub Reads : List ℕ → Result Tpdu TpFault → Type 0

@@ -1,13 +1,7 @@
 -- The spelling that is written: in CR and CC the TPDU size (C0) alone as parameter, in the others none.
-use Rattle.std.specs.Prelude.{ℕ, ◌≡◌, ◌≢◌, ◌==◌, ◌⊎◌, if◌then◌else◌, List, [], ◌∷◌}
-use Rattle.x224_tpdu.specs.declared.kind.Kind.TheVariants.{Er}
+use Rattle.std.specs.Prelude.{ℕ, ◌==◌, if◌then◌else◌, List, [], ◌∷◌}
 use Rattle.x224_tpdu.specs.Parameters.{Parameter}
-use Rattle.x224_tpdu.specs.Spelling.{TransportPdu, connection_request, connection_confirm, kind_in, FitsTpduFields, spelling}
-
--- a TPDU size that C0 can name
-abbrev pub IsSize : ℕ → Type 0
-IsSize n =
-    (n ≡ 128) ⊎ (n ≡ 256) ⊎ (n ≡ 512) ⊎ (n ≡ 1024) ⊎ (n ≡ 2048) ⊎ (n ≡ 4096) ⊎ (n ≡ 8192)
+use Rattle.x224_tpdu.specs.Spelling.{TransportPdu, connection_request, connection_confirm, spelling}
 
 -- the octet of C0 for a TPDU size
 abbrev pub size_code : ℕ → ℕ
@@ -24,12 +18,3 @@ own_parameters _ = []
 -- the spelling that is written
 abbrev pub written_octets : TransportPdu → List ℕ
 written_octets p = spelling p (own_parameters p)
-
--- a TPDU that can be read and isn't ER
-abbrev pub IsWritable : TransportPdu → Type 0
-IsWritable p = FitsTpduFields p × HasSize p × (kind_in p ≢ Er)
-  where
-    HasSize : TransportPdu → Type 0
-    HasSize (connection_request credit dst src size user) = IsSize size
-    HasSize (connection_confirm credit dst src size user) = IsSize size
-    HasSize _ = Unit {0}

@@ -3,7 +3,7 @@
 
 ghost use Rattle.x224_tpdu.specs.Reading.{SpellsOne, SpelledHasNoFault, WrittenIsSpelled, SpelledIsWritable, WrittenIsShort};
 ghost use Rattle.x224_tpdu.specs.Parameters.{CutsParameters};
-ghost use Rattle.x224_tpdu.specs.Function.{ReadingOfSpelled, ReadingOfFaulty, ReadingOfWritten, ReadingIsInRange, ReadingSpells};
+ghost use Rattle.x224_tpdu.specs.ReadingLaws.{ReadingOfSpelled, ReadingOfFaulty, ReadingOfWritten, ReadingIsInRange, ReadingSpells};
 
 /// Octets spell one TPDU at most, and those that spell one have no fault; so [`crate::read`] answers
 /// a TPDU exactly where the octets spell it, and a fault exactly where they spell none. The function

@@ -1,6 +1,6 @@
 ghost use Rattle.std.specs.Prelude.{◌≡◌, ℕ, ◌<◌, [], ◌∷◌, length, Some, None, MatchOption, MatchResult};
 ghost use Rattle.x224_tpdu.specs.Parameters.{parameters_in, may_stand, size_octet};
-ghost use Rattle.x224_tpdu.specs.Spelling.{NamesSize};
+ghost use Rattle.x224_tpdu.specs.Spellings.{NamesSize};
 ghost use Rattle.x224_tpdu.specs.Faults.{part_fault, size_fault};
 ghost use Rattle.x224_tpdu.specs.Parts.{HasWholeParameters, BeginsWithParameter};
 

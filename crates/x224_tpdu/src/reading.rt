@@ -4,7 +4,8 @@ ghost use Rattle.x224_tpdu.specs.declared.kind.Kind.TheVariants.{Cr, Cc, Dr, Dc,
 ghost use Rattle.x224_tpdu.specs.Kinds.{kind_of_tpdu_code, least_user, most_user};
 ghost use Rattle.x224_tpdu.specs.Faults.{rule_4, rule_5, first_of, user_fault};
 ghost use Rattle.x224_tpdu.specs.Reading.{Reads};
-ghost use Rattle.x224_tpdu.specs.Function.{reading, answer_of};
+ghost use Rattle.x224_tpdu.specs.Function.{reading};
+ghost use Rattle.x224_tpdu.specs.ReadingLaws.{answer_of};
 ghost use Rattle.x224_tpdu.specs.Parts.{layout_in, IsCounted, IsOfKind, HasConnectionFields, ReadsKind, ReadsBy};
 
 use crate::fault::TpFault;

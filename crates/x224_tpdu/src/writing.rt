@@ -1,8 +1,8 @@
 ghost use Rattle.std.specs.Prelude.{◌≡◌, ◌++◌, [], ◌∷◌, length};
 ghost use Rattle.er_base.specs.Octets.{two};
 ghost use Rattle.er_base.specs.Stored.{HasRoom, Appends};
-ghost use Rattle.x224_tpdu.specs.Spelling.{pdu_of};
-ghost use Rattle.x224_tpdu.specs.Writing.{IsSize, IsWritable, size_code, written_octets};
+ghost use Rattle.x224_tpdu.specs.Spellings.{pdu_of, IsSize, IsWritable};
+ghost use Rattle.x224_tpdu.specs.Writing.{size_code, written_octets};
 
 use crate::parameters::SIZE;
 use crate::tpdu::Tpdu;

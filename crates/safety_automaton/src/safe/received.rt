@@ -1,11 +1,12 @@
 //! What a side does with octets from its peer: the tests before the table of the automaton, and the table, an SaPDU at a time.
 
 ghost use Rattle.std.specs.Prelude.{◌≡◌};
-ghost use Rattle.sapdu.specs.Spelling.{Fits, Au1, Au2, Au3, Ar, Dt};
+ghost use Rattle.sapdu.specs.Spelling.{Au1, Au2, Au3, Ar, Dt};
+ghost use Rattle.sapdu.specs.SpellingLaws.{Fits};
 ghost use Rattle.sapdu.specs.Messages.{IsMessage};
 ghost use Rattle.sapdu.specs.Reading.{view};
-ghost use Rattle.safety_automaton.specs.Keys.{key_at, no_keys};
-ghost use Rattle.safety_automaton.specs.Safety.{Received, step, row, released_by_peer};
+ghost use Rattle.safety_automaton.specs.Keys.{key_at};
+ghost use Rattle.safety_automaton.specs.Safety.{no_keys, Received, step, row, released_by_peer};
 ghost use Rattle.safety_automaton.specs.Rules.{IsOpen};
 ghost use Rattle.safety_automaton.specs.Kept.{DoesSafetyStep};
 

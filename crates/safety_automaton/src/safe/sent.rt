@@ -2,9 +2,8 @@
 
 ghost use Rattle.std.specs.Prelude.{◌≡◌, None, OnOk, OnErr};
 ghost use Rattle.sapdu.specs.Messages.{IsMessage};
-ghost use Rattle.safety_automaton.specs.Keys.{no_keys};
-ghost use Rattle.safety_automaton.specs.Safety.{ConnectRequest, DataRequest, step, sealed_by, octets_sent_in_outcome, flag_of};
-ghost use Rattle.safety_automaton.specs.Reports.{state_of};
+ghost use Rattle.safety_automaton.specs.Safety.{no_keys, ConnectRequest, DataRequest, step, sealed_by, octets_sent_in_outcome, flag_of};
+ghost use Rattle.safety_automaton.specs.Views.{state_of};
 ghost use Rattle.safety_automaton.specs.Kept.{octets_of_control_sapdu, SealsAs};
 ghost use Rattle.safety_automaton.specs.declared.safe_state.SafeState.TheVariants as state;
 

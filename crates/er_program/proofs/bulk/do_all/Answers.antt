@@ -3,7 +3,7 @@ use Rattle.std.proofs.Common.{◌≡◌, ◌<◌, ℕ, List, length, get_or, sli
 use Rattle.std.proofs.lemmas.Option.{slice_get_read}
 use Rattle.er_scenario.specs.declared.level.Level.{Level}
 use Rattle.er_scenario.specs.declared.step.Step.{Step}
-use Rattle.drill_model.specs.Steps.{IsOfLevel}
+use Rattle.drill_model.specs.StepLevels.{IsOfLevel}
 use Rattle.drill_model.specs.Worlds.{DrillPlan}
 use Rattle.er_program.proofs.BulkRuns.{doable_at, did_none, did_more, did_all}
 use Rattle.er_program.proofs.bulk.do_all.Goals as goal

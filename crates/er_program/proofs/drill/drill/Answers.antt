@@ -3,7 +3,7 @@ use Rattle.std.proofs.Common.{◌≡◌, ◌<◌, ◌≤◌, List, ℕ, length, 
 use Rattle.std.proofs.lemmas.Option.{slice_get_read}
 use Rattle.er_scenario.specs.declared.level.Level.{Level}
 use Rattle.er_scenario.specs.declared.numbered.Numbered.{Numbered}
-use Rattle.drill_model.specs.Steps.{IsOfLevel}
+use Rattle.drill_model.specs.StepLevels.{IsOfLevel}
 use Rattle.drill_model.specs.Worlds.{DrillPlan, plan_of}
 use Rattle.er_program.proofs.DrillSteps.{of_level, etcs_numbers, has_moment, readable_at}
 use Rattle.er_program.proofs.DrillRuns.{went_more, went_sink, went_halt, went_end}

@@ -2,7 +2,8 @@ use Rattle.std.proofs.Common.{List, ℕ, ◌∙◌, ap, subst}
 use Rattle.er_base.specs.Stored.{Appends}
 use Rattle.safety_automaton.specs.Keys.{key_at}
 use Rattle.safety_automaton.specs.Safety.{Received, step, octets_sent_in_outcome}
-use Rattle.safety_automaton.specs.Reports.{KeptSafe, state_of}
+use Rattle.safety_automaton.specs.Reports.{KeptSafe}
+use Rattle.safety_automaton.specs.Views.{state_of}
 use Rattle.safety_automaton.proofs.Lengths.{few_appended, few_accepted}
 use Rattle.safety_automaton.proofs.Flags.{not_released}
 use Rattle.safety_automaton.proofs.safe.Safe.receive.Goals as goal

@@ -1,7 +1,6 @@
 use Rattle.std.proofs.Common.{List, ℕ, subst}
 use Rattle.er_base.specs.Stored.{Appends}
-use Rattle.safety_automaton.specs.Keys.{no_keys}
-use Rattle.safety_automaton.specs.Safety.{ConnectRequest}
+use Rattle.safety_automaton.specs.Safety.{no_keys, ConnectRequest}
 use Rattle.safety_automaton.proofs.Lengths.{few_appended}
 use Rattle.safety_automaton.proofs.safe.Safe.start.Goals as goal
 

@@ -1,6 +1,6 @@
 -- What was read is spelled by the octets, so it can be written unless it is ER.
 use Rattle.std.proofs.Common.{◌≡◌, true}
-use Rattle.x224_tpdu.specs.Spelling.{pdu_of, Spells}
+use Rattle.x224_tpdu.specs.Spellings.{pdu_of, Spells}
 use Rattle.test_tpdus.proofs.sweep.Sweep.try_octets.Goals as goal
 
 pub write_into-requires-clause-value : goal.write_into-requires-clause-value
