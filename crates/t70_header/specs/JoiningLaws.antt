@@ -5,6 +5,16 @@ use Rattle.t70_header.specs.declared.fault.BlockFault.TheVariants.{Header, Long}
 use Rattle.t70_header.specs.Blocks.{last_block, more_of, content_of_block}
 use Rattle.t70_header.specs.Joining.{BlockJoiningResult, block_step, fault_of_header}
 
+-- the octets of several blocks, joined
+abbrev pub joined_contents : List (List ℕ) → List ℕ
+joined_contents [] = []
+joined_contents (block ∷ blocks) = content_of_block block ++ joined_contents blocks
+
+-- each of the blocks has the more-bit
+abbrev pub AllMore : List (List ℕ) → Type 0
+AllMore [] = Unit {0}
+AllMore (block ∷ blocks) = (more_of block ≡ Some true) × AllMore blocks
+
 -- the answer to the last of several blocks that are given one by one, up to the first other than None
 abbrev pub answer_to_last_block : List ℕ → List (List ℕ) → BlockJoiningResult
 answer_to_last_block held [] = Ok None
@@ -65,13 +75,3 @@ HoldsOnlyWhatWaits =
 -- a TPDU that was wrapped in one block is joined to itself
 abbrev pub WrappedIsJoined : Type 0
 WrappedIsJoined = (tpdu : List ℕ) → length tpdu ≤ 1024 → block_step [] (last_block tpdu) ≡ ([], Ok (Some tpdu))
-
--- the octets of several blocks, joined
-abbrev pub joined_contents : List (List ℕ) → List ℕ
-joined_contents [] = []
-joined_contents (block ∷ blocks) = content_of_block block ++ joined_contents blocks
-
--- each of the blocks has the more-bit
-abbrev pub AllMore : List (List ℕ) → Type 0
-AllMore [] = Unit {0}
-AllMore (block ∷ blocks) = (more_of block ≡ Some true) × AllMore blocks
