@@ -1,13 +1,14 @@
 -- A link of level safe that is loss-free so far delivers; and a drain as long as its bound leaves nothing waiting.
-use Rattle.std.proofs.Common.{◌≡◌, inl, inr, ℕ, zero, suc, ◌+◌, ◌≤◌, nat_lt, if◌then◌else◌, true, false, Bool, List, [], ◌∷◌, ◌++◌, map, length, refl, sym, ap, ap₂, subst, ◌∙◌, append-nil, arith}
+use Rattle.std.proofs.Common.{◌≡◌, inl, inr, ℕ, zero, suc, ◌+◌, ◌≤◌, ◌||◌, nat_lt, if◌then◌else◌, true, false, Bool, List, [], ◌∷◌, ◌++◌, map, length, refl, sym, ap, ap₂, subst, ◌∙◌, append-nil, arith}
 use Rattle.std.specs.Prelude.{Option, Some, None}
 use Rattle.std.specs.List.{list_any}
-use Rattle.std.proofs.lemmas.Bool.{ltb-false, le-ltb}
+use Rattle.std.proofs.lemmas.Bool.{or_parts, ltb-false, le-ltb}
 use Rattle.std.proofs.lemmas.List.Concat.{flat_map-append}
 use Rattle.er_base.specs.declared.side.Side.{Side}
 use Rattle.er_base.specs.declared.side.Side.TheVariants.{E, R}
 use Rattle.er_base.specs.Sides.{other}
 use Rattle.er_settings.specs.Values.{Settings}
+use Rattle.er_scenario.specs.declared.step.Step.{Step}
 use Rattle.des_block.specs.declared.triple_key.TripleKey.{TripleKey}
 use Rattle.safety_automaton.specs.Safety.{Safety, SafetyEvent, Received, DataRequest, SafetyOutcome, SentAu1, SentAu2, SentAu3, SentAr, ReceivedAr, AcceptedDt, SentDt, Refused, ReleasedLocally, ReleasedByPeer, NothingDone}
 use Rattle.safety_automaton.specs.Rules.{IsStep, StepsOnly}
@@ -17,26 +18,26 @@ use Rattle.safety_pair_laws.specs.Talks.{answer}
 use Rattle.safety_pair_laws.specs.Deliveries.{sent_of, accepted_of, Flow, under_way, delivered, Flows, Delivers, FitsOpening, IsFlowComplete, HasFlowed, FlowsDeliver}
 use Rattle.safety_pair_laws.specs.Messages.{set_up_sapdus}
 use Rattle.safety_pair_laws.specs.Messages as pair
-use Rattle.drill_model.specs.Outcomes.{Occurrence}
+use Rattle.drill_model.specs.Outcomes.{DrillOutcome, Altered, Inserted, Occurrence}
 use Rattle.drill_model.specs.Links.{Link, LinkOpening, OfPair, OfStations, waiting_of, Pass, pass, link_step}
 use Rattle.hdlc_station_model.specs.Lines.{next_of}
-use Rattle.drill_model.specs.Worlds.{link_at, history_on, next_side, overfull_side, Drain, drain, drain_on, world_run}
-use Rattle.drill_model.specs.Kinds.{sent_by, accepted_by, deliveries, IsLossFree, EndsAgree, bound}
+use Rattle.drill_model.specs.Worlds.{DrillPlan, link_at, history_on, next_side, overfull_side, Drain, drain, drain_on, world_run}
+use Rattle.drill_model.specs.Kinds.{sent_by, accepted_by, deliveries, is_disturbance, is_disturbed, is_disorder, is_disordered, IsNumbered, IsLossFree, EndsAgree, bound}
+use Rattle.drill_model.specs.Steps.{AllFit}
 use Rattle.drill_laws.specs.Laws.{FitsSettings, DeliversAlways}
-use Rattle.drill_model.specs.Claims.{IsConnectedEnd, IsEmpty, IsDelivered}
+use Rattle.drill_laws.specs.LawsOfEnds.{StackLaws, StationLaws}
+use Rattle.drill_model.specs.Claims.{IsConnectedEnd, IsEmpty, IsDelivered, OrderIsUnforged}
 use Rattle.drill_model.specs.Claims as claim
 use Rattle.drill_model.specs.Growth.{FactsGrow, HistoryGrows, HistoryOfOwn, HistoryOfOther}
 use Rattle.er_settings.specs.Ranges.{AllAllowed}
 use Rattle.er_settings.specs.Laws.{AreBounded, AllowedAreBounded}
 use Rattle.hdlc_pair_laws.specs.Laws.{Delivery, DeliveryBound, DrainEmpties}
-use Rattle.drill_laws.proofs.Tellings.{StationLaws}
 use Rattle.drill_laws.proofs.Stationed.{Either}
 use Rattle.drill_laws.proofs.Losing.{allowed_of, narrow_of}
 use Rattle.drill_laws.proofs.Emptying.{wired_delivers}
 use Rattle.drill_laws.proofs.Fitting.{steps_fit}
 use Rattle.drill_laws.proofs.Stacked.{Numbers, IsStacked}
-use Rattle.drill_laws.proofs.StackLaws.{StackLaws, stacked_delivers, stacked_at}
-use Rattle.drill_laws.proofs.StackUnforged.{unforged_at}
+use Rattle.drill_laws.proofs.StackLaws.{stacked_delivers, stacked_at}
 use Rattle.drill_laws.proofs.Worlds.{AtPlace, world_lives}
 use Rattle.drill_laws.proofs.Viewing.{IsView, IsFlow, pass_view, FitsLinkStep, FitsLinkOpening, MayFlow, Flowing, flow_keeps, sent_by_facts, accepted_by_facts}
 
@@ -232,7 +233,22 @@ module _ (only : StepsOnly) where
 
 -- ---- worlds
 
-module _ (laws : StationLaws) (stacks : StackLaws) (delivery : Delivery) (deliveries_bound : DeliveryBound) (empties : DrainEmpties) (bounds : AllowedAreBounded) where
+-- an undisturbed line keeps its order
+calm_orders : (o : DrillOutcome) → is_disturbance o ≡ false → is_disorder o ≡ false
+calm_orders Altered e = e
+calm_orders Inserted e = e
+calm_orders other e = refl
+
+calm_ordered : (history : List Occurrence) → is_disturbed history ≡ false → is_disordered history ≡ false
+calm_ordered [] e = refl
+calm_ordered (o ∷ history) e =
+    let both = or_parts (is_disturbance o.outcome) (is_disturbed history) e in
+    ap₂ (λ (a b : Bool). a || b) (calm_orders o.outcome both.0) (calm_ordered history both.1)
+
+abbrev OrderedAreUnforged : Type 0
+OrderedAreUnforged = (plan : DrillPlan) (steps : List Step) → AllFit steps → AllAllowed plan.settings → OrderIsUnforged plan steps
+
+module _ (laws : StationLaws) (stacks : StackLaws) (unforged : OrderedAreUnforged) (delivery : Delivery) (deliveries_bound : DeliveryBound) (empties : DrainEmpties) (bounds : AllowedAreBounded) where
   pub delivers_always : StepsOnly → FlowsDeliver → FactsGrow → HistoryGrows → HistoryOfOwn → HistoryOfOther → DeliversAlways
   delivers_always only law facts grow own other plan steps fit n l is settings_fit free =
       let settings : Settings = plan.settings in
@@ -250,7 +266,8 @@ module _ (laws : StationLaws) (stacks : StackLaws) (delivery : Delivery) (delive
                   let stacked : IsStacked settings l history = stacked_at stacks facts grow own other plan steps fit n l is k t.opening_is in
                   let allowed : AllAllowed settings = subst (FitsSettings settings) t.opening_is settings_fit in
                   stacked_delivers settings l history stacked allowed stacks free
-                  (unforged_at stacks facts grow own other plan steps fit n l is k t.opening_is allowed free)
+                  (unforged plan steps fit allowed n l is
+                  (record { numbered = subst IsNumbered (sym t.opening_is) tt; ordered = calm_ordered history free.undisturbed }) free.agree)
             ]
         | inr w ↦
             let kind : l.opening ≡ OfStations w.0 = w.1.sees.opening_is in

@@ -18,7 +18,7 @@ use Rattle.hdlc_station_model.specs.Lines.{station_bound}
 use Rattle.drill_model.specs.Kinds.{sent_by, deliveries, IsLossFree, bound}
 use Rattle.drill_model.specs.Claims.{IsConnectedEnd, HasAllPayloads, IsEmpty, IsDelivered}
 use Rattle.drill_model.specs.Claims as claim
-use Rattle.drill_laws.proofs.Tellings.{StationLaws}
+use Rattle.drill_laws.specs.LawsOfEnds.{StationLaws}
 use Rattle.drill_laws.proofs.Wired.{drain_sees}
 use Rattle.drill_laws.proofs.Stationed.{station_level, station_acts, wired, IsWired}
 use Rattle.drill_laws.proofs.Losing.{pair_opening, not_false}

@@ -16,10 +16,33 @@ use Rattle.er_end_model.specs.Steps.{is_connected}
 use Rattle.er_end_pair_laws.specs.Phases.{connection_of, IsEnginesPhase, IsCentres}
 use Rattle.er_end_pair_laws.specs.Ordered.{IsEngine, IsCentre}
 use Rattle.drill_model.specs.StackReports.{user_by}
+use Rattle.session_keys.specs.Session.{session_of}
 use Rattle.drill_laws.proofs.Stacked.{Numbers}
 use Rattle.drill_laws.proofs.StackSaying.{sent_by_step}
 use Rattle.drill_laws.proofs.Sealing.{IsSealed, IsUnforged, self_sealing, sealed_still, sealed_now, none_mistrusted}
-use Rattle.drill_laws.proofs.Trusting.{key, text_au2, text_au3, text_ar, text_e, text_r}
+
+-- ---- the session keys and the texts of a link
+
+abbrev pub key : Numbers → TripleKey
+key k = session_of k.ke k.ra k.rb
+
+abbrev pub text_au2 : Numbers → List ℕ
+text_au2 k = au2_text (flag_of Responder) k.engine k.rbc 1 k.ra k.rb
+
+abbrev pub text_au3 : Numbers → List ℕ
+text_au3 k = au3_text (flag_of Initiator) k.rbc k.ra k.rb
+
+abbrev pub text_ar : Numbers → List ℕ
+text_ar k = ar_text (flag_of Responder) k.engine
+
+-- of messages of the engine's user, and of the radio block centre's
+abbrev pub text_e : Numbers → List ℕ → List ℕ
+text_e k user = message_text (flag_of Initiator) k.rbc user
+
+abbrev pub text_r : Numbers → List ℕ → List ℕ
+text_r k user = message_text (flag_of Responder) k.engine user
+
+-- ---- one step
 
 no_key : false ≡ true → ⊥
 no_key e = cc

@@ -20,10 +20,7 @@ mod Fitting
 mod StackLaws
 mod OrderKeeping
 mod Sealing
-mod Trusting
 mod StackCalls
-mod StackTrusting
-mod StackUnforged
 mod StackKeeping
 mod StepEffects
 mod WorldEffects

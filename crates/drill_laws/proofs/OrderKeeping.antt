@@ -12,15 +12,15 @@ use Rattle.drill_model.specs.Steps.{AllFit}
 use Rattle.drill_model.specs.Worlds.{DrillPlan, link_at, history_on, world_run}
 use Rattle.drill_model.specs.Kinds.{IsNumbered, IsOrderKeeping}
 use Rattle.drill_laws.specs.Laws.{FitsSettings, FitsSteps, InOrderAlways, LosingLineReasonsAlways}
+use Rattle.drill_laws.specs.LawsOfEnds.{StackLaws, StationLaws}
 use Rattle.drill_model.specs.Growth.{FactsGrow, HistoryGrows, HistoryOfOwn, HistoryOfOther}
-use Rattle.drill_laws.proofs.Tellings.{StationLaws}
 use Rattle.drill_laws.proofs.Stationed.{Either}
 use Rattle.drill_laws.proofs.Worlds.{AtPlace}
 use Rattle.drill_laws.proofs.StackTalking.{IsStackTalk}
 use Rattle.drill_laws.proofs.Talking.{IsTalk, Speaks, world_stands}
 use Rattle.drill_laws.proofs.Losing.{wired_in_order, wired_reasons}
 use Rattle.drill_laws.proofs.Stacked.{Numbers, IsStacked}
-use Rattle.drill_laws.proofs.StackLaws.{StackLaws, stacked_in_order, stacked_reasons, stacked_at}
+use Rattle.drill_laws.proofs.StackLaws.{stacked_in_order, stacked_reasons, stacked_at}
 
 -- two sides of a safe connection aren't order-keeping
 not_numbered : (l : Link) (history : List Occurrence) → IsTalk l history → IsOrderKeeping l.opening history → ⊥

@@ -20,7 +20,7 @@ use Rattle.drill_model.specs.Kinds.{is_disorder, is_disordered, IsNumbered, Ends
 use Rattle.drill_model.specs.Claims.{IsUnforged, OrderIsUnforged}
 use Rattle.drill_model.specs.Steps.{AllFit}
 use Rattle.drill_model.specs.Growth.{FactsGrow, HistoryGrows, HistoryOfOwn, HistoryOfOther}
-use Rattle.drill_laws.proofs.Tellings.{StationLaws}
+use Rattle.drill_laws.specs.LawsOfEnds.{StackLaws, StationLaws}
 use Rattle.drill_laws.proofs.Losing.{not_false}
 use Rattle.drill_laws.proofs.Stationed.{Either}
 use Rattle.drill_laws.proofs.Worlds.{AtPlace, Keeps, world_lives}
@@ -29,7 +29,7 @@ use Rattle.drill_laws.proofs.Fitting.{steps_fit}
 use Rattle.drill_laws.proofs.Talking.{Speaks, world_stands}
 use Rattle.drill_laws.proofs.Wiring.{Sees}
 use Rattle.drill_laws.proofs.Stacked.{stack_level, Numbers, IsStacked, stacked_steps, stacked_numbers, stacked_opens, opened_numbers}
-use Rattle.drill_laws.proofs.StackLaws.{StackLaws, pair_opening, pair_of, agrees, IsLower, fits_stack}
+use Rattle.drill_laws.proofs.StackLaws.{pair_opening, pair_of, agrees, IsLower, fits_stack}
 use Rattle.drill_laws.proofs.StackOrdered.{Known, PairSound, step_ordered, opened_ordered}
 
 ordered_before : (history more : List Occurrence) → is_disordered (history ++ more) ≡ false → is_disordered history ≡ false

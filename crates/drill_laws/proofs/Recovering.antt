@@ -19,9 +19,9 @@ use Rattle.drill_model.specs.Steps.{AllFit}
 use Rattle.drill_model.specs.Worlds.{DrillPlan, link_at, history_on, world_run}
 use Rattle.drill_model.specs.Recovery.{IsLive, GoOn, NoneWaits, IsRepairable, AreStations, ArePassesAndTakes}
 use Rattle.drill_laws.specs.Laws.{FitsSettings, FitsSteps, RepairsAlways, DrainsAlways}
+use Rattle.drill_laws.specs.LawsOfEnds.{StackLaws, StationLaws}
 use Rattle.drill_model.specs.Claims.{IsEmpty, IsDelivered}
 use Rattle.drill_model.specs.Growth.{FactsGrow, HistoryGrows, HistoryOfOwn, HistoryOfOther, RunGrows}
-use Rattle.drill_laws.proofs.Tellings.{StationLaws}
 use Rattle.drill_laws.proofs.Wiring.{Level, Acts}
 use Rattle.drill_laws.proofs.Stationed.{station_level, station_acts, Either, IsWired}
 use Rattle.drill_laws.proofs.Worlds.{AtPlace}
@@ -31,7 +31,7 @@ use Rattle.drill_laws.proofs.Losing.{kept_of, opening_at}
 use Rattle.drill_laws.proofs.Given.{Given, passes_kept, takes_kept, tick_kept}
 use Rattle.drill_laws.proofs.Repairing.{pair_drains, pair_repairs}
 use Rattle.drill_laws.proofs.Stacked.{Numbers, opening_of, stack_level, stack_acts, IsStacked}
-use Rattle.drill_laws.proofs.StackLaws.{StackLaws, pair_of, stacked_at}
+use Rattle.drill_laws.proofs.StackLaws.{pair_of, stacked_at}
 use Rattle.drill_laws.proofs.StackRepairing as of_stacks
 
 module _ (laws : StationLaws) (bounds : AllowedAreBounded) (facts : FactsGrow) (grow : HistoryGrows) (own : HistoryOfOwn) (other : HistoryOfOther) where

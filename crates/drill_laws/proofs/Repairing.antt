@@ -16,7 +16,7 @@ use Rattle.drill_model.specs.Worlds.{DrillPlan, Drain, drain}
 use Rattle.drill_model.specs.Kinds.{sent_by}
 use Rattle.drill_model.specs.Recovery.{IsLive, GoesOnAt, GoOn, NoneWaits, IsRepairable, drain_bound, DrainEmpties}
 use Rattle.drill_model.specs.Claims.{IsConnectedEnd, HasAllPayloads}
-use Rattle.drill_laws.proofs.Tellings.{StationLaws}
+use Rattle.drill_laws.specs.LawsOfEnds.{StationLaws}
 use Rattle.drill_laws.proofs.Wiring.{Acts, Sees}
 use Rattle.drill_laws.proofs.Wired.{full_at, drain_sees}
 use Rattle.drill_laws.proofs.Stationed.{station_level, station_acts}

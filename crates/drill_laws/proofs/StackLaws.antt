@@ -7,9 +7,7 @@ use Rattle.er_base.specs.declared.release.Release.{Release}
 use Rattle.er_settings.specs.Values.{Settings}
 use Rattle.er_settings.specs.Ranges.{AllAllowed}
 use Rattle.er_scenario.specs.declared.step.Step.{Step}
-use Rattle.safety_automaton.specs.Rules.{StepsOnly}
 use Rattle.safety_automaton.specs.Safety.{Phase, Ready, WaitAu1, WaitAu2, WaitAu3, WaitAr, Connected, Released}
-use Rattle.safety_pair_laws.specs.Marks.{MarksGrow}
 use Rattle.safety_pair_laws.specs.Openings.{PairOpening, OfFixed, OfKeys}
 use Rattle.safety_pair_laws.specs.Messages.{IsConnectedPhase}
 use Rattle.er_end_model.specs.Steps.{is_connected}
@@ -18,11 +16,10 @@ use Rattle.er_end_model.specs.Bounds as end_bounds_words
 use Rattle.er_end_pair_laws.specs.Openings.{EndLinkOpening, Agree}
 use Rattle.pair_model.specs.Steps.{pair_run}
 use Rattle.er_end_pair_laws.specs.Links.{EndLink as Pair, end_kind}
-use Rattle.er_end_pair_laws.specs.Laws.{Prefix, OneFrame, LosingLineReasons, InStep, Delivery, DeliveryBound, DrainEmpties}
+use Rattle.er_end_pair_laws.specs.Laws.{Prefix, LosingLineReasons}
 use Rattle.er_end_pair_laws.specs.Laws as of_pair
 use Rattle.er_end_pair_laws.specs.Reasons as of_pair_reasons
 use Rattle.drill_model.specs.Outcomes.{Occurrence}
-use Rattle.drill_model.specs.StackReports.{OpensOrderly, CallsReport}
 use Rattle.drill_model.specs.Ends.{EndAtLevel, OfStack}
 use Rattle.drill_model.specs.Links.{Link, LinkOpening, OfPair, OfStations, OfStacks, opened_link, LinkStep, Send, Pass, Change, Take, Release as ReleaseStep, Tick}
 use Rattle.drill_model.specs.Worlds.{DrillPlan, Drain, drain, link_at, history_on, world_run}
@@ -31,6 +28,7 @@ use Rattle.drill_model.specs.Claims.{IsInOrder, IsLosingLineReason, IsConnectedE
 use Rattle.drill_model.specs.Claims as claim
 use Rattle.drill_model.specs.Steps.{AllFit}
 use Rattle.drill_model.specs.Growth.{FactsGrow, HistoryGrows, HistoryOfOwn, HistoryOfOther}
+use Rattle.drill_laws.specs.LawsOfEnds.{StackLaws}
 use Rattle.drill_laws.proofs.Losing.{prefix_of, not_false}
 use Rattle.drill_laws.proofs.Worlds.{AtPlace, Keeps, world_lives}
 use Rattle.drill_laws.proofs.Viewing.{FitsLinkStep, FitsLinkOpening, step_opening, no_send_fits}
@@ -38,20 +36,6 @@ use Rattle.drill_laws.proofs.Fitting.{steps_fit}
 use Rattle.drill_laws.proofs.Wiring.{IsOfPair}
 use Rattle.drill_laws.proofs.Wired.{drain_sees}
 use Rattle.drill_laws.proofs.Stacked.{Numbers, opening_of, finds_of, stack_level, stack_acts, FitsStackStep, paired, IsStacked, stacked_steps, stacked_opens}
-
--- the laws of two ends of the whole stack, of the safety side, and of a stack's reports
-pub record StackLaws : Type 0 where
-  pub prefix : Prefix
-  pub one_frame : OneFrame
-  pub reasons : LosingLineReasons
-  pub in_step : InStep
-  pub delivery : Delivery
-  pub deliveries_bound : DeliveryBound
-  pub drain_empties : DrainEmpties
-  pub only : StepsOnly
-  pub opens : OpensOrderly
-  pub calls : CallsReport
-  pub marks : MarksGrow
 
 -- ---- the pair's opening
 

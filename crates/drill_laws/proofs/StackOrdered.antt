@@ -45,8 +45,7 @@ use Rattle.drill_laws.proofs.Stacked.{stack_level, Numbers, opening_of, key_of}
 use Rattle.drill_laws.proofs.StackCalls.{facts_spoken, Tells, told_tells, tells_behind, starts_rest, starts_tell, ticks_rest, ticks_tell}
 use Rattle.drill_laws.proofs.StackEnding.{EndsCalmly, starts_ended, comes_ended, sends_ended, uses_ended, leaves_ended, ticks_ended}
 use Rattle.drill_laws.proofs.Sealing.{IsSealed, IsUnforged, sealed_still, all_sealed_still, unforged_more}
-use Rattle.drill_laws.proofs.Trusting.{key, text_au2, text_au3, text_ar, text_e, text_r}
-use Rattle.drill_laws.proofs.Keyed.{Engine, Centre, EngineGoes, CentreGoes, e_goes, r_goes}
+use Rattle.drill_laws.proofs.Keyed.{key, text_au2, text_au3, text_ar, text_e, text_r, Engine, Centre, EngineGoes, CentreGoes, e_goes, r_goes}
 use Rattle.drill_laws.proofs.Hearing.{all_append}
 
 -- ---- lists

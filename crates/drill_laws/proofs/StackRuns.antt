@@ -10,10 +10,11 @@ use Rattle.drill_model.specs.Worlds.{DrillPlan, history_on, world_run}
 use Rattle.drill_model.specs.Growth.{FactsGrow, HistoryGrows, HistoryOfOwn, HistoryOfOther}
 use Rattle.drill_model.specs.Hearing.{passed_of}
 use Rattle.drill_laws.specs.Stacks.{IsPair, StacksRun}
+use Rattle.drill_laws.specs.LawsOfEnds.{StackLaws}
 use Rattle.drill_laws.proofs.Hearing.{StreamIs}
 use Rattle.drill_laws.proofs.Brought.{Streams, streams_at}
 use Rattle.drill_laws.proofs.Stacked.{Numbers, IsStacked}
-use Rattle.drill_laws.proofs.StackLaws.{StackLaws, pair_opening, stacked_at}
+use Rattle.drill_laws.proofs.StackLaws.{pair_opening, stacked_at}
 
 pair_is : (plan : DrillPlan) (l : Link) (history : List Occurrence) → AllAllowed plan.settings → IsStacked plan.settings l history → Streams l history
     → IsPair plan.settings l history

@@ -19,7 +19,8 @@ use Rattle.drill_model.specs.StationEnds.{outcomes_told_by_station, station_and_
 use Rattle.drill_model.specs.Ends.{OfStation, station_end}
 use Rattle.drill_model.specs.Links.{Link, OfStations, opened_stations, LinkStep, link_step}
 use Rattle.drill_model.specs.Kinds.{passed_in}
-use Rattle.drill_laws.proofs.Tellings.{Went, Ready, stays, frames_told, frames_append, StationLaws, frames_went, sends_went, releases_went, ticks_went, begins_went, ready_made}
+use Rattle.drill_laws.specs.LawsOfEnds.{StationLaws}
+use Rattle.drill_laws.proofs.Tellings.{Went, Ready, stays, frames_told, frames_append, frames_went, sends_went, releases_went, ticks_went, begins_went, ready_made}
 use Rattle.drill_laws.proofs.Wiring.{Level, Does, Acts, Sees}
 use Rattle.drill_laws.proofs.Wired.{as_step, one_more_sees, opened_sees}
 

@@ -21,8 +21,8 @@ use Rattle.drill_model.specs.Links.{Link, LinkOpening, OfPair, OfStations, OfSta
 use Rattle.drill_model.specs.Worlds.{DrillPlan, fixed_opening, link_opening, wire_opening, link_at, history_on, world_run}
 use Rattle.drill_model.specs.Claims.{LawfulAt}
 use Rattle.drill_laws.specs.Laws.{LawfulAlways}
+use Rattle.drill_laws.specs.LawsOfEnds.{StationLaws}
 use Rattle.drill_model.specs.Growth.{HistoryGrows, HistoryOfOwn, HistoryOfOther, FactsGrow}
-use Rattle.drill_laws.proofs.Tellings.{StationLaws}
 use Rattle.drill_laws.proofs.StackTalking.{IsStackTalk, stack_step, opened_stack_talks}
 use Rattle.drill_laws.proofs.Stationed.{Either, wired_opens, wired_steps}
 use Rattle.drill_laws.proofs.Worlds.{OpensFit, StepFits, AtPlace, Keeps, world_lives}

@@ -17,15 +17,16 @@ use Rattle.hdlc_station_model.specs.Sending.{starts_timer, can_send, sends_up_to
 use Rattle.hdlc_station_model.specs.Stations.{sees, puts, Station, Deed, made, no_deed, settled, is_down}
 use Rattle.hdlc_station_model.specs.Calls.{starts_at, starts, hands, finishes, ticks, closes}
 use Rattle.hdlc_station_model.specs.Selective.{receives_as}
-use Rattle.hdlc_station_model.specs.Laws.{LeavesPayloads, Ticked, TicksGive, HandsKeep, OthersKeep, ReleasedAreInert}
-use Rattle.hdlc_station_model.specs.Reports.{TellsRelease, ReleasesAreTold, FinishKeepsRelease, newer, is_release}
+use Rattle.hdlc_station_model.specs.Laws.{LeavesPayloads, Ticked}
+use Rattle.hdlc_station_model.specs.Reports.{TellsRelease, newer, is_release}
 use Rattle.hdlc_station_model.specs.Events.{said_octets, quits, is_late}
-use Rattle.hdlc_pair_laws.specs.Keeping.{TellsWhatStationTakes, FramesGive}
+use Rattle.hdlc_pair_laws.specs.Keeping.{TellsWhatStationTakes}
 use Rattle.safety_pair_laws.specs.Facts.{SideFact}
 use Rattle.er_end_model.specs.Outcomes.{SendRefusal}
 use Rattle.drill_model.specs.Outcomes.{DrillOutcome, Handed, Arrived, Up, Refused, Released, Frame, Expired, at_end, facts_at, facts_in, frames_of_outcome, frames_in}
 use Rattle.drill_model.specs.StationEnds.{if_up, if_arrived, if_released, outcomes_told_by_station, station_and_told, frames_heard, payload_refusal_of_station, handed_unless, station_send, station_release, if_expired, station_tick, station_start}
 use Rattle.drill_model.specs.Kinds.{sent_in, accepted_in, released_in, passed_in, is_disorder, is_disturbance}
+use Rattle.drill_laws.specs.LawsOfEnds.{StationLaws}
 
 -- ---- what outcomes say
 
@@ -278,15 +279,6 @@ call_went s t first more late says ready handed taken releases inert =
     or_none false = refl
 
 -- ---- the events
-
-pub record StationLaws : Type 0 where
-  pub frames_give : FramesGive
-  pub ticks_give : TicksGive
-  pub hands_keep : HandsKeep
-  pub others_keep : OthersKeep
-  pub releases : ReleasesAreTold
-  pub finish : FinishKeepsRelease
-  pub inert : ReleasedAreInert
 
 module _ (laws : StationLaws) where
   -- an answer leaves what a call told

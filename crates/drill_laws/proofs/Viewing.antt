@@ -25,7 +25,7 @@ use Rattle.drill_model.specs.Waiting.{LineChange, Lose, Repeat, Alter, Put, chan
 use Rattle.drill_model.specs.Links.{Link, LinkOpening, OfPair, OfStations, OfStacks, waiting_of, with_waiting, with_answer, give, joined_pair, opened_pair, opened_link, LinkStep, Send, Pass, Change, Take, Release, Tick, pass, change_waiting, link_step}
 use Rattle.drill_model.specs.Kinds.{sent_in, accepted_in, sent_by, accepted_by, deliveries, is_disturbance, is_disturbed}
 use Rattle.drill_model.specs.Growth.{FactsGrow}
-use Rattle.drill_laws.proofs.Tellings.{StationLaws}
+use Rattle.drill_laws.specs.LawsOfEnds.{StationLaws}
 use Rattle.drill_laws.proofs.Wiring.{deliveries_grow}
 use Rattle.drill_laws.proofs.Stationed.{Either, wired_opens, wired_steps}
 use Rattle.drill_laws.proofs.Worlds.{IsNoSend, Keeps}

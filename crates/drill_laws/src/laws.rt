@@ -1,19 +1,13 @@
 //! The laws of every list of steps.
 
 ghost use Rattle.std.specs.Prelude.{List};
-ghost use Rattle.hdlc_station_model.specs.Laws.{TicksGive, HandsKeep, OthersKeep, ReleasedAreInert};
-ghost use Rattle.hdlc_station_model.specs.Reports.{ReleasesAreTold, FinishKeepsRelease};
-ghost use Rattle.hdlc_pair_laws.specs.Keeping.{FramesGive};
-ghost use Rattle.safety_automaton.specs.Rules.{StepsOnly};
-ghost use Rattle.safety_pair_laws.specs.Marks.{MarksGrow};
-ghost use Rattle.er_end_pair_laws.specs.Laws.{Prefix, OneFrame, LosingLineReasons, InStep, Delivery, DeliveryBound, DrainEmpties};
 ghost use Rattle.er_settings.specs.Ranges.{AllAllowed};
 ghost use Rattle.er_scenario.specs.declared.step.Step.{Step};
 ghost use Rattle.drill_model.specs.Steps.{AllFit};
 ghost use Rattle.drill_model.specs.Worlds.{DrillPlan};
 ghost use Rattle.drill_model.specs.Hearing.{HeardIsBrought};
-ghost use Rattle.drill_model.specs.StackReports.{OpensOrderly, CallsReport};
 ghost use Rattle.drill_model.specs.Effects.{Steps};
+ghost use Rattle.drill_laws.specs.LawsOfEnds.{StackLaws, StationLaws};
 ghost use Rattle.drill_laws.specs.Laws.{LawfulAlways, OpensAlways, RoomAlways, InOrderAlways, LosingLineReasonsAlways, DeliversAlways, RepairsAlways, DrainsAlways};
 ghost use Rattle.drill_model.specs.Claims.{OrderIsUnforged, TakesInOrder};
 ghost use Rattle.drill_model.specs.Headline.{HoldsAlways};
@@ -22,13 +16,7 @@ ghost use Rattle.drill_laws.specs.Stacks.{StacksRun};
 
 // What each call of a station of either kind does to its lists and its release.
 fn station_laws()
-    ensures frames { FramesGive }
-    ensures ticks { TicksGive }
-    ensures hands { HandsKeep }
-    ensures others { OthersKeep }
-    ensures releases { ReleasesAreTold }
-    ensures finish { FinishKeepsRelease }
-    ensures inert { ReleasedAreInert }
+    ensures { StationLaws }
 {
     hdlc_pair_laws::laws::frames_give();
     hdlc_station_model::laws::ticks_give();
@@ -39,22 +27,11 @@ fn station_laws()
 
 // What holds of two ends of the whole stack, and what each call of a stack reports.
 fn stack_laws()
-    ensures prefix { Prefix }
-    ensures one_frame { OneFrame }
-    ensures reasons { LosingLineReasons }
-    ensures in_step { InStep }
-    ensures delivery { Delivery }
-    ensures deliveries_bound { DeliveryBound }
-    ensures drain_empties { DrainEmpties }
-    ensures only { StepsOnly }
-    ensures opens { OpensOrderly }
-    ensures calls { CallsReport }
-    ensures marks { MarksGrow }
+    ensures { StackLaws }
 {
     er_end_pair_laws::laws::prefix();
     er_end_pair_laws::laws::one_frame();
     er_end_pair_laws::laws::losing_line_reasons();
-    er_end_pair_laws::laws::in_step();
     er_end_pair_laws::laws::delivery();
     er_end_pair_laws::laws::delivery_bound();
     safety_automaton::laws::steps();
@@ -133,6 +110,7 @@ pub fn delivery()
     safety_pair_laws::laws::flows_deliver();
     hdlc_pair_laws::laws::delivery();
     hdlc_pair_laws::laws::delivery_bound();
+    order_is_unforged();
     stack_laws();
     er_settings::laws::allowed_are_bounded();
     station_laws();

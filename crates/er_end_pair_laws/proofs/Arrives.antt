@@ -10,13 +10,13 @@ use Rattle.std.proofs.lemmas.List.{take-append-le}
 use Rattle.er_end_model.specs.Layers.{Core, model}
 use Rattle.er_end_model.specs.Steps.{on_safety_release, send_dr, end_after_di, conclude_event, normal_disconnect}
 use Rattle.er_end_pair_laws.specs.Openings.{EndLinkOpening, Agree}
+use Rattle.er_end_pair_laws.specs.LawsBelow.{LawsBelow}
 use Rattle.er_end_pair_laws.proofs.Lists.{Each, each_push, each_join, number, Ends, flat_none, flat_push}
 use Rattle.er_end_pair_laws.proofs.Segments.{IsShort, carried_each, messages_push}
 use Rattle.er_end_pair_laws.proofs.Locals.{dt_of, ak_of, dr_of, drs, Cuts}
 use Rattle.er_end_pair_laws.proofs.Turns.{fits_dr}
 use Rattle.er_end_pair_laws.proofs.Constants.{users_of, Sendable}
 use Rattle.er_end_pair_laws.proofs.Own.{Always, users, Busy, Gone, Done}
-use Rattle.er_end_pair_laws.proofs.Below.{Below}
 use Rattle.er_end_pair_laws.proofs.Moves.{size_known}
 use Rattle.er_end_pair_laws.proofs.Concludes.{concludes_keeps, gone_concludes}
 use Rattle.er_end_pair_laws.proofs.Leaves.{LeaveOk, departs_gone, deserted_gone}
@@ -26,7 +26,7 @@ pub record Arrived (s : EndLinkOpening) (c : Bool) (k : ℕ) (w : List Frame) (x
   pub state : ((x.released ≡ None) × Busy s c k w x l y) ⊎ ((why : Release) × (x.released ≡ Some why) × Gone s c k w x l y)
   pub good : Agree s → y.released ≡ None → x.released ≡ None
 
-pub arrived_done : Below → (s : EndLinkOpening) (c : Bool) (k : ℕ) (w : List Frame) (x : Core) (l : List Frame) (y : Core) → Arrived s c k w x l y → Done s c k w (conclude_event model x) l y
+pub arrived_done : LawsBelow → (s : EndLinkOpening) (c : Bool) (k : ℕ) (w : List Frame) (x : Core) (l : List Frame) (y : Core) → Arrived s c k w x l y → Done s c k w (conclude_event model x) l y
 arrived_done below s c k w x l y b =
     elim b.state [
       | inl live ↦ concludes_keeps below s c k w x l y live.0 live.1
@@ -37,7 +37,7 @@ pub live_arrived : (s : EndLinkOpening) (c : Bool) (k : ℕ) (w : List Frame) (x
 live_arrived s c k w x l y live b = record { state = inl (live, b); good = λ a p. live }
 
 -- the safety side was released, which isn't where the keys agree
-pub parted : Below → (s : EndLinkOpening) (c : Bool) (k : ℕ) (w : List Frame) (x : Core) (l : List Frame) (y : Core) (why : Release) (octets : List ℕ) → length octets ≤ 32
+pub parted : LawsBelow → (s : EndLinkOpening) (c : Bool) (k : ℕ) (w : List Frame) (x : Core) (l : List Frame) (y : Core) (why : Release) (octets : List ℕ) → length octets ≤ 32
     → LeaveOk c x.upper.transport.gave x.line.phase → (Agree s → ⊥) → Gone s c k w x l y → Arrived s c k w (on_safety_release model why octets x) l y
 parted below s c k w x l y why octets short ok none b =
     cond_both why.by_peer (end_after_di model why x) (send_dr model why normal_disconnect octets x) (λ z. Arrived s c k w z l y)
@@ -76,7 +76,7 @@ always_heard s c segs given acked edge newest contents gave sent accepted h g ed
 -- ---- what is said grows by a message
 
 -- segments of whole messages, with those of one message more
-pub cuts_more : Below → (s : EndLinkOpening) (segs : List Segment) (m : List ℕ) → 0 < length m → length m ≤ 1032 → Cuts s.settings.size segs
+pub cuts_more : LawsBelow → (s : EndLinkOpening) (segs : List Segment) (m : List ℕ) → 0 < length m → length m ≤ 1032 → Cuts s.settings.size segs
     → Cuts s.settings.size (segs ++ segments_of s.settings.size m)
 cuts_more below s segs m some small v =
     let S : ℕ = s.settings.size in
@@ -89,7 +89,7 @@ cuts_more below s segs m some small v =
           ∙ sym (ap (flat_map (segments_of S)) p.0 ∙ flat_push (segments_of S) (messages_in segs) m);
     }
 
-pub said_more : Below → (s : EndLinkOpening) (segs : List Segment) (m : List ℕ) → Cuts s.settings.size segs
+pub said_more : LawsBelow → (s : EndLinkOpening) (segs : List Segment) (m : List ℕ) → Cuts s.settings.size segs
     → messages_in (segs ++ segments_of s.settings.size m) ≡ messages_in segs ++ m ∷ []
 said_more below s segs m v = (messages_push below.joined below.parts s.settings.size segs m v.closed).0
 
@@ -97,7 +97,7 @@ pub users_more : (ms : List (List ℕ)) (m : List ℕ) → users (ms ++ m ∷ []
 users_more ms m = flat_push users_of ms m
 
 -- a message is handed to the transport
-pub always_handed : Below → (s : EndLinkOpening) (c : Bool) (segs : List Segment) (given acked edge newest : ℕ) (contents : List Segment) (gave : List GivenTpdu)
+pub always_handed : LawsBelow → (s : EndLinkOpening) (c : Bool) (segs : List Segment) (given acked edge newest : ℕ) (contents : List Segment) (gave : List GivenTpdu)
     (sent sent' accepted : List (List ℕ)) (h : List GivenTpdu) (m : List ℕ) → 0 < length m → length m ≤ 1032 → sent' ≡ sent ++ users_of m → Each Sendable sent'
     → Always s c segs given acked edge newest contents gave sent accepted h
     → Always s c (segs ++ segments_of s.settings.size m) given acked edge newest contents gave sent' accepted h

@@ -17,12 +17,12 @@ use Rattle.pair_model.specs.Steps.{drained}
 use Rattle.er_end_pair_laws.specs.Openings.{EndLinkOpening, Agree}
 use Rattle.er_end_pair_laws.specs.Links.{EndLink, end_kind}
 use Rattle.er_end_pair_laws.specs.Laws.{end_link_after, bound, DeliveryBound, DrainEmpties}
+use Rattle.er_end_pair_laws.specs.LawsBelow.{LossFreeLawsBelow}
 use Rattle.er_end_pair_laws.proofs.Lists.{head_take}
 use Rattle.er_end_pair_laws.proofs.Ports.{got_most}
 use Rattle.er_end_pair_laws.proofs.Constants.{own_number, session, flag_at, opening_text, sealed_text}
 use Rattle.er_end_pair_laws.proofs.Own.{Said, Own, heard, block}
 use Rattle.er_end_pair_laws.proofs.Moves.{size_known}
-use Rattle.er_end_pair_laws.proofs.Stations.{Free}
 use Rattle.er_end_pair_laws.proofs.Flowing.{Flows}
 use Rattle.er_end_pair_laws.proofs.Drained.{after_flows, drained_empties}
 
@@ -48,20 +48,20 @@ one_segment n (inr (inl e)) = subst (λ (m : ℕ). (9 + (m - 6)) / (m - 5) ≡ 1
 one_segment n (inr (inr (inl e))) = subst (λ (m : ℕ). (9 + (m - 6)) / (m - 5) ≡ 1) (sym e) refl
 one_segment n (inr (inr (inr e))) = subst (λ (m : ℕ). (9 + (m - 6)) / (m - 5) ≡ 1) (sym e) refl
 
-opening_cut : Free → (s : EndLinkOpening) (c : Bool) → length (cut s.settings.size (opening_text s c)) ≡ 1
+opening_cut : LossFreeLawsBelow → (s : EndLinkOpening) (c : Bool) → length (cut s.settings.size (opening_text s c)) ≡ 1
 opening_cut free s c =
     let n : ℕ = s.settings.size in
     let len = opening_length free.lengths s c in
     free.below.few n (opening_text s c) (size_known free.below s).2 (omega arith)
     ∙ ap (λ (m : ℕ). (m + (n - 6)) / (n - 5)) len ∙ one_segment n (free.below.bounded s.settings s.allowed).size
 
-sealed_cut : Free → (s : EndLinkOpening) (c : Bool) (user : List ℕ) → length (cut s.settings.size (sealed_text s c user)) ≡ count_of_message_segments s.settings (length user)
+sealed_cut : LossFreeLawsBelow → (s : EndLinkOpening) (c : Bool) (user : List ℕ) → length (cut s.settings.size (sealed_text s c user)) ≡ count_of_message_segments s.settings (length user)
 sealed_cut free s c user =
     let n : ℕ = s.settings.size in
     let len = sealed_length free.lengths s c user in
     free.below.few n (sealed_text s c user) (size_known free.below s).2 (omega arith) ∙ ap (λ (m : ℕ). (m + (n - 6)) / (n - 5)) len
 
-sealed_cuts : Free → (s : EndLinkOpening) (c : Bool) (sent : List (List ℕ)) → length (flat_map (cut s.settings.size) (map (sealed_text s c) sent)) ≡ count_of_all_segments s.settings sent
+sealed_cuts : LossFreeLawsBelow → (s : EndLinkOpening) (c : Bool) (sent : List (List ℕ)) → length (flat_map (cut s.settings.size) (map (sealed_text s c) sent)) ≡ count_of_all_segments s.settings sent
 sealed_cuts free s c [] = refl
 sealed_cuts free s c (user ∷ sent) =
     let these : List Segment = cut s.settings.size (sealed_text s c user) in
@@ -69,13 +69,13 @@ sealed_cuts free s c (user ∷ sent) =
     length-append these those ∙ ap (λ (n : ℕ). n + length those) (sealed_cut free s c user) ∙ ap (λ (n : ℕ). count_of_message_segments s.settings (length user) + n) (sealed_cuts free s c sent)
     ∙ sym (sum_by-cons (λ (message : List ℕ). count_of_message_segments s.settings (length message)) user sent)
 
-said_cuts : Free → (s : EndLinkOpening) (c : Bool) (messages sent : List (List ℕ)) → Said s c messages sent → length (flat_map (cut s.settings.size) messages) ≤ 1 + count_of_all_segments s.settings sent
+said_cuts : LossFreeLawsBelow → (s : EndLinkOpening) (c : Bool) (messages sent : List (List ℕ)) → Said s c messages sent → length (flat_map (cut s.settings.size) messages) ≤ 1 + count_of_all_segments s.settings sent
 said_cuts free s c messages sent (inl none) = subst (λ (ms : List (List ℕ)). length (flat_map (cut s.settings.size) ms) ≤ 1 + count_of_all_segments s.settings sent) (sym none.0) (omega arith)
 said_cuts free s c messages sent (inr all) =
     subst (λ (ms : List (List ℕ)). length (flat_map (cut s.settings.size) ms) ≤ 1 + count_of_all_segments s.settings sent) (sym all)
     (omega (arith, length-append (cut s.settings.size (opening_text s c)) (flat_map (cut s.settings.size) (map (sealed_text s c) sent)), opening_cut free s c, sealed_cuts free s c sent))
 
-segments_most : Free → (s : EndLinkOpening) (c : Bool) (x : Core) (h : List GivenTpdu) → Agree s → Own s c x h → length x.upper.transport.segments ≤ 1 + count_of_all_segments s.settings x.upper.sent
+segments_most : LossFreeLawsBelow → (s : EndLinkOpening) (c : Bool) (x : Core) (h : List GivenTpdu) → Agree s → Own s c x h → length x.upper.transport.segments ≤ 1 + count_of_all_segments s.settings x.upper.sent
 segments_most free s c x h agree own =
     subst (λ (ss : List Segment). length ss ≤ 1 + count_of_all_segments s.settings x.upper.sent) (sym own.always.cuts.cut_is)
     (said_cuts free s c (messages_in x.upper.transport.segments) x.upper.sent (own.told agree).said)
@@ -92,7 +92,7 @@ came_most s c d x y h a b =
     let came = got_most (heard x y) u.gave t.contents u.segments u.given a.always.gets.all b.always.gives.all (head_take (length x.line.taken) u.gave) most in
     (omega (arith, a.always.gives.lag, came), most)
 
-pub bound_flow : Free → (s : EndLinkOpening) → Agree s → (l : EndLink) (g : Flows s l) → l.passes + (length g.holds.fe + length g.holds.fr) ≤ bound s.settings l
+pub bound_flow : LossFreeLawsBelow → (s : EndLinkOpening) → Agree s → (l : EndLink) (g : Flows s l) → l.passes + (length g.holds.fe + length g.holds.fr) ≤ bound s.settings l
 bound_flow free s agree l g =
     let h = g.holds in
     let e : Core = l.e.core in
@@ -108,7 +108,7 @@ bound_flow free s agree l g =
     let sr = segments_most free s false r (heard r e) agree h.two.own_r in
     omega (arith, b, ce, cr, me.0, me.1, mr.0, mr.1, se, sr)
 
-pub delivery_bound : Free → DeliveryBound
+pub delivery_bound : LossFreeLawsBelow → DeliveryBound
 delivery_bound free s steps fits agree clean =
     let b = bound_flow free s agree (end_link_after s steps) (after_flows free s steps fits agree clean) in omega (arith, b)
 
@@ -118,7 +118,7 @@ no_length : {A : Type 0} (l : List A) → length l ≡ 0 → l ≡ []
 no_length [] h = refl
 no_length (x ∷ xs) h = absurd (let u : ⊥ = omega arith in u)
 
-pub drain_empties : Free → DrainEmpties
+pub drain_empties : LossFreeLawsBelow → DrainEmpties
 drain_empties free s steps most fits agree clean enough =
     let l : EndLink = end_link_after s steps in
     let d : EndLink = drained (end_kind s.finder) most l in

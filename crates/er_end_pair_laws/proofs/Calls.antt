@@ -20,10 +20,10 @@ use Rattle.x224_class2.specs.declared.stage.Stage.TheVariants as stages
 use Rattle.er_end_model.specs.Layers.{Core, model}
 use Rattle.er_end_model.specs.Steps.{with_release, connect_with_text, on_link_up, is_ready, with_safety_step, on_link_told}
 use Rattle.er_end_pair_laws.specs.Openings.{EndLinkOpening}
+use Rattle.er_end_pair_laws.specs.LawsBelow.{LawsBelow}
 use Rattle.er_end_pair_laws.proofs.Constants.{side_in, own_number, flag_at, greeting}
 use Rattle.er_end_pair_laws.proofs.Follows.{some_octets}
 use Rattle.er_end_pair_laws.proofs.Own.{AlwaysOf, Stages, AliveOf, Joint, PhaseIs, heard, Busy}
-use Rattle.er_end_pair_laws.proofs.Below.{Below}
 use Rattle.er_end_pair_laws.proofs.Leaves.{up_lives, ended_gone}
 use Rattle.er_end_pair_laws.proofs.Comes.{stages_at, edge_at}
 use Rattle.er_end_pair_laws.proofs.Events.{State, Heard, gone_of_busy, heard_same, with_line, line_busy, line_gone, stages_phase, told_reason, line_behind, both_behind, payload_by}
@@ -56,7 +56,7 @@ stages_up c stages.Called due h gave p q none up a = a
 stages_up c stages.Open due h gave p q none up a = a
 stages_up c stages.Over due h gave p q none up a = a
 
-module _ (below : Below) (s : EndLinkOpening) (c : Bool) (k : ℕ) (w : List Frame) (x : Core) (f : Frame) (fs : List Frame) (y : Core) where
+module _ (below : LawsBelow) (s : EndLinkOpening) (c : Bool) (k : ℕ) (w : List Frame) (x : Core) (f : Frame) (fs : List Frame) (y : Core) where
   abbrev line : Station
   line = line_behind below s c k w x f fs y
 

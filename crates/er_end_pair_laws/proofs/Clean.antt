@@ -18,10 +18,11 @@ use Rattle.x224_class2.specs.Transport.{is_open, waiting_count}
 use Rattle.er_end_model.specs.Layers.{Core, model}
 use Rattle.er_end_model.specs.Steps.{with_safety_step, on_link_deed, conclude_event, on_frame, on_tick, on_expiry, send_dr, di_of, is_spent, on_take, on_send, on_start}
 use Rattle.er_end_pair_laws.specs.Openings.{EndLinkOpening, Agree}
+use Rattle.er_end_pair_laws.specs.LawsBelow.{LossFreeLawsBelow}
 use Rattle.er_end_pair_laws.proofs.Own.{Done}
 use Rattle.er_end_pair_laws.proofs.Events.{with_line}
 use Rattle.er_end_pair_laws.proofs.Happens.{received_good}
-use Rattle.er_end_pair_laws.proofs.Stations.{Free, link_stays, concluded_sent, concluded, Went, none_told}
+use Rattle.er_end_pair_laws.proofs.Stations.{link_stays, concluded_sent, concluded, Went, none_told}
 
 -- ---- a frame comes
 
@@ -31,7 +32,7 @@ behind s x f y = station.receives x.moment (found y.line f) x.line
 abbrev heard_core : EndLinkOpening → Core → Frame → Core → Core
 heard_core s x f y = on_link_deed model s.finder (behind s x f y).deed (with_line x (behind s x f y))
 
-pub received_went : Free → (s : EndLinkOpening) (c : Bool) (k n : ℕ) (w : List Frame) (x : Core) (f : Frame) (fs : List Frame) (y : Core) → x.line.deed ≡ no_deed → x.released ≡ None
+pub received_went : LossFreeLawsBelow → (s : EndLinkOpening) (c : Bool) (k n : ℕ) (w : List Frame) (x : Core) (f : Frame) (fs : List Frame) (y : Core) → x.line.deed ≡ no_deed → x.released ≡ None
     → Agree s → y.released ≡ None → Done s c k w x (f ∷ fs) y → Midway c n w x.line (f ∷ fs) y.line → Went c (n + 1) w (on_frame model s.finder (found y.line f) x) fs y.line
 received_went free s c k n w x f fs y quiet live agree peer d m =
     let line : Station = behind s x f y in
@@ -53,7 +54,7 @@ received_sent s verdict x =
 
 -- ---- time goes on
 
-pub ticked_went : Free → (s : EndLinkOpening) (c : Bool) (k n : ℕ) (w : List Frame) (x : Core) (l : List Frame) (y : Core) → x.line.deed ≡ no_deed → x.released ≡ None
+pub ticked_went : LossFreeLawsBelow → (s : EndLinkOpening) (c : Bool) (k n : ℕ) (w : List Frame) (x : Core) (l : List Frame) (y : Core) → x.line.deed ≡ no_deed → x.released ≡ None
     → is_late x.moment x.line ≡ false → is_spent x ≡ false → Midway c n w x.line l y.line → Went c n w (on_tick model x) l y.line
 ticked_went free s c k n w x l y quiet live late spent m =
     let line : Station = station.ticks x.moment x.line in
@@ -69,7 +70,7 @@ ticked_went free s c k n w x l y quiet live late spent m =
 
 -- ---- the user sends, and takes
 
-pub sent_went : Free → (c : Bool) (n : ℕ) (w : List Frame) (x : Core) (l : List Frame) (y : Station) (user : List ℕ) → x.released ≡ None → Midway c n w x.line l y
+pub sent_went : LossFreeLawsBelow → (c : Bool) (n : ℕ) (w : List Frame) (x : Core) (l : List Frame) (y : Station) (user : List ℕ) → x.released ≡ None → Midway c n w x.line l y
     → Went c n w (on_send model user x) l y
 sent_went free c n w x l y user live m =
     let a = step no_keys x.safe.safety (DataRequest user) in
@@ -81,7 +82,7 @@ sent_went free c n w x l y user live m =
     (λ e. concluded free.keep c n w z' l y live m)
 
 -- where none waits for the user nothing changes
-pub used_went : Free → (c : Bool) (n : ℕ) (w : List Frame) (x : Core) (l : List Frame) (y : Station) → x.released ≡ None → Ended c n w x.line l y → Midway c n w x.line l y
+pub used_went : LossFreeLawsBelow → (c : Bool) (n : ℕ) (w : List Frame) (x : Core) (l : List Frame) (y : Station) → x.released ≡ None → Ended c n w x.line l y → Midway c n w x.line l y
     → Went c n w (on_take model x) l y
 used_went free c n w x l y live rest m =
     let z : Core = record x { upper = model.uses x.upper } in
@@ -90,7 +91,7 @@ used_went free c n w x l y live rest m =
 
 -- ---- the start
 
-pub started_went : Free → (c : Bool) (n : ℕ) (w : List Frame) (x : Core) (l : List Frame) (y : Station) → x.released ≡ None → Midway c n w (station.starts x.moment x.line) l y
+pub started_went : LossFreeLawsBelow → (c : Bool) (n : ℕ) (w : List Frame) (x : Core) (l : List Frame) (y : Station) → x.released ≡ None → Midway c n w (station.starts x.moment x.line) l y
     → Went c n w (on_start model x) l y
 started_went free c n w x l y live m =
     let z : Core = with_line x (station.starts x.moment x.line) in

@@ -13,11 +13,11 @@ use Rattle.x224_class2.specs.declared.stage.Stage.TheVariants as stages
 use Rattle.er_end_model.specs.Layers.{Core, model}
 use Rattle.er_end_model.specs.Steps.{InCr, with_safety_step, on_safety_report, on_safety_release}
 use Rattle.er_end_pair_laws.specs.Openings.{EndLinkOpening, Agree}
+use Rattle.er_end_pair_laws.specs.LawsBelow.{LawsBelow}
 use Rattle.er_end_pair_laws.proofs.Lists.{Each, flat_none, length_push}
 use Rattle.er_end_pair_laws.proofs.Locals.{dr_of}
 use Rattle.er_end_pair_laws.proofs.Follows.{Follows}
 use Rattle.er_end_pair_laws.proofs.Own.{AlwaysOf, Proper, Said, Stages, EdgeIs, AliveOf, PhaseIs, Trusting, TrustingOf, Own, block, Gone}
-use Rattle.er_end_pair_laws.proofs.Below.{Below}
 use Rattle.er_end_pair_laws.proofs.Leaves.{leave_ok}
 use Rattle.er_end_pair_laws.proofs.Arrives.{Arrived, live_arrived, parted, always_heard}
 use Rattle.er_end_pair_laws.proofs.Hears.{Hears}
@@ -73,7 +73,7 @@ gone_of s c k w x l y h g t text next o b same segs v = record {
 
 -- ---- CR: the callee is called
 
-module _ (below : Below) (s : EndLinkOpening) (k : ℕ) (w : List Frame) (x : Core) (l : List Frame) (y : Core) (h : List GivenTpdu) (user : List ℕ) where
+module _ (below : LawsBelow) (s : EndLinkOpening) (k : ℕ) (w : List Frame) (x : Core) (l : List Frame) (y : Core) (h : List GivenTpdu) (user : List ℕ) where
   abbrev pub the_cr : GivenTpdu
   the_cr = Cr s.settings.credit s.settings.size user
 

@@ -13,13 +13,13 @@ use Rattle.x224_class2.specs.Transport.{Transport, is_over, TpduTurn, Rest, Open
 use Rattle.er_end_model.specs.Layers.{Core, model}
 use Rattle.er_end_model.specs.Steps.{hand_next_tpdu, has_next_tpdu, hand_waiting_tpdus, most_offers, send_owed_answer, conclude_event}
 use Rattle.er_end_pair_laws.specs.Openings.{EndLinkOpening}
+use Rattle.er_end_pair_laws.specs.LawsBelow.{LawsBelow}
 use Rattle.er_end_pair_laws.proofs.Own.{AlwaysOf, Alive, AliveOf, DueIs, Rested, heard, block, Beside, Busy, Gone, Done}
-use Rattle.er_end_pair_laws.proofs.Below.{Below}
 use Rattle.er_end_pair_laws.proofs.Moves.{turn_live, turn_is, live_stage, credit_known, next_keeps}
 
 -- ---- while no payload waits
 
-pub offers_keeps : Below → (n : ℕ) (s : EndLinkOpening) (c : Bool) (k : ℕ) (w : List Frame) (x : Core) (l : List Frame) (y : Core) → Busy s c k w x l y → Busy s c k w (hand_waiting_tpdus model n x) l y
+pub offers_keeps : LawsBelow → (n : ℕ) (s : EndLinkOpening) (c : Bool) (k : ℕ) (w : List Frame) (x : Core) (l : List Frame) (y : Core) → Busy s c k w x l y → Busy s c k w (hand_waiting_tpdus model n x) l y
 unfolding hand_waiting_tpdus
 offers_keeps below zero s c k w x l y b = b
 offers_keeps below (suc n) s c k w x l y b =
@@ -170,13 +170,13 @@ due_gone n s c k w x l y (Some user) e b =
 waiting_same : (x : Station) → waiting (station.finishes x) ≡ waiting x
 waiting_same x = cond_both (is_down x.phase) x (settles x) (λ t. waiting t ≡ waiting x) (λ e. refl) (λ e. cond_both x.owed _ x (λ t. waiting t ≡ waiting x) (λ o. refl) (λ o. refl))
 
-pub finishes_heard : Below → (x y : Core) → heard (send_owed_answer model x) y ≡ heard x y
+pub finishes_heard : LawsBelow → (x y : Core) → heard (send_owed_answer model x) y ≡ heard x y
 finishes_heard below x y = ap (λ (t : List (List ℕ)). take (length t) y.upper.transport.gave) (below.others 0 x.line).1.1
 
-pub finishes_beside : Below → (s : EndLinkOpening) (c : Bool) (k : ℕ) (w : List Frame) (x : Core) (l : List Frame) (y : Core) → Beside s c k w x l y → Beside s c k w (send_owed_answer model x) l y
+pub finishes_beside : LawsBelow → (s : EndLinkOpening) (c : Bool) (k : ℕ) (w : List Frame) (x : Core) (l : List Frame) (y : Core) → Beside s c k w x l y → Beside s c k w (send_owed_answer model x) l y
 finishes_beside below s c k w x l y b = (below.keep.finished false k w x.line l y.line b.0, (below.others 0 x.line).1.0 ∙ b.1, b.2, b.3)
 
-finished : Below → (s : EndLinkOpening) (c : Bool) (k : ℕ) (w : List Frame) (x : Core) (l : List Frame) (y : Core) → Rested x → Busy s c k w x l y → Done s c k w (send_owed_answer model x) l y
+finished : LawsBelow → (s : EndLinkOpening) (c : Bool) (k : ℕ) (w : List Frame) (x : Core) (l : List Frame) (y : Core) → Rested x → Busy s c k w x l y → Done s c k w (send_owed_answer model x) l y
 finished below s c k w x l y rested b =
     let z : Core = send_owed_answer model x in
     let e = sym (finishes_heard below x y) in
@@ -196,7 +196,7 @@ finished below s c k w x l y rested b =
       };
     }
 
-few_left : Below → (s : EndLinkOpening) (c : Bool) (k : ℕ) (w : List Frame) (x : Core) (l : List Frame) (y : Core) → Busy s c k w x l y → left_of x.upper.transport ≤ most_offers
+few_left : LawsBelow → (s : EndLinkOpening) (c : Bool) (k : ℕ) (w : List Frame) (x : Core) (l : List Frame) (y : Core) → Busy s c k w x l y → left_of x.upper.transport ≤ most_offers
 few_left below s c k w x l y b =
     let t : Transport = x.upper.transport in
     let a = b.always.gives.near in
@@ -213,7 +213,7 @@ few_left below s c k w x l y b =
     one_owed true = omega arith
     one_owed false = omega arith
 
-pub concludes_keeps : Below → (s : EndLinkOpening) (c : Bool) (k : ℕ) (w : List Frame) (x : Core) (l : List Frame) (y : Core) → x.released ≡ None → Busy s c k w x l y → Done s c k w (conclude_event model x) l y
+pub concludes_keeps : LawsBelow → (s : EndLinkOpening) (c : Bool) (k : ℕ) (w : List Frame) (x : Core) (l : List Frame) (y : Core) → x.released ≡ None → Busy s c k w x l y → Done s c k w (conclude_event model x) l y
 concludes_keeps below s c k w x l y live b =
     let t : Transport = x.upper.transport in
     let stage = live_stage c t.stage t.due (heard x y) t.gave x.line.phase b.alive.stages in

@@ -15,12 +15,12 @@ use Rattle.x224_class2.specs.declared.stage.Stage.TheVariants as stages
 use Rattle.er_end_model.specs.Layers.{Core, model}
 use Rattle.er_end_model.specs.Steps.{InCc, on_safety_report, on_safety_release}
 use Rattle.er_end_pair_laws.specs.Openings.{EndLinkOpening, Agree}
+use Rattle.er_end_pair_laws.specs.LawsBelow.{LawsBelow}
 use Rattle.er_end_pair_laws.proofs.Lists.{Head, number, number_push, Ends, flat_none, flat_one, length_push}
 use Rattle.er_end_pair_laws.proofs.Locals.{dt_of, ak_of, dr_of, dcs}
 use Rattle.er_end_pair_laws.proofs.Constants.{opening_text, said_all}
 use Rattle.er_end_pair_laws.proofs.Follows.{Follows}
 use Rattle.er_end_pair_laws.proofs.Own.{Always, AlwaysOf, AliveOf, Trusting, users, Busy}
-use Rattle.er_end_pair_laws.proofs.Below.{Below}
 use Rattle.er_end_pair_laws.proofs.Leaves.{leave_ok}
 use Rattle.er_end_pair_laws.proofs.Arrives.{Arrived, live_arrived, parted, always_heard, always_handed, said_more}
 use Rattle.er_end_pair_laws.proofs.Hears.{Hears, none_waiting}
@@ -33,7 +33,7 @@ first_said s c ms sent m e n o =
 
 -- ---- CC: the caller is connected
 
-module _ (below : Below) (s : EndLinkOpening) (k : ℕ) (w : List Frame) (x : Core) (l : List Frame) (y : Core) (h : List GivenTpdu) (user : List ℕ) where
+module _ (below : LawsBelow) (s : EndLinkOpening) (k : ℕ) (w : List Frame) (x : Core) (l : List Frame) (y : Core) (h : List GivenTpdu) (user : List ℕ) where
   abbrev pub the_cc : GivenTpdu
   the_cc = Cc s.settings.credit s.settings.size user
 
@@ -153,7 +153,7 @@ module _ (below : Below) (s : EndLinkOpening) (k : ℕ) (w : List Frame) (x : Co
 -- ---- a DT
 
 -- what was heard and got, with this segment
-pub always_got : Below → (s : EndLinkOpening) (c : Bool) (segs : List Segment) (given acked edge newest : ℕ) (contents contents' : List Segment) (gave : List GivenTpdu)
+pub always_got : LawsBelow → (s : EndLinkOpening) (c : Bool) (segs : List Segment) (given acked edge newest : ℕ) (contents contents' : List Segment) (gave : List GivenTpdu)
     (sent accepted : List (List ℕ)) (h : List GivenTpdu) (last : Bool) (n : ℕ) (user : List ℕ) → n ≡ length contents → contents' ≡ contents ++ (last, user) ∷ []
     → Head accepted (users (messages_in contents'))
     → Always s c segs given acked edge newest contents gave sent accepted h

@@ -21,14 +21,13 @@ use Rattle.er_end_model.specs.Steps.{has_next_tpdu, is_connected}
 use Rattle.er_end_pair_laws.specs.Openings.{EndLinkOpening, Agree}
 use Rattle.er_end_pair_laws.specs.Links.{EndLink}
 use Rattle.er_end_pair_laws.specs.Laws.{end_link_after, IsEmpty, HasAll, Delivery}
+use Rattle.er_end_pair_laws.specs.LawsBelow.{LawsBelow, LossFreeLawsBelow}
 use Rattle.er_end_pair_laws.proofs.Lists.{number, number_same, ends_one}
 use Rattle.er_end_pair_laws.proofs.Locals.{dts, aks}
 use Rattle.er_end_pair_laws.proofs.Constants.{said_all}
 use Rattle.er_end_pair_laws.proofs.Own.{Stages, EdgeIs, Joint, PhaseIs, Own, users, heard, block, Spelled}
-use Rattle.er_end_pair_laws.proofs.Below.{Below}
 use Rattle.er_end_pair_laws.proofs.Moves.{turn_is, credit_known}
 use Rattle.er_end_pair_laws.proofs.Worlds.{Holds, none_on_line}
-use Rattle.er_end_pair_laws.proofs.Stations.{Free}
 use Rattle.er_end_pair_laws.proofs.Flowing.{Flows}
 use Rattle.er_end_pair_laws.proofs.Drained.{after_flows}
 
@@ -80,7 +79,7 @@ rest_of x opened none free rest =
     resting x.upper.transport (ap is_over opened) none (sym (ap (λ (b : Bool). b && is_some (next_tpdu x.upper.transport)) free) ∙ rest)
 
 -- all segments of x were given and came to y
-pub all_given : Below → (s : EndLinkOpening) (c : Bool) (x y : Core) → QuietPair s c x y → y.upper.transport.contents ≡ x.upper.transport.segments
+pub all_given : LawsBelow → (s : EndLinkOpening) (c : Bool) (x y : Core) → QuietPair s c x y → y.upper.transport.contents ≡ x.upper.transport.segments
 all_given below s c x y r =
     let t : Transport = x.upper.transport in
     let u : Transport = y.upper.transport in
@@ -109,7 +108,7 @@ all_given below s c x y r =
     first false b e h = refl
 
 -- so each accepted what the other sent
-pub all_accepted : Below → (s : EndLinkOpening) (c : Bool) (x y : Core) → QuietPair s c x y → y.upper.accepted ≡ x.upper.sent
+pub all_accepted : LawsBelow → (s : EndLinkOpening) (c : Bool) (x y : Core) → QuietPair s c x y → y.upper.accepted ≡ x.upper.sent
 all_accepted below s c x y r =
     sym (r.own_y.lives r.live_y).trusting.users_is ∙ ap (λ (ss : List Segment). users (messages_in ss)) (all_given below s c x y r) ∙ r.own_x.always.out
 
@@ -192,7 +191,7 @@ quiet_at s l h live_e live_r empty up took_r took =
       };
     }
 
-pub quiet : Free → (s : EndLinkOpening) (l : EndLink) → Flows s l → IsEmpty l → Quiet s l
+pub quiet : LossFreeLawsBelow → (s : EndLinkOpening) (l : EndLink) → Flows s l → IsEmpty l → Quiet s l
 quiet free s l g empty =
     let h = g.holds in
     let e : Core = l.e.core in
@@ -239,7 +238,7 @@ e_connected s (WaitAr connection) out sent came accepted j h some = absurd (some
 e_connected s (Connected peer key) out sent came accepted j h some = refl
 e_connected s (Released release known) out sent came accepted j h some = absurd j
 
-pub has_all : Below → (s : EndLinkOpening) → Agree s → (l : EndLink) → l.e.core.released ≡ None → l.r.core.released ≡ None → Quiet s l → HasAll l
+pub has_all : LawsBelow → (s : EndLinkOpening) → Agree s → (l : EndLink) → l.e.core.released ≡ None → l.r.core.released ≡ None → Quiet s l → HasAll l
 has_all below s agree l live_e live_r q =
     let e : Core = l.e.core in
     let r : Core = l.r.core in
@@ -262,7 +261,7 @@ has_all below s agree l live_e live_r q =
       at_e = all_accepted below s false r e q.to_e;
     }
 
-pub delivery : Free → Delivery
+pub delivery : LossFreeLawsBelow → Delivery
 delivery free s steps fits agree clean empty =
     let l : EndLink = end_link_after s steps in
     let g = after_flows free s steps fits agree clean in

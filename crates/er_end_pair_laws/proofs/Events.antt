@@ -21,10 +21,10 @@ use Rattle.er_end_model.specs.Layers.{Core, model}
 use Rattle.er_end_model.specs.Steps.{on_joined_block, on_block, conclude_event}
 use Rattle.er_end_pair_laws.specs.Openings.{EndLinkOpening, Agree}
 use Rattle.er_end_pair_laws.specs.Reasons.{IsLosingLineRelease}
+use Rattle.er_end_pair_laws.specs.LawsBelow.{LawsBelow}
 use Rattle.er_end_pair_laws.proofs.Lists.{each_next}
 use Rattle.er_end_pair_laws.proofs.Locals.{Fits}
 use Rattle.er_end_pair_laws.proofs.Own.{AlwaysOf, Stages, AliveOf, Joint, heard, block, Beside, Busy, Gone, Done}
-use Rattle.er_end_pair_laws.proofs.Below.{Below}
 use Rattle.er_end_pair_laws.proofs.Leaves.{up_lives}
 use Rattle.er_end_pair_laws.proofs.Concludes.{concludes_keeps, gone_concludes}
 use Rattle.er_end_pair_laws.proofs.Hears.{Hears, next_of}
@@ -48,7 +48,7 @@ gone_of_busy s c k w x l y b = record { beside = b.beside; always = b.always; to
 abbrev pub State : EndLinkOpening → Bool → ℕ → List Frame → Core → List Frame → Core → Type 0
 State s c k w x l y = ((x.released ≡ None) × Busy s c k w x l y) ⊎ ((why : Release) × (x.released ≡ Some why) × Gone s c k w x l y)
 
-pub state_done : Below → (s : EndLinkOpening) (c : Bool) (k : ℕ) (w : List Frame) (x : Core) (l : List Frame) (y : Core) → State s c k w x l y → Done s c k w (conclude_event model x) l y
+pub state_done : LawsBelow → (s : EndLinkOpening) (c : Bool) (k : ℕ) (w : List Frame) (x : Core) (l : List Frame) (y : Core) → State s c k w x l y → Done s c k w (conclude_event model x) l y
 state_done below s c k w x l y (inl live) = concludes_keeps below s c k w x l y live.0 live.1
 state_done below s c k w x l y (inr gone) = gone_concludes s c k w x l y gone.0 gone.1 gone.2
 
@@ -169,7 +169,7 @@ pub record Heard (s : EndLinkOpening) (c : Bool) (k : ℕ) (w : List Frame) (x :
   pub state : State s c k w x l y
   pub good : told ≡ None → Agree s → y.released ≡ None → x.released ≡ None
 
-module _ (below : Below) (s : EndLinkOpening) (c : Bool) (k : ℕ) (w : List Frame) (x : Core) (f : Frame) (fs : List Frame) (y : Core) where
+module _ (below : LawsBelow) (s : EndLinkOpening) (c : Bool) (k : ℕ) (w : List Frame) (x : Core) (f : Frame) (fs : List Frame) (y : Core) where
   abbrev pub line_behind : Station
   line_behind = station.receives x.moment (found y.line f) x.line
 

@@ -20,12 +20,13 @@ use Rattle.pair_model.specs.Links.{end_of_side, frames_from}
 use Rattle.pair_model.specs.Steps.{pass, tick}
 use Rattle.er_end_pair_laws.specs.Openings.{EndLinkOpening, Agree}
 use Rattle.er_end_pair_laws.specs.Links.{EndLink, end_kind, frames_said, frames_unless, opened_end_link, is_end_expired_at}
+use Rattle.er_end_pair_laws.specs.LawsBelow.{LossFreeLawsBelow}
 use Rattle.er_end_pair_laws.proofs.Given.{give}
 use Rattle.er_end_pair_laws.proofs.Own.{Done}
 use Rattle.er_end_pair_laws.proofs.Happens.{received_keeps, ticked_keeps, used_keeps, sent_keeps, e_begins, r_begins}
 use Rattle.er_end_pair_laws.proofs.Worlds.{Holds, e_event, r_event, e_did, r_did, other_parts, first_of_line, r_behind, e_behind, e_passes, r_passes, r_waits, e_waits}
 use Rattle.er_end_pair_laws.proofs.Ordered.{made_ends, made_holds, opened_holds}
-use Rattle.er_end_pair_laws.proofs.Stations.{Free, Went}
+use Rattle.er_end_pair_laws.proofs.Stations.{Went}
 use Rattle.er_end_pair_laws.proofs.Clean.{received_went, received_sent, ticked_went, sent_went, used_went, started_went}
 
 pub record Flows (s : EndLinkOpening) (l : EndLink) : Type 0 where
@@ -36,21 +37,21 @@ pub record Flows (s : EndLinkOpening) (l : EndLink) : Type 0 where
 
 -- ---- an event at an end leads to this core
 
-e_flows : (free : Free) (s : EndLinkOpening) (l : EndLink) (g : Flows s l) (x : Core) → Done s true g.holds.k g.holds.fe x g.holds.fr l.r.core → Went true l.passes g.holds.fe x g.holds.fr l.r.core.line
+e_flows : (free : LossFreeLawsBelow) (s : EndLinkOpening) (l : EndLink) (g : Flows s l) (x : Core) → Done s true g.holds.k g.holds.fe x g.holds.fr l.r.core → Went true l.passes g.holds.fe x g.holds.fr l.r.core.line
     → Flows s (record l { e = record (l.e) { core = x }; from_e = l.from_e ++ frames_said x })
 unfolding e_event e_did
 e_flows free s l g x d went = record { holds = e_event free.below s l g.holds x d; live_e = went.live; live_r = g.live_r; shape = went.ended }
 
-r_flows : (free : Free) (s : EndLinkOpening) (l : EndLink) (g : Flows s l) (x : Core) → Done s false g.holds.k g.holds.fr x g.holds.fe l.e.core → Went false l.passes g.holds.fr x g.holds.fe l.e.core.line
+r_flows : (free : LossFreeLawsBelow) (s : EndLinkOpening) (l : EndLink) (g : Flows s l) (x : Core) → Done s false g.holds.k g.holds.fr x g.holds.fe l.e.core → Went false l.passes g.holds.fr x g.holds.fe l.e.core.line
     → Flows s (record l { r = record (l.r) { core = x }; from_r = l.from_r ++ frames_said x })
 unfolding r_event r_did
 r_flows free s l g x d went = record { holds = r_event free.below s l g.holds x d; live_e = g.live_e; live_r = went.live; shape = went.ended }
 
 -- an event begins at e, at r
-e_midway : (free : Free) (s : EndLinkOpening) (l : EndLink) (g : Flows s l) → Midway true l.passes g.holds.fe (settled l.e.core.line) g.holds.fr l.r.core.line
+e_midway : (free : LossFreeLawsBelow) (s : EndLinkOpening) (l : EndLink) (g : Flows s l) → Midway true l.passes g.holds.fe (settled l.e.core.line) g.holds.fr l.r.core.line
 e_midway free s l g = free.keep.calling_begins false g.holds.k l.passes g.holds.fe l.e.core.line g.holds.fr l.r.core.line g.holds.two.lines g.shape
 
-r_midway : (free : Free) (s : EndLinkOpening) (l : EndLink) (g : Flows s l) → Midway false l.passes g.holds.fr (settled l.r.core.line) g.holds.fe l.e.core.line
+r_midway : (free : LossFreeLawsBelow) (s : EndLinkOpening) (l : EndLink) (g : Flows s l) → Midway false l.passes g.holds.fr (settled l.r.core.line) g.holds.fe l.e.core.line
 r_midway free s l g = free.keep.called_begins false g.holds.k l.passes g.holds.fe l.e.core.line g.holds.fr l.r.core.line g.holds.two.lines g.shape
 
 -- the flags and the moment aren't read
@@ -61,7 +62,7 @@ other_flows s l moment order_kept loss_free g =
 
 -- ---- the users
 
-e_sends : Free → (s : EndLinkOpening) (l : EndLink) (user : List ℕ) (o : Option SendRefusal) → AreOctets user → refusal_at l.e.core.released (is_connected l.e.core.safe.safety.phase) user (waiting_count l.e.core.upper.transport) ≡ o
+e_sends : LossFreeLawsBelow → (s : EndLinkOpening) (l : EndLink) (user : List ℕ) (o : Option SendRefusal) → AreOctets user → refusal_at l.e.core.released (is_connected l.e.core.safe.safety.phase) user (waiting_count l.e.core.upper.transport) ≡ o
     → Flows s l → Flows s (record l { e = record (l.e) { core = step_send_unless model o l.moment user l.e.core }; from_e = l.from_e ++ frames_unless o (step_send_unless model o l.moment user l.e.core) })
 e_sends free s l user (Some refusal) are e g = subst (λ (line : List (List ℕ)). Flows s (record l { from_e = line })) (sym (append-nil l.from_e)) g
 e_sends free s l user None are e g =
@@ -70,7 +71,7 @@ e_sends free s l user None are e g =
     e_flows free s l g (on_send model user x) (sent_keeps free.below s true h.k h.fe x h.fr l.r.core user are e (e_begins s h.k h.fe l.e.core h.fr l.r.core l.moment h.two))
     (sent_went free true l.passes h.fe x h.fr l.r.core.line user g.live_e (e_midway free s l g))
 
-r_sends : Free → (s : EndLinkOpening) (l : EndLink) (user : List ℕ) (o : Option SendRefusal) → AreOctets user → refusal_at l.r.core.released (is_connected l.r.core.safe.safety.phase) user (waiting_count l.r.core.upper.transport) ≡ o
+r_sends : LossFreeLawsBelow → (s : EndLinkOpening) (l : EndLink) (user : List ℕ) (o : Option SendRefusal) → AreOctets user → refusal_at l.r.core.released (is_connected l.r.core.safe.safety.phase) user (waiting_count l.r.core.upper.transport) ≡ o
     → Flows s l → Flows s (record l { r = record (l.r) { core = step_send_unless model o l.moment user l.r.core }; from_r = l.from_r ++ frames_unless o (step_send_unless model o l.moment user l.r.core) })
 r_sends free s l user (Some refusal) are e g = subst (λ (line : List (List ℕ)). Flows s (record l { from_r = line })) (sym (append-nil l.from_r)) g
 r_sends free s l user None are e g =
@@ -79,13 +80,13 @@ r_sends free s l user None are e g =
     r_flows free s l g (on_send model user x) (sent_keeps free.below s false h.k h.fr x h.fe l.e.core user are e (r_begins free.below s h.k h.fe l.e.core h.fr l.r.core l.moment h.two))
     (sent_went free false l.passes h.fr x h.fe l.e.core.line user g.live_r (r_midway free s l g))
 
-pub send_flows : Free → (s : EndLinkOpening) (side : Side) (l : EndLink) (user : List ℕ) → AreOctets user → Flows s l → Flows s (give side (event.Send user) l)
+pub send_flows : LossFreeLawsBelow → (s : EndLinkOpening) (side : Side) (l : EndLink) (user : List ℕ) → AreOctets user → Flows s l → Flows s (give side (event.Send user) l)
 send_flows free s E l user are g =
     e_sends free s l user (refusal_at l.e.core.released (is_connected l.e.core.safe.safety.phase) user (waiting_count l.e.core.upper.transport)) are refl g
 send_flows free s R l user are g =
     r_sends free s l user (refusal_at l.r.core.released (is_connected l.r.core.safe.safety.phase) user (waiting_count l.r.core.upper.transport)) are refl g
 
-pub take_flows : Free → (s : EndLinkOpening) (side : Side) (l : EndLink) → Flows s l → Flows s (give side event.Take l)
+pub take_flows : LossFreeLawsBelow → (s : EndLinkOpening) (side : Side) (l : EndLink) → Flows s l → Flows s (give side event.Take l)
 take_flows free s E l g =
     let h = g.holds in
     let x : Core = new_event_at model l.moment l.e.core in
@@ -108,7 +109,7 @@ unexpired x live e =
     either false true h = absurd cc
     either false false h = (refl, refl)
 
-tick_flows : Free → (s : EndLinkOpening) (side : Side) (l : EndLink) → is_end_expired_at l.moment (end_of_side l side) ≡ false → Flows s l → Flows s (give side event.Tick l)
+tick_flows : LossFreeLawsBelow → (s : EndLinkOpening) (side : Side) (l : EndLink) → is_end_expired_at l.moment (end_of_side l side) ≡ false → Flows s l → Flows s (give side event.Tick l)
 tick_flows free s E l e g =
     let h = g.holds in
     let x : Core = new_event_at model l.moment l.e.core in
@@ -131,7 +132,7 @@ pub record Passed (s : EndLinkOpening) (l l' : EndLink) : Type 0 where
   pub sent_e : l'.e.core.upper.sent ≡ l.e.core.upper.sent
   pub sent_r : l'.r.core.upper.sent ≡ l.r.core.upper.sent
 
-pub e_pass : Free → (s : EndLinkOpening) → Agree s → (l : EndLink) (octets : List ℕ) (rest : List (List ℕ)) → l.from_e ≡ octets ∷ rest → Flows s l → Passed s l (pass (end_kind s.finder) E (octets ∷ rest) l)
+pub e_pass : LossFreeLawsBelow → (s : EndLinkOpening) → Agree s → (l : EndLink) (octets : List ℕ) (rest : List (List ℕ)) → l.from_e ≡ octets ∷ rest → Flows s l → Passed s l (pass (end_kind s.finder) E (octets ∷ rest) l)
 unfolding r_did other_parts
 e_pass free s agree l octets rest e g =
     let h = g.holds in
@@ -157,7 +158,7 @@ e_pass free s agree l octets rest e g =
       sent_r = received_sent s (found l.e.core.line f.frame) x;
     })
 
-pub r_pass : Free → (s : EndLinkOpening) → Agree s → (l : EndLink) (octets : List ℕ) (rest : List (List ℕ)) → l.from_r ≡ octets ∷ rest → Flows s l → Passed s l (pass (end_kind s.finder) R (octets ∷ rest) l)
+pub r_pass : LossFreeLawsBelow → (s : EndLinkOpening) → Agree s → (l : EndLink) (octets : List ℕ) (rest : List (List ℕ)) → l.from_r ≡ octets ∷ rest → Flows s l → Passed s l (pass (end_kind s.finder) R (octets ∷ rest) l)
 unfolding e_did other_parts
 r_pass free s agree l octets rest e g =
     let h = g.holds in
@@ -183,14 +184,14 @@ r_pass free s agree l octets rest e g =
       sent_r = refl;
     })
 
-pub line_flows : Free → (s : EndLinkOpening) → Agree s → (side : Side) (line : List (List ℕ)) (l : EndLink) → frames_from l side ≡ line → Flows s l → Flows s (pass (end_kind s.finder) side line l)
+pub line_flows : LossFreeLawsBelow → (s : EndLinkOpening) → Agree s → (side : Side) (line : List (List ℕ)) (l : EndLink) → frames_from l side ≡ line → Flows s l → Flows s (pass (end_kind s.finder) side line l)
 line_flows free s agree side [] l e g = g
 line_flows free s agree E (octets ∷ rest) l e g = (e_pass free s agree l octets rest e g).flows
 line_flows free s agree R (octets ∷ rest) l e g = (r_pass free s agree l octets rest e g).flows
 
 -- ---- a tick
 
-pub link_tick_flows : Free → (s : EndLinkOpening) (now : ℕ) (l : EndLink) → is_end_expired_at (max l.moment now) l.e ≡ false → is_end_expired_at (max l.moment now) l.r ≡ false → Flows s l
+pub link_tick_flows : LossFreeLawsBelow → (s : EndLinkOpening) (now : ℕ) (l : EndLink) → is_end_expired_at (max l.moment now) l.e ≡ false → is_end_expired_at (max l.moment now) l.r ≡ false → Flows s l
     → Flows s (tick (end_kind s.finder) now l)
 link_tick_flows free s now l timely_e timely_r h =
     let to : ℕ = max l.moment now in
@@ -200,7 +201,7 @@ link_tick_flows free s now l timely_e timely_r h =
 
 -- ---- a link that was just opened
 
-pub opened_flows : (free : Free) (s : EndLinkOpening) → Flows s (opened_end_link s)
+pub opened_flows : (free : LossFreeLawsBelow) (s : EndLinkOpening) → Flows s (opened_end_link s)
 unfolding opened_holds made_holds e_event e_did
 opened_flows free s =
     let l : EndLink = made_ends s in

@@ -3,22 +3,12 @@ use Rattle.std.proofs.Common.{◌≡◌, ℕ, ◌<◌, ◌≤◌, Bool, true, fa
 use Rattle.er_base.specs.declared.release.Release.{Release}
 use Rattle.des_block.specs.declared.triple_key.TripleKey.{TripleKey}
 use Rattle.cbc_mac.specs.Mac.{mac_of}
-use Rattle.cbc_mac.specs.Laws.{MacBelow}
 use Rattle.sapdu.specs.Spelling.{SafetyPdu, Au1, Au2, Au3, Ar, Dt, spelling, read_of}
-use Rattle.sapdu.specs.SpellingLaws.{IsReadBack}
 use Rattle.safety_automaton.specs.Safety.{Safety, Connection, Phase, Ready, WaitAu1, WaitAu2, WaitAu3, WaitAr, Connected, Released, Received, SafetyOutcome, SentAu1, SentAu2, SentAu3, SentAr, ReceivedAr, AcceptedDt, SentDt, Refused, ReleasedLocally, ReleasedByPeer, NothingDone, peer_flag, au2_text, au3_text, ar_text, message_text, octets_sent_in_outcome, step}
-use Rattle.safety_automaton.specs.Rules.{IsOpen, IsReceived, IsStep, StaysIdle, AtReceived, AtDisconnect, AtConnect, StepsOnly, StepsEach}
-use Rattle.safety_automaton.specs.Laws.{SendsFew}
+use Rattle.safety_automaton.specs.Rules.{IsOpen, IsReceived, IsStep, StaysIdle, AtReceived, AtDisconnect, AtConnect}
 use Rattle.er_end_pair_laws.specs.Openings.{EndLinkOpening, Agree}
+use Rattle.er_end_pair_laws.specs.LawsBelow.{SafetyLaws}
 use Rattle.er_end_pair_laws.proofs.Constants.{side_in, own_number, flag_at, session, connection_at, greeting, opening_text, sealed_text, users_of, users_of_reading, Sendable}
-
--- the laws of the safety layer that this rests on
-pub record SafetyLaws : Type 0 where
-  pub only : StepsOnly
-  pub each : StepsEach
-  pub few : SendsFew
-  pub back : IsReadBack
-  pub below : MacBelow
 
 -- ---- what is spelled is read
 

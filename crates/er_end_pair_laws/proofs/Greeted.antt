@@ -9,12 +9,12 @@ use Rattle.er_end_pair_laws.specs.Openings.{EndLinkOpening}
 use Rattle.er_end_pair_laws.specs.Links.{EndLink}
 use Rattle.er_end_pair_laws.specs.Laws.{end_link_after}
 use Rattle.er_end_pair_laws.specs.Greetings.{IsCallBlock, IsAnswerBlock, Confirms, Parts, StartsWith, Greets}
+use Rattle.er_end_pair_laws.specs.LawsBelow.{LawsBelow}
 use Rattle.er_end_pair_laws.proofs.Lists.{Each}
 use Rattle.er_end_pair_laws.proofs.Locals.{First, Opens, Fits}
 use Rattle.er_end_pair_laws.proofs.Constants.{session}
 use Rattle.er_end_pair_laws.proofs.Follows.{reads_au1, reads_au2}
 use Rattle.er_end_pair_laws.proofs.Own.{Proper, block}
-use Rattle.er_end_pair_laws.proofs.Below.{Below}
 use Rattle.er_end_pair_laws.proofs.Ordered.{after_holds}
 
 -- what holds of the block of the first TPDU that was given holds of the first payload that was taken
@@ -27,7 +27,7 @@ first_taken P (t ∷ ts) handed (g ∷ gs) prefix spelled first =
     let whole : t ∷ ts ≡ block g ∷ take (length ts) (map block gs) = prefix ∙ ap (λ (l : List (List ℕ)). take (suc (length ts)) l) spelled in
     let same : block g ≡ t = cc in subst P same (first g gs refl)
 
-module _ (below : Below) (s : EndLinkOpening) where
+module _ (below : LawsBelow) (s : EndLinkOpening) where
   calls : (g : GivenTpdu) → First true s.settings.credit s.settings.size g → Proper s true g → Fits g → IsCallBlock s (block g)
   calls (Cr credit size user) first proper fits =
       record {
@@ -71,7 +71,7 @@ module _ (below : Below) (s : EndLinkOpening) where
   answered (x ∷ xs) opens proper fits g gs e =
       let same : x ≡ g = cc in subst (λ (z : GivenTpdu). IsAnswerBlock s (block z)) same (answers x opens.0 proper.0 fits.0)
 
-pub greets : Below → Greets
+pub greets : LawsBelow → Greets
 greets below s steps fits agree kept =
     let l : EndLink = end_link_after s steps in
     let two = (after_holds below s steps fits kept).two in

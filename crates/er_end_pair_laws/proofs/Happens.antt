@@ -31,13 +31,13 @@ use Rattle.er_end_model.specs.Layers.{Core, model}
 use Rattle.er_end_model.specs.Steps.{new_event_at, send_dr, normal_disconnect, with_safety_step, hand_text, on_link_deed, conclude_event, on_frame, on_tick, on_expiry, is_spent, is_connected, di_of, on_release, on_take, on_start, on_send, refusal_at, why_of}
 use Rattle.er_end_pair_laws.specs.Openings.{EndLinkOpening, Agree}
 use Rattle.er_end_pair_laws.specs.Reasons.{IsLosingLineRelease}
+use Rattle.er_end_pair_laws.specs.LawsBelow.{LawsBelow}
 use Rattle.er_end_pair_laws.proofs.Lists.{each_push}
 use Rattle.er_end_pair_laws.proofs.Locals.{Fits}
 use Rattle.er_end_pair_laws.proofs.Turns.{fits_dr}
 use Rattle.er_end_pair_laws.proofs.Constants.{side_in, own_number, flag_at, opening_text, sealed_text, said_all, users_of, users_of_reading, Sendable}
 use Rattle.er_end_pair_laws.proofs.Follows.{some_octets, reads_dt}
 use Rattle.er_end_pair_laws.proofs.Own.{Stages, Joint, PhaseIs, Own, heard, Spelled, Busy, Gone, Done}
-use Rattle.er_end_pair_laws.proofs.Below.{Below}
 use Rattle.er_end_pair_laws.proofs.Leaves.{leave_ok, departs_gone, ended_gone}
 use Rattle.er_end_pair_laws.proofs.Concludes.{concludes_keeps, gone_concludes}
 use Rattle.er_end_pair_laws.proofs.Arrives.{always_handed, said_more}
@@ -46,11 +46,11 @@ use Rattle.er_end_pair_laws.proofs.Calls.{link_by}
 
 -- ---- a frame comes
 
-frame_lost : Below → (s : EndLinkOpening) (c : Bool) (k : ℕ) (w : List Frame) (x : Core) (f : Frame) (fs : List Frame) (y : Core) → Done s c k w x (f ∷ fs) y → Done s c k w x fs y
+frame_lost : LawsBelow → (s : EndLinkOpening) (c : Bool) (k : ℕ) (w : List Frame) (x : Core) (f : Frame) (fs : List Frame) (y : Core) → Done s c k w x (f ∷ fs) y → Done s c k w x fs y
 frame_lost below s c k w x f fs y d =
     record { beside = (below.keep.lost false k (w ++ x.line.said) x.line f fs y.line d.beside.0, d.beside.1, d.beside.2, d.beside.3); own = d.own }
 
-frame_at : Below → (s : EndLinkOpening) (c : Bool) (k : ℕ) (w : List Frame) (x : Core) (f : Frame) (fs : List Frame) (y : Core) (o : Option Release) → x.released ≡ o → x.line.deed ≡ no_deed
+frame_at : LawsBelow → (s : EndLinkOpening) (c : Bool) (k : ℕ) (w : List Frame) (x : Core) (f : Frame) (fs : List Frame) (y : Core) (o : Option Release) → x.released ≡ o → x.line.deed ≡ no_deed
     → Done s c k w x (f ∷ fs) y
     → Done s c k w (if is_some o then x else conclude_event model (on_link_deed model s.finder (station.receives x.moment (found y.line f) x.line).deed (with_line x (station.receives x.moment (found y.line f) x.line)))) fs y
 frame_at below s c k w x f fs y (Some why) e quiet d = frame_lost below s c k w x f fs y d
@@ -60,12 +60,12 @@ frame_at below s c k w x f fs y None e quiet d =
     (station.receives x.moment (found y.line f) x.line).deed.released refl refl refl quiet (d.own.lives e).rested.0 e
     (busy_of_done s c k w x (f ∷ fs) y e d)).state
 
-pub received_keeps : Below → (s : EndLinkOpening) (c : Bool) (k : ℕ) (w : List Frame) (x : Core) (f : Frame) (fs : List Frame) (y : Core) → x.line.deed ≡ no_deed
+pub received_keeps : LawsBelow → (s : EndLinkOpening) (c : Bool) (k : ℕ) (w : List Frame) (x : Core) (f : Frame) (fs : List Frame) (y : Core) → x.line.deed ≡ no_deed
     → Done s c k w x (f ∷ fs) y → Done s c k w (on_frame model s.finder (found y.line f) x) fs y
 received_keeps below s c k w x f fs y quiet d = frame_at below s c k w x f fs y x.released refl quiet d
 
 -- where the keys agree and the station told no release, a live peer ends no link
-pub received_good : Below → (s : EndLinkOpening) (c : Bool) (k : ℕ) (w : List Frame) (x : Core) (f : Frame) (fs : List Frame) (y : Core) → x.line.deed ≡ no_deed → x.released ≡ None
+pub received_good : LawsBelow → (s : EndLinkOpening) (c : Bool) (k : ℕ) (w : List Frame) (x : Core) (f : Frame) (fs : List Frame) (y : Core) → x.line.deed ≡ no_deed → x.released ≡ None
     → (station.receives x.moment (found y.line f) x.line).deed.released ≡ None → Agree s → y.released ≡ None → Done s c k w x (f ∷ fs) y
     → (on_link_deed model s.finder (station.receives x.moment (found y.line f) x.line).deed (with_line x (station.receives x.moment (found y.line f) x.line))).released ≡ None
 received_good below s c k w x f fs y quiet e none agree live d =
@@ -87,7 +87,7 @@ di_fits c reason sub = fits_dr normal_disconnect (spelling (Di reason sub) (flag
 
 -- ---- time goes on
 
-module _ (below : Below) (s : EndLinkOpening) (c : Bool) (k : ℕ) (w : List Frame) (x : Core) (l : List Frame) (y : Core) where
+module _ (below : LawsBelow) (s : EndLinkOpening) (c : Bool) (k : ℕ) (w : List Frame) (x : Core) (l : List Frame) (y : Core) where
   abbrev ticked_line : Station
   ticked_line = station.ticks x.moment x.line
 
@@ -153,7 +153,7 @@ leaves_with s c (WaitAr connection) sub h = refl
 leaves_with s c (Connected peer key) sub h = refl
 leaves_with s c (Released release known) sub h = absurd h
 
-left_state : Below → (s : EndLinkOpening) (c : Bool) (k : ℕ) (w : List Frame) (x : Core) (l : List Frame) (y : Core) (sub : ℕ) → x.upper.transport.due ≡ None → Busy s c k w x l y
+left_state : LawsBelow → (s : EndLinkOpening) (c : Bool) (k : ℕ) (w : List Frame) (x : Core) (l : List Frame) (y : Core) (sub : ℕ) → x.upper.transport.due ≡ None → Busy s c k w x l y
     → (a : Safety × SafetyOutcome) → octets_sent_in_outcome a.1 ≡ spelling (Di 0 sub) (flag_at c)
     → State s c k w (send_dr model (release_of (User sub)) normal_disconnect (octets_sent_in_outcome a.1) (with_safety_step model (DisconnectRequest sub) a x)) l y
 left_state below s c k w x l y sub due b a e =
@@ -172,7 +172,7 @@ gone_done : (s : EndLinkOpening) (c : Bool) (k : ℕ) (w : List Frame) (x : Core
 gone_done s c k w x l y why e b =
     record { beside = b.beside; own = record { always = b.always; told = b.told; lives = λ none. absurd (let u : Some why ≡ None = sym e ∙ none in let v : ⊥ = cc in v) } }
 
-pub left_keeps : Below → (s : EndLinkOpening) (c : Bool) (k : ℕ) (w : List Frame) (x : Core) (l : List Frame) (y : Core) (sub : ℕ) → Done s c k w x l y → Done s c k w (on_release model sub x) l y
+pub left_keeps : LawsBelow → (s : EndLinkOpening) (c : Bool) (k : ℕ) (w : List Frame) (x : Core) (l : List Frame) (y : Core) (sub : ℕ) → Done s c k w x l y → Done s c k w (on_release model sub x) l y
 left_keeps below s c k w x l y sub d =
     let a : Safety × SafetyOutcome = step no_keys x.safe.safety (DisconnectRequest sub) in
     at_release s c k w x l y x.released refl (send_dr model (release_of (User sub)) normal_disconnect (octets_sent_in_outcome a.1) (with_safety_step model (DisconnectRequest sub) a x)) d
@@ -204,7 +204,7 @@ took_busy s c k w x l y b = record {
   };
 }
 
-took_by : Below → (s : EndLinkOpening) (c : Bool) (k : ℕ) (w : List Frame) (x : Core) (l : List Frame) (y : Core) (o : Option Release) → x.released ≡ o → Done s c k w x l y
+took_by : LawsBelow → (s : EndLinkOpening) (c : Bool) (k : ℕ) (w : List Frame) (x : Core) (l : List Frame) (y : Core) (o : Option Release) → x.released ≡ o → Done s c k w x l y
     → Done s c k w (conclude_event model (record x { upper = record (x.upper) { transport = after_taken x.upper.transport; used = x.upper.used + 1 } })) l y
 took_by below s c k w x l y None e d =
     concludes_keeps below s c k w (record x { upper = record (x.upper) { transport = after_taken x.upper.transport; used = x.upper.used + 1 } }) l y e (took_busy s c k w x l y (busy_of_done s c k w x l y e d))
@@ -212,7 +212,7 @@ took_by below s c k w x l y (Some why) e d =
     gone_concludes s c k w (record x { upper = record (x.upper) { transport = after_taken x.upper.transport; used = x.upper.used + 1 } }) l y why e
     (record { beside = d.beside; always = d.own.always; told = d.own.told })
 
-pub used_keeps : Below → (s : EndLinkOpening) (c : Bool) (k : ℕ) (w : List Frame) (x : Core) (l : List Frame) (y : Core) → Done s c k w x l y → Done s c k w (on_take model x) l y
+pub used_keeps : LawsBelow → (s : EndLinkOpening) (c : Bool) (k : ℕ) (w : List Frame) (x : Core) (l : List Frame) (y : Core) → Done s c k w x l y → Done s c k w (on_take model x) l y
 used_keeps below s c k w x l y d =
     cond_both (length x.upper.accepted - x.upper.used == 0) x
     (conclude_event model (record x { upper = record (x.upper) { transport = after_taken x.upper.transport; used = x.upper.used + 1 } })) (λ z. Done s c k w z l y)
@@ -220,7 +220,7 @@ used_keeps below s c k w x l y d =
 
 -- ---- the start
 
-pub started_keeps : Below → (s : EndLinkOpening) (c : Bool) (k : ℕ) (w : List Frame) (x : Core) (l : List Frame) (y : Core) → Done s c k w x l y → Done s c k w (on_start model x) l y
+pub started_keeps : LawsBelow → (s : EndLinkOpening) (c : Bool) (k : ℕ) (w : List Frame) (x : Core) (l : List Frame) (y : Core) → Done s c k w x l y → Done s c k w (on_start model x) l y
 started_keeps below s c k w x l y d =
     let line : Station = station.starts x.moment x.line in
     at_release s c k w x l y x.released refl (conclude_event model (with_line x line)) d
@@ -264,7 +264,7 @@ connected_open s c stages.Over peer key j = absurd j
 below_16 : (n : ℕ) → nat_le 16 n ≡ false → n < 16
 below_16 n e = elim (leb_tells 16 n) [ inl yes' ↦ absurd (true≢false (sym yes'.0 ∙ e)) | inr no' ↦ no'.1 ]
 
-sent_at : Below → (s : EndLinkOpening) (c : Bool) (k : ℕ) (w : List Frame) (x : Core) (l : List Frame) (y : Core) (user : List ℕ) (peer : ℕ) (key : TripleKey) → AreOctets user → is_message user ≡ true
+sent_at : LawsBelow → (s : EndLinkOpening) (c : Bool) (k : ℕ) (w : List Frame) (x : Core) (l : List Frame) (y : Core) (user : List ℕ) (peer : ℕ) (key : TripleKey) → AreOctets user → is_message user ≡ true
     → waiting_count x.upper.transport < 16 → x.released ≡ None → x.safe.safety.phase ≡ Connected peer key → Busy s c k w x l y → Done s c k w (on_send model user x) l y
 sent_at below s c k w x l y user peer key are message few live p b =
     let t : Transport = x.upper.transport in
@@ -316,7 +316,7 @@ sent_at below s c k w x l y user peer key are message few live p b =
       };
     }))))
 
-pub sent_keeps : Below → (s : EndLinkOpening) (c : Bool) (k : ℕ) (w : List Frame) (x : Core) (l : List Frame) (y : Core) (user : List ℕ) → AreOctets user
+pub sent_keeps : LawsBelow → (s : EndLinkOpening) (c : Bool) (k : ℕ) (w : List Frame) (x : Core) (l : List Frame) (y : Core) (user : List ℕ) → AreOctets user
     → refusal_at x.released (is_connected x.safe.safety.phase) user (waiting_count x.upper.transport) ≡ None → Done s c k w x l y → Done s c k w (on_send model user x) l y
 sent_keeps below s c k w x l y user are e d =
     let r = refusal_none x.released (is_connected x.safe.safety.phase) user (waiting_count x.upper.transport) e in
@@ -347,7 +347,7 @@ pub e_begins : (s : EndLinkOpening) (k : ℕ) (fe : List Frame) (e : Core) (fr :
 e_begins s k fe e fr r now t =
     record { beside = (quiet_both k fe e.line fr r.line t.lines, t.spelled_e, t.spelled_r, t.own_r); own = own_begins s true e (heard e r) now t.own_e }
 
-pub r_begins : Below → (s : EndLinkOpening) (k : ℕ) (fe : List Frame) (e : Core) (fr : List Frame) (r : Core) (now : ℕ) → Two s k fe e fr r → Done s false k fr (new_event_at model now r) fe e
+pub r_begins : LawsBelow → (s : EndLinkOpening) (k : ℕ) (fe : List Frame) (e : Core) (fr : List Frame) (r : Core) (now : ℕ) → Two s k fe e fr r → Done s false k fr (new_event_at model now r) fe e
 r_begins below s k fe e fr r now t =
     record { beside = (quiet_both k fr r.line fe e.line (below.keep.swapped false k fe e.line fr r.line t.lines), t.spelled_r, t.spelled_e, t.own_e); own = own_begins s false r (heard r e) now t.own_r }
 
@@ -355,6 +355,6 @@ r_begins below s k fe e fr r now t =
 pub e_ends : (s : EndLinkOpening) (k : ℕ) (fe : List Frame) (e : Core) (fr : List Frame) (r : Core) → Done s true k fe e fr r → Two s k (fe ++ e.line.said) e fr r
 e_ends s k fe e fr r d = record { lines = d.beside.0; spelled_e = d.beside.1; spelled_r = d.beside.2; own_e = d.own; own_r = d.beside.3 }
 
-pub r_ends : Below → (s : EndLinkOpening) (k : ℕ) (fe : List Frame) (e : Core) (fr : List Frame) (r : Core) → Done s false k fr r fe e → Two s k fe e (fr ++ r.line.said) r
+pub r_ends : LawsBelow → (s : EndLinkOpening) (k : ℕ) (fe : List Frame) (e : Core) (fr : List Frame) (r : Core) → Done s false k fr r fe e → Two s k fe e (fr ++ r.line.said) r
 r_ends below s k fe e fr r d =
     record { lines = below.keep.swapped false k (fr ++ r.line.said) r.line fe e.line d.beside.0; spelled_e = d.beside.2; spelled_r = d.beside.1; own_e = d.beside.3; own_r = d.own }

@@ -9,13 +9,13 @@ use Rattle.x224_class2.specs.Segments.{Segment, segments_of, messages_in, text_s
 use Rattle.x224_class2.specs.Tpdus.{GivenTpdu, Dr, Dc}
 use Rattle.er_end_model.specs.Layers.{Core}
 use Rattle.er_end_pair_laws.specs.Openings.{EndLinkOpening, Agree}
+use Rattle.er_end_pair_laws.specs.LawsBelow.{LawsBelow}
 use Rattle.er_end_pair_laws.proofs.Lists.{Head, head_trans, head_take, head_length, head_flat, Each, each_next, flat_one}
 use Rattle.er_end_pair_laws.proofs.Segments.{messages_head, messages_last}
 use Rattle.er_end_pair_laws.proofs.Locals.{dr_of, dc_of, drs, dcs, First, Later, Opens, Cuts}
 use Rattle.er_end_pair_laws.proofs.Constants.{connection_at, opening_text, sealed_text, said_all, Sendable}
 use Rattle.er_end_pair_laws.proofs.Follows.{Awaits}
 use Rattle.er_end_pair_laws.proofs.Own.{AlwaysOf, ToldOf, Said, AliveOf, PhaseIs, TrustingOf, heard, Beside}
-use Rattle.er_end_pair_laws.proofs.Below.{Below}
 
 -- x is live and at rest, and its station took the block of g, which is behind h
 pub record Hears (s : EndLinkOpening) (c : Bool) (k : ℕ) (w : List Frame) (x : Core) (l : List Frame) (y : Core) (h : List GivenTpdu) (g : GivenTpdu) : Type 0 where
@@ -76,7 +76,7 @@ no_dc_next h gave mine hers few behind none next =
 -- ---- the message that a DT ends
 
 -- the messages that came, with this one, are a beginning of those of the peer
-pub message_next : Below → (contents segs : List Segment) (given : ℕ) (user : List ℕ) → Head (contents ++ (true, user) ∷ []) (take given segs)
+pub message_next : LawsBelow → (contents segs : List Segment) (given : ℕ) (user : List ℕ) → Head (contents ++ (true, user) ∷ []) (take given segs)
     → Head (messages_in contents ++ (text_so_far contents ++ user) ∷ []) (messages_in segs)
 message_next below contents segs given user h =
     subst (λ (t : List (List ℕ)). Head t (messages_in segs)) (messages_last below.parts contents user)

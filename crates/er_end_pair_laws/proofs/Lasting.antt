@@ -22,10 +22,10 @@ use Rattle.er_end_pair_laws.specs.Links.{EndLink, end_kind, opened_end_link, is_
 use Rattle.er_end_pair_laws.specs.Steps.{AllFit}
 use Rattle.er_end_pair_laws.specs.Laws.{end_link_after}
 use Rattle.er_end_pair_laws.specs.Recovery.{AreLive, PassesRelease}
+use Rattle.er_end_pair_laws.specs.LawsBelow.{MendingLawsBelow}
 use Rattle.er_end_pair_laws.proofs.Given.{give}
 use Rattle.er_end_pair_laws.proofs.Worlds.{first_of_line, e_changed, r_changed, e_first_pair, r_first_pair, other_parts}
 use Rattle.er_end_pair_laws.proofs.Lived.{received_before, ticked_before, left_never, used_released, sent_released}
-use Rattle.er_end_pair_laws.proofs.Mended.{Repair}
 use Rattle.er_end_pair_laws.proofs.Mending.{Mends, MayGo, r_between, other_mends, send_mends, take_mends, pass_mends, tick_lossy, opened_mends}
 
 -- ---- an end that is live behind an event was so before it
@@ -73,7 +73,7 @@ repeated_before R (octets ∷ rest) l h = h
 pub both_go : MayGo Lossy
 both_go = record { hears = tt; speaks = λ c. tt }
 
-module _ (laws : Repair) (s : EndLinkOpening) where
+module _ (laws : MendingLawsBelow) (s : EndLinkOpening) where
   -- ---- a frame is lost or repeated
 
   lost_mends : (side : Side) (l : EndLink) (line : List (List ℕ)) → frames_from l side ≡ line → Mends Lossy s l → Mends Lossy s (lose side line l)
@@ -166,7 +166,7 @@ module _ (laws : Repair) (s : EndLinkOpening) where
   pub calm_mends : Agree s → (p : Progress) → MayGo p → (steps : List PairStep) (l : EndLink) → ArePassesAndTakes steps → Mends p s l → Mends p s (pair_run (end_kind s.finder) l steps)
   calm_mends agree p may = passes_run (end_kind s.finder) (Mends p s) (pass_mends laws s agree p may) (take_mends laws s p may)
 
-pub passes_release : Repair → PassesRelease
+pub passes_release : MendingLawsBelow → PassesRelease
 passes_release laws s steps fits agree kept live passes are =
     let g = calm_mends laws s agree Lossy both_go passes (end_link_after s steps) are (after_lasts laws s agree steps fits kept live) in
     subst AreLive (sym (pair_run_append (end_kind s.finder) steps passes (opened_end_link s))) (g.live_e, g.live_r)

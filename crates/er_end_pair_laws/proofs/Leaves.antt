@@ -17,11 +17,11 @@ use Rattle.er_end_model.specs.Layers.{Core, Upper, model}
 use Rattle.er_end_model.specs.Steps.{with_release, hand_tpdu, hand_tpdu_if_may, close_link, send_owed_answer, send_dr, answer_dr, end_after_di}
 use Rattle.er_end_pair_laws.specs.Openings.{EndLinkOpening, Agree}
 use Rattle.er_end_pair_laws.specs.Reasons.{IsLosingLineRelease}
+use Rattle.er_end_pair_laws.specs.LawsBelow.{LawsBelow}
 use Rattle.er_end_pair_laws.proofs.Lists.{each_push, flat_one, length_push}
 use Rattle.er_end_pair_laws.proofs.Locals.{dc_of, drs, dcs, Opens, Fits}
 use Rattle.er_end_pair_laws.proofs.Turns.{gives_other, opens_later, fits_dc}
 use Rattle.er_end_pair_laws.proofs.Own.{AlwaysOf, Proper, Stages, heard, Gone}
-use Rattle.er_end_pair_laws.proofs.Below.{Below}
 use Rattle.er_end_pair_laws.proofs.Moves.{gives_beside, gives_heard, always_push}
 use Rattle.er_end_pair_laws.proofs.Concludes.{finishes_beside, finishes_heard}
 
@@ -62,7 +62,7 @@ opens_dr c C S gave phase reason user up (inr (inr asleep)) h = absurd (true≢f
 -- ---- a TPDU of the end's own
 
 -- one that is neither DT, AK nor DC
-given_gone : Below → (s : EndLinkOpening) (c : Bool) (k : ℕ) (w : List Frame) (x : Core) (l : List Frame) (y : Core) (reason : ℕ) (user : List ℕ) → Fits (Dr reason user)
+given_gone : LawsBelow → (s : EndLinkOpening) (c : Bool) (k : ℕ) (w : List Frame) (x : Core) (l : List Frame) (y : Core) (reason : ℕ) (user : List ℕ) → Fits (Dr reason user)
     → LeaveOk c x.upper.transport.gave x.line.phase → (Agree s → Proper s c (Dr reason user)) → station.may_send x.line ≡ true → Gone s c k w x l y
     → Gone s c k w (hand_tpdu model (Dr reason user) x) l y
 given_gone below s c k w x l y reason user fits ok proper may b =
@@ -78,7 +78,7 @@ given_gone below s c k w x l y reason user fits ok proper may b =
       told = λ a. let v = b.told a in record { proper = each_push (Proper s c) t.gave g v.proper (proper a); said = v.said; good = v.good };
     }
 
-pub drops : Below → (s : EndLinkOpening) (c : Bool) (k : ℕ) (w : List Frame) (x : Core) (l : List Frame) (y : Core) (reason : ℕ) (user : List ℕ) → Fits (Dr reason user)
+pub drops : LawsBelow → (s : EndLinkOpening) (c : Bool) (k : ℕ) (w : List Frame) (x : Core) (l : List Frame) (y : Core) (reason : ℕ) (user : List ℕ) → Fits (Dr reason user)
     → LeaveOk c x.upper.transport.gave x.line.phase → (Agree s → Proper s c (Dr reason user)) → Gone s c k w x l y
     → Gone s c k w (hand_tpdu_if_may model (Dr reason user) x) l y
 drops below s c k w x l y reason user fits ok proper b =
@@ -86,7 +86,7 @@ drops below s c k w x l y reason user fits ok proper b =
     (λ may. given_gone below s c k w x l y reason user fits ok proper may b) (λ may. b)
 
 -- a DC
-dc_gone : Below → (s : EndLinkOpening) (c : Bool) (k : ℕ) (w : List Frame) (x : Core) (l : List Frame) (y : Core) → 1 ≤ length x.upper.transport.gave
+dc_gone : LawsBelow → (s : EndLinkOpening) (c : Bool) (k : ℕ) (w : List Frame) (x : Core) (l : List Frame) (y : Core) → 1 ≤ length x.upper.transport.gave
     → length (dcs x.upper.transport.gave) + 1 ≤ length (drs (heard x y)) → station.may_send x.line ≡ true → Gone s c k w x l y
     → Gone s c k w (hand_tpdu model Dc x) l y
 dc_gone below s c k w x l y some few may b =
@@ -111,14 +111,14 @@ dc_gone below s c k w x l y some few may b =
       told = λ a. let v = b.told a in record { proper = each_push (Proper s c) t.gave Dc v.proper tt; said = v.said; good = v.good };
     }
 
-drops_dc : Below → (s : EndLinkOpening) (c : Bool) (k : ℕ) (w : List Frame) (x : Core) (l : List Frame) (y : Core) → 1 ≤ length x.upper.transport.gave
+drops_dc : LawsBelow → (s : EndLinkOpening) (c : Bool) (k : ℕ) (w : List Frame) (x : Core) (l : List Frame) (y : Core) → 1 ≤ length x.upper.transport.gave
     → length (dcs x.upper.transport.gave) + 1 ≤ length (drs (heard x y)) → Gone s c k w x l y → Gone s c k w (hand_tpdu_if_may model Dc x) l y
 drops_dc below s c k w x l y some few b =
     cond_both (station.may_send x.line) (hand_tpdu model Dc x) x (λ z. Gone s c k w z l y) (λ may. dc_gone below s c k w x l y some few may b) (λ may. b)
 
 -- ---- the link is ended, the end is released
 
-shut_gone : Below → (s : EndLinkOpening) (c : Bool) (k : ℕ) (w : List Frame) (x : Core) (l : List Frame) (y : Core) → Gone s c k w x l y → Gone s c k w (close_link model x) l y
+shut_gone : LawsBelow → (s : EndLinkOpening) (c : Bool) (k : ℕ) (w : List Frame) (x : Core) (l : List Frame) (y : Core) → Gone s c k w x l y → Gone s c k w (close_link model x) l y
 shut_gone below s c k w x l y b =
     let o = (below.others 0 x.line).2 in
     record {
@@ -127,7 +127,7 @@ shut_gone below s c k w x l y b =
       told = b.told;
     }
 
-finished_gone : Below → (s : EndLinkOpening) (c : Bool) (k : ℕ) (w : List Frame) (x : Core) (l : List Frame) (y : Core) → Gone s c k w x l y → Gone s c k w (send_owed_answer model x) l y
+finished_gone : LawsBelow → (s : EndLinkOpening) (c : Bool) (k : ℕ) (w : List Frame) (x : Core) (l : List Frame) (y : Core) → Gone s c k w x l y → Gone s c k w (send_owed_answer model x) l y
 finished_gone below s c k w x l y b =
     record {
       beside = finishes_beside below s c k w x l y b.beside;
@@ -141,7 +141,7 @@ ended_gone s c k w x l y why good b =
     record { beside = b.beside; always = b.always; told = λ a. let v = b.told a in record { proper = v.proper; said = v.said; good = good a } }
 
 -- this end leaves
-pub departs_gone : Below → (s : EndLinkOpening) (c : Bool) (k : ℕ) (w : List Frame) (x : Core) (l : List Frame) (y : Core) (why : Release) (reason : ℕ) (user : List ℕ) → Fits (Dr reason user)
+pub departs_gone : LawsBelow → (s : EndLinkOpening) (c : Bool) (k : ℕ) (w : List Frame) (x : Core) (l : List Frame) (y : Core) (why : Release) (reason : ℕ) (user : List ℕ) → Fits (Dr reason user)
     → LeaveOk c x.upper.transport.gave x.line.phase → (Agree s → Proper s c (Dr reason user)) → (Agree s → IsLosingLineRelease (Some why)) → Gone s c k w x l y
     → Gone s c k w (send_dr model why reason user x) l y
 departs_gone below s c k w x l y why reason user fits ok proper good b =
@@ -149,12 +149,12 @@ departs_gone below s c k w x l y why reason user fits ok proper good b =
     ended_gone s c k w (close_link model d) l y why good (shut_gone below s c k w d l y (drops below s c k w x l y reason user fits ok proper b))
 
 -- the peer left by a DI in a message, which no peer does whose keys agree
-pub deserted_gone : Below → (s : EndLinkOpening) (c : Bool) (k : ℕ) (w : List Frame) (x : Core) (l : List Frame) (y : Core) (why : Release) → (Agree s → IsLosingLineRelease (Some why))
+pub deserted_gone : LawsBelow → (s : EndLinkOpening) (c : Bool) (k : ℕ) (w : List Frame) (x : Core) (l : List Frame) (y : Core) (why : Release) → (Agree s → IsLosingLineRelease (Some why))
     → Gone s c k w x l y → Gone s c k w (end_after_di model why x) l y
 deserted_gone below s c k w x l y why good b = ended_gone s c k w (close_link model x) l y why good (shut_gone below s c k w x l y b)
 
 -- the peer left by a DR
-pub cut_gone : Below → (s : EndLinkOpening) (c : Bool) (k : ℕ) (w : List Frame) (x : Core) (l : List Frame) (y : Core) (why : Release) → 1 ≤ length x.upper.transport.gave
+pub cut_gone : LawsBelow → (s : EndLinkOpening) (c : Bool) (k : ℕ) (w : List Frame) (x : Core) (l : List Frame) (y : Core) (why : Release) → 1 ≤ length x.upper.transport.gave
     → length (dcs x.upper.transport.gave) + 1 ≤ length (drs (heard x y)) → (Agree s → IsLosingLineRelease (Some why)) → Gone s c k w x l y
     → Gone s c k w (answer_dr model why x) l y
 cut_gone below s c k w x l y why some few good b =

@@ -6,7 +6,6 @@ pub mod Ports
 pub mod Constants
 pub mod Follows
 pub mod Own
-pub mod Below
 pub mod Moves
 pub mod Concludes
 pub mod Leaves

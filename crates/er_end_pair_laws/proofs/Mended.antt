@@ -12,20 +12,14 @@ use Rattle.hdlc_station_model.specs.Sending.{settles}
 use Rattle.hdlc_station_model.specs.Calls as station
 use Rattle.hdlc_pair_laws.specs.Keeping.{found}
 use Rattle.hdlc_pair_laws.specs.Mending.{Progress, MayHear, MaySpeak, Between, Within}
-use Rattle.hdlc_pair_laws.specs.Repairs.{MendKeeps}
 use Rattle.er_end_model.specs.Layers.{Core, model}
 use Rattle.er_end_model.specs.Steps.{on_link_deed, conclude_event, on_frame, on_tick, on_expiry, send_dr, di_of, is_spent, on_take, on_send, on_start}
 use Rattle.er_end_pair_laws.specs.Openings.{EndLinkOpening, Agree}
+use Rattle.er_end_pair_laws.specs.LawsBelow.{MendingLawsBelow}
 use Rattle.er_end_pair_laws.proofs.Own.{Done}
-use Rattle.er_end_pair_laws.proofs.Below.{Below}
 use Rattle.er_end_pair_laws.proofs.Events.{with_line}
 use Rattle.er_end_pair_laws.proofs.Happens.{received_good}
 use Rattle.er_end_pair_laws.proofs.Lived.{concluded_released, used_released, started_released, sent_released, received_lived, ticked_lived, started_lived, sent_lived, used_lived}
-
--- the laws that the repair of a loss rests on
-pub record Repair : Type 0 where
-  pub below : Below
-  pub keep : MendKeeps
 
 -- behind an event of x that it lives on behind
 pub record Behind (p : Progress) (s : EndLinkOpening) (c : Bool) (w : List Frame) (x : Core) (l : List Frame) (y : Station) : Type 0 where
@@ -47,7 +41,7 @@ finished_same : (x : Station) → (is_down x.phase ≡ false → x.owed ≡ fals
 finished_same x owes =
     cond_both (is_down x.phase) x (settles x) (λ t. t ≡ x) (λ down. refl) (λ live. rw (owes live) refl)
 
-module _ (laws : Repair) (p : Progress) (s : EndLinkOpening) (c : Bool) (speaks : MaySpeak p c) (w : List Frame) (l : List Frame) (y : Station) where
+module _ (laws : MendingLawsBelow) (p : Progress) (s : EndLinkOpening) (c : Bool) (speaks : MaySpeak p c) (w : List Frame) (l : List Frame) (y : Station) where
   abbrev speak : (now : ℕ) (payload : List ℕ) (x : Station) → In p s c w x l y → In p s c w (station.hands now payload x) l y
   speak now payload x h = laws.keep.handed p false c s.settings.window w now payload x l y speaks h
 
@@ -89,7 +83,7 @@ ticked_lives x live none spent =
     (subst (λ (b : Bool). (conclude_event model (if b then leaves else z)).released ≡ None) (sym spent) (concluded_released z ∙ live)))
 
 -- a frame comes
-pub received_mends : Repair → (p : Progress) (s : EndLinkOpening) (c : Bool) (k : ℕ) (w : List Frame) (x : Core) (f : Frame) (fs : List Frame) (y : Core) → MayHear p → MaySpeak p c → Agree s
+pub received_mends : MendingLawsBelow → (p : Progress) (s : EndLinkOpening) (c : Bool) (k : ℕ) (w : List Frame) (x : Core) (f : Frame) (fs : List Frame) (y : Core) → MayHear p → MaySpeak p c → Agree s
     → x.line.deed ≡ no_deed → x.released ≡ None → y.released ≡ None → Done s c k w x (f ∷ fs) y → In p s c w x.line (f ∷ fs) y.line
     → Behind p s c w (on_frame model s.finder (found y.line f) x) fs y.line
 received_mends laws p s c k w x f fs y hears speaks agree quiet live peer d h =

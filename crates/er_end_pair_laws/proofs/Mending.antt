@@ -18,12 +18,13 @@ use Rattle.pair_model.specs.Links.{frames_from}
 use Rattle.pair_model.specs.Steps.{pass}
 use Rattle.er_end_pair_laws.specs.Openings.{EndLinkOpening, Agree}
 use Rattle.er_end_pair_laws.specs.Links.{EndLink, end_kind, frames_said, frames_unless, opened_end_link}
+use Rattle.er_end_pair_laws.specs.LawsBelow.{MendingLawsBelow}
 use Rattle.er_end_pair_laws.proofs.Given.{give}
 use Rattle.er_end_pair_laws.proofs.Own.{Done}
 use Rattle.er_end_pair_laws.proofs.Happens.{received_keeps, used_keeps, sent_keeps, ticked_keeps, e_begins, r_begins}
 use Rattle.er_end_pair_laws.proofs.Worlds.{Holds, e_event, r_event, e_did, r_did, other_parts, first_of_line, r_behind, e_behind, e_passes, r_passes, r_waits, e_waits}
 use Rattle.er_end_pair_laws.proofs.Ordered.{made_ends, made_holds, opened_holds}
-use Rattle.er_end_pair_laws.proofs.Mended.{Repair, Behind, In, received_mends, sent_mends, used_mends, ticked_mends, started_mends}
+use Rattle.er_end_pair_laws.proofs.Mended.{Behind, In, received_mends, sent_mends, used_mends, ticked_mends, started_mends}
 
 pub record Mends (p : Progress) (s : EndLinkOpening) (l : EndLink) : Type 0 where
   pub holds : Holds s l
@@ -36,7 +37,7 @@ pub record MayGo (p : Progress) : Type 0 where
   pub hears : MayHear p
   pub speaks : (c : Bool) → MaySpeak p c
 
-module _ (laws : Repair) (s : EndLinkOpening) where
+module _ (laws : MendingLawsBelow) (s : EndLinkOpening) where
   -- ---- an event at an end leads to this core
 
   pub e_mends : (p q : Progress) (l : EndLink) (g : Mends p s l) (x : Core) → Done s true g.holds.k g.holds.fe x g.holds.fr l.r.core → Behind q s true g.holds.fe x g.holds.fr l.r.core.line

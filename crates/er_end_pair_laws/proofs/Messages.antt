@@ -17,20 +17,20 @@ use Rattle.x224_class2.specs.declared.stage.Stage.TheVariants as stages
 use Rattle.er_end_model.specs.Layers.{Core, model}
 use Rattle.er_end_model.specs.Steps.{InDt, on_safety_report, on_safety_release}
 use Rattle.er_end_pair_laws.specs.Openings.{EndLinkOpening, Agree}
+use Rattle.er_end_pair_laws.specs.LawsBelow.{LawsBelow}
 use Rattle.er_end_pair_laws.proofs.Lists.{Head, head_more, head_equal, flat_none, length_push}
 use Rattle.er_end_pair_laws.proofs.Segments.{messages_last, messages_same}
 use Rattle.er_end_pair_laws.proofs.Locals.{dr_of}
 use Rattle.er_end_pair_laws.proofs.Constants.{side_in, opening_text, sealed_text, said_all, users_of}
 use Rattle.er_end_pair_laws.proofs.Follows.{Follows, Awaits}
 use Rattle.er_end_pair_laws.proofs.Own.{AlwaysOf, Alive, AliveOf, Joint, PhaseIs, Trusting, users, Busy}
-use Rattle.er_end_pair_laws.proofs.Below.{Below}
 use Rattle.er_end_pair_laws.proofs.Leaves.{leave_ok}
 use Rattle.er_end_pair_laws.proofs.Arrives.{Arrived, live_arrived, parted, always_handed, said_more, users_more}
 use Rattle.er_end_pair_laws.proofs.Hears.{Hears, none_waiting}
 use Rattle.er_end_pair_laws.proofs.Comes.{At, Side, with_transport, spoke, stages_at, edge_at, phase_at, gone_of}
 use Rattle.er_end_pair_laws.proofs.Confirms.{first_said, always_got}
 
-module _ (below : Below) (s : EndLinkOpening) (c : Bool) (k : ℕ) (w : List Frame) (x : Core) (l : List Frame) (y : Core) (h : List GivenTpdu) (last : Bool) (n : ℕ) (user : List ℕ) where
+module _ (below : LawsBelow) (s : EndLinkOpening) (c : Bool) (k : ℕ) (w : List Frame) (x : Core) (l : List Frame) (y : Core) (h : List GivenTpdu) (last : Bool) (n : ℕ) (user : List ℕ) where
   abbrev pub the_dt : GivenTpdu
   the_dt = Dt last n user
 
@@ -64,7 +64,7 @@ module _ (below : Below) (s : EndLinkOpening) (c : Bool) (k : ℕ) (w : List Fra
 
 -- ---- a part of a message
 
-pub part_comes : (below : Below) (s : EndLinkOpening) (c : Bool) (k : ℕ) (w : List Frame) (x : Core) (l : List Frame) (y : Core) (h : List GivenTpdu) (n : ℕ) (user : List ℕ)
+pub part_comes : (below : LawsBelow) (s : EndLinkOpening) (c : Bool) (k : ℕ) (w : List Frame) (x : Core) (l : List Frame) (y : Core) (h : List GivenTpdu) (n : ℕ) (user : List ℕ)
     → At x stages.Open → n ≡ length (Side x).contents → Hears s c k w x l y h (Dt false n user)
     → Arrived s c k w (with_transport x (got_side below s c k w x l y h false n user)) l y
 part_comes below s c k w x l y h n user e same b =
@@ -89,7 +89,7 @@ part_comes below s c k w x l y h n user e same b =
 
 -- ---- the last part
 
-module _ (below : Below) (s : EndLinkOpening) (c : Bool) (k : ℕ) (w : List Frame) (x : Core) (l : List Frame) (y : Core) (h : List GivenTpdu) (n : ℕ) (user : List ℕ) where
+module _ (below : LawsBelow) (s : EndLinkOpening) (c : Bool) (k : ℕ) (w : List Frame) (x : Core) (l : List Frame) (y : Core) (h : List GivenTpdu) (n : ℕ) (user : List ℕ) where
   abbrev the_last : GivenTpdu
   the_last = Dt true n user
 

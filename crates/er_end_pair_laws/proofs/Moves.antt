@@ -17,12 +17,12 @@ use Rattle.x224_class2.specs.declared.stage.Stage.TheVariants as stages
 use Rattle.er_end_model.specs.Layers.{Core, Upper, model, octets_due}
 use Rattle.er_end_model.specs.Steps.{hand_next_tpdu}
 use Rattle.er_end_pair_laws.specs.Openings.{EndLinkOpening}
+use Rattle.er_end_pair_laws.specs.LawsBelow.{LawsBelow}
 use Rattle.er_end_pair_laws.proofs.Lists.{each_push, number, Ends, ends_push, flat_none, flat_one, length_push}
 use Rattle.er_end_pair_laws.proofs.Locals.{dt_of, ak_of, dr_of, dc_of, dts, aks, drs, Opens, Fits}
 use Rattle.er_end_pair_laws.proofs.Turns.{gives_other, gives_ak, gives_dt, opens_later, segment_at, fits_dt, fits_ak, fits_cr, fits_cc}
 use Rattle.er_end_pair_laws.proofs.Constants.{greeting}
 use Rattle.er_end_pair_laws.proofs.Own.{Always, AlwaysOf, Proper, Stages, DueIs, EdgeIs, Alive, AliveOf, Own, heard, block, Beside, Busy}
-use Rattle.er_end_pair_laws.proofs.Below.{Below}
 
 -- ---- what the other end took is what this one gave
 
@@ -35,7 +35,7 @@ taken_few s c k w x l y b =
     omega arith
 
 -- the block of a TPDU is handed down
-pub gives_beside : Below → (s : EndLinkOpening) (c : Bool) (k : ℕ) (w : List Frame) (x : Core) (l : List Frame) (y : Core) (g : GivenTpdu) (u : Upper) → Fits g → is_down x.line.phase ≡ false
+pub gives_beside : LawsBelow → (s : EndLinkOpening) (c : Bool) (k : ℕ) (w : List Frame) (x : Core) (l : List Frame) (y : Core) (g : GivenTpdu) (u : Upper) → Fits g → is_down x.line.phase ≡ false
     → u.transport.gave ≡ x.upper.transport.gave ++ g ∷ [] → Beside s c k w x l y
     → Beside s c k w (record x { line = hands x.moment (block g) x.line; upper = u }) l y
 gives_beside below s c k w x l y g u fits live e b =
@@ -51,7 +51,7 @@ gives_beside below s c k w x l y g u fits live e b =
           (subst (λ (t : List GivenTpdu). Own s (not c) y t) (sym (take-append-le (length y.line.taken) x.upper.transport.gave (g ∷ []) few)) b.3),
     )
 
-pub gives_heard : Below → (x y : Core) (g : GivenTpdu) (u : Upper) → heard (record x { line = hands x.moment (block g) x.line; upper = u }) y ≡ heard x y
+pub gives_heard : LawsBelow → (x y : Core) (g : GivenTpdu) (u : Upper) → heard (record x { line = hands x.moment (block g) x.line; upper = u }) y ≡ heard x y
 gives_heard below x y g u = ap (λ (t : List (List ℕ)). take (length t) y.upper.transport.gave) (below.hands x.moment (block g) x.line).1
 
 -- ---- one TPDU more in what holds always
@@ -137,7 +137,7 @@ stages_more c stages.Over h gave g due phase not_new a = absurd a
 -- ---- what is given at a turn
 
 -- a size of TPDUs, as the settings have it
-pub size_known : Below → (s : EndLinkOpening) → IsSize s.settings.size × (s.settings.size ≤ 1024) × (6 ≤ s.settings.size)
+pub size_known : LawsBelow → (s : EndLinkOpening) → IsSize s.settings.size × (s.settings.size ≤ 1024) × (6 ≤ s.settings.size)
 size_known below s =
     let b = below.bounded s.settings s.allowed in
     elim b.size [
@@ -147,18 +147,18 @@ size_known below s =
       | inr (inr (inr e)) ↦ (inr (inr (inr (inl e))), omega arith, omega arith)
     ]
 
-pub credit_known : Below → (s : EndLinkOpening) → (1 ≤ s.settings.credit) × (s.settings.credit ≤ 15)
+pub credit_known : LawsBelow → (s : EndLinkOpening) → (1 ≤ s.settings.credit) × (s.settings.credit ≤ 15)
 credit_known below s = (below.bounded s.settings s.allowed).credit
 
 -- the station gets the block of a TPDU that is given at a turn
-given_beside : Below → (s : EndLinkOpening) (c : Bool) (k : ℕ) (w : List Frame) (x : Core) (l : List Frame) (y : Core) (g : GivenTpdu) (t : Transport) → Fits g
+given_beside : LawsBelow → (s : EndLinkOpening) (c : Bool) (k : ℕ) (w : List Frame) (x : Core) (l : List Frame) (y : Core) (g : GivenTpdu) (t : Transport) → Fits g
     → t.gave ≡ x.upper.transport.gave → Busy s c k w x l y
     → Beside s c k w (record x { line = hands x.moment (block g) x.line; upper = record (x.upper) { transport = with_given t (Some g) } }) l y
 given_beside below s c k w x l y g t fits e b =
     gives_beside below s c k w x l y g (record (x.upper) { transport = with_given t (Some g) }) fits b.alive.awake (ap (λ (r : List GivenTpdu). r ++ g ∷ []) e) b.beside
 
 -- with the AK of a higher number
-ack_keeps : Below → (s : EndLinkOpening) (c : Bool) (k : ℕ) (w : List Frame) (x : Core) (l : List Frame) (y : Core) → x.upper.transport.due ≡ None
+ack_keeps : LawsBelow → (s : EndLinkOpening) (c : Bool) (k : ℕ) (w : List Frame) (x : Core) (l : List Frame) (y : Core) → x.upper.transport.due ≡ None
     → nat_lt x.upper.transport.newest (ack_of x.upper.transport) ≡ true → Busy s c k w x l y → Busy s c k w (gives_at Acknowledgement x) l y
 ack_keeps below s c k w x l y none owed b =
     let t : Transport = x.upper.transport in
@@ -213,7 +213,7 @@ ack_keeps below s c k w x l y none owed b =
     new_heard false due h gave phase a = a.1
 
 -- with the next segment
-data_keeps : Below → (s : EndLinkOpening) (c : Bool) (k : ℕ) (w : List Frame) (x : Core) (l : List Frame) (y : Core) → x.upper.transport.due ≡ None
+data_keeps : LawsBelow → (s : EndLinkOpening) (c : Bool) (k : ℕ) (w : List Frame) (x : Core) (l : List Frame) (y : Core) → x.upper.transport.due ≡ None
     → (nat_lt x.upper.transport.given (length x.upper.transport.segments) && nat_lt x.upper.transport.given x.upper.transport.edge) ≡ true
     → Busy s c k w x l y → Busy s c k w (gives_at Data x) l y
 data_keeps below s c k w x l y none granted b =
@@ -299,7 +299,7 @@ stages_first c stages.Called h gave g user phase a = absurd a
 stages_first c stages.Open h gave g user phase a = (a.0, λ e. omega (arith, length_push gave g))
 stages_first c stages.Over h gave g user phase a = absurd a
 
-opening_keeps : Below → (s : EndLinkOpening) (c : Bool) (k : ℕ) (w : List Frame) (x : Core) (l : List Frame) (y : Core) (user : List ℕ) → x.upper.transport.due ≡ Some user
+opening_keeps : LawsBelow → (s : EndLinkOpening) (c : Bool) (k : ℕ) (w : List Frame) (x : Core) (l : List Frame) (y : Core) (user : List ℕ) → x.upper.transport.due ≡ Some user
     → Busy s c k w x l y → Busy s c k w (gives_at (Opens_next user) x) l y
 opening_keeps below s c k w x l y user e b =
     let t : Transport = x.upper.transport in
@@ -349,7 +349,7 @@ opening_keeps below s c k w x l y user e b =
     chosen false C S user = refl
 
 -- at any turn
-turn_keeps : Below → (s : EndLinkOpening) (c : Bool) (k : ℕ) (w : List Frame) (x : Core) (l : List Frame) (y : Core) (u : TpduTurn)
+turn_keeps : LawsBelow → (s : EndLinkOpening) (c : Bool) (k : ℕ) (w : List Frame) (x : Core) (l : List Frame) (y : Core) (u : TpduTurn)
     → TurnIs x.upper.transport.due (nat_lt x.upper.transport.newest (ack_of x.upper.transport)) (nat_lt x.upper.transport.given (length x.upper.transport.segments) && nat_lt x.upper.transport.given x.upper.transport.edge) u
     → is_some (tpdu_at x.upper.transport u) ≡ true → Busy s c k w x l y → Busy s c k w (gives_at u x) l y
 turn_keeps below s c k w x l y Rest h some b = absurd cc
@@ -357,7 +357,7 @@ turn_keeps below s c k w x l y (Opens_next user) h some b = opening_keeps below 
 turn_keeps below s c k w x l y Acknowledgement h some b = ack_keeps below s c k w x l y h.0 h.1 b
 turn_keeps below s c k w x l y Data h some b = data_keeps below s c k w x l y h.0 h.1 b
 
-pub next_keeps : Below → (s : EndLinkOpening) (c : Bool) (k : ℕ) (w : List Frame) (x : Core) (l : List Frame) (y : Core) → is_some (next_tpdu x.upper.transport) ≡ true
+pub next_keeps : LawsBelow → (s : EndLinkOpening) (c : Bool) (k : ℕ) (w : List Frame) (x : Core) (l : List Frame) (y : Core) → is_some (next_tpdu x.upper.transport) ≡ true
     → Busy s c k w x l y → Busy s c k w (hand_next_tpdu model x) l y
 next_keeps below s c k w x l y some b =
     let t : Transport = x.upper.transport in

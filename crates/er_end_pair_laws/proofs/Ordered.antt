@@ -17,12 +17,12 @@ use Rattle.er_end_pair_laws.specs.Openings.{EndLinkOpening}
 use Rattle.er_end_pair_laws.specs.Links.{EndLink, end_kind, opened_end_link}
 use Rattle.er_end_pair_laws.specs.Steps.{AllFit}
 use Rattle.er_end_pair_laws.specs.Laws.{end_link_after, Prefix, LosingLineReasons}
+use Rattle.er_end_pair_laws.specs.LawsBelow.{LawsBelow}
 use Rattle.er_end_pair_laws.proofs.Lists.{Head, head_trans, head_take, head_flat, head_prefix}
 use Rattle.er_end_pair_laws.proofs.Segments.{messages_head}
 use Rattle.er_end_pair_laws.proofs.Ports.{got_head}
 use Rattle.er_end_pair_laws.proofs.Constants.{users_of}
 use Rattle.er_end_pair_laws.proofs.Own.{Own, users, heard}
-use Rattle.er_end_pair_laws.proofs.Below.{Below}
 use Rattle.er_end_pair_laws.proofs.Happens.{started_keeps, e_begins}
 use Rattle.er_end_pair_laws.proofs.Worlds.{Holds, e_event, each_holds}
 
@@ -112,7 +112,7 @@ made_ends s = record {
   loss_free = true;
 }
 
-unfoldable pub made_holds : Below → (s : EndLinkOpening) → Holds s (made_ends s)
+unfoldable pub made_holds : LawsBelow → (s : EndLinkOpening) → Holds s (made_ends s)
 made_holds below s =
     let b = below.bounded s.settings s.allowed in
     let x : Bool = s.settings.modulo == 128 in
@@ -133,14 +133,14 @@ made_holds below s =
       flag_r = inl refl;
     }
 
-unfoldable pub opened_holds : Below → (s : EndLinkOpening) → Holds s (opened_end_link s)
+unfoldable pub opened_holds : LawsBelow → (s : EndLinkOpening) → Holds s (opened_end_link s)
 opened_holds below s =
     let l : EndLink = made_ends s in
     let h = made_holds below s in
     e_event below s l h (step_start model l.moment l.e.core)
     (started_keeps below s true h.k h.fe (new_event_at model l.moment l.e.core) h.fr l.r.core (e_begins s h.k h.fe l.e.core h.fr l.r.core l.moment h.two))
 
-pub after_holds : Below → (s : EndLinkOpening) (steps : List PairStep) → AllFit steps → (end_link_after s steps).order_kept ≡ true → Holds s (end_link_after s steps)
+pub after_holds : LawsBelow → (s : EndLinkOpening) (steps : List PairStep) → AllFit steps → (end_link_after s steps).order_kept ≡ true → Holds s (end_link_after s steps)
 after_holds below s steps fits = runs_keep_in_order (end_kind s.finder) AreOctets (Holds s) (each_holds below s) steps (opened_end_link s) fits (opened_holds below s)
 
 -- ---- the laws
@@ -156,7 +156,7 @@ accepted_head s c d x y h a b =
     head_trans x.upper.accepted (users (messages_in t.contents)) y.upper.sent a.always.within
     (subst (Head (users (messages_in t.contents))) b.always.out said)
 
-pub prefix : Below → Prefix
+pub prefix : LawsBelow → Prefix
 prefix below s steps fits kept =
     let h = after_holds below s steps fits kept in
     let l : EndLink = end_link_after s steps in (
@@ -164,6 +164,6 @@ prefix below s steps fits kept =
       head_prefix l.e.core.upper.accepted l.r.core.upper.sent (accepted_head s true false l.e.core l.r.core (heard l.r.core l.e.core) h.two.own_e h.two.own_r),
     )
 
-pub reasons : Below → LosingLineReasons
+pub reasons : LawsBelow → LosingLineReasons
 reasons below s steps fits agree kept =
     let h = after_holds below s steps fits kept in ((h.two.own_e.told agree).good, (h.two.own_r.told agree).good)

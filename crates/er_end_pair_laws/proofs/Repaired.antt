@@ -14,15 +14,16 @@ use Rattle.er_end_pair_laws.specs.Openings.{EndLinkOpening, Agree}
 use Rattle.er_end_pair_laws.specs.Links.{EndLink, end_kind, opened_end_link, is_end_expired_at}
 use Rattle.er_end_pair_laws.specs.Laws.{end_link_after, IsEmpty}
 use Rattle.er_end_pair_laws.specs.Recovery.{GoesOnAt, GoOn, IsRecovered, Recovery}
+use Rattle.er_end_pair_laws.specs.LawsBelow.{MendingLawsBelow}
 use Rattle.er_end_pair_laws.proofs.Given.{give}
 use Rattle.er_end_pair_laws.proofs.Happens.{ticked_keeps, e_begins, r_begins}
 use Rattle.er_end_pair_laws.proofs.Worlds.{none_on_line}
 use Rattle.er_end_pair_laws.proofs.Delivered.{quiet_at, has_all}
-use Rattle.er_end_pair_laws.proofs.Mended.{Repair, In, ticked_mends, ticked_lives}
+use Rattle.er_end_pair_laws.proofs.Mended.{In, ticked_mends, ticked_lives}
 use Rattle.er_end_pair_laws.proofs.Mending.{Mends, e_mends, r_mends, r_between, other_mends}
 use Rattle.er_end_pair_laws.proofs.Lasting.{after_lasts, calm_mends, both_go}
 
-module _ (laws : Repair) (s : EndLinkOpening) where
+module _ (laws : MendingLawsBelow) (s : EndLinkOpening) where
   -- ---- the tick
 
   e_ticks : (l : EndLink) → Mends Lossy s l → NoFrameWaits l → GoesOnAt l.moment l.e → Mends HalfTicked s (give E event.Tick l)
@@ -80,7 +81,7 @@ module _ (laws : Repair) (s : EndLinkOpening) where
       recovered_at ends agree (pair_run (end_kind s.finder) l (Tick now ∷ second))
       (calm_mends laws s agree Ticked (record { hears = tt; speaks = λ c. tt }) second (tick (end_kind s.finder) now l) are t) end
 
-pub recovery : Repair → MendEnds → Recovery
+pub recovery : MendingLawsBelow → MendEnds → Recovery
 recovery laws ends s steps fits agree kept live first passes empty now may second more end =
     let l : EndLink = end_link_after s (steps ++ first) in
     let split : l ≡ pair_run (end_kind s.finder) (end_link_after s steps) first = pair_run_append (end_kind s.finder) steps first (opened_end_link s) in

@@ -8,12 +8,11 @@ use Rattle.er_base.specs.declared.release.Release.{Release}
 use Rattle.hdlc_station_model.specs.Frames.{Frame}
 use Rattle.hdlc_station_model.specs.Stations.{Station, is_down}
 use Rattle.hdlc_station_model.specs.Calls as station
-use Rattle.hdlc_station_model.specs.Reports.{is_release, ReleasesAreTold}
+use Rattle.hdlc_station_model.specs.Reports.{is_release}
 use Rattle.hdlc_pair_laws.specs.Flowing.{Midway, Ended}
-use Rattle.hdlc_pair_laws.specs.LossFree.{FlowKeeps, FlowBounds}
+use Rattle.hdlc_pair_laws.specs.LossFree.{FlowKeeps}
 use Rattle.t70_header.specs.Blocks.{last_block}
 use Rattle.t70_header.specs.Joining as joining
-use Rattle.sapdu.specs.SpellingLaws.{SpellsItsLength}
 use Rattle.safety_automaton.specs.Safety.{no_keys, ConnectRequest, step, octets_sent_in_outcome}
 use Rattle.safety_automaton.specs.Reports.{Report, ToldAnswered, ToldConnected, ToldAccepted, ToldReleased, ToldIgnored}
 use Rattle.x224_class2.specs.Tpdus.{GivenTpdu, Dr, Dc}
@@ -21,15 +20,6 @@ use Rattle.x224_class2.specs.Transport.{ReceptionDeed, Nothing, Called, Confirme
 use Rattle.x224_class2.specs.Transport as transport
 use Rattle.er_end_model.specs.Layers.{Core, model}
 use Rattle.er_end_model.specs.Steps.{Finds, Carrier, InCr, InCc, InDt, hand_tpdu, hand_tpdu_if_may, end_after_di, send_dr, answer_dr, on_safety_release, hand_text, accept_text, skip_message, hand_answer, keep_message, on_safety_report, on_text, on_transport_deed, on_tpdu, on_joined_block, on_block, connect_with_text, on_link_up, is_ready, with_safety_step, on_link_told, hand_next_tpdu, has_next_tpdu, hand_waiting_tpdus, most_offers, send_owed_answer, conclude_event}
-use Rattle.er_end_pair_laws.proofs.Below.{Below}
-
--- the laws that a loss-free line rests on besides
-pub record Free : Type 0 where
-  pub below : Below
-  pub keep : FlowKeeps
-  pub bounds : FlowBounds
-  pub told : ReleasesAreTold
-  pub lengths : SpellsItsLength
 
 -- ---- what is heard
 

@@ -2,7 +2,7 @@
 -- gave and heard.
 use Rattle.std.proofs.Common.{◌≡◌, ℕ, ◌≤◌, Bool, true, false, not, List, [], ◌∷◌, length, take, Option, refl, sym, ◌∙◌, ap, arith}
 use Rattle.std.specs.Prelude.{is_some}
-use Rattle.safety_automaton.specs.Safety.{Safety, Phase, Ready, WaitAu1, WaitAu2, WaitAu3, WaitAr, Connected, Released, session_in}
+use Rattle.safety_automaton.specs.Safety.{Phase, Ready, WaitAu1, WaitAu2, WaitAu3, WaitAr, Connected, Released, session_in}
 use Rattle.hdlc_station_model.specs.declared.phase.Phase.{Phase as Link_phase}
 use Rattle.hdlc_station_model.specs.Events.{news}
 use Rattle.x224_class2.specs.Segments.{messages_in}
@@ -14,21 +14,19 @@ use Rattle.er_end_model.specs.Steps.{is_connected}
 use Rattle.er_end_pair_laws.specs.Openings.{EndLinkOpening}
 use Rattle.er_end_pair_laws.specs.Links.{EndLink}
 use Rattle.er_end_pair_laws.specs.Phases.{IsEnginesPhase, IsCentres}
-use Rattle.er_end_pair_laws.specs.Laws.{end_link_after, OneFrame, InStep}
-use Rattle.er_end_pair_laws.proofs.Lists.{Head, head_trans, head_take, head_length}
+use Rattle.er_end_pair_laws.specs.Laws.{end_link_after, OneFrame}
+use Rattle.er_end_pair_laws.specs.LawsBelow.{LawsBelow}
+use Rattle.er_end_pair_laws.proofs.Lists.{Head, head_trans, head_take}
 use Rattle.er_end_pair_laws.proofs.Segments.{messages_head}
 use Rattle.er_end_pair_laws.proofs.Ports.{got_head}
 use Rattle.er_end_pair_laws.proofs.Constants.{said_all}
 use Rattle.er_end_pair_laws.proofs.Own.{Stages, Joint, PhaseIs, Own, heard}
-use Rattle.er_end_pair_laws.proofs.Below.{Below}
 use Rattle.er_end_pair_laws.proofs.Worlds.{first_of_line, r_news, e_news}
 use Rattle.er_end_pair_laws.proofs.Ordered.{after_holds}
-use Rattle.er_end_pair_laws.proofs.Stations.{Free}
-use Rattle.er_end_pair_laws.proofs.Drained.{after_flows}
 
 -- ---- a frame that waits
 
-pub one_frame : Below → OneFrame
+pub one_frame : LawsBelow → OneFrame
 one_frame below s steps fits kept =
     let h = after_holds below s steps fits kept in
     let l : EndLink = end_link_after s steps in (
@@ -181,54 +179,9 @@ messages_from s c d x y h a b =
     let got = got_head (heard x y) u.gave t.contents u.segments u.given a.always.gets.all b.always.gives.all (head_take (length x.line.taken) u.gave) in
     messages_head [] t.contents u.segments (head_trans t.contents (take u.given u.segments) u.segments got (head_take u.given u.segments))
 
--- a side that heard a TPDU: the other gave one
-heard_some : (x y : Core) → 1 ≤ length (heard x y) → 1 ≤ length y.upper.transport.gave
-heard_some x y some =
-    omega (arith, some, head_length (heard x y) y.upper.transport.gave (head_take (length x.line.taken) y.upper.transport.gave))
-
 pub open_heard : (stage : Stage) (due : Option (List ℕ)) (h gave : List GivenTpdu) (phase : Link_phase) → stage ≡ stages.Open → Stages true stage due h gave phase → 1 ≤ length h
 open_heard stages.New due h gave phase e a = absurd cc
 open_heard stages.Calling due h gave phase e a = absurd cc
 open_heard stages.Called due h gave phase e a = absurd a
 open_heard stages.Open due h gave phase e a = a.0
 open_heard stages.Over due h gave phase e a = absurd a
-
-pub in_step : Free → InStep
-in_step free s steps fits agree clean =
-    let l : EndLink = end_link_after s steps in
-    let g = after_flows free s steps fits agree clean in
-    let two = g.holds.two in
-    let e : Core = l.e.core in
-    let r : Core = l.r.core in
-    let te = e.upper.transport in
-    let tr = r.upper.transport in
-    let pe : Phase = e.safe.safety.phase in
-    let pr : Phase = r.safe.safety.phase in
-    let ve = two.own_e.lives g.live_e in
-    let vr = two.own_r.lives g.live_r in
-    let he = ve.trusting.phase_is agree in
-    let hr = vr.trusting.phase_is agree in
-    let ee : Engines s pe = engines s te.stage pe (messages_in te.segments) e.upper.sent (messages_in te.contents) e.upper.accepted ve.trusting.joint he in
-    let cr : Centres s pr = centres s tr.stage pr (messages_in tr.segments) r.upper.sent (messages_in tr.contents) r.upper.accepted vr.trusting.joint hr in
-    record {
-      e_me = ap (λ (x : Safety). x.me) ve.trusting.side_is;
-      e_role = ap (λ (x : Safety). x.role) ve.trusting.side_is;
-      e_is = ee;
-      r_me = ap (λ (x : Safety). x.me) vr.trusting.side_is;
-      r_role = ap (λ (x : Safety). x.role) vr.trusting.side_is;
-      r_is = cr;
-      au2 = λ known.
-          let opened : te.stage ≡ stages.Open = known_open s te.stage pe ve.trusting.joint ee known in
-          let some : 1 ≤ length (heard e r) = open_heard te.stage te.due (heard e r) te.gave e.line.phase opened ve.alive.stages in
-          gave_known s tr.stage pr tr.due (heard r e) tr.gave r.line.phase vr.alive.stages (heard_some e r some) vr.trusting.joint cr;
-      au3 = λ connected.
-          let came : messages_in tr.contents ≡ [] → ⊥ = came_some s false pr (messages_in tr.segments) r.upper.sent (messages_in tr.contents) r.upper.accepted hr connected in
-          let from = messages_from s false true r e (heard e r) two.own_r two.own_e in
-          e_said s pe (messages_in te.segments) e.upper.sent (messages_in te.contents) e.upper.accepted he ee
-          (λ none. came (none_of (messages_in tr.contents) (messages_in te.segments) from none));
-      ar = λ connected.
-          let came : messages_in te.contents ≡ [] → ⊥ = came_some s true pe (messages_in te.segments) e.upper.sent (messages_in te.contents) e.upper.accepted he connected in
-          let from = messages_from s true false e r (heard r e) two.own_e two.own_r in
-          r_said s pr (messages_in tr.segments) r.upper.sent (messages_in tr.contents) r.upper.accepted hr cr
-          (λ none. came (none_of (messages_in te.contents) (messages_in tr.segments) from none));
-    }

@@ -18,6 +18,7 @@ use Rattle.er_end_model.specs.Layers.{Core, model}
 use Rattle.er_end_model.specs.Steps.{Carrier, InCr, InCc, InDt, on_safety_report, on_text, on_transport_deed, on_tpdu, why_of}
 use Rattle.er_end_pair_laws.specs.Openings.{EndLinkOpening, Agree}
 use Rattle.er_end_pair_laws.specs.Reasons.{IsLosingLineRelease}
+use Rattle.er_end_pair_laws.specs.LawsBelow.{LawsBelow}
 use Rattle.er_end_pair_laws.proofs.Lists.{Head, head_trans, head_take, head_length, each_next, Ends, ends_push, flat_none, flat_one, length_push}
 use Rattle.er_end_pair_laws.proofs.Segments.{IsShort, text_small}
 use Rattle.er_end_pair_laws.proofs.Locals.{dt_of, ak_of, dr_of, aks, drs, dcs, First, Later, Fits}
@@ -25,7 +26,6 @@ use Rattle.er_end_pair_laws.proofs.Ports.{dt_next, dt_heard, ak_next, ak_heard, 
 use Rattle.er_end_pair_laws.proofs.Constants.{side_in, flag_at}
 use Rattle.er_end_pair_laws.proofs.Follows.{Awaits, answer_of, follows, peers_flag}
 use Rattle.er_end_pair_laws.proofs.Own.{AlwaysOf, Proper, Alive, AliveOf, Joint, Own, heard}
-use Rattle.er_end_pair_laws.proofs.Below.{Below}
 use Rattle.er_end_pair_laws.proofs.Moves.{size_known, credit_known, live_stage}
 use Rattle.er_end_pair_laws.proofs.Leaves.{cut_gone}
 use Rattle.er_end_pair_laws.proofs.Arrives.{Arrived, live_arrived, always_heard}
@@ -48,7 +48,7 @@ text_arrives : (s : EndLinkOpening) (c : Bool) (k : ℕ) (w : List Frame) (x : C
     → TextComes s c k w l y carrier text x (side_in s c p) → Arrived s c k w (on_text model s.finder carrier text x) l y
 text_arrives s c k w x l y carrier text p e h = subst (TextComes s c k w l y carrier text x) (sym e) h
 
-module _ (below : Below) (s : EndLinkOpening) (c : Bool) (k : ℕ) (w : List Frame) (x : Core) (l : List Frame) (y : Core) (h : List GivenTpdu) where
+module _ (below : LawsBelow) (s : EndLinkOpening) (c : Bool) (k : ℕ) (w : List Frame) (x : Core) (l : List Frame) (y : Core) (h : List GivenTpdu) where
   their_own : (g : GivenTpdu) → Hears s c k w x l y h g → Own s (not c) y (heard y x)
   their_own g b = b.beside.3
 
@@ -234,7 +234,7 @@ joint_calling s (WaitAr connection) j = absurd j
 joint_calling s (Connected peer key) j = absurd j
 joint_calling s (Released release known) j = absurd j
 
-module _ (below : Below) (s : EndLinkOpening) (k : ℕ) (w : List Frame) (x : Core) (l : List Frame) (y : Core) (h : List GivenTpdu) where
+module _ (below : LawsBelow) (s : EndLinkOpening) (k : ℕ) (w : List Frame) (x : Core) (l : List Frame) (y : Core) (h : List GivenTpdu) where
   cr_comes : (user : List ℕ) → At x stages.New → Hears s false k w x l y h (Cr s.settings.credit s.settings.size user)
       → Arrived s false k w (heard_at s x (on_request (Side x) s.settings.credit 0 1 s.settings.size user)) l y
   cr_comes user e b =
@@ -298,7 +298,7 @@ module _ (below : Below) (s : EndLinkOpening) (k : ℕ) (w : List Frame) (x : Co
   calling_comes Dc e first b = absurd first
 
 -- at any stage
-stage_comes : Below → (s : EndLinkOpening) (c : Bool) (k : ℕ) (w : List Frame) (x : Core) (l : List Frame) (y : Core) (h : List GivenTpdu) (g : GivenTpdu) (st : Stage) → At x st
+stage_comes : LawsBelow → (s : EndLinkOpening) (c : Bool) (k : ℕ) (w : List Frame) (x : Core) (l : List Frame) (y : Core) (h : List GivenTpdu) (g : GivenTpdu) (st : Stage) → At x st
     → Hears s c k w x l y h g → Arrived s c k w (heard_at s x (on_reading (Side x) (Ok (pdu_given g)))) l y
 stage_comes below s true k w x l y h g stages.New e b = absurd (true≢false (sym b.up ∙ (stages_at s true x h stages.New e b.alive).3))
 stage_comes below s false k w x l y h g stages.New e b =
@@ -314,7 +314,7 @@ stage_comes below s c k w x l y h g stages.Open e b =
     (later_is (not c) s.settings.credit s.settings.size h y.upper.transport.gave g (stages_at s c x h stages.Open e b.alive).0 (next_of s c k w x l y h g b) b.beside.3.always.opens) b
 stage_comes below s c k w x l y h g stages.Over e b = absurd (stages_at s c x h stages.Over e b.alive)
 
-pub tpdu_keeps : Below → (s : EndLinkOpening) (c : Bool) (k : ℕ) (w : List Frame) (x : Core) (l : List Frame) (y : Core) (h : List GivenTpdu) (g : GivenTpdu)
+pub tpdu_keeps : LawsBelow → (s : EndLinkOpening) (c : Bool) (k : ℕ) (w : List Frame) (x : Core) (l : List Frame) (y : Core) (h : List GivenTpdu) (g : GivenTpdu)
     → Hears s c k w x l y h g → Arrived s c k w (on_tpdu model s.finder (octets_given g) x) l y
 tpdu_keeps below s c k w x l y h g b =
     let t : Transport = Side x in

@@ -21,9 +21,9 @@ use Rattle.pair_model.specs.Steps.{pass, lose, repeat, tick}
 use Rattle.pair_model.specs.Walks.{KeepsEachInOrder}
 use Rattle.er_end_pair_laws.specs.Openings.{EndLinkOpening}
 use Rattle.er_end_pair_laws.specs.Links.{EndLink, end_kind, frames_said, frames_of_each, frames_unless, is_end_expired_at}
+use Rattle.er_end_pair_laws.specs.LawsBelow.{LawsBelow}
 use Rattle.er_end_pair_laws.proofs.Given.{give}
 use Rattle.er_end_pair_laws.proofs.Own.{Done}
-use Rattle.er_end_pair_laws.proofs.Below.{Below}
 use Rattle.er_end_pair_laws.proofs.Happens.{received_keeps, ticked_keeps, left_keeps, used_keeps, sent_keeps, Two, e_begins, r_begins, e_ends, r_ends}
 
 -- two ends between events, the octets on their lines, and their deframers at a flag
@@ -58,7 +58,7 @@ lined_more k k' lx lx' x x' ly ly' y fs line h g e =
 -- ---- an event at an end leads to this core
 
 -- the other line may have lost its first frame, and the end may have read
-unfoldable pub e_did : Below → (s : EndLinkOpening) (l : EndLink) (h : Holds s l) (fr : List Frame) (line_r : List (List ℕ)) (stream : List ℕ) (x : Core) → line_r ≡ map (frame_octets_of_station l.r.core.line) fr → IsAtFlag stream
+unfoldable pub e_did : LawsBelow → (s : EndLinkOpening) (l : EndLink) (h : Holds s l) (fr : List Frame) (line_r : List (List ℕ)) (stream : List ℕ) (x : Core) → line_r ≡ map (frame_octets_of_station l.r.core.line) fr → IsAtFlag stream
     → Done s true h.k h.fe x fr l.r.core → Holds s (record l { e = record { stream = stream; core = x }; from_e = l.from_e ++ frames_said x; from_r = line_r })
 e_did below s l h fr line_r stream x lined flag d = record {
   k = h.k;
@@ -71,7 +71,7 @@ e_did below s l h fr line_r stream x lined flag d = record {
   flag_r = h.flag_r;
 }
 
-unfoldable pub r_did : Below → (s : EndLinkOpening) (l : EndLink) (h : Holds s l) (fe : List Frame) (line_e : List (List ℕ)) (stream : List ℕ) (x : Core) → line_e ≡ map (frame_octets_of_station l.e.core.line) fe → IsAtFlag stream
+unfoldable pub r_did : LawsBelow → (s : EndLinkOpening) (l : EndLink) (h : Holds s l) (fe : List Frame) (line_e : List (List ℕ)) (stream : List ℕ) (x : Core) → line_e ≡ map (frame_octets_of_station l.e.core.line) fe → IsAtFlag stream
     → Done s false h.k h.fr x fe l.e.core → Holds s (record l { r = record { stream = stream; core = x }; from_r = l.from_r ++ frames_said x; from_e = line_e })
 r_did below s l h fe line_e stream x lined flag d = record {
   k = h.k;
@@ -86,10 +86,10 @@ r_did below s l h fe line_e stream x lined flag d = record {
 }
 
 -- an event that is none of a frame
-unfoldable pub e_event : Below → (s : EndLinkOpening) (l : EndLink) (h : Holds s l) (x : Core) → Done s true h.k h.fe x h.fr l.r.core → Holds s (record l { e = record (l.e) { core = x }; from_e = l.from_e ++ frames_said x })
+unfoldable pub e_event : LawsBelow → (s : EndLinkOpening) (l : EndLink) (h : Holds s l) (x : Core) → Done s true h.k h.fe x h.fr l.r.core → Holds s (record l { e = record (l.e) { core = x }; from_e = l.from_e ++ frames_said x })
 e_event below s l h x d = e_did below s l h h.fr l.from_r l.e.stream x h.lined_r h.flag_e d
 
-unfoldable pub r_event : Below → (s : EndLinkOpening) (l : EndLink) (h : Holds s l) (x : Core) → Done s false h.k h.fr x h.fe l.e.core → Holds s (record l { r = record (l.r) { core = x }; from_r = l.from_r ++ frames_said x })
+unfoldable pub r_event : LawsBelow → (s : EndLinkOpening) (l : EndLink) (h : Holds s l) (x : Core) → Done s false h.k h.fr x h.fe l.e.core → Holds s (record l { r = record (l.r) { core = x }; from_r = l.from_r ++ frames_said x })
 r_event below s l h x d = r_did below s l h h.fe l.from_e l.r.stream x h.lined_e h.flag_r d
 
 -- the flags, the moment and the count aren't read
@@ -99,7 +99,7 @@ other_parts s l moment passes order_kept loss_free h =
 
 -- ---- the users
 
-e_sends : Below → (s : EndLinkOpening) (l : EndLink) (user : List ℕ) (o : Option SendRefusal) → AreOctets user → refusal_at l.e.core.released (is_connected l.e.core.safe.safety.phase) user (waiting_count l.e.core.upper.transport) ≡ o
+e_sends : LawsBelow → (s : EndLinkOpening) (l : EndLink) (user : List ℕ) (o : Option SendRefusal) → AreOctets user → refusal_at l.e.core.released (is_connected l.e.core.safe.safety.phase) user (waiting_count l.e.core.upper.transport) ≡ o
     → Holds s l → Holds s (record l { e = record (l.e) { core = step_send_unless model o l.moment user l.e.core }; from_e = l.from_e ++ frames_unless o (step_send_unless model o l.moment user l.e.core) })
 e_sends below s l user (Some refusal) are e h =
     subst (λ (line : List (List ℕ)). Holds s (record l { from_e = line })) (sym (append-nil l.from_e)) h
@@ -107,7 +107,7 @@ e_sends below s l user None are e h =
     e_event below s l h (on_send model user (new_event_at model l.moment l.e.core))
     (sent_keeps below s true h.k h.fe (new_event_at model l.moment l.e.core) h.fr l.r.core user are e (e_begins s h.k h.fe l.e.core h.fr l.r.core l.moment h.two))
 
-r_sends : Below → (s : EndLinkOpening) (l : EndLink) (user : List ℕ) (o : Option SendRefusal) → AreOctets user → refusal_at l.r.core.released (is_connected l.r.core.safe.safety.phase) user (waiting_count l.r.core.upper.transport) ≡ o
+r_sends : LawsBelow → (s : EndLinkOpening) (l : EndLink) (user : List ℕ) (o : Option SendRefusal) → AreOctets user → refusal_at l.r.core.released (is_connected l.r.core.safe.safety.phase) user (waiting_count l.r.core.upper.transport) ≡ o
     → Holds s l → Holds s (record l { r = record (l.r) { core = step_send_unless model o l.moment user l.r.core }; from_r = l.from_r ++ frames_unless o (step_send_unless model o l.moment user l.r.core) })
 r_sends below s l user (Some refusal) are e h =
     subst (λ (line : List (List ℕ)). Holds s (record l { from_r = line })) (sym (append-nil l.from_r)) h
@@ -115,13 +115,13 @@ r_sends below s l user None are e h =
     r_event below s l h (on_send model user (new_event_at model l.moment l.r.core))
     (sent_keeps below s false h.k h.fr (new_event_at model l.moment l.r.core) h.fe l.e.core user are e (r_begins below s h.k h.fe l.e.core h.fr l.r.core l.moment h.two))
 
-send_holds : Below → (s : EndLinkOpening) (side : Side) (l : EndLink) (user : List ℕ) → AreOctets user → Holds s l → Holds s (give side (event.Send user) l)
+send_holds : LawsBelow → (s : EndLinkOpening) (side : Side) (l : EndLink) (user : List ℕ) → AreOctets user → Holds s l → Holds s (give side (event.Send user) l)
 send_holds below s E l user are h =
     e_sends below s l user (refusal_at l.e.core.released (is_connected l.e.core.safe.safety.phase) user (waiting_count l.e.core.upper.transport)) are refl h
 send_holds below s R l user are h =
     r_sends below s l user (refusal_at l.r.core.released (is_connected l.r.core.safe.safety.phase) user (waiting_count l.r.core.upper.transport)) are refl h
 
-take_holds : Below → (s : EndLinkOpening) (side : Side) (l : EndLink) → Holds s l → Holds s (give side event.Take l)
+take_holds : LawsBelow → (s : EndLinkOpening) (side : Side) (l : EndLink) → Holds s l → Holds s (give side event.Take l)
 take_holds below s E l h =
     e_event below s l h (step_take model l.moment l.e.core)
     (used_keeps below s true h.k h.fe (new_event_at model l.moment l.e.core) h.fr l.r.core (e_begins s h.k h.fe l.e.core h.fr l.r.core l.moment h.two))
@@ -129,7 +129,7 @@ take_holds below s R l h =
     r_event below s l h (step_take model l.moment l.r.core)
     (used_keeps below s false h.k h.fr (new_event_at model l.moment l.r.core) h.fe l.e.core (r_begins below s h.k h.fe l.e.core h.fr l.r.core l.moment h.two))
 
-leave_holds : Below → (s : EndLinkOpening) (side : Side) (l : EndLink) (sub : ℕ) → Holds s l → Holds s (give side (event.Leave sub) l)
+leave_holds : LawsBelow → (s : EndLinkOpening) (side : Side) (l : EndLink) (sub : ℕ) → Holds s l → Holds s (give side (event.Leave sub) l)
 leave_holds below s E l sub h =
     e_event below s l h (step_release model l.moment sub l.e.core)
     (left_keeps below s true h.k h.fe (new_event_at model l.moment l.e.core) h.fr l.r.core sub (e_begins s h.k h.fe l.e.core h.fr l.r.core l.moment h.two))
@@ -137,7 +137,7 @@ leave_holds below s R l sub h =
     r_event below s l h (step_release model l.moment sub l.r.core)
     (left_keeps below s false h.k h.fr (new_event_at model l.moment l.r.core) h.fe l.e.core sub (r_begins below s h.k h.fe l.e.core h.fr l.r.core l.moment h.two))
 
-tick_holds : Below → (s : EndLinkOpening) (side : Side) (l : EndLink) → Holds s l → Holds s (give side event.Tick l)
+tick_holds : LawsBelow → (s : EndLinkOpening) (side : Side) (l : EndLink) → Holds s l → Holds s (give side event.Tick l)
 tick_holds below s E l h =
     e_event below s l h (step_tick model l.moment l.e.core)
     (ticked_keeps below s true h.k h.fe (new_event_at model l.moment l.e.core) h.fr l.r.core refl (e_begins s h.k h.fe l.e.core h.fr l.r.core l.moment h.two))
@@ -183,13 +183,13 @@ r_behind s l f = step_frame model s.finder l.moment (found l.e.core.line f) (new
 abbrev pub e_behind : EndLinkOpening → EndLink → Frame → Core
 e_behind s l f = step_frame model s.finder l.moment (found l.r.core.line f) (new_event_at model l.moment l.e.core)
 
-pub r_news : Below → (s : EndLinkOpening) (l : EndLink) (h : Holds s l) (octets : List ℕ) (rest : List (List ℕ)) (f : First l.e.core.line octets rest h.fe)
+pub r_news : LawsBelow → (s : EndLinkOpening) (l : EndLink) (h : Holds s l) (octets : List ℕ) (rest : List (List ℕ)) (f : First l.e.core.line octets rest h.fe)
     → news l.r.stream (frame_octets_of_station l.e.core.line f.frame) ≡ found l.e.core.line f.frame ∷ []
 r_news below s l h octets rest f =
     below.keep.one_frame false h.k h.fr l.r.core.line f.frame f.frames l.e.core.line l.r.stream h.flag_r
     (subst (λ (t : List Frame). IsStationPair false h.k h.fr l.r.core.line t l.e.core.line) f.all (below.keep.swapped false h.k h.fe l.e.core.line h.fr l.r.core.line h.two.lines))
 
-pub e_news : Below → (s : EndLinkOpening) (l : EndLink) (h : Holds s l) (octets : List ℕ) (rest : List (List ℕ)) (f : First l.r.core.line octets rest h.fr)
+pub e_news : LawsBelow → (s : EndLinkOpening) (l : EndLink) (h : Holds s l) (octets : List ℕ) (rest : List (List ℕ)) (f : First l.r.core.line octets rest h.fr)
     → news l.e.stream (frame_octets_of_station l.r.core.line f.frame) ≡ found l.r.core.line f.frame ∷ []
 e_news below s l h octets rest f =
     below.keep.one_frame false h.k h.fe l.e.core.line f.frame f.frames l.r.core.line l.e.stream h.flag_e (subst (λ (t : List Frame). IsStationPair false h.k h.fe l.e.core.line t l.r.core.line) f.all h.two.lines)
@@ -212,7 +212,7 @@ e_reads s l rest passes octets vs = record l {
 }
 
 -- a pass of one frame, as a link that an event leads to
-pub e_passes : Below → (s : EndLinkOpening) (P : EndLink → Type 0) (l : EndLink) (h : Holds s l) (octets : List ℕ) (rest : List (List ℕ)) (f : First l.e.core.line octets rest h.fe)
+pub e_passes : LawsBelow → (s : EndLinkOpening) (P : EndLink → Type 0) (l : EndLink) (h : Holds s l) (octets : List ℕ) (rest : List (List ℕ)) (f : First l.e.core.line octets rest h.fe)
     → P (record l {
       r = record { stream = l.r.stream ++ frame_octets_of_station l.e.core.line f.frame; core = r_behind s l f.frame };
       from_r = l.from_r ++ frames_said (r_behind s l f.frame);
@@ -229,7 +229,7 @@ e_passes below s P l h octets rest f p =
       passes = l.passes + 1;
     })) (sym (append-nil (frames_said (r_behind s l f.frame)))) p))
 
-pub r_passes : Below → (s : EndLinkOpening) (P : EndLink → Type 0) (l : EndLink) (h : Holds s l) (octets : List ℕ) (rest : List (List ℕ)) (f : First l.r.core.line octets rest h.fr)
+pub r_passes : LawsBelow → (s : EndLinkOpening) (P : EndLink → Type 0) (l : EndLink) (h : Holds s l) (octets : List ℕ) (rest : List (List ℕ)) (f : First l.r.core.line octets rest h.fr)
     → P (record l {
       e = record { stream = l.e.stream ++ frame_octets_of_station l.r.core.line f.frame; core = e_behind s l f.frame };
       from_e = l.from_e ++ frames_said (e_behind s l f.frame);
@@ -247,19 +247,19 @@ r_passes below s P l h octets rest f p =
     })) (sym (append-nil (frames_said (e_behind s l f.frame)))) p))
 
 -- what stands at r before a frame of e comes, with the frame
-pub r_waits : Below → (s : EndLinkOpening) (l : EndLink) (h : Holds s l) (octets : List ℕ) (rest : List (List ℕ)) (f : First l.e.core.line octets rest h.fe)
+pub r_waits : LawsBelow → (s : EndLinkOpening) (l : EndLink) (h : Holds s l) (octets : List ℕ) (rest : List (List ℕ)) (f : First l.e.core.line octets rest h.fe)
     → Done s false h.k h.fr (new_event_at model l.moment (new_event_at model l.moment l.r.core)) (f.frame ∷ f.frames) l.e.core
 r_waits below s l h octets rest f =
     again s false h.k h.fr l.r.core (f.frame ∷ f.frames) l.e.core l.moment
     (subst (λ (t : List Frame). Done s false h.k h.fr (new_event_at model l.moment l.r.core) t l.e.core) f.all (r_begins below s h.k h.fe l.e.core h.fr l.r.core l.moment h.two))
 
-pub e_waits : Below → (s : EndLinkOpening) (l : EndLink) (h : Holds s l) (octets : List ℕ) (rest : List (List ℕ)) (f : First l.r.core.line octets rest h.fr)
+pub e_waits : LawsBelow → (s : EndLinkOpening) (l : EndLink) (h : Holds s l) (octets : List ℕ) (rest : List (List ℕ)) (f : First l.r.core.line octets rest h.fr)
     → Done s true h.k h.fe (new_event_at model l.moment (new_event_at model l.moment l.e.core)) (f.frame ∷ f.frames) l.r.core
 e_waits below s l h octets rest f =
     again s true h.k h.fe l.e.core (f.frame ∷ f.frames) l.r.core l.moment
     (subst (λ (t : List Frame). Done s true h.k h.fe (new_event_at model l.moment l.e.core) t l.r.core) f.all (e_begins s h.k h.fe l.e.core h.fr l.r.core l.moment h.two))
 
-pass_holds : Below → (s : EndLinkOpening) (side : Side) (line : List (List ℕ)) (l : EndLink) → frames_from l side ≡ line → Holds s l → Holds s (pass (end_kind s.finder) side line l)
+pass_holds : LawsBelow → (s : EndLinkOpening) (side : Side) (line : List (List ℕ)) (l : EndLink) → frames_from l side ≡ line → Holds s l → Holds s (pass (end_kind s.finder) side line l)
 pass_holds below s side [] l e h = h
 pass_holds below s E (octets ∷ rest) l e h =
     let f = first_of_line l.e.core.line octets rest h.fe (sym e ∙ h.lined_e) in
@@ -282,7 +282,7 @@ pass_holds below s R (octets ∷ rest) l e h =
 pub two_lines : (s : EndLinkOpening) (k : ℕ) (fe fr fe' fr' : List Frame) (e r : Core) → IsStationPair false k fe' e.line fr' r.line → Two s k fe e fr r → Two s k fe' e fr' r
 two_lines s k fe fr fe' fr' e r p t = record { lines = p; spelled_e = t.spelled_e; spelled_r = t.spelled_r; own_e = t.own_e; own_r = t.own_r }
 
-unfoldable pub e_changed : Below → (s : EndLinkOpening) (l : EndLink) (h : Holds s l) (fe : List Frame) (line : List (List ℕ)) → line ≡ map (frame_octets_of_station l.e.core.line) fe
+unfoldable pub e_changed : LawsBelow → (s : EndLinkOpening) (l : EndLink) (h : Holds s l) (fe : List Frame) (line : List (List ℕ)) → line ≡ map (frame_octets_of_station l.e.core.line) fe
     → IsStationPair false h.k h.fr l.r.core.line fe l.e.core.line → Holds s (record l { from_e = line })
 e_changed below s l h fe line lined p = record {
   k = h.k;
@@ -309,7 +309,7 @@ r_changed s l h fr line lined p = record {
 }
 
 -- the frames of e, as r sees them
-pub e_first_pair : Below → (s : EndLinkOpening) (l : EndLink) (h : Holds s l) (octets : List ℕ) (rest : List (List ℕ)) (f : First l.e.core.line octets rest h.fe)
+pub e_first_pair : LawsBelow → (s : EndLinkOpening) (l : EndLink) (h : Holds s l) (octets : List ℕ) (rest : List (List ℕ)) (f : First l.e.core.line octets rest h.fe)
     → IsStationPair false h.k h.fr l.r.core.line (f.frame ∷ f.frames) l.e.core.line
 e_first_pair below s l h octets rest f =
     subst (λ (t : List Frame). IsStationPair false h.k h.fr l.r.core.line t l.e.core.line) f.all (below.keep.swapped false h.k h.fe l.e.core.line h.fr l.r.core.line h.two.lines)
@@ -318,7 +318,7 @@ pub r_first_pair : (s : EndLinkOpening) (l : EndLink) (h : Holds s l) (octets : 
     → IsStationPair false h.k h.fe l.e.core.line (f.frame ∷ f.frames) l.r.core.line
 r_first_pair s l h octets rest f = subst (λ (t : List Frame). IsStationPair false h.k h.fe l.e.core.line t l.r.core.line) f.all h.two.lines
 
-lost_holds : Below → (s : EndLinkOpening) (side : Side) (line : List (List ℕ)) (l : EndLink) → frames_from l side ≡ line → Holds s l → Holds s (lose side line l)
+lost_holds : LawsBelow → (s : EndLinkOpening) (side : Side) (line : List (List ℕ)) (l : EndLink) → frames_from l side ≡ line → Holds s l → Holds s (lose side line l)
 lost_holds below s side [] l e h = h
 lost_holds below s E (octets ∷ rest) l e h =
     let f = first_of_line l.e.core.line octets rest h.fe (sym e ∙ h.lined_e) in
@@ -329,7 +329,7 @@ lost_holds below s R (octets ∷ rest) l e h =
     other_parts s (record l { from_r = rest }) l.moment l.passes l.order_kept false
     (r_changed s l h f.frames rest f.rest_are (below.keep.lost false h.k h.fe l.e.core.line f.frame f.frames l.r.core.line (r_first_pair s l h octets rest f)))
 
-repeated_holds : Below → (s : EndLinkOpening) (side : Side) (line : List (List ℕ)) (l : EndLink) → frames_from l side ≡ line → Holds s l → Holds s (repeat side line l)
+repeated_holds : LawsBelow → (s : EndLinkOpening) (side : Side) (line : List (List ℕ)) (l : EndLink) → frames_from l side ≡ line → Holds s l → Holds s (repeat side line l)
 repeated_holds below s side [] l e h = h
 repeated_holds below s E (octets ∷ rest) l e h =
     let f = first_of_line l.e.core.line octets rest h.fe (sym e ∙ h.lined_e) in
@@ -346,7 +346,7 @@ repeated_holds below s R (octets ∷ rest) l e h =
 
 -- ---- time
 
-link_tick_holds : Below → (s : EndLinkOpening) (now : ℕ) (l : EndLink) → Holds s l → Holds s (tick (end_kind s.finder) now l)
+link_tick_holds : LawsBelow → (s : EndLinkOpening) (now : ℕ) (l : EndLink) → Holds s l → Holds s (tick (end_kind s.finder) now l)
 link_tick_holds below s now l h =
     let to : ℕ = max l.moment now in
     let first : EndLink = record l { moment = to; loss_free = l.loss_free && not (is_end_expired_at to l.e || is_end_expired_at to l.r) } in
@@ -354,7 +354,7 @@ link_tick_holds below s now l h =
 
 -- ---- what each event keeps
 
-pub each_holds : Below → (s : EndLinkOpening) → KeepsEachInOrder (end_kind s.finder) AreOctets (Holds s)
+pub each_holds : LawsBelow → (s : EndLinkOpening) → KeepsEachInOrder (end_kind s.finder) AreOctets (Holds s)
 each_holds below s = record {
   sent = λ side user l. send_holds below s side l user;
   passed = λ side l. pass_holds below s side (frames_from l side) l refl;

@@ -7,3 +7,4 @@ pub mod Laws
 pub mod Ordered
 pub mod Greetings
 pub mod Recovery
+pub mod LawsBelow

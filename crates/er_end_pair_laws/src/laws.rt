@@ -4,10 +4,11 @@ ghost use Rattle.er_end_pair_laws.specs.Laws.{Delivery, DeliveryBound, DrainEmpt
 ghost use Rattle.er_end_pair_laws.specs.Ordered.{InStepWhileOrdered};
 ghost use Rattle.er_end_pair_laws.specs.Greetings.{Greets};
 ghost use Rattle.er_end_pair_laws.specs.Recovery.{PassesRelease, Recovery};
+ghost use Rattle.er_end_pair_laws.specs.LawsBelow.{LawsBelow, LossFreeLawsBelow};
 
-/// A line that only loses and repeats: what an end accepted is a prefix of what the other sent, whatever the keys.
-pub fn prefix()
-    ensures { Prefix }
+// What the public laws of the layers below say.
+fn laws_below()
+    ensures { LawsBelow }
 {
     er_settings::laws::allowed_are_bounded();
     hdlc_station_model::laws::receives_give();
@@ -25,24 +26,28 @@ pub fn prefix()
     cbc_mac::laws::mac_below();
 }
 
+// And what a loss-free line rests on besides.
+fn loss_free_laws_below()
+    ensures { LossFreeLawsBelow }
+{
+    laws_below();
+    hdlc_station_model::laws::releases_are_told();
+    hdlc_pair_laws::laws::loss_free_keeps();
+    sapdu::laws::lengths_of_spellings();
+}
+
+/// A line that only loses and repeats: what an end accepted is a prefix of what the other sent, whatever the keys.
+pub fn prefix()
+    ensures { Prefix }
+{
+    laws_below();
+}
+
 /// A line that only loses and repeats: the first frame that waits is one frame at the other end, and nothing besides.
 pub fn one_frame()
     ensures { OneFrame }
 {
-    er_settings::laws::allowed_are_bounded();
-    hdlc_station_model::laws::receives_give();
-    hdlc_station_model::laws::ticks_give();
-    hdlc_station_model::laws::others_keep();
-    hdlc_pair_laws::laws::calls_keep();
-    t70_header::laws::wrapping();
-    x224_tpdu::laws::writing();
-    x224_class2::laws::segments();
-    sapdu::laws::messages();
-    sapdu::laws::spelled_is_read();
-    sapdu::laws::lengths_of_spellings();
-    safety_automaton::laws::steps();
-    safety_automaton::laws::lengths();
-    cbc_mac::laws::mac_below();
+    laws_below();
 }
 
 /// A line that only loses and repeats, where the radio block centre finds the engine's KMAC: each release is 0.x, 1.1, 1.2, 1.4 or
@@ -50,20 +55,7 @@ pub fn one_frame()
 pub fn losing_line_reasons()
     ensures { LosingLineReasons }
 {
-    er_settings::laws::allowed_are_bounded();
-    hdlc_station_model::laws::receives_give();
-    hdlc_station_model::laws::ticks_give();
-    hdlc_station_model::laws::others_keep();
-    hdlc_pair_laws::laws::calls_keep();
-    t70_header::laws::wrapping();
-    x224_tpdu::laws::writing();
-    x224_class2::laws::segments();
-    sapdu::laws::messages();
-    sapdu::laws::spelled_is_read();
-    sapdu::laws::lengths_of_spellings();
-    safety_automaton::laws::steps();
-    safety_automaton::laws::lengths();
-    cbc_mac::laws::mac_below();
+    laws_below();
 }
 
 /// A loss-free line, where the radio block centre finds the engine's KMAC: once no frame waits and every accepted message was taken,
@@ -71,22 +63,7 @@ pub fn losing_line_reasons()
 pub fn delivery()
     ensures { Delivery }
 {
-    er_settings::laws::allowed_are_bounded();
-    hdlc_station_model::laws::receives_give();
-    hdlc_station_model::laws::ticks_give();
-    hdlc_station_model::laws::others_keep();
-    hdlc_station_model::laws::releases_are_told();
-    hdlc_pair_laws::laws::calls_keep();
-    hdlc_pair_laws::laws::loss_free_keeps();
-    t70_header::laws::wrapping();
-    x224_tpdu::laws::writing();
-    x224_class2::laws::segments();
-    sapdu::laws::messages();
-    sapdu::laws::spelled_is_read();
-    sapdu::laws::lengths_of_spellings();
-    safety_automaton::laws::steps();
-    safety_automaton::laws::lengths();
-    cbc_mac::laws::mac_below();
+    loss_free_laws_below();
 }
 
 /// A loss-free line, where the radio block centre finds the engine's KMAC: at most fourteen deliveries and four for each segment of the
@@ -95,44 +72,14 @@ pub fn delivery_bound()
     ensures bound { DeliveryBound }
     ensures drain { DrainEmpties }
 {
-    er_settings::laws::allowed_are_bounded();
-    hdlc_station_model::laws::receives_give();
-    hdlc_station_model::laws::ticks_give();
-    hdlc_station_model::laws::others_keep();
-    hdlc_station_model::laws::releases_are_told();
-    hdlc_pair_laws::laws::calls_keep();
-    hdlc_pair_laws::laws::loss_free_keeps();
-    t70_header::laws::wrapping();
-    x224_tpdu::laws::writing();
-    x224_class2::laws::segments();
-    sapdu::laws::messages();
-    sapdu::laws::spelled_is_read();
-    sapdu::laws::lengths_of_spellings();
-    safety_automaton::laws::steps();
-    safety_automaton::laws::lengths();
-    cbc_mac::laws::mac_below();
+    loss_free_laws_below();
 }
 
 /// A loss-free line, where the radio block centre finds the engine's KMAC: never more than 254 frames wait in one direction.
 pub fn few_wait()
     ensures { FewWait }
 {
-    er_settings::laws::allowed_are_bounded();
-    hdlc_station_model::laws::receives_give();
-    hdlc_station_model::laws::ticks_give();
-    hdlc_station_model::laws::others_keep();
-    hdlc_station_model::laws::releases_are_told();
-    hdlc_pair_laws::laws::calls_keep();
-    hdlc_pair_laws::laws::loss_free_keeps();
-    t70_header::laws::wrapping();
-    x224_tpdu::laws::writing();
-    x224_class2::laws::segments();
-    sapdu::laws::messages();
-    sapdu::laws::spelled_is_read();
-    sapdu::laws::lengths_of_spellings();
-    safety_automaton::laws::steps();
-    safety_automaton::laws::lengths();
-    cbc_mac::laws::mac_below();
+    loss_free_laws_below();
 }
 
 /// A loss-free line, where the radio block centre finds the engine's KMAC: the two safety sides are in step. Both know the same connection as
@@ -140,22 +87,7 @@ pub fn few_wait()
 pub fn in_step()
     ensures { InStep }
 {
-    er_settings::laws::allowed_are_bounded();
-    hdlc_station_model::laws::receives_give();
-    hdlc_station_model::laws::ticks_give();
-    hdlc_station_model::laws::others_keep();
-    hdlc_station_model::laws::releases_are_told();
-    hdlc_pair_laws::laws::calls_keep();
-    hdlc_pair_laws::laws::loss_free_keeps();
-    t70_header::laws::wrapping();
-    x224_tpdu::laws::writing();
-    x224_class2::laws::segments();
-    sapdu::laws::messages();
-    sapdu::laws::spelled_is_read();
-    sapdu::laws::lengths_of_spellings();
-    safety_automaton::laws::steps();
-    safety_automaton::laws::lengths();
-    cbc_mac::laws::mac_below();
+    loss_free_laws_below();
 }
 
 /// A line that only loses and repeats, where the radio block centre finds the engine's KMAC: a live end that knows session keys heard the CC of the
@@ -163,20 +95,7 @@ pub fn in_step()
 pub fn in_step_while_ordered()
     ensures { InStepWhileOrdered }
 {
-    er_settings::laws::allowed_are_bounded();
-    hdlc_station_model::laws::receives_give();
-    hdlc_station_model::laws::ticks_give();
-    hdlc_station_model::laws::others_keep();
-    hdlc_pair_laws::laws::calls_keep();
-    t70_header::laws::wrapping();
-    x224_tpdu::laws::writing();
-    x224_class2::laws::segments();
-    sapdu::laws::messages();
-    sapdu::laws::spelled_is_read();
-    sapdu::laws::lengths_of_spellings();
-    safety_automaton::laws::steps();
-    safety_automaton::laws::lengths();
-    cbc_mac::laws::mac_below();
+    laws_below();
 }
 
 /// Such a line: the first payload that the radio block centre took is the block of a CR with the AU1 of the engine, and the first that the engine
@@ -184,20 +103,7 @@ pub fn in_step_while_ordered()
 pub fn greets()
     ensures { Greets }
 {
-    er_settings::laws::allowed_are_bounded();
-    hdlc_station_model::laws::receives_give();
-    hdlc_station_model::laws::ticks_give();
-    hdlc_station_model::laws::others_keep();
-    hdlc_pair_laws::laws::calls_keep();
-    t70_header::laws::wrapping();
-    x224_tpdu::laws::writing();
-    x224_class2::laws::segments();
-    sapdu::laws::messages();
-    sapdu::laws::spelled_is_read();
-    sapdu::laws::lengths_of_spellings();
-    safety_automaton::laws::steps();
-    safety_automaton::laws::lengths();
-    cbc_mac::laws::mac_below();
+    laws_below();
 }
 
 /// Whatever a line that keeps its order lost and repeated, while no end was released, where the radio block centre finds the engine's KMAC: all that
@@ -208,19 +114,6 @@ pub fn recovery()
     ensures recovered { Recovery }
     ensures live { PassesRelease }
 {
-    er_settings::laws::allowed_are_bounded();
-    hdlc_station_model::laws::receives_give();
-    hdlc_station_model::laws::ticks_give();
-    hdlc_station_model::laws::others_keep();
-    hdlc_pair_laws::laws::calls_keep();
+    laws_below();
     hdlc_pair_laws::laws::mending_keeps();
-    t70_header::laws::wrapping();
-    x224_tpdu::laws::writing();
-    x224_class2::laws::segments();
-    sapdu::laws::messages();
-    sapdu::laws::spelled_is_read();
-    sapdu::laws::lengths_of_spellings();
-    safety_automaton::laws::steps();
-    safety_automaton::laws::lengths();
-    cbc_mac::laws::mac_below();
 }

@@ -1,32 +1,8 @@
-use Rattle.drill_laws.proofs.Tellings.{StationLaws}
-use Rattle.drill_laws.proofs.StackLaws.{StackLaws}
 use Rattle.drill_laws.proofs.OrderUnforged.{order_is_unforged}
 use Rattle.drill_laws.proofs.laws.order_is_unforged.Goals as goal
 
 pub returns : goal.returns
 returns c =
-    let stations : StationLaws = record {
-      frames_give = c.station_laws.ensures.frames;
-      ticks_give = c.station_laws.ensures.ticks;
-      hands_keep = c.station_laws.ensures.hands;
-      others_keep = c.station_laws.ensures.others;
-      releases = c.station_laws.ensures.releases;
-      finish = c.station_laws.ensures.finish;
-      inert = c.station_laws.ensures.inert;
-    } in
-    let stacks : StackLaws = record {
-      prefix = c.stack_laws.ensures.prefix;
-      one_frame = c.stack_laws.ensures.one_frame;
-      reasons = c.stack_laws.ensures.reasons;
-      in_step = c.stack_laws.ensures.in_step;
-      delivery = c.stack_laws.ensures.delivery;
-      deliveries_bound = c.stack_laws.ensures.deliveries_bound;
-      drain_empties = c.stack_laws.ensures.drain_empties;
-      only = c.stack_laws.ensures.only;
-      opens = c.stack_laws.ensures.opens;
-      calls = c.stack_laws.ensures.calls;
-      marks = c.stack_laws.ensures.marks;
-    } in
     λ plan steps fit allowed.
-    order_is_unforged stacks c.in_step_while_ordered.ensures c.histories.ensures.facts stations c.histories.ensures.grow c.histories.ensures.own
+    order_is_unforged c.stack_laws.ensures c.in_step_while_ordered.ensures c.histories.ensures.facts c.station_laws.ensures c.histories.ensures.grow c.histories.ensures.own
     c.histories.ensures.other plan steps fit allowed

@@ -2,77 +2,7 @@ use Rattle.er_end_pair_laws.proofs.Bounded.{delivery_bound, drain_empties}
 use Rattle.er_end_pair_laws.proofs.laws.delivery_bound.Goals as goal
 
 pub returns-clause-bound : goal.returns-clause-bound
-returns-clause-bound c =
-    delivery_bound (record {
-      below = record {
-        bounded = c.allowed_are_bounded.ensures;
-        keep = c.calls_keep.ensures.pair;
-        receives = c.calls_keep.ensures.receives;
-        ticks = c.calls_keep.ensures.ticks;
-        phases = c.calls_keep.ensures.phases;
-        received = c.receives_give.ensures;
-        ticked = c.ticks_give.ensures;
-        hands = c.others_keep.ensures.hands;
-        others = c.others_keep.ensures.others;
-        wrapped = c.wrapping.ensures;
-        reading = c.writing.ensures.read_back;
-        short = c.writing.ensures.short;
-        joined = c.segments.ensures.joined;
-        parts = c.segments.ensures.parts;
-        fit = c.segments.ensures.fit;
-        few = c.segments.ensures.few;
-        most = c.segments.ensures.most;
-        all = c.segments.ensures.all;
-        tested = c.messages.ensures;
-        spelled = c.lengths_of_spellings.ensures.few;
-        safety = record {
-          only = c.steps.ensures.only;
-          each = c.steps.ensures.each;
-          few = c.lengths.ensures.most;
-          back = c.spelled_is_read.ensures;
-          below = c.mac_below.ensures;
-        };
-      };
-      keep = c.loss_free_keeps.ensures.calls;
-      bounds = c.loss_free_keeps.ensures.bounds;
-      told = c.releases_are_told.ensures.calls;
-      lengths = c.lengths_of_spellings.ensures.kind;
-    })
+returns-clause-bound c = delivery_bound c.loss_free_laws_below.ensures
 
 pub returns-clause-drain : goal.returns-clause-drain
-returns-clause-drain c =
-    drain_empties (record {
-      below = record {
-        bounded = c.allowed_are_bounded.ensures;
-        keep = c.calls_keep.ensures.pair;
-        receives = c.calls_keep.ensures.receives;
-        ticks = c.calls_keep.ensures.ticks;
-        phases = c.calls_keep.ensures.phases;
-        received = c.receives_give.ensures;
-        ticked = c.ticks_give.ensures;
-        hands = c.others_keep.ensures.hands;
-        others = c.others_keep.ensures.others;
-        wrapped = c.wrapping.ensures;
-        reading = c.writing.ensures.read_back;
-        short = c.writing.ensures.short;
-        joined = c.segments.ensures.joined;
-        parts = c.segments.ensures.parts;
-        fit = c.segments.ensures.fit;
-        few = c.segments.ensures.few;
-        most = c.segments.ensures.most;
-        all = c.segments.ensures.all;
-        tested = c.messages.ensures;
-        spelled = c.lengths_of_spellings.ensures.few;
-        safety = record {
-          only = c.steps.ensures.only;
-          each = c.steps.ensures.each;
-          few = c.lengths.ensures.most;
-          back = c.spelled_is_read.ensures;
-          below = c.mac_below.ensures;
-        };
-      };
-      keep = c.loss_free_keeps.ensures.calls;
-      bounds = c.loss_free_keeps.ensures.bounds;
-      told = c.releases_are_told.ensures.calls;
-      lengths = c.lengths_of_spellings.ensures.kind;
-    })
+returns-clause-drain c = drain_empties c.loss_free_laws_below.ensures
