@@ -10,7 +10,7 @@ use Rattle.er_base.specs.Sides.{other}
 use Rattle.er_settings.specs.Values.{Settings}
 use Rattle.er_scenario.specs.declared.step.Step.{Step}
 use Rattle.des_block.specs.declared.triple_key.TripleKey.{TripleKey}
-use Rattle.safety_automaton.specs.Safety.{Safety, SafetyEvent, Received, DataRequest, SafetyOutcome, SentAu1, SentAu2, SentAu3, SentAr, ReceivedAr, AcceptedDt, SentDt, Refused, ReleasedLocally, ReleasedByPeer, NothingDone}
+use Rattle.safety_automaton.specs.Safety.{Safety, SafetyEvent, Received, DataRequest, SafetyOutcome, SentAu2, SentAu3, SentAr, ReceivedAr, AcceptedDt, SentDt}
 use Rattle.safety_automaton.specs.Rules.{IsStep, StepsOnly}
 use Rattle.safety_pair_laws.specs.Facts.{SideFact, MarkedFact, at_side, is_side, facts_of, marked}
 use Rattle.safety_pair_laws.specs.Openings.{PairOpening, Agrees, key_for}
@@ -46,7 +46,6 @@ use Rattle.drill_laws.proofs.Viewing.{IsView, IsFlow, pass_view, FitsLinkStep, F
 module _ (only : StepsOnly) where
   no_send : (s side : Side) (event : SafetyEvent) (octets : List ℕ) → event ≡ Received octets → (key_of : ℕ → ℕ → Option TripleKey) (side_of : Safety) (next : Safety)
       (outcome : SafetyOutcome) → IsStep key_of side_of event next outcome → sent_of s (map (at_side side) (facts_of event outcome)) ≡ []
-  no_send s side event octets is key_of x next (SentAu1 o) row = refl
   no_send E E event octets is key_of x next (SentAu2 session sealed o) row = refl
   no_send E R event octets is key_of x next (SentAu2 session sealed o) row = refl
   no_send R E event octets is key_of x next (SentAu2 session sealed o) row = refl
@@ -71,10 +70,7 @@ module _ (only : StepsOnly) where
     where
       not_both : (octets user : List ℕ) → Received octets ≡ DataRequest user → ⊥
       not_both octets user e = cc
-  no_send s side event octets is key_of x next (Refused refusal) row = refl
-  no_send s side event octets is key_of x next (ReleasedLocally release o) row = refl
-  no_send s side event octets is key_of x next (ReleasedByPeer release) row = refl
-  no_send s side event octets is key_of x next NothingDone row = refl
+  no_send s side event octets is key_of x next _ row = refl
 
   -- the greatest number of deliveries stays as it is
   abbrev most_of : PairOpening → Flow → ℕ

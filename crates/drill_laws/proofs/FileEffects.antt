@@ -12,7 +12,7 @@ use Rattle.er_scenario.specs.declared.step.Step.TheVariants as does
 use Rattle.safety_automaton.specs.Rules.{StepsOnly}
 use Rattle.safety_pair_laws.specs.Facts.{Fact, Sent, Sealed, Verified, Connected, Accepted, is_side}
 use Rattle.safety_pair_laws.specs.Messages as pair
-use Rattle.drill_model.specs.Outcomes.{DrillOutcome, OfSafety, Handed, Arrived, Up, Took, NothingToTake, Refused, Released, Frame, Expired, UserReleased, Passed, Lost, Repeated, Altered, Inserted, NothingWaits, IsShort, Occurrence}
+use Rattle.drill_model.specs.Outcomes.{DrillOutcome, OfSafety, Occurrence}
 use Rattle.drill_model.specs.Links.{Link, waiting_of, Pass, link_step}
 use Rattle.drill_model.specs.Worlds.{DrillPlan, World, Came, link_at, history_on, world_step, world_run}
 use Rattle.drill_model.specs.Kinds.{sent_in, sent_by, is_disorder, is_disturbance}
@@ -26,14 +26,7 @@ use Rattle.drill_laws.proofs.WorldEffects.{brought, step_effects, step_closed}
 
 abbrev sends_in : Effect → List (List ℕ)
 sends_in (Sends octets) = octets ∷ []
-sends_in IsRefused = []
-sends_in (Passes frame) = []
-sends_in Loses = []
-sends_in Repeats = []
-sends_in Alters = []
-sends_in Inserts = []
-sends_in (Releases sub) = []
-sends_in Expires = []
+sends_in _ = []
 
 abbrev sent_at : Side → Side × Effect → List (List ℕ)
 sent_at side e = if is_side side e.0 then sends_in e.1 else []
@@ -50,23 +43,7 @@ fact_sends (Accepted heard user key text) = refl
 
 outcome_sends : (o : DrillOutcome) → sent_in o ≡ flat_map sends_in (effect_in o)
 outcome_sends (OfSafety fact) = fact_sends fact
-outcome_sends (Handed payload) = refl
-outcome_sends (Arrived payload) = refl
-outcome_sends Up = refl
-outcome_sends (Took message) = refl
-outcome_sends NothingToTake = refl
-outcome_sends (Refused refusal) = refl
-outcome_sends (Released release) = refl
-outcome_sends (Frame octets) = refl
-outcome_sends Expired = refl
-outcome_sends (UserReleased sub) = refl
-outcome_sends (Passed octets) = refl
-outcome_sends Lost = refl
-outcome_sends Repeated = refl
-outcome_sends Altered = refl
-outcome_sends Inserted = refl
-outcome_sends NothingWaits = refl
-outcome_sends (IsShort found) = refl
+outcome_sends _ = refl
 
 occurrence_sends : (s side : Side) (es : List Effect) → (if is_side s side then flat_map sends_in es else []) ≡ sends_by s (map (λ e. (side, e)) es)
 occurrence_sends s side [] = none (is_side s side) []
@@ -100,73 +77,27 @@ module _ (f : DrillOutcome → Bool) (g : Effect → Bool) (same : (o : DrillOut
       ∙ sym (list_any-append (λ (e : Side × Effect). g e.1) (map (λ e. (o.side, e)) (effect_in o.outcome)) (effects_in history))
 
 abbrev upsets : Effect → Bool
-upsets (Sends octets) = false
-upsets IsRefused = false
-upsets (Passes frame) = false
-upsets Loses = false
-upsets Repeats = false
 upsets Alters = true
 upsets Inserts = true
-upsets (Releases sub) = false
-upsets Expires = false
+upsets _ = false
 
 abbrev troubles : Effect → Bool
 troubles (Sends octets) = false
 troubles IsRefused = false
 troubles (Passes frame) = false
-troubles Loses = true
-troubles Repeats = true
-troubles Alters = true
-troubles Inserts = true
-troubles (Releases sub) = true
-troubles Expires = true
+troubles _ = true
 
 no_fact : (g : Effect → Bool) → ((octets : List ℕ) → g (Sends octets) ≡ false) → (fact : Fact) → false ≡ list_any g (effect_of fact)
 no_fact g sends (Sent user key text) = sym (ap (λ (b : Bool). b || false) (sends user))
-no_fact g sends (Sealed key text) = refl
-no_fact g sends (Verified heard key text) = refl
-no_fact g sends (Connected heard connection text) = refl
-no_fact g sends (Accepted heard user key text) = refl
+no_fact g sends _ = refl
 
 outcome_upsets : (o : DrillOutcome) → is_disorder o ≡ list_any upsets (effect_in o)
 outcome_upsets (OfSafety fact) = no_fact upsets (λ octets. refl) fact
-outcome_upsets (Handed payload) = refl
-outcome_upsets (Arrived payload) = refl
-outcome_upsets Up = refl
-outcome_upsets (Took message) = refl
-outcome_upsets NothingToTake = refl
-outcome_upsets (Refused refusal) = refl
-outcome_upsets (Released release) = refl
-outcome_upsets (Frame octets) = refl
-outcome_upsets Expired = refl
-outcome_upsets (UserReleased sub) = refl
-outcome_upsets (Passed octets) = refl
-outcome_upsets Lost = refl
-outcome_upsets Repeated = refl
-outcome_upsets Altered = refl
-outcome_upsets Inserted = refl
-outcome_upsets NothingWaits = refl
-outcome_upsets (IsShort found) = refl
+outcome_upsets _ = refl
 
 outcome_troubles : (o : DrillOutcome) → is_disturbance o ≡ list_any troubles (effect_in o)
 outcome_troubles (OfSafety fact) = no_fact troubles (λ octets. refl) fact
-outcome_troubles (Handed payload) = refl
-outcome_troubles (Arrived payload) = refl
-outcome_troubles Up = refl
-outcome_troubles (Took message) = refl
-outcome_troubles NothingToTake = refl
-outcome_troubles (Refused refusal) = refl
-outcome_troubles (Released release) = refl
-outcome_troubles (Frame octets) = refl
-outcome_troubles Expired = refl
-outcome_troubles (UserReleased sub) = refl
-outcome_troubles (Passed octets) = refl
-outcome_troubles Lost = refl
-outcome_troubles Repeated = refl
-outcome_troubles Altered = refl
-outcome_troubles Inserted = refl
-outcome_troubles NothingWaits = refl
-outcome_troubles (IsShort found) = refl
+outcome_troubles _ = refl
 
 -- ---- some elements of a list
 
@@ -240,9 +171,6 @@ clash m n b differs e = let same : (m == n) ≡ true = eq-eqb m n e in let f : t
 
 -- a step that doesn't alter or insert
 orderly_step : (w : World) (n : ℕ) (l : Link) (s : Step) (effects : Effects) → HasEffects w n l s effects → disorders n s ≡ false → Quiet upsets effects
-orderly_step w n l (does.Fixed m engine rbc ke kr) effects h none = subst (Quiet upsets) (sym h) refl
-orderly_step w n l (does.Link m engine rbc ke kr ra rb) effects h none = subst (Quiet upsets) (sym h) refl
-orderly_step w n l (does.Wire m) effects h none = subst (Quiet upsets) (sym h) refl
 orderly_step w n l (does.Send m s text) effects h none =
     at_or_none (Quiet upsets) m n effects _ h refl (λ e is. quiet_either upsets effects ((s, Sends text) ∷ []) ((s, IsRefused) ∷ []) is refl refl)
 orderly_step w n l (does.Pass m s) effects h none = of_these (Quiet upsets) m n effects _ h refl (quiet_first upsets s Passes (λ frame. refl) (waiting_of l s))
@@ -251,35 +179,20 @@ orderly_step w n l (does.Repeat m s) effects h none = of_these (Quiet upsets) m 
 orderly_step w n l (does.Alter m s place mask) effects h none = at_or_none (Quiet upsets) m n effects _ h refl (λ e is. absurd (clash m n true none e))
 orderly_step w n l (does.Put m s text) effects h none = at_or_none (Quiet upsets) m n effects _ h refl (λ e is. absurd (clash m n true none e))
 orderly_step w n l (does.Copy m s k t) effects h none = at_or_none (Quiet upsets) k n effects _ h refl (λ e is. absurd (clash k n true none e))
-orderly_step w n l (does.Take m s) effects h none = subst (Quiet upsets) (sym h) refl
 orderly_step w n l (does.Release m s sub) effects h none = of_these (Quiet upsets) m n effects _ h refl refl
 orderly_step w n l (does.Tick moment) effects h none = quiet_at_tick upsets (nat_lt moment w.moment) moment l effects h (λ ran. refl) (λ ran. refl)
 orderly_step w n l (does.Drain m most) effects h none =
     at_or_none (Quiet upsets) m n effects _ h refl (λ e d. subst (Quiet upsets) (sym d.are) (quiet_passes upsets (λ frame. refl) l d.sides))
+orderly_step w n l _ effects h none = subst (Quiet upsets) (sym h) refl
 
 -- at a tick of the file no timer had run out
 abbrev Keeps : Step → Link → Type 0
-Keeps (does.Fixed m engine rbc ke kr) l = Unit {0}
-Keeps (does.Link m engine rbc ke kr ra rb) l = Unit {0}
-Keeps (does.Wire m) l = Unit {0}
-Keeps (does.Send m s text) l = Unit {0}
-Keeps (does.Pass m s) l = Unit {0}
-Keeps (does.Lose m s) l = Unit {0}
-Keeps (does.Repeat m s) l = Unit {0}
-Keeps (does.Alter m s place mask) l = Unit {0}
-Keeps (does.Put m s text) l = Unit {0}
-Keeps (does.Copy m s k t) l = Unit {0}
-Keeps (does.Take m s) l = Unit {0}
-Keeps (does.Release m s sub) l = Unit {0}
 Keeps (does.Tick moment) l = (HasRunOut (max l.moment moment) l.e → ⊥) × (HasRunOut (max l.moment moment) l.r → ⊥)
-Keeps (does.Drain m most) l = Unit {0}
+Keeps _ l = Unit {0}
 
 -- one that doesn't disturb either
 gentle_step : (w : World) (n : ℕ) (l : Link) (s : Step) (effects : Effects) → HasEffects w n l s effects → disorders n s ≡ false → disturbs n s ≡ false → Keeps s l
     → Quiet troubles effects
-gentle_step w n l (does.Fixed m engine rbc ke kr) effects h none calm keeps = subst (Quiet troubles) (sym h) refl
-gentle_step w n l (does.Link m engine rbc ke kr ra rb) effects h none calm keeps = subst (Quiet troubles) (sym h) refl
-gentle_step w n l (does.Wire m) effects h none calm keeps = subst (Quiet troubles) (sym h) refl
 gentle_step w n l (does.Send m s text) effects h none calm keeps =
     at_or_none (Quiet troubles) m n effects _ h refl (λ e is. quiet_either troubles effects ((s, Sends text) ∷ []) ((s, IsRefused) ∷ []) is refl refl)
 gentle_step w n l (does.Pass m s) effects h none calm keeps = of_these (Quiet troubles) m n effects _ h refl (quiet_first troubles s Passes (λ frame. refl) (waiting_of l s))
@@ -288,12 +201,12 @@ gentle_step w n l (does.Repeat m s) effects h none calm keeps = at_or_none (Quie
 gentle_step w n l (does.Alter m s place mask) effects h none calm keeps = at_or_none (Quiet troubles) m n effects _ h refl (λ e is. absurd (clash m n true none e))
 gentle_step w n l (does.Put m s text) effects h none calm keeps = at_or_none (Quiet troubles) m n effects _ h refl (λ e is. absurd (clash m n true none e))
 gentle_step w n l (does.Copy m s k t) effects h none calm keeps = at_or_none (Quiet troubles) k n effects _ h refl (λ e is. absurd (clash k n true none e))
-gentle_step w n l (does.Take m s) effects h none calm keeps = subst (Quiet troubles) (sym h) refl
 gentle_step w n l (does.Release m s sub) effects h none calm keeps = at_or_none (Quiet troubles) m n effects _ h refl (λ e is. absurd (clash m n true calm e))
 gentle_step w n l (does.Tick moment) effects h none calm keeps =
     quiet_at_tick troubles (nat_lt moment w.moment) moment l effects h (λ ran. absurd (keeps.0 ran)) (λ ran. absurd (keeps.1 ran))
 gentle_step w n l (does.Drain m most) effects h none calm keeps =
     at_or_none (Quiet troubles) m n effects _ h refl (λ e d. subst (Quiet troubles) (sym d.are) (quiet_passes troubles (λ frame. refl) l d.sides))
+gentle_step w n l _ effects h none calm keeps = subst (Quiet troubles) (sym h) refl
 
 -- ---- sends
 
@@ -360,9 +273,6 @@ module _ (side : Side) where
       by_side R R = TakesIn text [] [] Nothing
 
   step_tells : (w : World) (n : ℕ) (l : Link) (s : Step) (effects : Effects) → HasEffects w n l s effects → Tells (texts_sent_by_step n side s) effects
-  step_tells w n l (does.Fixed m engine rbc ke kr) effects h = mute_tells [] effects (subst Mute (sym h) refl)
-  step_tells w n l (does.Link m engine rbc ke kr ra rb) effects h = mute_tells [] effects (subst Mute (sym h) refl)
-  step_tells w n l (does.Wire m) effects h = mute_tells [] effects (subst Mute (sym h) refl)
   step_tells w n l (does.Send m s text) effects h =
       let texts : List (List ℕ) = texts_sent_by_step n side (does.Send m s text) in
       at_or_none (Tells texts) m n effects _ h (none_of texts)
@@ -377,11 +287,11 @@ module _ (side : Side) where
   step_tells w n l (does.Alter m s place mask) effects h = mute_tells [] effects (of_these Mute m n effects _ h refl (mute_alter s place mask (waiting_of l s)))
   step_tells w n l (does.Put m s text) effects h = mute_tells [] effects (of_these Mute m n effects _ h refl (mute_one s Inserts refl))
   step_tells w n l (does.Copy m s k t) effects h = mute_tells [] effects (of_these Mute k n effects _ h refl (mute_copy (link_at w m) s t))
-  step_tells w n l (does.Take m s) effects h = mute_tells [] effects (subst Mute (sym h) refl)
   step_tells w n l (does.Release m s sub) effects h = mute_tells [] effects (of_these Mute m n effects _ h refl (mute_one s (Releases sub) refl))
   step_tells w n l (does.Tick moment) effects h = mute_tells [] effects (mute_tick (nat_lt moment w.moment) moment l effects h)
   step_tells w n l (does.Drain m most) effects h =
       mute_tells [] effects (at_or_none Mute m n effects _ h refl (λ e d. subst Mute (sym d.are) (mute_passes l d.sides)))
+  step_tells w n l _ effects h = mute_tells [] effects (subst Mute (sym h) refl)
 
 -- ---- a list of steps
 
@@ -475,19 +385,7 @@ module _ (only : StepsOnly) (facts : FactsGrow) (grow : HistoryGrows) (own : His
   keeps_at : (plan : DrillPlan) (steps : List Step) (n : ℕ) → NoneRunsOut plan steps n → (early : List Step) (s : Step) (late : List Step) → steps ≡ early ++ s ∷ late
       → (l : Link) → link_at (world plan early) n ≡ Some l → Keeps s l
   keeps_at plan steps n none early (does.Tick moment) late split l is = none early late moment l split is
-  keeps_at plan steps n none early (does.Fixed m engine rbc ke kr) late split l is = tt
-  keeps_at plan steps n none early (does.Link m engine rbc ke kr ra rb) late split l is = tt
-  keeps_at plan steps n none early (does.Wire m) late split l is = tt
-  keeps_at plan steps n none early (does.Send m s text) late split l is = tt
-  keeps_at plan steps n none early (does.Pass m s) late split l is = tt
-  keeps_at plan steps n none early (does.Lose m s) late split l is = tt
-  keeps_at plan steps n none early (does.Repeat m s) late split l is = tt
-  keeps_at plan steps n none early (does.Alter m s place mask) late split l is = tt
-  keeps_at plan steps n none early (does.Put m s text) late split l is = tt
-  keeps_at plan steps n none early (does.Copy m s k t) late split l is = tt
-  keeps_at plan steps n none early (does.Take m s) late split l is = tt
-  keeps_at plan steps n none early (does.Release m s sub) late split l is = tt
-  keeps_at plan steps n none early (does.Drain m most) late split l is = tt
+  keeps_at plan steps n none early _ late split l is = tt
 
   pub quiet_is_loss_free : (plan : DrillPlan) (steps : List Step) → QuietIsLossFree plan steps
   quiet_is_loss_free plan steps n l is none keeps agree =

@@ -15,9 +15,7 @@ use Rattle.drill_laws.proofs.Worlds.{OpensFit, StepFits}
 fixed_fits : (grow : FactsGrow) (l : Level) (engine rbc : ℕ) (ke kr : TripleKey) → engine < 2 ^ 24 → rbc < 2 ^ 24
     → OpensFit (FitsLinkOpening grow) (fixed_opening l engine rbc ke kr)
 fixed_fits grow level.Safe engine rbc ke kr e r = (e, r)
-fixed_fits grow level.Link engine rbc ke kr e r = tt
-fixed_fits grow level.LinkSr engine rbc ke kr e r = tt
-fixed_fits grow level.Full engine rbc ke kr e r = tt
+fixed_fits grow _ engine rbc ke kr e r = tt
 
 link_fits : (grow : FactsGrow) (l : Level) (engine rbc : ℕ) (ke : TripleKey) (kr : Option TripleKey) (ra rb : ℕ) → engine < 2 ^ 24 → rbc < 2 ^ 24 → ra < 2 ^ 64 → rb < 2 ^ 64
     → OpensFit (FitsLinkOpening grow) (link_opening l engine rbc ke kr ra rb)
@@ -37,16 +35,7 @@ step_fits grow plan (does.Fixed n engine rbc ke kr) fit = fixed_fits grow plan.l
 step_fits grow plan (does.Link n engine rbc ke kr ra rb) fit = link_fits grow plan.level engine rbc ke kr ra rb fit.0.0 fit.0.1 fit.1.0 fit.1.1
 step_fits grow plan (does.Wire n) fit = wire_fits grow plan.level
 step_fits grow plan (does.Send n s text) fit = fit.1
-step_fits grow plan (does.Pass n s) fit = tt
-step_fits grow plan (does.Lose n s) fit = tt
-step_fits grow plan (does.Repeat n s) fit = tt
-step_fits grow plan (does.Alter n s place mask) fit = tt
-step_fits grow plan (does.Put n s text) fit = tt
-step_fits grow plan (does.Copy n s m t) fit = tt
-step_fits grow plan (does.Take n s) fit = tt
-step_fits grow plan (does.Release n s sub) fit = tt
-step_fits grow plan (does.Tick moment) fit = tt
-step_fits grow plan (does.Drain n most) fit = tt
+step_fits grow plan _ fit = tt
 
 pub steps_fit : (grow : FactsGrow) (plan : DrillPlan) (steps : List Step) → AllFit steps → AllByRecursion (StepFits (FitsLinkOpening grow) (FitsLinkStep grow) plan) steps
 steps_fit grow plan [] fit = tt

@@ -19,7 +19,7 @@ use Rattle.er_end_model.specs.Outcomes as stack
 use Rattle.er_end_model.specs.Ends.{End as Stack, hears_each, finds_expired}
 use Rattle.er_end_model.specs.Giving.{FrameGives, EventsGive}
 use Rattle.er_end_model.specs.Outcomes.{SendRefusal}
-use Rattle.drill_model.specs.Outcomes.{DrillOutcome, OfSafety, Handed, Arrived, Up, Took, NothingToTake, Refused, Released, Frame, Expired, UserReleased, Passed, Lost, Repeated, Altered, Inserted, NothingWaits, IsShort}
+use Rattle.drill_model.specs.Outcomes.{DrillOutcome, OfSafety, Handed, Arrived, Up, Took, NothingToTake, Refused, Released, Frame, Expired}
 use Rattle.drill_model.specs.StationEnds.{if_up, if_arrived, all_arrived, if_released, outcomes_told_by_station, station_and_told, frames_heard, handed_unless, if_expired}
 use Rattle.drill_model.specs.StationEnds as on_station
 use Rattle.drill_model.specs.StackEnds.{facts_told, outcomes_told_by_stack, stack_told, told_unless, told_of_take}
@@ -43,23 +43,7 @@ all_implied P Q by (x ∷ xs) h = (by x h.0, all_implied P Q by xs h.1)
 -- the octets that an outcome says were heard
 abbrev pub heard_told : DrillOutcome → Option (List ℕ)
 heard_told (OfSafety fact) = heard_by fact
-heard_told (Handed payload) = None
-heard_told (Arrived payload) = None
-heard_told Up = None
-heard_told (Took message) = None
-heard_told NothingToTake = None
-heard_told (Refused refusal) = None
-heard_told (Released release) = None
-heard_told (Frame octets) = None
-heard_told Expired = None
-heard_told (UserReleased sub) = None
-heard_told (Passed octets) = None
-heard_told Lost = None
-heard_told Repeated = None
-heard_told Altered = None
-heard_told Inserted = None
-heard_told NothingWaits = None
-heard_told (IsShort found) = None
+heard_told _ = None
 
 -- an outcome is no pass, and the octets that it says were heard are such
 abbrev pub Hears : (List ℕ → Type 0) → DrillOutcome → Type 0
@@ -149,10 +133,7 @@ module _ (P : List ℕ → Type 0) where
 -- ---- a step of a safety side: what its facts say was heard, the event gave it
 
 told_received : (event : SafetyEvent) (octets heard : List ℕ) → event ≡ Received octets → Some (heard_in event) ≡ Some heard → event ≡ Received heard
-told_received ConnectRequest octets heard is e = cc
-told_received (Received own) octets heard is e = cc
-told_received (DataRequest user) octets heard is e = cc
-told_received (DisconnectRequest sub) octets heard is e = cc
+told_received _ octets heard is e = cc
 
 abbrev IsGot : SafetyEvent → List ℕ → Type 0
 IsGot event heard = event ≡ Received heard
@@ -193,19 +174,12 @@ facts_hear key_of s t next (SentAr connection verified sealed octets) is r = (
 facts_hear key_of s t next (ReceivedAr connection verified) is r = ((refl, λ heard e. told_received t.event r.received.octets heard r.received.event_is e), tt)
 facts_hear key_of s t next (AcceptedDt session user verified) is r = ((refl, λ heard e. told_received t.event r.received.octets heard r.received.event_is e), tt)
 facts_hear key_of s t next (SentDt session user sealed octets) is r = (silent (IsGot t.event) (OfSafety (Sent user session sealed)) refl refl, tt)
-facts_hear key_of s t next (safety.Refused refusal) is r = tt
-facts_hear key_of s t next (ReleasedLocally release octets) is r = tt
-facts_hear key_of s t next (ReleasedByPeer release) is r = tt
-facts_hear key_of s t next NothingDone is r = tt
+facts_hear key_of s t next _ is r = tt
 
 -- an event that isn't the coming of octets
 abbrev pub IsNoReceive : EndEvent → Type 0
-IsNoReceive Start = Unit {0}
 IsNoReceive (Receive octets) = ⊥
-IsNoReceive (Send octets) = Unit {0}
-IsNoReceive Take = Unit {0}
-IsNoReceive (Leave sub) = Unit {0}
-IsNoReceive Tick = Unit {0}
+IsNoReceive _ = Unit {0}
 
 -- the stream of a stack is all octets that it was given
 abbrev pub StreamIs : EndAtLevel → List ℕ → Type 0

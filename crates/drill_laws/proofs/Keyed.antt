@@ -113,9 +113,6 @@ module _ (k : Numbers) where
     sent = subst (AllByRecursion (λ user. IsSealed (key k) (text_e k user) (seen ++ []))) (sym none) tt;
   }
 
-  peer_flag_at : (s : Safety) (role : Role) → s.role ≡ role → flag_of (other_role s.role) ≡ flag_of (other_role role)
-  peer_flag_at s role is = ap (λ (r : Role). flag_of (other_role r)) is
-
   abbrev e_news : List MarkedFact → SafetyEvent → SafetyOutcome → List MarkedFact
   e_news seen event outcome = marked_from seen (map (at_side E) (facts_of event outcome))
 

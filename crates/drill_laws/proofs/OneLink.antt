@@ -189,26 +189,16 @@ module _ (grow : HistoryGrows) (own : HistoryOfOwn) (other : HistoryOfOther) whe
 
     module _ (P : Link → List Occurrence → Type 0) (passes : KeptByPasses P) (takes : KeptByTakes P) where
       one_given : (plan : DrillPlan) (steps : List Step) (s : Step) (n : ℕ) → IsPassOrTake n s → At P plan steps n → At P plan (steps ++ s ∷ []) n
-      one_given plan steps (does.Fixed m engine rbc ke kr) n is h = absurd is
-      one_given plan steps (does.Link m engine rbc ke kr ra rb) n is h = absurd is
-      one_given plan steps (does.Wire m) n is h = absurd is
-      one_given plan steps (does.Send m s text) n is h = absurd is
       one_given plan steps (does.Pass m s) n is h =
           goes_on P plan steps (does.Pass m s) n h.link (link_step h.link (Pass s)) h.is (leads_at (world_run plan steps).0 m n h.link (Pass s) is h.is)
           (passes h.link (history_on n (world_run plan steps).1) s h.holds)
-      one_given plan steps (does.Lose m s) n is h = absurd is
-      one_given plan steps (does.Repeat m s) n is h = absurd is
-      one_given plan steps (does.Alter m s place mask) n is h = absurd is
-      one_given plan steps (does.Put m s text) n is h = absurd is
-      one_given plan steps (does.Copy m s i t) n is h = absurd is
       one_given plan steps (does.Take m s) n is h =
           goes_on P plan steps (does.Take m s) n h.link (link_step h.link (Take s)) h.is (leads_at (world_run plan steps).0 m n h.link (Take s) is h.is)
           (takes h.link (history_on n (world_run plan steps).1) s h.holds)
-      one_given plan steps (does.Release m s sub) n is h = absurd is
-      one_given plan steps (does.Tick moment) n is h = absurd is
       one_given plan steps (does.Drain m most) n is h =
           goes_on P plan steps (does.Drain m most) n h.link ((drain most h.link).link, (drain most h.link).came) h.is (drain_leads_at (world_run plan steps).0 m n most h.link is h.is)
           (drain_keeps P passes most h.link (history_on n (world_run plan steps).1) h.holds)
+      one_given plan steps _ n is h = absurd is
 
       all_given : (plan : DrillPlan) (before steps : List Step) (n : ℕ) → ArePassesAndTakes n steps → At P plan before n → At P plan (before ++ steps) n
       all_given plan before [] n are h = subst (λ (xs : List Step). At P plan xs n) (sym (append-nil before)) h

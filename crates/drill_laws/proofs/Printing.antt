@@ -5,7 +5,7 @@ use Rattle.std.specs.List.{flat_map, AllByRecursion}
 use Rattle.std.proofs.lemmas.Bool.{cases_eq, eq-eqb, ne_eqb, cond_both}
 use Rattle.er_base.specs.declared.release.Release.{Release}
 use Rattle.des_block.specs.declared.triple_key.TripleKey.{TripleKey}
-use Rattle.safety_automaton.specs.Safety.{Safety, SafetyEvent, SafetyOutcome, SentAu1, SentAu2, SentAu3, SentAr, ReceivedAr, AcceptedDt, SentDt, Refused, ReleasedLocally, ReleasedByPeer, NothingDone, step}
+use Rattle.safety_automaton.specs.Safety.{Safety, SafetyEvent, SafetyOutcome, SentAr, ReleasedLocally, step}
 use Rattle.safety_pair_laws.specs.Facts.{SideFact, MarkedFact, heard_in, marked, marked_from}
 use Rattle.safety_pair_laws.specs.Marks.{MarksGrow}
 use Rattle.hdlc_frames.specs.Framing.{Verdict}
@@ -95,17 +95,9 @@ module _ (marks_grow : MarksGrow) (grow : HistoryGrows) (facts_grow : FactsGrow)
 -- ---- the order of lines
 
 rising_outcomes : (heard : List ℕ) (outcome : SafetyOutcome) → IsRising (flat_map place_of (outcomes_by heard outcome))
-rising_outcomes heard (SentAu1 octets) = tt
-rising_outcomes heard (SentAu2 session sealed octets) = tt
-rising_outcomes heard (SentAu3 session verified sealed octets) = tt
 rising_outcomes heard (SentAr connection verified sealed octets) = (omega arith, tt)
-rising_outcomes heard (ReceivedAr connection verified) = tt
-rising_outcomes heard (AcceptedDt session user verified) = tt
-rising_outcomes heard (SentDt session user sealed octets) = tt
-rising_outcomes heard (Refused refusal) = tt
 rising_outcomes heard (ReleasedLocally release octets) = (omega arith, tt)
-rising_outcomes heard (ReleasedByPeer release) = tt
-rising_outcomes heard NothingDone = tt
+rising_outcomes heard _ = tt
 
 rising_safe : (key_of : ℕ → ℕ → Option TripleKey) (s : Safety) (event : Option SafetyEvent) → IsRising (flat_map place_of (safe_end_step key_of s event).1)
 rising_safe key_of s None = tt

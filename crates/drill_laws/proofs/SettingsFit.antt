@@ -22,10 +22,8 @@ Fit settings (Some opening) = FitsSettings settings opening
 
 -- they are in their ranges
 pub all_allowed : (l : Level) (settings : Settings) → FitsLevel l settings → AllAllowed settings
-all_allowed level.Safe settings fits = fits
-all_allowed level.Link settings fits = fits
 all_allowed level.LinkSr settings fits = fits.0
-all_allowed level.Full settings fits = fits
+all_allowed _ settings fits = fits
 
 fixed_fit : (l : Level) (settings : Settings) (engine rbc : ℕ) (ke kr : TripleKey) → Fit settings (fixed_opening l engine rbc ke kr)
 fixed_fit level.Safe settings engine rbc ke kr = tt
@@ -35,10 +33,8 @@ fixed_fit level.LinkSr settings engine rbc ke kr = tt
 
 link_fit : (l : Level) (settings : Settings) (engine rbc : ℕ) (ke : TripleKey) (kr : Option TripleKey) (ra rb : ℕ) → AllAllowed settings
     → Fit settings (link_opening l engine rbc ke kr ra rb)
-link_fit level.Safe settings engine rbc ke kr ra rb allowed = tt
-link_fit level.Link settings engine rbc ke kr ra rb allowed = tt
 link_fit level.Full settings engine rbc ke kr ra rb allowed = allowed
-link_fit level.LinkSr settings engine rbc ke kr ra rb allowed = tt
+link_fit _ settings engine rbc ke kr ra rb allowed = tt
 
 wire_fit : (l : Level) (settings : Settings) → FitsLevel l settings → Fit settings (wire_opening l)
 wire_fit level.Safe settings fits = tt
@@ -60,17 +56,7 @@ step_fit plan n (does.Link m engine rbc ke kr ra rb) fits =
     named_fit plan.settings n m (link_opening plan.level engine rbc ke kr ra rb) (link_fit plan.level plan.settings engine rbc ke kr ra rb (all_allowed plan.level plan.settings fits))
 step_fit plan n (does.Wire m) fits =
     named_fit plan.settings n m (wire_opening plan.level) (wire_fit plan.level plan.settings fits)
-step_fit plan n (does.Send m s text) fits = tt
-step_fit plan n (does.Pass m s) fits = tt
-step_fit plan n (does.Lose m s) fits = tt
-step_fit plan n (does.Repeat m s) fits = tt
-step_fit plan n (does.Alter m s place mask) fits = tt
-step_fit plan n (does.Put m s text) fits = tt
-step_fit plan n (does.Copy m s i t) fits = tt
-step_fit plan n (does.Take m s) fits = tt
-step_fit plan n (does.Release m s sub) fits = tt
-step_fit plan n (does.Tick moment) fits = tt
-step_fit plan n (does.Drain m most) fits = tt
+step_fit plan n _ fits = tt
 
 either_fit : (settings : Settings) (first later : Option LinkOpening) → Fit settings first → Fit settings later → Fit settings (or_opening first later)
 either_fit settings None later of_first of_later = of_later

@@ -1,5 +1,5 @@
 -- What an event at a stack tells as one step of its safety side, or as none: its facts, and what was sent and accepted by it.
-use Rattle.std.proofs.Common.{◌≡◌, ℕ, suc, zero, if◌then◌else◌, true, false, Bool, List, [], ◌∷◌, ◌++◌, length, map, refl, sym, ap₂, subst, ◌∙◌, append-nil}
+use Rattle.std.proofs.Common.{◌≡◌, ℕ, suc, zero, if◌then◌else◌, true, false, Bool, List, [], ◌++◌, map, refl, ap₂, subst, ◌∙◌, append-nil}
 use Rattle.std.specs.Prelude.{Option, Some, None, is_some}
 use Rattle.std.specs.List.{flat_map}
 use Rattle.std.specs.Option.{option_to_list}
@@ -9,7 +9,6 @@ use Rattle.er_base.specs.declared.side.Side.{Side}
 use Rattle.er_base.specs.declared.cause.Cause.TheVariants.{SetUpTimeSpent}
 use Rattle.er_base.specs.Causes.{release_of}
 use Rattle.des_block.specs.declared.triple_key.TripleKey.{TripleKey}
-use Rattle.hdlc_frames.specs.Framing.{Verdict}
 use Rattle.x224_class2.specs.Tpdus.{Dr}
 use Rattle.safety_automaton.specs.Safety.{Safety}
 use Rattle.safety_pair_laws.specs.Facts.{Fact, SideFact, at_side, facts_of}
@@ -17,15 +16,14 @@ use Rattle.safety_pair_laws.specs.Openings.{PairOpening}
 use Rattle.hdlc_station_model.specs.Events.{said_octets}
 use Rattle.er_end_model.specs.Outcomes.{SendRefusal}
 use Rattle.er_end_model.specs.Layers.{Spoken, Core, model}
-use Rattle.er_end_model.specs.Steps.{new_event_at, with_release, hand_tpdu, close_link, send_owed_answer, send_dr, hand_next_tpdu, has_next_tpdu, hand_waiting_tpdus, most_offers, conclude_event, step_start, step_frame, refusal_of, step_send_unless, step_take, is_spent, di_of, on_expiry, step_tick, normal_disconnect}
-use Rattle.er_end_model.specs.Ends.{hears_each}
+use Rattle.er_end_model.specs.Steps.{new_event_at, with_release, hand_tpdu, close_link, send_owed_answer, send_dr, hand_next_tpdu, has_next_tpdu, hand_waiting_tpdus, most_offers, conclude_event, step_start, step_send_unless, is_spent, di_of, on_expiry, step_tick, normal_disconnect}
 use Rattle.drill_model.specs.Outcomes.{DrillOutcome, Frame, at_end, facts_in}
 use Rattle.drill_model.specs.Growth.{FactsGrow}
 use Rattle.drill_model.specs.StationEnds.{if_released, if_expired}
-use Rattle.drill_model.specs.StackEnds.{facts_told, outcomes_told_by_stack, stack_told, told_unless, told_of_take}
+use Rattle.drill_model.specs.StackEnds.{facts_told, outcomes_told_by_stack, told_unless, told_of_take}
 use Rattle.drill_model.specs.StackReports.{user_octets_spoken}
 use Rattle.drill_model.specs.Kinds.{sent_in, accepted_in}
-use Rattle.drill_laws.proofs.Speaking.{Speaks, Spoke, comes_spoke, sends_spoke, uses_silent, facts_append, facts_of_facts, rest_silent, expired_silent, took_silent}
+use Rattle.drill_laws.proofs.Speaking.{Speaks, Spoke, sends_spoke, facts_append, facts_of_facts, rest_silent, expired_silent}
 use Rattle.drill_laws.proofs.StackSaying.{sent_in_step, call_sent, call_accepted}
 
 -- ---- an event in which the safety side takes no step
@@ -133,35 +131,9 @@ module _ (grow : FactsGrow) (opening : PairOpening) where
     sends_call_at moment user x None =
         told_calls x.safe.safety (step_send_unless model None moment user x) (sends_spoke key_of x.safe.safety moment user x refl)
 
-    pub sends_call : (moment : ℕ) (user : List ℕ) (x : Core)
-        → let o = refusal_of model user x in
-        Calls key_of x.safe.safety (told_unless o (step_send_unless model o moment user x)) (step_send_unless model o moment user x).safe.safety
-    sends_call moment user x = sends_call_at moment user x (refusal_of model user x)
-
     took_none : (message : Option (List ℕ)) → (flat_map sent_in (told_of_take message) ≡ []) × (flat_map accepted_in (told_of_take message) ≡ [])
     took_none None = (refl, refl)
     took_none (Some message) = (refl, refl)
-
-    pub takes_call : (moment : ℕ) (x : Core) → Calls key_of x.safe.safety (told_of_take (model.oldest x.upper) ++ outcomes_told_by_stack (step_take model moment x)) (step_take model moment x).safe.safety
-    takes_call moment x =
-        let y : Core = step_take model moment x in
-        let message : Option (List ℕ) = model.oldest x.upper in
-        let none = took_none message in
-        record {
-          spoke = y.upper.spoke;
-          speaks = uses_silent key_of x.safe.safety moment x refl;
-          tells = tells_behind y.upper.spoke (told_of_take message) (outcomes_told_by_stack y) (λ side. took_silent grow opening side message) none.0 none.1 (told_tells y);
-        }
-
-    -- one frame
-    pub hears_call : (moment : ℕ) (verdicts : List Verdict) (x : Core) → length verdicts ≡ 1
-        → Calls key_of x.safe.safety (stack_told (λ now. key_of) moment verdicts x) (hears_each (λ now. key_of) moment verdicts x).safe.safety
-    hears_call moment [] x one = absurd cc
-    hears_call moment (v ∷ []) x one =
-        let y : Core = step_frame model (λ now. key_of) moment v x in
-        subst (λ (os : List DrillOutcome). Calls key_of x.safe.safety os y.safe.safety) (sym (append-nil (outcomes_told_by_stack y)))
-        (told_calls x.safe.safety y (comes_spoke key_of x.safe.safety moment v x refl))
-    hears_call moment (v ∷ w ∷ more) x one = absurd cc
 
   -- what a tick tells: no step
   expired_none : (b : Bool) → (flat_map sent_in (if_expired b) ≡ []) × (flat_map accepted_in (if_expired b) ≡ [])

@@ -8,7 +8,7 @@ use Rattle.er_base.specs.Causes.{release_of, by_this_end}
 use Rattle.hdlc_frames.specs.Framing.{Verdict}
 use Rattle.hdlc_station_model.specs.Stations.{Deed as LinkDeed}
 use Rattle.t70_header.specs.Joining as joining
-use Rattle.x224_tpdu.specs.Spelling.{TransportPdu, connection_request, connection_confirm, disconnect_request, disconnect_confirm, data_tpdu, acknowledgement, tpdu_error}
+use Rattle.x224_tpdu.specs.Spelling.{TransportPdu, connection_request, connection_confirm, disconnect_request, data_tpdu, acknowledgement}
 use Rattle.x224_tpdu.specs.declared.fault.TpFault.{TpFault}
 use Rattle.x224_tpdu.specs.Function.{reading}
 use Rattle.x224_class2.specs.Segments.{Segment, text_so_far}
@@ -17,10 +17,9 @@ use Rattle.x224_class2.specs.Transport.{Transport, ReceptionDeed, Nothing, Calle
 use Rattle.x224_class2.specs.Transport as transport
 use Rattle.x224_class2.specs.Refusals.{protocol_error, tpdu_refused, message_too_long}
 use Rattle.sapdu.specs.Spelling.{di_in}
-use Rattle.safety_automaton.specs.Safety.{no_keys, Safety, SafetyEvent, ConnectRequest, Received, DataRequest, DisconnectRequest, SafetyOutcome, SentAu1, SentAu2, SentAu3, SentAr, ReceivedAr, AcceptedDt, SentDt, ReleasedLocally, ReleasedByPeer, NothingDone, peer_flag, octets_sent_in_outcome, step}
+use Rattle.safety_automaton.specs.Safety.{no_keys, Safety, SafetyEvent, ConnectRequest, Received, DataRequest, DisconnectRequest, SafetyOutcome, SentAu2, SentAu3, SentAr, ReceivedAr, AcceptedDt, SentDt, ReleasedLocally, ReleasedByPeer, peer_flag, octets_sent_in_outcome, step}
 use Rattle.safety_automaton.specs.Rules.{StepsOnly, IsStep}
 use Rattle.safety_automaton.specs.Reports.{report_of}
-use Rattle.safety_automaton.specs.Safety as safety
 use Rattle.safety_pair_laws.specs.Facts.{facts_of}
 use Rattle.er_end_model.specs.Outcomes.{SendRefusal}
 use Rattle.er_end_model.specs.Layers.{Spoken, Core, model}
@@ -37,9 +36,6 @@ same_if : (t : Transport) (b : Bool) (x y : Transport × ReceptionDeed) → Same
 same_if t true x y hx hy = hx
 same_if t false x y hx hy = hy
 
-refused_same : (t : Transport) (sub reason : ℕ) → SameOf t (refusal_of_tpdu t sub reason).0
-refused_same t sub reason = (refl, refl)
-
 named_same : (t : Transport) (credit : ℕ) (named : Option ℕ) → SameOf t (on_named t credit named).0
 named_same t credit None = (refl, refl)
 named_same t credit (Some n) = same_if t (nat_lt (n + credit) t.edge) (refusal_of_tpdu t tpdu_refused protocol_error) _ (refl, refl) (refl, refl)
@@ -51,7 +47,6 @@ reading_same t (Ok (connection_confirm credit dst src size user)) =
     same_if t (is_calling t.stage && (dst == 1) && (src == 1) && nat_le size t.size) _ (refusal_of_tpdu t tpdu_refused protocol_error) (refl, refl) (refl, refl)
 reading_same t (Ok (disconnect_request dst src reason user)) =
     same_if t (not (is_new t.stage) && (dst == 1) && (src == 1)) _ (refusal_of_tpdu t tpdu_refused protocol_error) (refl, refl) (refl, refl)
-reading_same t (Ok (disconnect_confirm dst src)) = (refl, refl)
 reading_same t (Ok (data_tpdu dst last number user)) =
     let text : List ℕ = text_so_far t.contents ++ user in
     let got : Transport × ReceptionDeed = (record t { contents = t.contents ++ (last, user) ∷ [] }, if last then Message text else Nothing) in
@@ -60,8 +55,7 @@ reading_same t (Ok (data_tpdu dst last number user)) =
 reading_same t (Ok (acknowledgement credit dst number)) =
     same_if t (is_open t.stage && (dst == 1)) (on_named t credit (number_named t.acked (t.given - t.acked) number)) (refusal_of_tpdu t tpdu_refused protocol_error)
     (named_same t credit (number_named t.acked (t.given - t.acked) number)) (refl, refl)
-reading_same t (Ok (tpdu_error dst cause)) = (refl, refl)
-reading_same t (Err fault) = (refl, refl)
+reading_same t _ = (refl, refl)
 
 reception_same : (t : Transport) (tpdu : List ℕ) → SameOf t (reception t tpdu).0
 reception_same t tpdu = same_if t (is_over t.stage) (t, Nothing) (on_reading t (reading tpdu)) (refl, refl) (reading_same t (reading tpdu))
@@ -174,7 +168,6 @@ module _ (S : List Segment) (C : Bool) where
   spoken_calm event next outcome x none h = record { segments_are = h.segments_are; cc_is = h.cc_is; none = none }
 
   acts_ended : (carrier : Carrier) (text : List ℕ) (next : Safety) (outcome : SafetyOutcome) (x : Core) → Fresh x → Ended (told carrier (Received text) next outcome x)
-  acts_ended carrier text next (SentAu1 octets) x h = inl h.live
   acts_ended carrier text next (SentAu2 session sealed octets) x h = inl (answers_live carrier octets (with_safety_step model (Received text) (next, SentAu2 session sealed octets) x) h.live)
   acts_ended carrier text next (SentAu3 session verified sealed octets) x h =
       inl (answers_live carrier octets (with_safety_step model (Received text) (next, SentAu3 session verified sealed octets) x) h.live)
@@ -183,13 +176,11 @@ module _ (S : List Segment) (C : Bool) where
   acts_ended carrier text next (ReceivedAr c verified) x h = inl (answers_live carrier [] (with_safety_step model (Received text) (next, ReceivedAr c verified) x) h.live)
   acts_ended carrier text next (AcceptedDt session user verified) x h =
       inl (keeps_live carrier user (with_safety_step model (Received text) (next, AcceptedDt session user verified) x) h.live)
-  acts_ended carrier text next (SentDt session user sealed octets) x h = inl h.live
-  acts_ended carrier text next (safety.Refused refusal_of_tpdu) x h = inl h.live
   acts_ended carrier text next (ReleasedLocally why octets) x h =
       inr (parts_calm why octets (with_safety_step model (Received text) (next, ReleasedLocally why octets) x) (spoken_calm (Received text) next (ReleasedLocally why octets) x refl h))
   acts_ended carrier text next (ReleasedByPeer why) x h =
       inr (parts_calm why [] (with_safety_step model (Received text) (next, ReleasedByPeer why) x) (spoken_calm (Received text) next (ReleasedByPeer why) x refl h))
-  acts_ended carrier text next NothingDone x h = inl h.live
+  acts_ended carrier text next _ x h = inl h.live
 
   module _ (finds : Finds) where
     text_ended : (carrier : Carrier) (text : List ℕ) (x : Core) → Fresh x → Ended (on_text model finds carrier text x)
@@ -304,17 +295,13 @@ leaves_ended only now sub x =
     not_data sub user e = cc
 
     no_facts : (s next : Safety) (outcome : SafetyOutcome) (sub : ℕ) → IsStep no_keys s (DisconnectRequest sub) next outcome → facts_of (DisconnectRequest sub) outcome ≡ []
-    no_facts s next (SentAu1 octets) sub r = refl
     no_facts s next (SentAu2 session sealed octets) sub r = absurd (not_received sub r.received.octets r.received.event_is)
     no_facts s next (SentAu3 session verified sealed octets) sub r = absurd (not_received sub r.received.octets r.received.event_is)
     no_facts s next (SentAr c verified sealed octets) sub r = absurd (not_received sub r.received.octets r.received.event_is)
     no_facts s next (ReceivedAr c verified) sub r = absurd (not_received sub r.received.octets r.received.event_is)
     no_facts s next (AcceptedDt session user verified) sub r = absurd (not_received sub r.received.octets r.received.event_is)
     no_facts s next (SentDt session user sealed octets) sub r = absurd (not_data sub user r.event_is)
-    no_facts s next (safety.Refused refusal_of_tpdu) sub r = refl
-    no_facts s next (ReleasedLocally why octets) sub r = refl
-    no_facts s next (ReleasedByPeer why) sub r = refl
-    no_facts s next NothingDone sub r = refl
+    no_facts s next _ sub r = refl
 
 pub ticks_ended : (now : ℕ) (x : Core) → EndsCalmly x (step_tick model now x)
 ticks_ended now x =

@@ -205,12 +205,8 @@ module _ (only : StepsOnly) (reports : CallsReport) where
 
   -- whether it finds an expired timer
   abbrev pub is_late_at : (moment : ℕ) → Stack → EndEvent → Bool
-  is_late_at moment m event.Start = false
-  is_late_at moment m (event.Receive octets) = false
-  is_late_at moment m (event.Send user) = false
-  is_late_at moment m event.Take = false
-  is_late_at moment m (event.Release sub) = false
   is_late_at moment m event.Tick = finds_expired (new_event_at model moment m.core)
+  is_late_at moment m _ = false
 
   pub stack_leads : (key_of : ℕ → ℕ → Option TripleKey) (moment : ℕ) (m : Stack) (given : EndEvent)
       → (stack_end_step key_of moment m given).0 ≡ OfStack (step_event moment (as_given key_of given) m).0

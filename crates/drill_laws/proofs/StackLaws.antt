@@ -7,7 +7,7 @@ use Rattle.er_base.specs.declared.release.Release.{Release}
 use Rattle.er_settings.specs.Values.{Settings}
 use Rattle.er_settings.specs.Ranges.{AllAllowed}
 use Rattle.er_scenario.specs.declared.step.Step.{Step}
-use Rattle.safety_automaton.specs.Safety.{Phase, Ready, WaitAu1, WaitAu2, WaitAu3, WaitAr, Connected, Released}
+use Rattle.safety_automaton.specs.Safety.{Phase, Connected}
 use Rattle.safety_pair_laws.specs.Openings.{PairOpening, OfFixed, OfKeys}
 use Rattle.safety_pair_laws.specs.Messages.{IsConnectedPhase}
 use Rattle.er_end_model.specs.Steps.{is_connected}
@@ -21,7 +21,7 @@ use Rattle.er_end_pair_laws.specs.Laws as of_pair
 use Rattle.er_end_pair_laws.specs.Reasons as of_pair_reasons
 use Rattle.drill_model.specs.Outcomes.{Occurrence}
 use Rattle.drill_model.specs.Ends.{EndAtLevel, OfStack}
-use Rattle.drill_model.specs.Links.{Link, LinkOpening, OfPair, OfStations, OfStacks, opened_link, LinkStep, Send, Pass, Change, Take, Release as ReleaseStep, Tick}
+use Rattle.drill_model.specs.Links.{Link, LinkOpening, OfPair, OfStations, OfStacks, opened_link, LinkStep, Send}
 use Rattle.drill_model.specs.Worlds.{DrillPlan, Drain, drain, link_at, history_on, world_run}
 use Rattle.drill_model.specs.Kinds.{releases_in, is_disturbed, IsOrderKeeping, IsLossFree, EndsAgree, deliveries, bound}
 use Rattle.drill_model.specs.Claims.{IsInOrder, IsLosingLineReason, IsConnectedEnd, HasTakenAll, IsEmpty, IsDelivered, IsUnforged}
@@ -118,13 +118,8 @@ module _ (settings : Settings) (l : Link) (history : List Occurrence) (t : IsSta
       ∙ ap₂ (λ (xs ys : List (List ℕ)). 14 + 4 * (end_bounds_words.count_of_all_segments settings xs + end_bounds_words.count_of_all_segments settings ys)) t.sees.sent_e t.sees.sent_r
 
   connected_phase : (phase : Phase) → is_connected phase ≡ true → IsConnectedPhase phase
-  connected_phase (Ready peer kmac rb) e = absurd (cc)
-  connected_phase (WaitAu1 ra) e = absurd (cc)
-  connected_phase (WaitAu2 peer kmac rb) e = absurd (cc)
-  connected_phase (WaitAu3 connection) e = absurd (cc)
-  connected_phase (WaitAr connection) e = absurd (cc)
   connected_phase (Connected peer session) e = tt
-  connected_phase (Released release session) e = absurd (cc)
+  connected_phase _ e = absurd (cc)
 
   pub connected_end : (end : EndAtLevel) (m : Stack) → end ≡ OfStack m → is_connected m.core.safe.safety.phase ≡ true → IsConnectedEnd end
   connected_end end m is e = subst IsConnectedEnd (sym is) (connected_phase m.core.safe.safety.phase e)
@@ -176,15 +171,7 @@ Stacked settings l history = IsStacked settings l history ⊎ IsLower l.opening
 module _ (laws : StackLaws) (facts : FactsGrow) where
   pub fits_stack : (s : LinkStep) → FitsLinkStep facts s → FitsStackStep s
   fits_stack (Send side octets) fit = fit
-  fits_stack (Pass side) fit = tt
-  fits_stack (Change side change) fit = tt
-  fits_stack (Take side) fit = tt
-  fits_stack (ReleaseStep side sub) fit = tt
-  fits_stack (Tick moment) fit = tt
-
-  opened_lower : (settings : Settings) (moment : ℕ) (opening : LinkOpening) → IsLower opening → (opened_link settings moment opening).0.opening ≡ opening
-      → IsLower (opened_link settings moment opening).0.opening
-  opened_lower settings moment opening lower is = subst IsLower (sym is) lower
+  fits_stack _ fit = tt
 
   opens_stacked : (settings : Settings) (moment : ℕ) (opening : LinkOpening) → FitsLinkOpening facts opening
       → Stacked settings (opened_link settings moment opening).0 (opened_link settings moment opening).1

@@ -373,12 +373,8 @@ module _ (grow : FactsGrow) (marks : MarksGrow) (only : StepsOnly) (reports : Ca
   took_none (Some message) = (refl, refl)
 
   abbrev OneFrame : Stack → EndEvent → Type 0
-  OneFrame m event.Start = Unit {0}
   OneFrame m (event.Receive octets) = length (news m.stream octets) ≡ 1
-  OneFrame m (event.Send user) = Unit {0}
-  OneFrame m event.Take = Unit {0}
-  OneFrame m (event.Release sub) = Unit {0}
-  OneFrame m event.Tick = Unit {0}
+  OneFrame m _ = Unit {0}
 
   -- one frame
   heard_event : (moment : ℕ) (verdicts : List Verdict) (x : Core) → length verdicts ≡ 1

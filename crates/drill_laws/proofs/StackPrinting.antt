@@ -5,7 +5,7 @@ use Rattle.std.specs.List.{flat_map, AllByRecursion}
 use Rattle.er_base.specs.declared.release.Release.{Release}
 use Rattle.des_block.specs.declared.triple_key.TripleKey.{TripleKey}
 use Rattle.hdlc_frames.specs.Framing.{Verdict}
-use Rattle.safety_automaton.specs.Safety.{SafetyOutcome, SentAu1, SentAu2, SentAu3, SentAr, ReceivedAr, AcceptedDt, SentDt, Refused, ReleasedLocally, ReleasedByPeer, NothingDone}
+use Rattle.safety_automaton.specs.Safety.{SafetyOutcome, SentAr, ReceivedAr, AcceptedDt}
 use Rattle.safety_pair_laws.specs.Facts.{heard_in, facts_by}
 use Rattle.hdlc_station_model.specs.Events.{said_octets, news}
 use Rattle.er_end_model.specs.Outcomes.{SendRefusal}
@@ -42,17 +42,10 @@ rising_rest (Some release) frames = up_frames 6 (omega arith) frames
 
 rising_facts : (heard : List ℕ) (o : SafetyOutcome) (released : Option Release) (frames : List (List ℕ))
     → IsRising (flat_map place_of (map OfSafety (facts_by heard o) ++ (if_released released ++ map Frame frames)))
-rising_facts heard (SentAu1 octets) released frames = rising_rest released frames
-rising_facts heard (SentAu2 session sealed octets) released frames = rising_rest released frames
-rising_facts heard (SentAu3 session verified sealed octets) released frames = rising_rest released frames
 rising_facts heard (SentAr connection verified sealed octets) released frames = up_rest 2 (omega arith) released frames
 rising_facts heard (ReceivedAr connection verified) released frames = up_rest 2 (omega arith) released frames
 rising_facts heard (AcceptedDt session user verified) released frames = up_rest 3 (omega arith) released frames
-rising_facts heard (SentDt session user sealed octets) released frames = rising_rest released frames
-rising_facts heard (Refused refusal) released frames = rising_rest released frames
-rising_facts heard (ReleasedLocally release octets) released frames = rising_rest released frames
-rising_facts heard (ReleasedByPeer release) released frames = rising_rest released frames
-rising_facts heard NothingDone released frames = rising_rest released frames
+rising_facts heard _ released frames = rising_rest released frames
 
 rising_spoke : (spoke : Option Spoken) (released : Option Release) (frames : List (List ℕ))
     → IsRising (flat_map place_of (facts_told spoke ++ (if_released released ++ map Frame frames)))

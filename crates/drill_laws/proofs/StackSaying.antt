@@ -20,7 +20,7 @@ use Rattle.x224_class2.specs.Transport as transport
 use Rattle.x224_class2.specs.Refusals.{protocol_error}
 use Rattle.sapdu.specs.Spelling.{di_in}
 use Rattle.sapdu.specs.Messages.{is_message}
-use Rattle.safety_automaton.specs.Safety.{no_keys, Safety, Phase, Ready, WaitAu1, WaitAu2, WaitAu3, WaitAr, Connected, SafetyEvent, ConnectRequest, Received, DataRequest, DisconnectRequest, SafetyOutcome, SentAu1, SentAu2, SentAu3, SentAr, ReceivedAr, AcceptedDt, SentDt, ReleasedLocally, ReleasedByPeer, NothingDone, peer_flag, octets_sent_in_outcome, step, sends as sends_side}
+use Rattle.safety_automaton.specs.Safety.{no_keys, Safety, Phase, Connected, SafetyEvent, ConnectRequest, Received, DataRequest, DisconnectRequest, SafetyOutcome, SentAu1, SentAu2, SentAu3, SentAr, ReceivedAr, AcceptedDt, SentDt, ReleasedLocally, ReleasedByPeer, NothingDone, peer_flag, octets_sent_in_outcome, step, sends as sends_side}
 use Rattle.safety_automaton.specs.Rules.{StepsOnly, IsStep}
 use Rattle.safety_automaton.specs.Reports.{Report, ToldAnswered, ToldConnected, ToldAccepted, ToldReleased, ToldIgnored, report_of}
 use Rattle.safety_automaton.specs.Safety as safety
@@ -37,17 +37,8 @@ use Rattle.drill_model.specs.Kinds.{sent_in, accepted_in, released_in, passed_in
 -- ---- a step of the safety side that sends no message
 
 abbrev pub sent_by_step : SafetyOutcome → List (List ℕ)
-sent_by_step (SentAu1 octets) = []
-sent_by_step (SentAu2 session sealed octets) = []
-sent_by_step (SentAu3 session verified sealed octets) = []
-sent_by_step (SentAr connection verified sealed octets) = []
-sent_by_step (ReceivedAr connection verified) = []
-sent_by_step (AcceptedDt session user verified) = []
 sent_by_step (SentDt session user sealed octets) = user ∷ []
-sent_by_step (safety.Refused refusal) = []
-sent_by_step (ReleasedLocally release octets) = []
-sent_by_step (ReleasedByPeer release) = []
-sent_by_step NothingDone = []
+sent_by_step _ = []
 
 abbrev pub sent_in_step : Option Spoken → List (List ℕ)
 sent_in_step None = []
@@ -55,17 +46,8 @@ sent_in_step (Some s) = sent_by_step s.outcome
 
 pub no_send : (key_of : ℕ → ℕ → Option TripleKey) (s : Safety) (event : SafetyEvent) (next : Safety) (o : SafetyOutcome) → ((user : List ℕ) → event ≡ DataRequest user → ⊥)
     → IsStep key_of s event next o → sent_by_step o ≡ []
-no_send key_of s event next (SentAu1 octets) other row = refl
-no_send key_of s event next (SentAu2 session sealed octets) other row = refl
-no_send key_of s event next (SentAu3 session verified sealed octets) other row = refl
-no_send key_of s event next (SentAr connection verified sealed octets) other row = refl
-no_send key_of s event next (ReceivedAr connection verified) other row = refl
-no_send key_of s event next (AcceptedDt session user verified) other row = refl
 no_send key_of s event next (SentDt session user sealed octets) other row = absurd (other user row.event_is)
-no_send key_of s event next (safety.Refused refusal) other row = refl
-no_send key_of s event next (ReleasedLocally release octets) other row = refl
-no_send key_of s event next (ReleasedByPeer release) other row = refl
-no_send key_of s event next NothingDone other row = refl
+no_send key_of s event next _ other row = refl
 
 -- ---- what is kept within an event
 
@@ -307,13 +289,8 @@ unrefused (Some why) connected user waiting none = absurd (cc)
 unrefused None connected user waiting none = (refl, by_tests connected (is_message user) (nat_le 16 waiting) (length user) waiting none)
 
 pub send_step : (s : Safety) (phase : Phase) (user : List ℕ) → is_connected phase ≡ true → is_message user ≡ true → sent_by_step (sends_side s phase user).1 ≡ user ∷ []
-send_step s (Ready peer kmac rb) user connected message = absurd (cc)
-send_step s (WaitAu1 ra) user connected message = absurd (cc)
-send_step s (WaitAu2 peer kmac rb) user connected message = absurd (cc)
-send_step s (WaitAu3 connection) user connected message = absurd (cc)
-send_step s (WaitAr connection) user connected message = absurd (cc)
 send_step s (Connected peer session) user connected message = rw message refl
-send_step s (safety.Released release session) user connected message = absurd (cc)
+send_step s _ user connected message = absurd (cc)
 
 pub sends_went : (now : ℕ) (user : List ℕ) (x : Core) → refusal_of model user x ≡ None → Went x (step_send_unless model None now user x)
 sends_went now user x none =

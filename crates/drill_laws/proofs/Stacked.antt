@@ -92,11 +92,7 @@ module _ (only : StepsOnly) (reports : CallsReport) where
 -- the octets of a user's text are octets
 abbrev pub FitsStackStep : LinkStep → Type 0
 FitsStackStep (Send side octets) = AreOctets octets
-FitsStackStep (Pass side) = Unit {0}
-FitsStackStep (Change side change) = Unit {0}
-FitsStackStep (Take side) = Unit {0}
-FitsStackStep (Release side sub) = Unit {0}
-FitsStackStep (Tick moment) = Unit {0}
+FitsStackStep _ = Unit {0}
 
 fits_as_step : (s : LinkStep) → FitsStackStep s → SendsOnly AreOctets (as_step s)
 fits_as_step (Send side octets) fit = fit

@@ -14,7 +14,7 @@ use Rattle.des_block.specs.declared.triple_key.TripleKey.{TripleKey}
 use Rattle.hdlc_frames.specs.Framing.{Verdict}
 use Rattle.sapdu.specs.Messages.{is_message}
 use Rattle.safety_automaton.specs.Rules.{StepsOnly, IsStep}
-use Rattle.safety_automaton.specs.Safety.{Safety, Phase, Ready, WaitAu1, WaitAu2, WaitAu3, WaitAr, Connected, Released, SafetyEvent, ConnectRequest, Received, DataRequest, DisconnectRequest, SafetyOutcome, SentAu1, SentAu2, SentAu3, SentAr, ReceivedAr, AcceptedDt, SentDt, Refused, ReleasedLocally, ReleasedByPeer, NothingDone, step}
+use Rattle.safety_automaton.specs.Safety.{Safety, Phase, Connected, SafetyEvent, ConnectRequest, Received, DataRequest, DisconnectRequest, SafetyOutcome, SentAu1, SentAu2, SentAu3, SentAr, ReceivedAr, AcceptedDt, SentDt, Refused, ReleasedLocally, ReleasedByPeer, NothingDone, step}
 use Rattle.safety_automaton.specs.Safety.{sends as sends_side}
 use Rattle.safety_pair_laws.specs.Facts.{heard_in, facts_by}
 use Rattle.safety_pair_laws.specs.Openings.{OfFixed, OfKeys}
@@ -116,17 +116,9 @@ handed_tells None moment payload s = inl (ap (λ (es : List Effect). Sends paylo
 -- none of an event that is no send
 outcome_tells : (key_of : ℕ → ℕ → Option TripleKey) (s : Safety) (event : SafetyEvent) (next : Safety) (heard : List ℕ) (o : SafetyOutcome)
     → ((user : List ℕ) → event ≡ DataRequest user → ⊥) → IsStep key_of s event next o → told_effects (outcomes_by heard o) ≡ []
-outcome_tells key_of s event next heard (SentAu1 octets) other row = refl
-outcome_tells key_of s event next heard (SentAu2 session sealed octets) other row = refl
-outcome_tells key_of s event next heard (SentAu3 session verified sealed octets) other row = refl
-outcome_tells key_of s event next heard (SentAr connection verified sealed octets) other row = refl
-outcome_tells key_of s event next heard (ReceivedAr connection verified) other row = refl
-outcome_tells key_of s event next heard (AcceptedDt session user verified) other row = refl
 outcome_tells key_of s event next heard (SentDt session user sealed octets) other row = absurd (other user row.event_is)
 outcome_tells key_of s event next heard (Refused refusal) other row = absurd (other row.user row.event_is)
-outcome_tells key_of s event next heard (ReleasedLocally release octets) other row = refl
-outcome_tells key_of s event next heard (ReleasedByPeer release) other row = refl
-outcome_tells key_of s event next heard NothingDone other row = refl
+outcome_tells key_of s event next heard _ other row = refl
 
 safe_sends : (s : Safety) (phase : Phase) (user : List ℕ) → SendsOrNot user (told_effects (outcomes_by [] (sends_side s phase user).1))
 safe_sends s (Connected peer session) user =
@@ -134,12 +126,7 @@ safe_sends s (Connected peer session) user =
       | inl message ↦ rw message (inl refl)
       | inr none ↦ rw none (inr refl)
     ]
-safe_sends s (Ready peer kmac rb) user = inr refl
-safe_sends s (WaitAu1 ra) user = inr refl
-safe_sends s (WaitAu2 peer kmac rb) user = inr refl
-safe_sends s (WaitAu3 connection) user = inr refl
-safe_sends s (WaitAr connection) user = inr refl
-safe_sends s (Released release session) user = inr refl
+safe_sends s _ user = inr refl
 
 -- ---- a call of a stack
 
@@ -193,12 +180,9 @@ stack_send_tells moment user x None is = inl (kept_tells x.upper.used (user ∷ 
 
 -- an event that is neither a send nor a tick
 abbrev IsQuiet : EndEvent → Type 0
-IsQuiet event.Start = Unit {0}
-IsQuiet (event.Receive octets) = Unit {0}
 IsQuiet (event.Send octets) = ⊥
-IsQuiet event.Take = Unit {0}
-IsQuiet (event.Release sub) = Unit {0}
 IsQuiet event.Tick = ⊥
+IsQuiet _ = Unit {0}
 
 -- whether a timer is found expired
 abbrev finds : (moment : ℕ) → EndAtLevel → Bool
@@ -325,22 +309,12 @@ ran_out_due None now ran = absurd ran
 ran_out_due (Some expiry) now ran = le-leb expiry now ran
 
 connected_is : (phase : Phase) → is_connected phase ≡ true → IsConnectedPhase phase
-connected_is (Ready peer kmac rb) c = absurd cc
-connected_is (WaitAu1 ra) c = absurd cc
-connected_is (WaitAu2 peer kmac rb) c = absurd cc
-connected_is (WaitAu3 connection) c = absurd cc
-connected_is (WaitAr connection) c = absurd cc
 connected_is (Connected peer session) c = tt
-connected_is (Released release session) c = absurd cc
+connected_is _ c = absurd cc
 
 is_the_connected : (phase : Phase) → IsConnectedPhase phase → is_connected phase ≡ true
-is_the_connected (Ready peer kmac rb) c = absurd c
-is_the_connected (WaitAu1 ra) c = absurd c
-is_the_connected (WaitAu2 peer kmac rb) c = absurd c
-is_the_connected (WaitAu3 connection) c = absurd c
-is_the_connected (WaitAr connection) c = absurd c
 is_the_connected (Connected peer session) c = refl
-is_the_connected (Released release session) c = absurd c
+is_the_connected _ c = absurd c
 
 none_is : (released : Option Release) → not (is_some released) ≡ true → released ≡ None
 none_is None live = refl

@@ -221,17 +221,7 @@ pub any_step : (plan : DrillPlan) (s : Step) → StepFits (λ x. Unit {0}) (λ x
 any_step plan (does.Fixed n engine rbc ke kr) = any_opening (fixed_opening plan.level engine rbc ke kr)
 any_step plan (does.Link n engine rbc ke kr ra rb) = any_opening (link_opening plan.level engine rbc ke kr ra rb)
 any_step plan (does.Wire n) = any_opening (wire_opening plan.level)
-any_step plan (does.Send n s text) = tt
-any_step plan (does.Pass n s) = tt
-any_step plan (does.Lose n s) = tt
-any_step plan (does.Repeat n s) = tt
-any_step plan (does.Alter n s place mask) = tt
-any_step plan (does.Put n s text) = tt
-any_step plan (does.Copy n s m t) = tt
-any_step plan (does.Take n s) = tt
-any_step plan (does.Release n s sub) = tt
-any_step plan (does.Tick moment) = tt
-any_step plan (does.Drain n most) = tt
+any_step plan _ = tt
 
 pub any_steps : (plan : DrillPlan) (steps : List Step) → AllByRecursion (StepFits (λ x. Unit {0}) (λ x. Unit {0}) plan) steps
 any_steps plan [] = tt

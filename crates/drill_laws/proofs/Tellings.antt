@@ -412,9 +412,7 @@ module _ (laws : StationLaws) where
 
   begun_at : (p : Phase) (s : Station) → (starts_at p s).deed ≡ s.deed
   begun_at Idle s = cond_both s.calling (starts_timer (puts SetUp (record s { phase = Setting }))) s (λ (t : Station). t.deed ≡ s.deed) (λ e. refl) (λ e. refl)
-  begun_at Setting s = refl
-  begun_at PhaseUp s = refl
-  begun_at Down s = refl
+  begun_at _ s = refl
 
   started_deed : (moment : ℕ) (s : Station) → (starts moment s).deed ≡ s.deed
   started_deed moment s = cond_both (is_down s.phase) s (starts_at s.phase (sees moment s)) (λ (t : Station). t.deed ≡ s.deed) (λ e. refl) (λ e. begun_at s.phase (sees moment s))

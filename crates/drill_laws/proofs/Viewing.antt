@@ -93,17 +93,13 @@ plain_append (o ∷ history) more h m = (h.0, plain_append history more h.1 m)
 -- ---- the outcomes of a side
 
 plain_outcomes : (side : Side) (heard : List ℕ) (o : SafetyOutcome) → AllPlain (map (at_end side) (outcomes_by heard o))
-plain_outcomes side heard (SentAu1 octets) = (tt, tt)
 plain_outcomes side heard (SentAu2 session sealed octets) = (tt, (tt, tt))
 plain_outcomes side heard (SentAu3 session verified sealed octets) = (tt, (tt, (tt, tt)))
 plain_outcomes side heard (SentAr connection verified sealed octets) = (tt, (tt, (tt, tt)))
-plain_outcomes side heard (ReceivedAr connection verified) = (tt, tt)
-plain_outcomes side heard (AcceptedDt session user verified) = (tt, tt)
 plain_outcomes side heard (SentDt session user sealed octets) = (tt, (tt, tt))
-plain_outcomes side heard (Refused refusal) = (tt, tt)
 plain_outcomes side heard (ReleasedLocally release octets) = (tt, (tt, tt))
-plain_outcomes side heard (ReleasedByPeer release) = (tt, tt)
 plain_outcomes side heard NothingDone = tt
+plain_outcomes side heard _ = (tt, tt)
 
 frames_are : (heard : List ℕ) (o : SafetyOutcome) → frames_in (outcomes_by heard o) ≡ sapdus_of o
 frames_are heard (SentAu1 octets) = refl
@@ -374,11 +370,7 @@ module _ (grow : FactsGrow) where
   -- what is asked of a link step: that user octets are octets
   abbrev pub FitsLinkStep : LinkStep → Type 0
   FitsLinkStep (Send side octets) = AreOctets octets
-  FitsLinkStep (Pass side) = Unit {0}
-  FitsLinkStep (Change side change) = Unit {0}
-  FitsLinkStep (Take side) = Unit {0}
-  FitsLinkStep (Release side sub) = Unit {0}
-  FitsLinkStep (Tick moment) = Unit {0}
+  FitsLinkStep _ = Unit {0}
 
   at_moment : (l : Link) (history : List Occurrence) (moment : ℕ) → IsFlow l history → IsFlow (record l { moment = moment }) history
   at_moment l history moment t =
@@ -503,11 +495,7 @@ module _ (grow : FactsGrow) where
 
   pub no_send_fits : (s : LinkStep) → IsNoSend s → FitsLinkStep s
   no_send_fits (Send side octets) none = absurd none
-  no_send_fits (Pass side) none = tt
-  no_send_fits (Change side change) none = tt
-  no_send_fits (Take side) none = tt
-  no_send_fits (Release side sub) none = tt
-  no_send_fits (Tick moment) none = tt
+  no_send_fits _ none = tt
 
   -- of two sides by themselves, or of two stacks
   abbrev pub Flowing : Link → List Occurrence → Type 0

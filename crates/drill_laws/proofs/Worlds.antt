@@ -38,11 +38,7 @@ StepFits O S plan (does.Drain n most) = Unit {0}
 -- a link step that hands an end no octets of a user
 abbrev pub IsNoSend : LinkStep → Type 0
 IsNoSend (Send side octets) = ⊥
-IsNoSend (Pass side) = Unit {0}
-IsNoSend (Change side change) = Unit {0}
-IsNoSend (Take side) = Unit {0}
-IsNoSend (Release side sub) = Unit {0}
-IsNoSend (Tick moment) = Unit {0}
+IsNoSend _ = Unit {0}
 
 -- P of the link at a place and of what came at it; where nothing was opened, nothing came
 abbrev pub AtPlace : (Link → List Occurrence → Type 0) → Option Link → List Occurrence → Type 0

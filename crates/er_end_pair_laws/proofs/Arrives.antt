@@ -8,7 +8,7 @@ use Rattle.x224_class2.specs.Segments.{Segment, segments_of, messages_in}
 use Rattle.x224_class2.specs.Tpdus.{GivenTpdu}
 use Rattle.std.proofs.lemmas.List.{take-append-le}
 use Rattle.er_end_model.specs.Layers.{Core, model}
-use Rattle.er_end_model.specs.Steps.{on_safety_release, send_dr, end_after_di, conclude_event, normal_disconnect}
+use Rattle.er_end_model.specs.Steps.{on_safety_release, send_dr, end_after_di, normal_disconnect}
 use Rattle.er_end_pair_laws.specs.Openings.{EndLinkOpening, Agree}
 use Rattle.er_end_pair_laws.specs.LawsBelow.{LawsBelow}
 use Rattle.er_end_pair_laws.proofs.Lists.{Each, each_push, each_join, number, Ends, flat_none, flat_push}
@@ -16,22 +16,14 @@ use Rattle.er_end_pair_laws.proofs.Segments.{IsShort, carried_each, messages_pus
 use Rattle.er_end_pair_laws.proofs.Locals.{dt_of, ak_of, dr_of, drs, Cuts}
 use Rattle.er_end_pair_laws.proofs.Turns.{fits_dr}
 use Rattle.er_end_pair_laws.proofs.Constants.{users_of, Sendable}
-use Rattle.er_end_pair_laws.proofs.Own.{Always, users, Busy, Gone, Done}
+use Rattle.er_end_pair_laws.proofs.Own.{Always, users, Busy, Gone}
 use Rattle.er_end_pair_laws.proofs.Moves.{size_known}
-use Rattle.er_end_pair_laws.proofs.Concludes.{concludes_keeps, gone_concludes}
 use Rattle.er_end_pair_laws.proofs.Leaves.{LeaveOk, departs_gone, deserted_gone}
 
 -- x is live or was released; where the keys agree, a live peer releases no end
 pub record Arrived (s : EndLinkOpening) (c : Bool) (k : ℕ) (w : List Frame) (x : Core) (l : List Frame) (y : Core) : Type 0 where
   pub state : ((x.released ≡ None) × Busy s c k w x l y) ⊎ ((why : Release) × (x.released ≡ Some why) × Gone s c k w x l y)
   pub good : Agree s → y.released ≡ None → x.released ≡ None
-
-pub arrived_done : LawsBelow → (s : EndLinkOpening) (c : Bool) (k : ℕ) (w : List Frame) (x : Core) (l : List Frame) (y : Core) → Arrived s c k w x l y → Done s c k w (conclude_event model x) l y
-arrived_done below s c k w x l y b =
-    elim b.state [
-      | inl live ↦ concludes_keeps below s c k w x l y live.0 live.1
-      | inr gone ↦ gone_concludes s c k w x l y gone.0 gone.1 gone.2
-    ]
 
 pub live_arrived : (s : EndLinkOpening) (c : Bool) (k : ℕ) (w : List Frame) (x : Core) (l : List Frame) (y : Core) → x.released ≡ None → Busy s c k w x l y → Arrived s c k w x l y
 live_arrived s c k w x l y live b = record { state = inl (live, b); good = λ a p. live }

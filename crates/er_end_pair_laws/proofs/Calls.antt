@@ -7,7 +7,7 @@ use Rattle.std.proofs.lemmas.Bool.{cases_Bool, cond_both, and_parts}
 use Rattle.er_base.specs.declared.release.Release.{Release}
 use Rattle.des_block.specs.declared.triple_key.TripleKey.{TripleKey}
 use Rattle.sapdu.specs.Spelling.{Au1, spelling}
-use Rattle.safety_automaton.specs.Safety.{no_keys, Safety, Phase, Ready, WaitAu1, WaitAu2, WaitAu3, WaitAr, Connected, Released, ConnectRequest, SafetyOutcome, octets_sent_in_outcome, step}
+use Rattle.safety_automaton.specs.Safety.{no_keys, Safety, Phase, Ready, WaitAu1, ConnectRequest, SafetyOutcome, octets_sent_in_outcome, step}
 use Rattle.hdlc_station_model.specs.declared.phase.Phase.{Phase as Link_phase}
 use Rattle.hdlc_station_model.specs.Frames.{Frame}
 use Rattle.hdlc_station_model.specs.Stations.{Station, no_deed, is_up}
@@ -32,19 +32,12 @@ use Rattle.er_end_pair_laws.proofs.Events.{State, Heard, gone_of_busy, heard_sam
 
 is_new_only : (st : Stage) → is_new st ≡ true → st ≡ stages.New
 is_new_only stages.New h = refl
-is_new_only stages.Calling h = absurd cc
-is_new_only stages.Called h = absurd cc
-is_new_only stages.Open h = absurd cc
-is_new_only stages.Over h = absurd cc
+is_new_only _ h = absurd cc
 
 ready_joint : (s : EndLinkOpening) (p : Phase) → Joint s true stages.New p → (is_ready p ≡ true) × ((peer : ℕ) × (kmac : TripleKey) × (rb : ℕ) × (p ≡ Ready peer kmac rb) × (peer ≡ s.rbc) × (kmac ≡ s.kmac) × (rb ≡ s.rb))
 ready_joint s (Ready peer kmac rb) j = (refl, (peer, kmac, rb, refl, j.1, j.2, j.3))
 ready_joint s (WaitAu1 ra) j = absurd (let e = j.0 in let u : ⊥ = cc in u)
-ready_joint s (WaitAu2 peer kmac rb) j = absurd j
-ready_joint s (WaitAu3 connection) j = absurd j
-ready_joint s (WaitAr connection) j = absurd j
-ready_joint s (Connected peer key) j = absurd j
-ready_joint s (Released release known) j = absurd j
+ready_joint s _ j = absurd j
 
 -- a station that is up: of a caller that didn't connect yet, nothing else
 stages_up : (c : Bool) (st : Stage) (due : Option (List ℕ)) (h gave : List GivenTpdu) (p q : Link_phase) → (c ≡ true → st ≡ stages.New → ⊥) → is_up q ≡ true → Stages c st due h gave p → Stages c st due h gave q
@@ -52,9 +45,7 @@ stages_up true stages.New due h gave p q none up a = absurd (none refl refl)
 stages_up false stages.New due h gave p q none up a = a
 stages_up true stages.Calling due h gave p q none up a = (a.0, a.1, up)
 stages_up false stages.Calling due h gave p q none up a = a
-stages_up c stages.Called due h gave p q none up a = a
-stages_up c stages.Open due h gave p q none up a = a
-stages_up c stages.Over due h gave p q none up a = a
+stages_up c _ due h gave p q none up a = a
 
 module _ (below : LawsBelow) (s : EndLinkOpening) (c : Bool) (k : ℕ) (w : List Frame) (x : Core) (f : Frame) (fs : List Frame) (y : Core) where
   abbrev line : Station

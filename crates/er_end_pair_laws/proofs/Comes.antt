@@ -3,7 +3,7 @@ use Rattle.std.proofs.Common.{◌≡◌, ℕ, ◌≤◌, Bool, false, not, List,
 use Rattle.std.specs.Prelude.{if◌then◌else◌}
 use Rattle.er_base.specs.declared.release.Release.{Release}
 use Rattle.safety_automaton.specs.Reports.{report_of}
-use Rattle.safety_automaton.specs.Safety.{Safety, Phase, WaitAu1, Received, SafetyOutcome, SentAu1, SentAu2, SentAu3, SentAr, ReceivedAr, AcceptedDt, SentDt, Refused, ReleasedLocally, ReleasedByPeer, NothingDone, octets_sent_in_outcome}
+use Rattle.safety_automaton.specs.Safety.{Safety, Phase, WaitAu1, Received, SafetyOutcome, SentAu2, SentAu3, SentAr, ReceivedAr, AcceptedDt, ReleasedLocally, ReleasedByPeer, octets_sent_in_outcome}
 use Rattle.hdlc_station_model.specs.Frames.{Frame}
 use Rattle.x224_class2.specs.Segments.{Segment, messages_in}
 use Rattle.x224_class2.specs.Tpdus.{GivenTpdu, Cr}
@@ -96,7 +96,6 @@ module _ (below : LawsBelow) (s : EndLinkOpening) (k : ℕ) (w : List Frame) (x 
 
   pub called_by : (ra : ℕ) (next : Safety) (o : SafetyOutcome) → Follows s false (WaitAu1 ra) user next o → At x stages.New → x.safe.safety.phase ≡ WaitAu1 ra
       → Hears s false k w x l y h the_cr → Arrived s false k w (on_safety_report model InCr (report_of o) (octets_sent_in_outcome o) (spoke (with_transport x called_side) user next o)) l y
-  called_by ra next (SentAu1 octets) f e p b = absurd f
   called_by ra next (SentAu2 key sealed octets) f e p b =
       let st = stages_at s false x h stages.New e b.alive in
       let q = edge_at s false x h stages.New e b.alive in
@@ -132,8 +131,6 @@ module _ (below : LawsBelow) (s : EndLinkOpening) (k : ℕ) (w : List Frame) (x 
   called_by ra next (SentAr connection verified sealed octets) f e p b = absurd (let q = f.0 in let u : ⊥ = cc in u)
   called_by ra next (ReceivedAr connection verified) f e p b = absurd (let q = f.0 in let u : ⊥ = cc in u)
   called_by ra next (AcceptedDt key u verified) f e p b = absurd (let q = f.1 in let u : ⊥ = cc in u)
-  called_by ra next (SentDt key u sealed octets) f e p b = absurd f
-  called_by ra next (Refused refusal) f e p b = absurd f
   called_by ra next (ReleasedLocally why octets) f e p b = called_left user next (ReleasedLocally why octets) why octets f.0 f.1 e b
   called_by ra next (ReleasedByPeer why) f e p b = called_left user next (ReleasedByPeer why) why [] (omega arith) f e b
-  called_by ra next NothingDone f e p b = absurd f
+  called_by ra next _ f e p b = absurd f

@@ -123,10 +123,8 @@ offers_rests (suc n) x live few =
 -- ---- what is due goes down first
 
 due_stays : (t : Transport) (u : TpduTurn) → t.due ≡ None → (behind t u).due ≡ None
-due_stays t Rest e = e
 due_stays t (Opens_next user) e = refl
-due_stays t Acknowledgement e = e
-due_stays t Data e = e
+due_stays t _ e = e
 
 offers_due : (n : ℕ) (x : Core) → x.upper.transport.due ≡ None → (hand_waiting_tpdus model n x).upper.transport.due ≡ None
 unfolding hand_waiting_tpdus

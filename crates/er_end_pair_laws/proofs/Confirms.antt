@@ -6,7 +6,7 @@ use Rattle.std.proofs.lemmas.Bool.{cond_both}
 use Rattle.er_base.specs.declared.release.Release.{Release}
 use Rattle.des_block.specs.declared.triple_key.TripleKey.{TripleKey}
 use Rattle.safety_automaton.specs.Reports.{report_of}
-use Rattle.safety_automaton.specs.Safety.{Safety, WaitAu2, SafetyOutcome, SentAu1, SentAu2, SentAu3, SentAr, ReceivedAr, AcceptedDt, SentDt, Refused, ReleasedLocally, ReleasedByPeer, NothingDone, octets_sent_in_outcome}
+use Rattle.safety_automaton.specs.Safety.{Safety, WaitAu2, SafetyOutcome, SentAu2, SentAu3, SentAr, ReceivedAr, AcceptedDt, ReleasedLocally, ReleasedByPeer, octets_sent_in_outcome}
 use Rattle.hdlc_station_model.specs.Frames.{Frame}
 use Rattle.x224_class2.specs.Segments.{Segment, segments_of, messages_in}
 use Rattle.x224_class2.specs.Tpdus.{GivenTpdu, Cc, Dt}
@@ -131,7 +131,6 @@ module _ (below : LawsBelow) (s : EndLinkOpening) (k : ℕ) (w : List Frame) (x 
   pub confirmed_by : (peer rb : ℕ) (kmac : TripleKey) (next : Safety) (o : SafetyOutcome) → Follows s true (WaitAu2 peer kmac rb) user next o → At x stages.Calling
       → x.safe.safety.phase ≡ WaitAu2 peer kmac rb → Hears s true k w x l y h the_cc
       → Arrived s true k w (on_safety_report model InCc (report_of o) (octets_sent_in_outcome o) (spoke (with_transport x open_side) user next o)) l y
-  confirmed_by peer rb kmac next (SentAu1 octets) f e p b = absurd f
   confirmed_by peer rb kmac next (SentAu2 key sealed octets) f e p b = absurd (let q = f.1 in let u : ⊥ = cc in u)
   confirmed_by peer rb kmac next (SentAu3 key verified sealed octets) f e p b =
       let o : SafetyOutcome = SentAu3 key verified sealed octets in
@@ -144,11 +143,9 @@ module _ (below : LawsBelow) (s : EndLinkOpening) (k : ℕ) (w : List Frame) (x 
   confirmed_by peer rb kmac next (SentAr connection verified sealed octets) f e p b = absurd (let q = f.0 in let u : ⊥ = cc in u)
   confirmed_by peer rb kmac next (ReceivedAr connection verified) f e p b = absurd (let q = f.0 in let u : ⊥ = cc in u)
   confirmed_by peer rb kmac next (AcceptedDt key u verified) f e p b = absurd (let q = f.1 in let u : ⊥ = cc in u)
-  confirmed_by peer rb kmac next (SentDt key u sealed octets) f e p b = absurd f
-  confirmed_by peer rb kmac next (Refused refusal) f e p b = absurd f
   confirmed_by peer rb kmac next (ReleasedLocally why octets) f e p b = confirmed_left user next (ReleasedLocally why octets) why octets f.0 f.1 e b
   confirmed_by peer rb kmac next (ReleasedByPeer why) f e p b = confirmed_left user next (ReleasedByPeer why) why [] (omega arith) f e b
-  confirmed_by peer rb kmac next NothingDone f e p b = absurd f
+  confirmed_by peer rb kmac next _ f e p b = absurd f
 
 -- ---- a DT
 

@@ -4,7 +4,7 @@ use Rattle.er_base.specs.Octets.{AreOctets}
 use Rattle.des_block.specs.declared.triple_key.TripleKey.{TripleKey}
 use Rattle.cbc_mac.specs.Mac.{mac_of}
 use Rattle.session_keys.specs.Session.{session_of}
-use Rattle.sapdu.specs.Spelling.{SafetyPdu, Au1, Au2, Au3, Ar, Dt, Di, spelling, read_of}
+use Rattle.sapdu.specs.Spelling.{SafetyPdu, Au1, Au2, Au3, Ar, Dt, spelling, read_of}
 use Rattle.sapdu.specs.Messages.{IsMessage}
 use Rattle.sapdu.specs.declared.fault.SaFault.{SaFault}
 use Rattle.safety_automaton.specs.declared.role.Role.{Role}
@@ -58,12 +58,8 @@ said_all s c users = opening_text s c ∷ map (sealed_text s c) users
 -- ---- the user octets of what is read
 
 abbrev pub users_of_pdu : SafetyPdu → List (List ℕ)
-users_of_pdu (Au1 id feature rb) = []
-users_of_pdu (Au2 id feature ra mac) = []
-users_of_pdu (Au3 mac) = []
-users_of_pdu (Ar mac) = []
 users_of_pdu (Dt user mac) = user ∷ []
-users_of_pdu (Di reason sub) = []
+users_of_pdu _ = []
 
 abbrev pub users_of_reading : Result (SafetyPdu × Bool) SaFault → List (List ℕ)
 users_of_reading (Err fault) = []

@@ -3,7 +3,7 @@ use Rattle.std.proofs.Common.{◌≡◌, ℕ, ◌+◌, ◌-◌, ◌≤◌, Bool,
 use Rattle.std.specs.Prelude.{nat_lt, ◌==◌, is_some}
 use Rattle.std.proofs.lemmas.Bool.{ltb-false}
 use Rattle.std.proofs.lemmas.List.{length-map, length-take-le}
-use Rattle.safety_automaton.specs.Safety.{Phase, Ready, WaitAu1, WaitAu2, WaitAu3, WaitAr, Connected, Released}
+use Rattle.safety_automaton.specs.Safety.{Phase, WaitAu3, WaitAr, Connected}
 use Rattle.hdlc_station_model.specs.declared.phase.Phase.{Phase as Link_phase}
 use Rattle.hdlc_station_model.specs.declared.phase.Phase.TheVariants.{Up}
 use Rattle.hdlc_station_model.specs.Frames.{Frame}
@@ -209,34 +209,25 @@ quiet free s l g empty =
 
 -- an initiator that is open said something
 e_said : (s : EndLinkOpening) (p : Phase) (out sent came accepted : List (List ℕ)) → Joint s true stages.Open p → PhaseIs s true p out sent came accepted → out ≡ [] → ⊥
-e_said s (Ready peer kmac rb) out sent came accepted j h none = j
-e_said s (WaitAu1 ra) out sent came accepted j h none = j
-e_said s (WaitAu2 peer kmac rb) out sent came accepted j h none = j
 e_said s (WaitAu3 connection) out sent came accepted j h none = let e : true ≡ false = j in cc
 e_said s (WaitAr connection) out sent came accepted j h none = let e : said_all s true [] ≡ [] = sym h.0 ∙ none in cc
 e_said s (Connected peer key) out sent came accepted j h none = let e : said_all s true sent ≡ [] = sym h.0 ∙ none in cc
-e_said s (Released release known) out sent came accepted j h none = j
+e_said s _ out sent came accepted j h none = j
 
 -- a responder to which something came is connected, and said something
 r_connected : (s : EndLinkOpening) (p : Phase) (out sent came accepted : List (List ℕ)) → Joint s false stages.Open p → PhaseIs s false p out sent came accepted → (came ≡ [] → ⊥)
     → (is_connected p ≡ true) × (out ≡ [] → ⊥)
-r_connected s (Ready peer kmac rb) out sent came accepted j h some = absurd j
-r_connected s (WaitAu1 ra) out sent came accepted j h some = absurd j
-r_connected s (WaitAu2 peer kmac rb) out sent came accepted j h some = absurd j
 r_connected s (WaitAu3 connection) out sent came accepted j h some = absurd (some h.2)
 r_connected s (WaitAr connection) out sent came accepted j h some = absurd (let e : false ≡ true = j in let u : ⊥ = cc in u)
 r_connected s (Connected peer key) out sent came accepted j h some = (refl, λ none. (let e : said_all s false sent ≡ [] = sym h.0 ∙ none in cc))
-r_connected s (Released release known) out sent came accepted j h some = absurd j
+r_connected s _ out sent came accepted j h some = absurd j
 
 -- an initiator to which something came is connected
 e_connected : (s : EndLinkOpening) (p : Phase) (out sent came accepted : List (List ℕ)) → Joint s true stages.Open p → PhaseIs s true p out sent came accepted → (came ≡ [] → ⊥) → is_connected p ≡ true
-e_connected s (Ready peer kmac rb) out sent came accepted j h some = absurd j
-e_connected s (WaitAu1 ra) out sent came accepted j h some = absurd j
-e_connected s (WaitAu2 peer kmac rb) out sent came accepted j h some = absurd j
 e_connected s (WaitAu3 connection) out sent came accepted j h some = absurd (let e : true ≡ false = j in let u : ⊥ = cc in u)
 e_connected s (WaitAr connection) out sent came accepted j h some = absurd (some h.2)
 e_connected s (Connected peer key) out sent came accepted j h some = refl
-e_connected s (Released release known) out sent came accepted j h some = absurd j
+e_connected s _ out sent came accepted j h some = absurd j
 
 pub has_all : LawsBelow → (s : EndLinkOpening) → Agree s → (l : EndLink) → l.e.core.released ≡ None → l.r.core.released ≡ None → Quiet s l → HasAll l
 has_all below s agree l live_e live_r q =

@@ -6,7 +6,7 @@ use Rattle.std.proofs.lemmas.Bool.{cases_Bool}
 use Rattle.er_base.specs.declared.release.Release.{Release}
 use Rattle.t70_header.specs.Joining as joining
 use Rattle.safety_automaton.specs.Rules.{IsOpen}
-use Rattle.safety_automaton.specs.Safety.{Phase, Ready, WaitAu1, WaitAu2, WaitAu3, WaitAr, Connected, Released}
+use Rattle.safety_automaton.specs.Safety.{Phase, Released}
 use Rattle.hdlc_station_model.specs.declared.phase.Phase.{Phase as Link_phase}
 use Rattle.hdlc_station_model.specs.Frames.{Frame}
 use Rattle.hdlc_station_model.specs.Stations.{Station, no_deed, is_up, is_down}
@@ -33,9 +33,6 @@ use Rattle.er_end_pair_laws.proofs.Tpdus.{tpdu_keeps}
 
 -- ---- between events and within them
 
-pub gone_of_done : (s : EndLinkOpening) (c : Bool) (k : ℕ) (w : List Frame) (x : Core) (l : List Frame) (y : Core) → Done s c k w x l y → Gone s c k w x l y
-gone_of_done s c k w x l y d = record { beside = d.beside; always = d.own.always; told = d.own.told }
-
 pub busy_of_done : (s : EndLinkOpening) (c : Bool) (k : ℕ) (w : List Frame) (x : Core) (l : List Frame) (y : Core) → x.released ≡ None → Done s c k w x l y → Busy s c k w x l y
 busy_of_done s c k w x l y live d =
     let v = d.own.lives live in
@@ -59,17 +56,12 @@ at_release s c k w x l y None e z d live = live e
 at_release s c k w x l y (Some why) e z d live = d
 
 pub live_phase_open : (s : EndLinkOpening) (c : Bool) (st : Stage) (p : Phase) → Joint s c st p → IsOpen p
-live_phase_open s c st (Ready peer kmac rb) j = tt
-live_phase_open s c st (WaitAu1 ra) j = tt
-live_phase_open s c st (WaitAu2 peer kmac rb) j = tt
-live_phase_open s c st (WaitAu3 connection) j = tt
-live_phase_open s c st (WaitAr connection) j = tt
-live_phase_open s c st (Connected peer key) j = tt
 live_phase_open s c stages.New (Released release known) j = j
 live_phase_open s c stages.Calling (Released release known) j = j
 live_phase_open s c stages.Called (Released release known) j = j
 live_phase_open s c stages.Open (Released release known) j = j
 live_phase_open s c stages.Over (Released release known) j = j
+live_phase_open s c st _ j = tt
 
 -- ---- the station of x did something, and took nothing
 
@@ -98,9 +90,7 @@ stages_phase true stages.New due h gave p q down up a = (a.0, a.1, a.2, down a.3
 stages_phase false stages.New due h gave p q down up a = a
 stages_phase true stages.Calling due h gave p q down up a = (a.0, a.1, up a.2)
 stages_phase false stages.Calling due h gave p q down up a = a
-stages_phase c stages.Called due h gave p q down up a = a
-stages_phase c stages.Open due h gave p q down up a = a
-stages_phase c stages.Over due h gave p q down up a = a
+stages_phase c _ due h gave p q down up a = a
 
 pub alive_phase : (s : EndLinkOpening) (c : Bool) (x : Core) (h : List GivenTpdu) (line : Station) → is_down line.phase ≡ false → Stages c x.upper.transport.stage x.upper.transport.due h x.upper.transport.gave line.phase
     → AliveOf s c x h → AliveOf s c (with_line x line) h

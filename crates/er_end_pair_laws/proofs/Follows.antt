@@ -187,7 +187,6 @@ exact laws s now agree c (Released release known) text h = absurd h
 -- ---- what comes of a text in any case
 
 abbrev pub Follows : EndLinkOpening → Bool → Phase → List ℕ → Safety → SafetyOutcome → Type 0
-Follows s c p text next (SentAu1 octets) = ⊥
 Follows s c p text next (SentAu2 key sealed octets) =
     (connection : Connection) × (p ≡ WaitAu1 connection.ra) × (next ≡ side_in s c (WaitAu3 connection)) × (users_of text ≡ []) × (0 < length octets) × (length octets ≤ 32)
     × (Agree s → (connection ≡ connection_at s c) × (octets ≡ greeting s false))
@@ -202,29 +201,23 @@ Follows s c p text next (ReceivedAr connection verified) =
     × (Agree s → (connection.peer ≡ own_number s (not c)) × (connection.session ≡ session s))
 Follows s c p text next (AcceptedDt key user verified) =
     (peer : ℕ) × (p ≡ Connected peer key) × (next ≡ side_in s c p) × (users_of text ≡ user ∷ []) × (Agree s → text ≡ sealed_text s (not c) user)
-Follows s c p text next (SentDt key user sealed octets) = ⊥
-Follows s c p text next (Refused refusal) = ⊥
 Follows s c p text next (ReleasedLocally release octets) = (length octets ≤ 32) × (Agree s → ⊥)
 Follows s c p text next (ReleasedByPeer release) = Agree s → ⊥
-Follows s c p text next NothingDone = ⊥
+Follows s c p text next _ = ⊥
 
 no_local : (s : EndLinkOpening) (c : Bool) (p : Phase) (text : List ℕ) (next : Safety) (release : Release) (octets : List ℕ) → Exact s c p text next (ReleasedLocally release octets) → ⊥
 no_local s c (Ready peer kmac rb) text next release octets h = h
 no_local s c (WaitAu1 ra) text next release octets h = let e = h.2 in cc
-no_local s c (WaitAu2 peer kmac rb) text next release octets h = let e = h.3 in cc
-no_local s c (WaitAu3 connection) text next release octets h = let e = h.3 in cc
 no_local s c (WaitAr connection) text next release octets h = let e = h.2 in cc
-no_local s c (Connected peer key) text next release octets h = let e = h.3 in cc
 no_local s c (Released r known) text next release octets h = h
+no_local s c _ text next release octets h = let e = h.3 in cc
 
 no_peers : (s : EndLinkOpening) (c : Bool) (p : Phase) (text : List ℕ) (next : Safety) (release : Release) → Exact s c p text next (ReleasedByPeer release) → ⊥
 no_peers s c (Ready peer kmac rb) text next release h = h
 no_peers s c (WaitAu1 ra) text next release h = let e = h.2 in cc
-no_peers s c (WaitAu2 peer kmac rb) text next release h = let e = h.3 in cc
-no_peers s c (WaitAu3 connection) text next release h = let e = h.3 in cc
 no_peers s c (WaitAr connection) text next release h = let e = h.2 in cc
-no_peers s c (Connected peer key) text next release h = let e = h.3 in cc
 no_peers s c (Released r known) text next release h = h
+no_peers s c _ text next release h = let e = h.3 in cc
 
 text_is : (text octets : List ℕ) → Received text ≡ Received octets → text ≡ octets
 text_is text octets e = cc

@@ -3,7 +3,7 @@ use Rattle.std.proofs.Common.{◌≡◌, ◌∙◌, ℕ, suc, true, false, List,
 use Rattle.cbc_mac.specs.Mac.{mac_of}
 use Rattle.sapdu.specs.Spelling.{read_of}
 use Rattle.safety_automaton.specs.Safety.{au2_text}
-use Rattle.x224_class2.specs.Tpdus.{GivenTpdu, Cr, Cc, Dt, Ak, Dr, Dc, pdu_given, octets_given}
+use Rattle.x224_class2.specs.Tpdus.{GivenTpdu, Cr, Cc, Dr, pdu_given, octets_given}
 use Rattle.er_end_model.specs.Layers.{Core}
 use Rattle.er_end_pair_laws.specs.Openings.{EndLinkOpening}
 use Rattle.er_end_pair_laws.specs.Links.{EndLink}
@@ -42,22 +42,15 @@ module _ (below : LawsBelow) (s : EndLinkOpening) where
         read = below.reading (pdu_given (Cr credit size user)) fits;
         text = ap read_of proper ∙ reads_au1 below.safety s;
       }
-  calls (Cc credit size user) first proper fits = absurd first
-  calls (Dt last n user) first proper fits = absurd first
-  calls (Ak credit n) first proper fits = absurd first
-  calls (Dr reason user) first proper fits = absurd first
-  calls Dc first proper fits = absurd first
+  calls _ first proper fits = absurd first
 
   answers : (g : GivenTpdu) → First false s.settings.credit s.settings.size g → Proper s false g → Fits g → IsAnswerBlock s (block g)
-  answers (Cr credit size user) first proper fits = absurd first
   answers (Cc credit size user) first proper fits =
       Confirms (octets_given (Cc credit size user)) user credit 1 1 size (mac_of (session s) (au2_text true s.engine s.rbc 1 s.ra s.rb)) refl
       (below.short (pdu_given (Cc credit size user)) fits) (below.reading (pdu_given (Cc credit size user)) fits) (ap read_of proper ∙ reads_au2 below.safety s)
-  answers (Dt last n user) first proper fits = absurd first
-  answers (Ak credit n) first proper fits = absurd first
   answers (Dr reason user) first proper fits =
       Parts (octets_given (Dr reason user)) user 1 1 reason refl (below.short (pdu_given (Dr reason user)) fits) (below.reading (pdu_given (Dr reason user)) fits)
-  answers Dc first proper fits = absurd first
+  answers _ first proper fits = absurd first
 
   called : (gave : List GivenTpdu) → Opens true s.settings.credit s.settings.size gave → Each (Proper s true) gave → Each Fits gave
       → (g : GivenTpdu) (gs : List GivenTpdu) → gave ≡ g ∷ gs → IsCallBlock s (block g)

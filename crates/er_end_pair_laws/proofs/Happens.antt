@@ -13,7 +13,7 @@ use Rattle.des_block.specs.declared.triple_key.TripleKey.{TripleKey}
 use Rattle.cbc_mac.specs.Mac.{mac_of}
 use Rattle.sapdu.specs.Spelling.{Dt, Di, spelling, di_in}
 use Rattle.sapdu.specs.Messages.{is_message, IsMessage}
-use Rattle.safety_automaton.specs.Safety.{no_keys, Safety, Phase, Ready, WaitAu1, WaitAu2, WaitAu3, WaitAr, Connected, Released, DataRequest, DisconnectRequest, SafetyOutcome, Refused, RefusedLength, sends_dt, message_text, octets_sent_in_outcome, step}
+use Rattle.safety_automaton.specs.Safety.{no_keys, Safety, Phase, Connected, Released, DataRequest, DisconnectRequest, SafetyOutcome, Refused, RefusedLength, sends_dt, message_text, octets_sent_in_outcome, step}
 use Rattle.safety_automaton.specs.Rules.{IsOpen}
 use Rattle.hdlc_station_model.specs.Frames.{Frame}
 use Rattle.hdlc_station_model.specs.Stations.{Station, no_deed, settled}
@@ -145,13 +145,8 @@ module _ (below : LawsBelow) (s : EndLinkOpening) (c : Bool) (k : ℕ) (w : List
 -- ---- the user releases
 
 leaves_with : (s : EndLinkOpening) (c : Bool) (p : Phase) (sub : ℕ) → IsOpen p → octets_sent_in_outcome (step no_keys (side_in s c p) (DisconnectRequest sub)).1 ≡ spelling (Di 0 sub) (flag_at c)
-leaves_with s c (Ready peer kmac rb) sub h = refl
-leaves_with s c (WaitAu1 ra) sub h = refl
-leaves_with s c (WaitAu2 peer kmac rb) sub h = refl
-leaves_with s c (WaitAu3 connection) sub h = refl
-leaves_with s c (WaitAr connection) sub h = refl
-leaves_with s c (Connected peer key) sub h = refl
 leaves_with s c (Released release known) sub h = absurd h
+leaves_with s c _ sub h = refl
 
 left_state : LawsBelow → (s : EndLinkOpening) (c : Bool) (k : ℕ) (w : List Frame) (x : Core) (l : List Frame) (y : Core) (sub : ℕ) → x.upper.transport.due ≡ None → Busy s c k w x l y
     → (a : Safety × SafetyOutcome) → octets_sent_in_outcome a.1 ≡ spelling (Di 0 sub) (flag_at c)
@@ -246,20 +241,12 @@ refusal_none None connected user waiting e = let t = tested connected (is_messag
     tested true true false x y z e = (refl, refl, refl)
 
 connected_is : (p : Phase) → is_connected p ≡ true → (peer : ℕ) × (key : TripleKey) × (p ≡ Connected peer key)
-connected_is (Ready peer kmac rb) e = absurd cc
-connected_is (WaitAu1 ra) e = absurd cc
-connected_is (WaitAu2 peer kmac rb) e = absurd cc
-connected_is (WaitAu3 connection) e = absurd cc
-connected_is (WaitAr connection) e = absurd cc
 connected_is (Connected peer key) e = (peer, key, refl)
-connected_is (Released release known) e = absurd cc
+connected_is _ e = absurd cc
 
 connected_open : (s : EndLinkOpening) (c : Bool) (st : Stage) (peer : ℕ) (key : TripleKey) → Joint s c st (Connected peer key) → is_open st ≡ true
-connected_open s c stages.New peer key j = absurd j
-connected_open s c stages.Calling peer key j = absurd j
-connected_open s c stages.Called peer key j = absurd j
 connected_open s c stages.Open peer key j = refl
-connected_open s c stages.Over peer key j = absurd j
+connected_open s c _ peer key j = absurd j
 
 below_16 : (n : ℕ) → nat_le 16 n ≡ false → n < 16
 below_16 n e = elim (leb_tells 16 n) [ inl yes' ↦ absurd (true≢false (sym yes'.0 ∙ e)) | inr no' ↦ no'.1 ]

@@ -96,13 +96,10 @@ sealed_next f (a ∷ rest) (u ∷ us) t h g = sealed_next f rest us t h.1 g.1
 
 -- a phase in which messages come
 abbrev pub IsMessagePhase : Bool → Phase → Type 0
-IsMessagePhase c (Ready peer kmac rb) = ⊥
-IsMessagePhase c (WaitAu1 ra) = ⊥
-IsMessagePhase c (WaitAu2 peer kmac rb) = ⊥
 IsMessagePhase c (WaitAu3 connection) = c ≡ false
 IsMessagePhase c (WaitAr connection) = c ≡ true
 IsMessagePhase c (Connected peer key) = Unit {0}
-IsMessagePhase c (Released release known) = ⊥
+IsMessagePhase c _ = ⊥
 
 -- where the keys agree, it is the text for which the safety side waits
 pub text_awaited : (s : EndLinkOpening) (c : Bool) (p : Phase) (out sent came accepted : List (List ℕ)) (t : List ℕ) (messages theirs : List (List ℕ)) → Head (came ++ t ∷ []) messages

@@ -48,10 +48,8 @@ may_up x h =
     (and_parts (is_up x.phase) (not x.busy) d.0).0
 
 pub up_lives : (p : Link_phase) → is_up p ≡ true → is_down p ≡ false
-up_lives link.Idle h = refl
-up_lives link.Setting h = refl
-up_lives link.Up h = refl
 up_lives link.Down h = absurd cc
+up_lives _ h = refl
 
 opens_dr : (c : Bool) (C S : ℕ) (gave : List GivenTpdu) (phase : Link_phase) (reason : ℕ) (user : List ℕ) → is_up phase ≡ true → LeaveOk c gave phase → Opens c C S gave → Opens c C S (gave ++ Dr reason user ∷ [])
 opens_dr c C S gave phase reason user up (inl some) h = opens_later c C S gave (Dr reason user) some tt h

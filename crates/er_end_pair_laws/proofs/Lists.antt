@@ -1,5 +1,5 @@
 -- Lists of which one is the beginning of the other, lists with their numbers, and numbers that don't fall.
-use Rattle.std.proofs.Common.{◌≡◌, ℕ, zero, suc, ◌+◌, ◌<◌, ◌≤◌, List, [], ◌∷◌, ◌++◌, length, take, refl, sym, ◌∙◌, ap, subst, arith, length-append, append-nil}
+use Rattle.std.proofs.Common.{◌≡◌, ℕ, zero, suc, ◌+◌, ◌≤◌, List, [], ◌∷◌, ◌++◌, length, take, refl, sym, ◌∙◌, ap, subst, arith, length-append, append-nil}
 use Rattle.std.specs.List.{flat_map}
 use Rattle.std.proofs.lemmas.Grind.{flat_map-append}
 
@@ -25,11 +25,6 @@ head_more [] ys zs h = tt
 head_more (x ∷ xs) [] zs h = absurd h
 head_more (x ∷ xs) (y ∷ ys) zs h = (h.0, head_more xs ys zs h.1)
 
-pub head_less : {A : Type 0} (xs ys zs : List A) → Head (xs ++ ys) zs → Head xs zs
-head_less [] ys zs h = tt
-head_less (x ∷ xs) ys [] h = absurd h
-head_less (x ∷ xs) ys (z ∷ zs) h = (h.0, head_less xs ys zs h.1)
-
 pub head_join : {A : Type 0} (xs ys zs : List A) → Head ys zs → Head (xs ++ ys) (xs ++ zs)
 head_join [] ys zs h = h
 head_join (x ∷ xs) ys zs h = (refl, head_join xs ys zs h)
@@ -49,12 +44,6 @@ head_prefix [] ys h = refl
 head_prefix (x ∷ xs) [] h = absurd h
 head_prefix (x ∷ xs) (y ∷ ys) h = ap (λ t. t ∷ xs) h.0 ∙ ap (λ t. y ∷ t) (head_prefix xs ys h.1)
 
-pub head_same : {A : Type 0} (xs ys : List A) → Head xs ys → length ys ≤ length xs → xs ≡ ys
-head_same [] [] h le = refl
-head_same [] (y ∷ ys) h le = absurd (let u : ⊥ = omega arith in u)
-head_same (x ∷ xs) [] h le = absurd h
-head_same (x ∷ xs) (y ∷ ys) h le = ap (λ t. t ∷ xs) h.0 ∙ ap (λ t. y ∷ t) (head_same xs ys h.1 (omega arith))
-
 pub head_flat : {A B : Type 0} (g : A → List B) (xs ys : List A) → Head xs ys → Head (flat_map g xs) (flat_map g ys)
 head_flat g [] ys h = tt
 head_flat g (x ∷ xs) [] h = absurd h
@@ -62,18 +51,6 @@ head_flat g (x ∷ xs) (y ∷ ys) h = subst (λ t. Head (g x ++ flat_map g xs) (
 
 pub head_equal : {A : Type 0} (xs ys : List A) → xs ≡ ys → Head xs ys
 head_equal xs ys e = subst (λ t. Head xs t) e (head_refl xs)
-
--- the list behind a beginning: what is next
-pub head_push : {A : Type 0} (xs ys : List A) → Head xs ys → length xs < length ys → (z : A) × Head (xs ++ z ∷ []) ys
-head_push [] [] h lt = absurd (let u : ⊥ = omega arith in u)
-head_push [] (y ∷ ys) h lt = (y, (refl, tt))
-head_push (x ∷ xs) [] h lt = absurd h
-head_push (x ∷ xs) (y ∷ ys) h lt = let r = head_push xs ys h.1 (omega arith) in (r.0, (h.0, r.1))
-
--- two beginnings with one more
-pub head_next : {A : Type 0} (xs : List A) (y z : A) (zs : List A) → Head (xs ++ y ∷ []) (xs ++ z ∷ zs) → y ≡ z
-head_next [] y z zs h = h.0
-head_next (x ∷ xs) y z zs h = head_next xs y z zs h.1
 
 -- ---- what holds of each
 
@@ -114,11 +91,6 @@ number_push k (y ∷ ys) x =
     let e : suc k + length ys ≡ k + suc (length ys) = omega arith in
     ap (λ t. (k, y) ∷ t) (number_push (suc k) ys x) ∙ ap (λ n. (k, y) ∷ (number (suc k) ys ++ (n, x) ∷ [])) e
 
-pub number_head : {A : Type 0} (k : ℕ) (xs ys : List A) → Head xs ys → Head (number k xs) (number k ys)
-number_head k [] ys h = tt
-number_head k (x ∷ xs) [] h = absurd h
-number_head k (x ∷ xs) (y ∷ ys) h = (ap (λ t. (k, t)) h.0, number_head (suc k) xs ys h.1)
-
 -- what stands next in a numbered list has the next number
 pub number_next : {A : Type 0} (k n : ℕ) (z : A) (xs ys : List A) → Head (number k xs ++ (n, z) ∷ []) (number k ys) → (n ≡ k + length xs) × Head (xs ++ z ∷ []) ys
 number_next k n z [] [] h = absurd h
@@ -157,10 +129,6 @@ pub climbs_push : (low n high : ℕ) (xs : List ℕ) → n ≤ high → Climbs l
 climbs_push low n high [] le h = (omega arith, omega arith)
 climbs_push low n high (x ∷ xs) le h = (h.0, climbs_push x n high xs le h.1)
 
-pub climbs_high : (low n high : ℕ) (xs : List ℕ) → n ≤ high → Climbs low xs n → Climbs low xs high
-climbs_high low n high [] le h = omega arith
-climbs_high low n high (x ∷ xs) le h = (h.0, climbs_high x n high xs le h.1)
-
 pub ends_push : (low n : ℕ) (xs : List ℕ) → Ends low (xs ++ n ∷ []) n
 ends_push low n [] = refl
 ends_push low n (x ∷ xs) = ends_push x n xs
@@ -183,13 +151,6 @@ ends_at low a high [] all e c h = omega (arith, climbs_le low high all c)
 ends_at low a high (y ∷ ys) [] e c h = absurd h
 ends_at low a high (y ∷ ys) (x ∷ xs) e c h = ends_at y a high ys xs e (subst (λ t. Climbs t xs high) (sym h.0) c.1) h.1
 
-pub ends_low : (low a : ℕ) (came : List ℕ) (high : ℕ) (all : List ℕ) → Ends low came a → Climbs low all high → Head came all → low ≤ a
-ends_low low a [] high all e c h = omega arith
-ends_low low a (y ∷ ys) high [] e c h = absurd h
-ends_low low a (y ∷ ys) high (x ∷ xs) e c h =
-    let r = ends_low y a ys high xs e (subst (λ t. Climbs t xs high) (sym h.0) c.1) h.1 in
-    let same : y ≡ x = h.0 in omega (arith, c.0)
-
 -- ---- one more at the end of a list of which parts are taken
 
 pub flat_push : {A B : Type 0} (g : A → List B) (xs : List A) (x : A) → flat_map g (xs ++ x ∷ []) ≡ flat_map g xs ++ g x
@@ -203,7 +164,3 @@ flat_one g xs x b e = flat_push g xs x ∙ ap (λ t. flat_map g xs ++ t) e
 
 pub length_push : {A : Type 0} (xs : List A) (x : A) → length (xs ++ x ∷ []) ≡ suc (length xs)
 length_push xs x = length-append xs (x ∷ []) ∙ (omega arith)
-
-pub length_none : {A : Type 0} (xs : List A) → length xs ≡ 0 → xs ≡ []
-length_none [] e = refl
-length_none (x ∷ xs) e = absurd (let u : ⊥ = omega arith in u)

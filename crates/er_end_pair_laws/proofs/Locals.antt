@@ -10,36 +10,20 @@ use Rattle.er_end_pair_laws.proofs.Segments.{IsShort}
 -- ---- parts of TPDUs
 
 abbrev pub dt_of : GivenTpdu → List (ℕ × Segment)
-dt_of (Cr credit size user) = []
-dt_of (Cc credit size user) = []
 dt_of (Dt last n user) = (n, (last, user)) ∷ []
-dt_of (Ak credit n) = []
-dt_of (Dr reason user) = []
-dt_of Dc = []
+dt_of _ = []
 
 abbrev pub ak_of : GivenTpdu → List ℕ
-ak_of (Cr credit size user) = []
-ak_of (Cc credit size user) = []
-ak_of (Dt last n user) = []
 ak_of (Ak credit n) = n ∷ []
-ak_of (Dr reason user) = []
-ak_of Dc = []
+ak_of _ = []
 
 abbrev pub dr_of : GivenTpdu → List ℕ
-dr_of (Cr credit size user) = []
-dr_of (Cc credit size user) = []
-dr_of (Dt last n user) = []
-dr_of (Ak credit n) = []
 dr_of (Dr reason user) = 0 ∷ []
-dr_of Dc = []
+dr_of _ = []
 
 abbrev pub dc_of : GivenTpdu → List ℕ
-dc_of (Cr credit size user) = []
-dc_of (Cc credit size user) = []
-dc_of (Dt last n user) = []
-dc_of (Ak credit n) = []
-dc_of (Dr reason user) = []
 dc_of Dc = 0 ∷ []
+dc_of _ = []
 
 abbrev pub dts : List GivenTpdu → List (ℕ × Segment)
 dts l = flat_map dt_of l

@@ -7,7 +7,7 @@ use Rattle.std.proofs.lemmas.List.{map-append}
 use Rattle.er_base.specs.declared.release.Release.{Release}
 use Rattle.des_block.specs.declared.triple_key.TripleKey.{TripleKey}
 use Rattle.safety_automaton.specs.Reports.{report_of}
-use Rattle.safety_automaton.specs.Safety.{Safety, Connection, Phase, Ready, WaitAu1, WaitAu2, WaitAu3, WaitAr, Connected, Released, SafetyOutcome, SentAu1, SentAu2, SentAu3, SentAr, ReceivedAr, AcceptedDt, SentDt, Refused, ReleasedLocally, ReleasedByPeer, NothingDone, octets_sent_in_outcome}
+use Rattle.safety_automaton.specs.Safety.{Safety, Connection, Phase, WaitAu3, WaitAr, Connected, SafetyOutcome, SentAu2, SentAu3, SentAr, ReceivedAr, AcceptedDt, ReleasedLocally, ReleasedByPeer, octets_sent_in_outcome}
 use Rattle.hdlc_station_model.specs.Frames.{Frame}
 use Rattle.x224_class2.specs.Segments.{Segment, segments_of, messages_in, text_so_far}
 use Rattle.x224_class2.specs.Tpdus.{GivenTpdu, Dt}
@@ -177,7 +177,6 @@ module _ (below : LawsBelow) (s : EndLinkOpening) (c : Bool) (k : ℕ) (w : List
   au3_by : (connection : Connection) (next : Safety) (o : SafetyOutcome) → Follows s c (WaitAu3 connection) whole next o
       → (Agree s → Awaits s c (WaitAu3 connection) whole) → c ≡ false → At x stages.Open → n ≡ length (Side x).contents → x.safe.safety.phase ≡ WaitAu3 connection → Hears s c k w x l y h the_last
       → Arrived s c k w (on_safety_report model InDt (report_of o) (octets_sent_in_outcome o) (spoke (with_transport x whole_side) whole next o)) l y
-  au3_by connection next (SentAu1 octets) f awaits role e same p b = absurd f
   au3_by connection next (SentAu2 key sealed octets) f awaits role e same p b = absurd (let q = f.1 in let u : ⊥ = cc in u)
   au3_by connection next (SentAu3 key verified sealed octets) f awaits role e same p b = absurd (let q = f.2 in let u : ⊥ = cc in u)
   au3_by connection next (SentAr other verified sealed octets) f awaits role e same p b =
@@ -199,17 +198,14 @@ module _ (below : LawsBelow) (s : EndLinkOpening) (c : Bool) (k : ℕ) (w : List
       connection_same a b q = cc
   au3_by connection next (ReceivedAr other verified) f awaits role e same p b = absurd (let q = f.0 in let u : ⊥ = cc in u)
   au3_by connection next (AcceptedDt key u verified) f awaits role e same p b = absurd (let q = f.1 in let u : ⊥ = cc in u)
-  au3_by connection next (SentDt key u sealed octets) f awaits role e same p b = absurd f
-  au3_by connection next (Refused refusal) f awaits role e same p b = absurd f
   au3_by connection next (ReleasedLocally why octets) f awaits role e same p b = whole_left next (ReleasedLocally why octets) why octets f.0 f.1 e same b
   au3_by connection next (ReleasedByPeer why) f awaits role e same p b = whole_left next (ReleasedByPeer why) why [] (omega arith) f e same b
-  au3_by connection next NothingDone f awaits role e same p b = absurd f
+  au3_by connection next _ f awaits role e same p b = absurd f
 
   -- AR came
   ar_by : (connection : Connection) (next : Safety) (o : SafetyOutcome) → Follows s c (WaitAr connection) whole next o
       → (Agree s → Awaits s c (WaitAr connection) whole) → c ≡ true → At x stages.Open → n ≡ length (Side x).contents → x.safe.safety.phase ≡ WaitAr connection → Hears s c k w x l y h the_last
       → Arrived s c k w (on_safety_report model InDt (report_of o) (octets_sent_in_outcome o) (spoke (with_transport x whole_side) whole next o)) l y
-  ar_by connection next (SentAu1 octets) f awaits role e same p b = absurd f
   ar_by connection next (SentAu2 key sealed octets) f awaits role e same p b = absurd (let q = f.1 in let u : ⊥ = cc in u)
   ar_by connection next (SentAu3 key verified sealed octets) f awaits role e same p b = absurd (let q = f.2 in let u : ⊥ = cc in u)
   ar_by connection next (SentAr other verified sealed octets) f awaits role e same p b = absurd (let q = f.0 in let u : ⊥ = cc in u)
@@ -229,17 +225,14 @@ module _ (below : LawsBelow) (s : EndLinkOpening) (c : Bool) (k : ℕ) (w : List
         trusting = set_up_trusting next (Connected other.peer other.session) e f.1 tt f.2 b t.segments (λ a. (out a, came a, (f.3 a).0, (f.3 a).1));
       })
   ar_by connection next (AcceptedDt key u verified) f awaits role e same p b = absurd (let q = f.1 in let u : ⊥ = cc in u)
-  ar_by connection next (SentDt key u sealed octets) f awaits role e same p b = absurd f
-  ar_by connection next (Refused refusal) f awaits role e same p b = absurd f
   ar_by connection next (ReleasedLocally why octets) f awaits role e same p b = whole_left next (ReleasedLocally why octets) why octets f.0 f.1 e same b
   ar_by connection next (ReleasedByPeer why) f awaits role e same p b = whole_left next (ReleasedByPeer why) why [] (omega arith) f e same b
-  ar_by connection next NothingDone f awaits role e same p b = absurd f
+  ar_by connection next _ f awaits role e same p b = absurd f
 
   -- a message of the peer's user came
   user_by : (peer : ℕ) (key : TripleKey) (next : Safety) (o : SafetyOutcome) → Follows s c (Connected peer key) whole next o
       → At x stages.Open → n ≡ length (Side x).contents → x.safe.safety.phase ≡ Connected peer key → Hears s c k w x l y h the_last
       → Arrived s c k w (on_safety_report model InDt (report_of o) (octets_sent_in_outcome o) (spoke (with_transport x whole_side) whole next o)) l y
-  user_by peer key next (SentAu1 octets) f e same p b = absurd f
   user_by peer key next (SentAu2 k' sealed octets) f e same p b = absurd (let q = f.1 in let u : ⊥ = cc in u)
   user_by peer key next (SentAu3 k' verified sealed octets) f e same p b = absurd (let q = f.2 in let u : ⊥ = cc in u)
   user_by peer key next (SentAr other verified sealed octets) f e same p b = absurd (let q = f.0 in let u : ⊥ = cc in u)
@@ -285,20 +278,15 @@ module _ (below : LawsBelow) (s : EndLinkOpening) (c : Bool) (k : ℕ) (w : List
                   );
             }));
       })
-  user_by peer key next (SentDt k' u sealed octets) f e same p b = absurd f
-  user_by peer key next (Refused refusal) f e same p b = absurd f
   user_by peer key next (ReleasedLocally why octets) f e same p b = whole_left next (ReleasedLocally why octets) why octets f.0 f.1 e same b
   user_by peer key next (ReleasedByPeer why) f e same p b = whole_left next (ReleasedByPeer why) why [] (omega arith) f e same b
-  user_by peer key next NothingDone f e same p b = absurd f
+  user_by peer key next _ f e same p b = absurd f
 
   -- by the phase
   pub message_by : (p : Phase) (next : Safety) (o : SafetyOutcome) → Follows s c p whole next o → (Agree s → Awaits s c p whole) → Joint s c stages.Open p
       → At x stages.Open → n ≡ length (Side x).contents → x.safe.safety.phase ≡ p → Hears s c k w x l y h the_last
       → Arrived s c k w (on_safety_report model InDt (report_of o) (octets_sent_in_outcome o) (spoke (with_transport x whole_side) whole next o)) l y
-  message_by (Ready peer kmac rb) next o f awaits j e same p b = absurd j
-  message_by (WaitAu1 ra) next o f awaits j e same p b = absurd j
-  message_by (WaitAu2 peer kmac rb) next o f awaits j e same p b = absurd j
   message_by (WaitAu3 connection) next o f awaits j e same p b = au3_by connection next o f awaits j e same p b
   message_by (WaitAr connection) next o f awaits j e same p b = ar_by connection next o f awaits j e same p b
   message_by (Connected peer key) next o f awaits j e same p b = user_by peer key next o f e same p b
-  message_by (Released release known) next o f awaits j e same p b = absurd j
+  message_by _ next o f awaits j e same p b = absurd j

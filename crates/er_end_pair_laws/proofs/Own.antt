@@ -11,7 +11,7 @@ use Rattle.hdlc_station_model.specs.Frames.{Frame}
 use Rattle.hdlc_station_model.specs.Stations.{is_up, is_down}
 use Rattle.hdlc_pair_laws.specs.Invariant.{Both}
 use Rattle.x224_class2.specs.Segments.{Segment, messages_in}
-use Rattle.x224_class2.specs.Tpdus.{GivenTpdu, Cr, Cc, Dt, Ak, Dr, Dc, octets_given}
+use Rattle.x224_class2.specs.Tpdus.{GivenTpdu, Cr, Cc, Dr, octets_given}
 use Rattle.x224_class2.specs.declared.stage.Stage.{Stage}
 use Rattle.x224_class2.specs.declared.stage.Stage.TheVariants as stages
 use Rattle.er_end_model.specs.Layers.{Core, model}
@@ -51,10 +51,8 @@ AlwaysOf s c x h =
 abbrev pub Proper : EndLinkOpening → Bool → GivenTpdu → Type 0
 Proper s c (Cr credit size user) = user ≡ greeting s c
 Proper s c (Cc credit size user) = user ≡ greeting s c
-Proper s c (Dt last n user) = Unit {0}
-Proper s c (Ak credit n) = Unit {0}
 Proper s c (Dr reason user) = IsLosingLineRelease (Some (why_of (di_in user (flag_at c))))
-Proper s c Dc = Unit {0}
+Proper s c _ = Unit {0}
 
 abbrev pub Said : EndLinkOpening → Bool → List (List ℕ) → List (List ℕ) → Type 0
 Said s c messages sent = ((messages ≡ []) × (sent ≡ [])) ⊎ (messages ≡ said_all s c sent)
@@ -139,9 +137,6 @@ Joint s c stages.Over phase = ⊥
 
 -- where the keys agree: what is known, what was said and what came
 abbrev pub PhaseIs : EndLinkOpening → Bool → Phase → (out : List (List ℕ)) → (sent : List (List ℕ)) → (came : List (List ℕ)) → (accepted : List (List ℕ)) → Type 0
-PhaseIs s c (Ready peer kmac rb) out sent came accepted = (out ≡ []) × (sent ≡ []) × (came ≡ []) × (accepted ≡ [])
-PhaseIs s c (WaitAu1 ra) out sent came accepted = (out ≡ []) × (sent ≡ []) × (came ≡ []) × (accepted ≡ [])
-PhaseIs s c (WaitAu2 peer kmac rb) out sent came accepted = (out ≡ []) × (sent ≡ []) × (came ≡ []) × (accepted ≡ [])
 PhaseIs s c (WaitAu3 connection) out sent came accepted =
     (out ≡ []) × (sent ≡ []) × (came ≡ []) × (accepted ≡ []) × (connection ≡ connection_at s c)
 PhaseIs s c (WaitAr connection) out sent came accepted =
@@ -149,6 +144,7 @@ PhaseIs s c (WaitAr connection) out sent came accepted =
 PhaseIs s c (Connected peer key) out sent came accepted =
     (out ≡ said_all s c sent) × (came ≡ said_all s (not c) accepted) × (peer ≡ own_number s (not c)) × (key ≡ session s)
 PhaseIs s c (Released release known) out sent came accepted = ⊥
+PhaseIs s c _ out sent came accepted = (out ≡ []) × (sent ≡ []) × (came ≡ []) × (accepted ≡ [])
 
 pub record Trusting (s : EndLinkOpening) (c : Bool) (stage : Stage) (safety : Safety) (segs contents : List Segment) (sent accepted : List (List ℕ)) (taken used : ℕ) : Type 0 where
   pub joint : Joint s c stage safety.phase

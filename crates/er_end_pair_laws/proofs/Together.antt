@@ -95,9 +95,7 @@ centres s stage (Released release known) out sent came accepted j h = h
 -- the transport is open at an engine that knows them
 pub known_open : (s : EndLinkOpening) (stage : Stage) (p : Phase) → Joint s true stage p → Engines s p → is_some (session_in p) ≡ true → stage ≡ stages.Open
 known_open s stage (Ready peer kmac rb) j h e = absurd (not_called e)
-known_open s stage (WaitAu1 ra) j h e = absurd h
 known_open s stage (WaitAu2 peer kmac rb) j h e = absurd (not_called e)
-known_open s stage (WaitAu3 connection) j h e = absurd h
 known_open s stages.New (WaitAr connection) j h e = absurd j
 known_open s stages.Calling (WaitAr connection) j h e = absurd j
 known_open s stages.Called (WaitAr connection) j h e = absurd j
@@ -108,7 +106,7 @@ known_open s stages.Calling (Connected peer key) j h e = absurd j
 known_open s stages.Called (Connected peer key) j h e = absurd j
 known_open s stages.Open (Connected peer key) j h e = refl
 known_open s stages.Over (Connected peer key) j h e = absurd j
-known_open s stage (Released release known) j h e = absurd h
+known_open s stage _ j h e = absurd h
 
 -- a radio block centre that gave a TPDU knows them
 pub gave_known : (s : EndLinkOpening) (stage : Stage) (p : Phase) (due : Option (List ℕ)) (h gave : List GivenTpdu) (phase : Link_phase) → Stages false stage due h gave phase → 1 ≤ length gave
@@ -116,8 +114,6 @@ pub gave_known : (s : EndLinkOpening) (stage : Stage) (p : Phase) (due : Option 
 gave_known s stages.New p due h gave phase a some j c =
     let none : length gave ≡ 0 = ap length a.2 in
     absurd (omega (arith, some, none))
-gave_known s stages.Calling p due h gave phase a some j c = absurd a
-gave_known s stages.Called p due h gave phase a some j c = absurd a
 gave_known s stages.Open (Ready peer kmac rb) due h gave phase a some j c = absurd j
 gave_known s stages.Open (WaitAu1 ra) due h gave phase a some j c = absurd j
 gave_known s stages.Open (WaitAu2 peer kmac rb) due h gave phase a some j c = absurd j
@@ -125,7 +121,7 @@ gave_known s stages.Open (WaitAu3 connection) due h gave phase a some j c = refl
 gave_known s stages.Open (WaitAr connection) due h gave phase a some j c = absurd c
 gave_known s stages.Open (Connected peer key) due h gave phase a some j c = refl
 gave_known s stages.Open (Released release known) due h gave phase a some j c = absurd j
-gave_known s stages.Over p due h gave phase a some j c = absurd a
+gave_known s _ p due h gave phase a some j c = absurd a
 
 -- ---- what was said and what came
 
@@ -137,16 +133,12 @@ none_of (x ∷ xs) (y ∷ ys) h e = absurd cc
 
 -- to a side that is connected a message came
 pub came_some : (s : EndLinkOpening) (c : Bool) (p : Phase) (out sent came accepted : List (List ℕ)) → PhaseIs s c p out sent came accepted → is_connected p ≡ true → came ≡ [] → ⊥
-came_some s c (Ready peer kmac rb) out sent came accepted h e none = not_called e
-came_some s c (WaitAu1 ra) out sent came accepted h e none = not_called e
-came_some s c (WaitAu2 peer kmac rb) out sent came accepted h e none = not_called e
-came_some s c (WaitAu3 connection) out sent came accepted h e none = not_called e
-came_some s c (WaitAr connection) out sent came accepted h e none = not_called e
 came_some s c (Connected peer key) out sent came accepted h e none = said_some s c accepted came h.1 none
   where
     said_some : (s : EndLinkOpening) (c : Bool) (accepted came : List (List ℕ)) → came ≡ said_all s (not c) accepted → came ≡ [] → ⊥
     said_some s c accepted came is none = cc
 came_some s c (Released release known) out sent came accepted h e none = h
+came_some s c _ out sent came accepted h e none = not_called e
 
 -- an engine that said something knows session keys
 pub e_said : (s : EndLinkOpening) (p : Phase) (out sent came accepted : List (List ℕ)) → PhaseIs s true p out sent came accepted → Engines s p → (out ≡ [] → ⊥) → is_some (session_in p) ≡ true
@@ -160,13 +152,10 @@ e_said s (Released release known) out sent came accepted h c some = absurd h
 
 -- a radio block centre that said something is connected
 pub r_said : (s : EndLinkOpening) (p : Phase) (out sent came accepted : List (List ℕ)) → PhaseIs s false p out sent came accepted → Centres s p → (out ≡ [] → ⊥) → is_connected p ≡ true
-r_said s (Ready peer kmac rb) out sent came accepted h c some = absurd (some h.0)
-r_said s (WaitAu1 ra) out sent came accepted h c some = absurd (some h.0)
-r_said s (WaitAu2 peer kmac rb) out sent came accepted h c some = absurd (some h.0)
-r_said s (WaitAu3 connection) out sent came accepted h c some = absurd (some h.0)
 r_said s (WaitAr connection) out sent came accepted h c some = absurd c
 r_said s (Connected peer key) out sent came accepted h c some = refl
 r_said s (Released release known) out sent came accepted h c some = absurd h
+r_said s _ out sent came accepted h c some = absurd (some h.0)
 
 -- ---- between two ends
 

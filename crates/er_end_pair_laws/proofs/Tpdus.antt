@@ -7,7 +7,7 @@ use Rattle.des_block.specs.declared.triple_key.TripleKey.{TripleKey}
 use Rattle.sapdu.specs.Spelling.{di_in}
 use Rattle.safety_automaton.specs.Reports.{report_of}
 use Rattle.safety_automaton.specs.Rules.{IsOpen}
-use Rattle.safety_automaton.specs.Safety.{Safety, Phase, Ready, WaitAu1, WaitAu2, WaitAu3, WaitAr, Connected, Released, Received, peer_flag, octets_sent_in_outcome, step}
+use Rattle.safety_automaton.specs.Safety.{Safety, Phase, Ready, WaitAu1, WaitAu2, WaitAu3, WaitAr, Connected, Received, peer_flag, octets_sent_in_outcome, step}
 use Rattle.hdlc_station_model.specs.Frames.{Frame}
 use Rattle.x224_class2.specs.Segments.{messages_in, text_so_far}
 use Rattle.x224_class2.specs.Tpdus.{GivenTpdu, Cr, Cc, Dt, Ak, Dr, Dc, pdu_given, octets_given}
@@ -148,13 +148,10 @@ module _ (below : LawsBelow) (s : EndLinkOpening) (c : Bool) (k : ℕ) (w : List
   -- ---- DT
 
   message_phase : (p : Phase) → Joint s c stages.Open p → IsMessagePhase c p × IsOpen p
-  message_phase (Ready peer kmac rb) j = absurd j
-  message_phase (WaitAu1 ra) j = absurd j
-  message_phase (WaitAu2 peer kmac rb) j = absurd j
   message_phase (WaitAu3 connection) j = (j, tt)
   message_phase (WaitAr connection) j = (j, tt)
   message_phase (Connected peer key) j = (tt, tt)
-  message_phase (Released release known) j = absurd j
+  message_phase _ j = absurd j
 
   dt_ends : (last : Bool) (n : ℕ) (user : List ℕ) → At x stages.Open → n ≡ length (Side x).contents → Head ((Side x).contents ++ (last, user) ∷ []) (take (Side y).given (Side y).segments)
       → Hears s c k w x l y h (Dt last n user)
@@ -218,21 +215,12 @@ module _ (below : LawsBelow) (s : EndLinkOpening) (c : Bool) (k : ℕ) (w : List
 joint_called : (s : EndLinkOpening) (p : Phase) → Joint s false stages.New p → (ra : ℕ) × (p ≡ WaitAu1 ra) × (ra ≡ s.ra)
 joint_called s (Ready peer kmac rb) j = absurd (let e = j.0 in let u : ⊥ = cc in u)
 joint_called s (WaitAu1 ra) j = (ra, refl, j.1)
-joint_called s (WaitAu2 peer kmac rb) j = absurd j
-joint_called s (WaitAu3 connection) j = absurd j
-joint_called s (WaitAr connection) j = absurd j
-joint_called s (Connected peer key) j = absurd j
-joint_called s (Released release known) j = absurd j
+joint_called s _ j = absurd j
 
 joint_calling : (s : EndLinkOpening) (p : Phase) → Joint s true stages.Calling p
     → (peer : ℕ) × (kmac : TripleKey) × (rb : ℕ) × (p ≡ WaitAu2 peer kmac rb) × (peer ≡ s.rbc) × (kmac ≡ s.kmac) × (rb ≡ s.rb)
-joint_calling s (Ready peer kmac rb) j = absurd j
-joint_calling s (WaitAu1 ra) j = absurd j
 joint_calling s (WaitAu2 peer kmac rb) j = (peer, kmac, rb, refl, j.1, j.2, j.3)
-joint_calling s (WaitAu3 connection) j = absurd j
-joint_calling s (WaitAr connection) j = absurd j
-joint_calling s (Connected peer key) j = absurd j
-joint_calling s (Released release known) j = absurd j
+joint_calling s _ j = absurd j
 
 module _ (below : LawsBelow) (s : EndLinkOpening) (k : ℕ) (w : List Frame) (x : Core) (l : List Frame) (y : Core) (h : List GivenTpdu) where
   cr_comes : (user : List ℕ) → At x stages.New → Hears s false k w x l y h (Cr s.settings.credit s.settings.size user)
@@ -278,24 +266,17 @@ module _ (below : LawsBelow) (s : EndLinkOpening) (k : ℕ) (w : List Frame) (x 
       subst (λ (m : ℕ). Arrived s false k w (heard_at s x (on_request (Side x) m 0 1 size user)) l y) (sym first.0)
       (subst (λ (m : ℕ). Arrived s false k w (heard_at s x (on_request (Side x) s.settings.credit 0 1 m user)) l y) (sym first.1)
       (cr_comes user e (subst (λ (m : ℕ). Hears s false k w x l y h (Cr s.settings.credit m user)) first.1 (subst (λ (m : ℕ). Hears s false k w x l y h (Cr m size user)) first.0 b))))
-  new_comes (Cc credit size user) e first b = absurd first
-  new_comes (Dt last n user) e first b = absurd first
-  new_comes (Ak credit n) e first b = absurd first
-  new_comes (Dr reason user) e first b = absurd first
-  new_comes Dc e first b = absurd first
+  new_comes _ e first b = absurd first
 
   -- a caller waits for CC or DR
   calling_comes : (g : GivenTpdu) → At x stages.Calling → First false s.settings.credit s.settings.size g → Hears s true k w x l y h g
       → Arrived s true k w (heard_at s x (on_reading (Side x) (Ok (pdu_given g)))) l y
-  calling_comes (Cr credit size user) e first b = absurd first
   calling_comes (Cc credit size user) e first b =
       subst (λ (m : ℕ). Arrived s true k w (heard_at s x (on_confirm (Side x) m 1 1 size user)) l y) (sym first.0)
       (subst (λ (m : ℕ). Arrived s true k w (heard_at s x (on_confirm (Side x) s.settings.credit 1 1 m user)) l y) (sym first.1)
       (cc_comes user e (subst (λ (m : ℕ). Hears s true k w x l y h (Cc s.settings.credit m user)) first.1 (subst (λ (m : ℕ). Hears s true k w x l y h (Cc m size user)) first.0 b))))
-  calling_comes (Dt last n user) e first b = absurd first
-  calling_comes (Ak credit n) e first b = absurd first
   calling_comes (Dr reason user) e first b = dr_comes below s true k w x l y h stages.Calling reason user e refl ((stages_at s true x h stages.Calling e b.alive).1 b.due) b
-  calling_comes Dc e first b = absurd first
+  calling_comes _ e first b = absurd first
 
 -- at any stage
 stage_comes : LawsBelow → (s : EndLinkOpening) (c : Bool) (k : ℕ) (w : List Frame) (x : Core) (l : List Frame) (y : Core) (h : List GivenTpdu) (g : GivenTpdu) (st : Stage) → At x st

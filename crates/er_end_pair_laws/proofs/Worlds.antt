@@ -39,9 +39,6 @@ pub record Holds (s : EndLinkOpening) (l : EndLink) : Type 0 where
 
 -- ---- a line grows
 
-same_calling : (b c d : Bool) → b ≡ not c → d ≡ not c → d ≡ b
-same_calling b c d h g = g ∙ sym h
-
 -- the octets of frames are the same from the station before a call and behind it
 same_octets : (k k' : ℕ) (lx lx' : List Frame) (x x' : Station) (ly ly' : List Frame) (y : Station) (fs : List Frame) → IsStationPair false k lx x ly y → IsStationPair false k' lx' x' ly' y
     → map (frame_octets_of_station x) fs ≡ map (frame_octets_of_station x') fs
