@@ -55,11 +55,10 @@ fn first_of(one: Option<u64>, other: Option<u64>) -> Option<u64>
 
 impl<U: SafeUser> Session<U> {
     /// The session of a connection that was opened, with this end and this user.
-    pub fn begin(alloc: Global, number: u64, end: End, user: U) -> Result<Session<U>, NoMemory>
-        ensures { IfOk result (λ session. session ≡ begun number end (U.mind user)) }
+    pub fn begin(alloc: Global, number: u64, end: Box<End>, user: U) -> Session<U>
+        ensures { result ≡ begun number end.value (U.mind user) }
     {
-        let end = Box::new(alloc, end)?;
-        Ok(Session {
+        Session {
             number,
             user: Some(user),
             gone: None,
@@ -67,7 +66,7 @@ impl<U: SafeUser> Session<U> {
             broken: false,
             closing: None,
             end,
-        })
+        }
     }
 
     /// The number of its connection.

@@ -5,7 +5,8 @@ ghost use Rattle.rand_core.specs.Stream.{next_u64};
 ghost use Rattle.safety_automaton.specs.Keys as keys;
 ghost use Rattle.link_trait.specs.Outside.{Grew};
 ghost use Rattle.er_trace.specs.Ranges.{IsInRange};
-ghost use Rattle.er_end.specs.KeptEnds.{KEnd};
+ghost use Rattle.er_end_model.specs.Ends.{Answer as AnswersWith};
+ghost use Rattle.er_end.specs.KeptEnds.{KEnd, kept_opened};
 ghost use Rattle.loop_model.specs.Grammar.{IsInGrammar};
 ghost use Rattle.loop_model.specs.Journals.{text};
 ghost use Rattle.loop_model.specs.Visits.{is_due};
@@ -93,6 +94,15 @@ fn next_behind(happening: Happening, has_closed: bool) -> Result<Next, LoopFault
             }
         }
     }
+}
+
+// An end that answers, on the heap, where it stays.
+fn answering_end(alloc: Global, plan: &LoopPlan, ra: u64, now: Moment) -> Result<Box<End>, NoMemory>
+    ensures { IfOk result (λ end. end.value ≡ kept_opened (AnswersWith plan.now.settings plan.now.rbc ra now)) }
+{
+    see_settings(&plan.settings);
+    let end = End::answer(alloc, &plan.settings, plan.rbc.get(), ra, now.get())?;
+    Ok(Box::new(alloc, end)?)
 }
 
 impl<U: SafeUser> LiveLoop<U> {
@@ -206,10 +216,9 @@ impl<U: SafeUser> LiveLoop<U> {
         ensures rests { KeepsLoopMomentAndTurns self.old self.new }
         ensures sunk { (S.state sink.old).faults ≤ (S.state sink.new).faults }
     {
-        see_settings(&plan.settings);
         let ra = randoms.next_u64();
-        let end = End::answer(alloc, &plan.settings, plan.rbc.get(), ra, self.moment.get())?;
-        let session = Session::begin(alloc, conn.0, end, user)?;
+        let end = answering_end(alloc, plan, ra, self.moment)?;
+        let session = Session::begin(alloc, conn.0, end, user);
         let event = Event::Answer {
             rbc: plan.rbc.get(),
             ra,

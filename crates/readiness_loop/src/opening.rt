@@ -2,11 +2,13 @@
 
 ghost use Rattle.std.specs.Prelude.{◌≡◌, ◌≤◌, ◌==◌, if◌then◌else◌, true, false, length, IfOk, OnOk};
 ghost use Rattle.rand_core.specs.Stream.{next_u64};
+ghost use Rattle.loop_model.specs.Loops.{begun};
 ghost use Rattle.loop_io.specs.Visiting.{DoesOn, Keep};
 ghost use Rattle.readiness_loop.specs.Lives.{sessions_in, IsSeated, HasAllWakeTimes, HasFirstConnection, KeepsLoopMomentAndTurns, dialled_call_outcome, pair_plan, pair_caller, OpensOn};
 
 use crate::live_loop::{LiveLoop, moment_of};
 use crate::loop_plan::{LoopPlan, see_settings};
+use er_base::NoMemory;
 use er_end::End;
 use er_trace::Event;
 use er_users::SafeUser;
@@ -16,6 +18,19 @@ use loop_session::{Called, LoopFault, Session, When};
 use rand_core::Rng;
 use safety_automaton::PairKey;
 use std::alloc::Global;
+
+// The session of the one connection, with this end and this user.
+fn begun_session<U: SafeUser>(
+    alloc: Global,
+    number: u64,
+    end: End,
+    user: U,
+) -> Result<Session<U>, NoMemory>
+    ensures { IfOk result (λ session. session ≡ begun number end (U.mind user)) }
+{
+    let end = Box::new(alloc, end)?;
+    Ok(Session::begin(alloc, number, end, user))
+}
 
 impl<U: SafeUser> LiveLoop<U> {
     // The connection gets a session, whose end calls, with this user and the next random word. Whether it stays.
@@ -54,7 +69,7 @@ impl<U: SafeUser> LiveLoop<U> {
             rb,
             self.moment.get(),
         )?;
-        let mut session = Session::begin(alloc, conn.0, end, user)?;
+        let mut session = begun_session(alloc, conn.0, end, user)?;
         let call = Called { engine, rbc, rb };
         let when = When::of(self.moment, &plan.settings);
         let stays = begin_call(

@@ -20,4 +20,4 @@ returns-in_err-add-clause-puts g c =
     subst (λ (z : ℕ). Puts (g.S.Sink.state c.args.sink.now) (g.S.Sink.state c.write_event.new.sink)
     (text (answer_line c.args.plan.now.rbc c.args.self.now.moment c.args.conn.0 z ∷ [])) c.from_residual-in_err-add.result) ra
     (puts_behind (g.S.Sink.state c.args.sink.now) (g.S.Sink.state c.write_event.new.sink)
-    (text (answer_line c.args.plan.now.rbc c.args.self.now.moment c.args.conn.0 c.next_u64-ra.result ∷ [])) c.from_residual-in_err-add.result p.0 _ (rw c.get-3.ensures.same at c.in_ok-write_event.ensures.puts) p.1 p.2)
+    (text (answer_line c.args.plan.now.rbc c.args.self.now.moment c.args.conn.0 c.next_u64-ra.result ∷ [])) c.from_residual-in_err-add.result p.0 _ (rw c.get.ensures.same at c.in_ok-write_event.ensures.puts) p.1 p.2)
