@@ -157,6 +157,66 @@ check(status == -signal.SIGTERM, f"a kill ends the server: {status}")
 check(server.replays(), "what a kill leaves replays to itself")
 print(f"an idle server takes {idle}, after 300 trains {busy}")
 
+# ---- what goes to the line was recorded before, and where it can't be recorded nothing goes
+
+SET_UP = "7e013febdf7e"
+
+
+def recorded(server):
+    with open(server.recording) as f:
+        return f.read()
+
+
+server = Server("-")
+host, port = server.address.split(":")
+for conn in (1, 2, 3):
+    with socket.create_connection((host, int(port)), timeout=10) as line:
+        line.sendall(bytes.fromhex(SET_UP))
+        got = line.recv(4096).hex()
+        text = recorded(server)
+        check(re.search(rf"^> \d+ {conn} octets {SET_UP}\n< {conn} octets {got}\n", text, re.M), f"an answer is recorded before it goes: {got} {text}")
+        line.shutdown(socket.SHUT_WR)
+        check(line.recv(4096) == b"" and f"< {conn} released 1 5 local\n" in recorded(server), f"a release is recorded before its connection is closed: {recorded(server)}")
+status, _ = server.end(signal.SIGTERM)
+check(status == -signal.SIGTERM and server.replays(), "what is left replays")
+
+
+def grows_to(octets):
+    def before():
+        signal.signal(signal.SIGXFSZ, signal.SIG_IGN)
+        resource.setrlimit(resource.RLIMIT_FSIZE, (octets, octets))
+    return before
+
+
+# Room for the first line and a part of what the first connection tells.
+server = Server("-", preexec_fn=grows_to(100), restore_signals=False)
+host, port = server.address.split(":")
+with socket.create_connection((host, int(port)), timeout=10) as line:
+    try:
+        line.sendall(bytes.fromhex(SET_UP))
+        got = line.recv(4096)
+    except ConnectionResetError:
+        got = b""
+status, rest = server.end(None)
+check(got == b"" and status == 5 and "a write to the standard output failed" in rest, f"no octet goes that isn't recorded: {got} {status} {rest}")
+check(os.path.getsize(server.recording) == 100, "all that there was room for is recorded")
+with open("/dev/full", "wb") as full:
+    done = subprocess.run([program, "serve", keys, "127.0.0.1:0", "9", "-"], stdout=full, stderr=subprocess.PIPE, timeout=20)
+    check(done.returncode == 5, f"a server that can't record ends with 5: {done}")
+    with socket.socket() as listener:
+        listener.bind(("127.0.0.1", 0))
+        listener.listen()
+        call = subprocess.Popen([program, "call", keys, f"127.0.0.1:{listener.getsockname()[1]}", "5", "9", "-"], stdout=full, stderr=subprocess.PIPE)
+        line, _ = listener.accept()
+        line.settimeout(10)
+        try:
+            got = line.recv(4096)
+        except ConnectionResetError:
+            got = b""
+        line.close()
+        call.communicate(timeout=20)
+        check(got == b"" and call.returncode == 5, f"a call that can't record says nothing and ends with 5: {got} {call.returncode}")
+
 # ---- a bound of turns, and the line of counts
 
 server = Server("40")

@@ -7,8 +7,7 @@ use link_trait::{Failed, Sink};
 #[derive(Drop)]
 pub(crate) struct CountingSink<K: Sink + Drop> {
     pub(crate) sink: K,
-    // None where nothing is counted.
-    pub(crate) tally: Option<Tally>,
+    pub(crate) tally: Tally,
 }
 
 impl<K: Sink + Drop> Sink for CountingSink<K> {
@@ -16,8 +15,8 @@ impl<K: Sink + Drop> Sink for CountingSink<K> {
 
     fn write(&mut self, piece: &[u8]) -> Result<(), Failed> {
         let answer = self.sink.write(piece);
-        if let (Ok(()), Some(tally)) = (&answer, &mut self.tally) {
-            tally.hear(piece);
+        if answer.is_ok() {
+            self.tally.hear(piece);
         }
         answer
     }

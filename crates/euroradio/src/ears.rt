@@ -1,15 +1,11 @@
 //! What is heard between the flags of each connection's octets, counted for people.
 
-use crate::digits::read_octets;
 use er_base::NoMemory;
 use hdlc_fcs::{LONGEST, SHORTEST, is_intact};
 use hdlc_frames::{Deframer, Found};
 use memchr::{memchr, memchr2};
 use readiness_loop::MOST_LIVE;
 use std::alloc::Global;
-
-// The most octets of one line of a recording.
-const MOST_OCTETS: usize = 4_096;
 
 // The octet that bounds frames, and the one that says that the next is escaped (ISO/IEC 13239).
 const FLAG: u8 = 0x7e;
@@ -38,19 +34,16 @@ struct Ear {
 
 /// The live connections, and how many frames and how many other things stood between flags.
 ///
-/// Mostly a frame comes whole, with its flags, and is judged where it lies. A connection gets a deframer once a read cuts a frame.
+/// Mostly a frame comes whole, with its flags, and is judged where it lies. A connection gets a deframer once a read cuts a frame or a frame has
+/// escapes.
 #[derive(Drop)]
 pub(crate) struct Ears {
     ears: Vec<Ear>,
     // Where the newest octets were heard.
     newest: usize,
-    // The deframer of frames that come whole, and have escapes.
-    whole: Deframer,
-    // Those of connections, and which of them have no connection any more.
+    // The deframers of connections, and which of them have no connection any more.
     deframers: Vec<Deframer>,
     spare: Vec<usize>,
-    // Room for the octets of a line.
-    octets: Vec<u8>,
     pub(crate) frames: u64,
     pub(crate) bad: u64,
 }
@@ -61,10 +54,8 @@ impl Ears {
         Ok(Ears {
             ears: Vec::with_capacity(alloc, MOST_LIVE)?,
             newest: 0,
-            whole: Deframer::new(),
             deframers: Vec::with_capacity(alloc, MOST_LIVE)?,
             spare: Vec::with_capacity(alloc, MOST_LIVE)?,
-            octets: vec![in alloc; 0; MOST_OCTETS]?,
             frames: 0,
             bad: 0,
         })
@@ -97,42 +88,16 @@ impl Ears {
         }
     }
 
-    /// A connection got the octets of these digits, which go up to LF: how many octets they are.
-    pub(crate) fn hear(&mut self, conn: u64, digits: &[u8]) -> usize {
-        let count = read_octets(digits, self.octets.as_mut_slice());
-        if let Some(place) = self.place_of(conn) {
-            self.newest = place;
-            self.judge(place, count);
-        }
-        count
-    }
-
-    // So many octets came at the connection at this place.
-    fn judge(&mut self, place: usize, count: usize) {
-        let (Some(octets), Some(ear)) = (self.octets.get(..count), self.ears.get_mut(place)) else {
+    /// A connection got these octets.
+    pub(crate) fn hear(&mut self, conn: u64, octets: &[u8]) {
+        let Some(place) = self.place_of(conn) else {
             return;
         };
-        let octets = match ear.stand {
-            Stand::Unbegun => from_flag(octets),
-            Stand::Flag | Stand::Within => octets,
-        };
-        let Some(last) = octets.last() else {
+        self.newest = place;
+        let Some(ear) = self.ears.get_mut(place) else {
             return;
         };
-        let closes = *last == FLAG;
-        let heard = if closes && ear.stand != Stand::Within {
-            in_whole(octets, &mut self.whole)
-        } else {
-            let own = own_deframer(&mut ear.deframer, &mut self.deframers, &mut self.spare);
-            let Some(deframer) = self.deframers.get_mut(own) else {
-                return;
-            };
-            if ear.stand != Stand::Within {
-                begin(deframer);
-            }
-            in_part(octets, deframer)
-        };
-        ear.stand = if closes { Stand::Flag } else { Stand::Within };
+        let heard = heard_at(ear, octets, &mut self.deframers, &mut self.spare);
         self.frames = self.frames.saturating_add(heard.frames);
         self.bad = self.bad.saturating_add(heard.bad);
     }
@@ -155,6 +120,54 @@ struct Heard {
     bad: u64,
 }
 
+// What stands between flags in the next octets of a connection: what begins and is closed in them is judged where it lies.
+fn heard_at(
+    ear: &mut Ear,
+    octets: &[u8],
+    deframers: &mut Vec<Deframer>,
+    spare: &mut Vec<usize>,
+) -> Heard {
+    let octets = match ear.stand {
+        Stand::Unbegun => from_flag(octets),
+        Stand::Flag => octets,
+        Stand::Within => return in_deframer(ear, octets, deframers, spare),
+    };
+    let (whole, left) = in_whole(octets);
+    if left.len() < octets.len() {
+        ear.stand = Stand::Flag;
+    }
+    if left.is_empty() {
+        return whole;
+    }
+    let part = in_deframer(ear, left, deframers, spare);
+    Heard {
+        frames: whole.frames.saturating_add(part.frames),
+        bad: whole.bad.saturating_add(part.bad),
+    }
+}
+
+// The same by the deframer of the connection, in which begins what a read cuts or escapes.
+fn in_deframer(
+    ear: &mut Ear,
+    octets: &[u8],
+    deframers: &mut Vec<Deframer>,
+    spare: &mut Vec<usize>,
+) -> Heard {
+    let own = own_deframer(&mut ear.deframer, deframers, spare);
+    let (Some(deframer), Some(last)) = (deframers.get_mut(own), octets.last()) else {
+        return Heard { frames: 0, bad: 0 };
+    };
+    if ear.stand != Stand::Within {
+        begin(deframer);
+    }
+    ear.stand = if *last == FLAG {
+        Stand::Flag
+    } else {
+        Stand::Within
+    };
+    in_part(octets, deframer)
+}
+
 // The octets from the first flag on.
 fn from_flag(octets: &[u8]) -> &[u8] {
     match memchr(FLAG, octets) {
@@ -163,22 +176,29 @@ fn from_flag(octets: &[u8]) -> &[u8] {
     }
 }
 
-// What stands in octets behind a flag of which the last is one: mostly one frame without escapes.
-fn in_whole(octets: &[u8], deframer: &mut Deframer) -> Heard {
-    let rest = octets.strip_prefix(&[FLAG]).unwrap_or(octets);
-    match memchr2(FLAG, ESCAPE, rest) {
-        Some(end) if end > 0 && end.saturating_add(1) == rest.len() => {
-            let is_frame = is_frame(rest.get(..end).unwrap_or(&[]));
-            Heard {
-                frames: u64::from(is_frame),
-                bad: u64::from(!is_frame),
+// What stands behind a flag as far as flags close it, up to the first escape: and what is left behind the last flag of these.
+fn in_whole(octets: &[u8]) -> (Heard, &[u8]) {
+    let mut heard = Heard { frames: 0, bad: 0 };
+    let mut left = octets;
+    // Each flag takes an octet.
+    for _ in 0..octets.len() {
+        let Some(end) = memchr2(FLAG, ESCAPE, left) else {
+            break;
+        };
+        if left.get(end) == Some(&ESCAPE) {
+            break;
+        }
+        // Flags may stand side by side.
+        if end > 0 {
+            if is_frame(left.get(..end).unwrap_or(&[])) {
+                heard.frames = heard.frames.saturating_add(1);
+            } else {
+                heard.bad = heard.bad.saturating_add(1);
             }
         }
-        _ => {
-            begin(deframer);
-            in_part(octets, deframer)
-        }
+        left = left.get(end.saturating_add(1)..).unwrap_or(&[]);
     }
+    (heard, left)
 }
 
 // Whether content without escapes is that of a frame.

@@ -2,16 +2,20 @@
 #![tactic(auto)]
 
 mod counting_sink;
-mod digits;
 mod ears;
 mod objects;
+mod recorded_wires;
+mod recording;
 mod streams;
 mod tally;
 mod telling;
 mod telling_wires;
 
 use crate::counting_sink::CountingSink;
+use crate::ears::Ears;
 use crate::objects::position_reports;
+use crate::recorded_wires::RecordedWires;
+use crate::recording::{Recording, RecordingSink};
 use crate::streams::stand_ins;
 use crate::tally::Tally;
 use crate::telling_wires::TellingWires;
@@ -25,6 +29,7 @@ use mio_wires::MioWires;
 use rand::make_rng;
 use rand_chacha::ChaCha20Rng;
 use std::alloc::Global;
+use std::cell::RefCell;
 use std::process::ExitCode;
 use std::{env, io};
 
@@ -48,36 +53,51 @@ fn words(rt: &HostRuntime) -> Result<Option<Vec<String>>, NoMemory> {
     }
 }
 
-// A command that runs over wires, with these users. None where there is no memory for the objects, or no seed.
+// A command that runs over wires, with these users: its status, and the count of what its recording tells. None where there is no memory for the
+// objects, or no seed.
 fn on_line<K: Sink>(
     rt: HostRuntime,
     words: &[String],
     users: Vec<Box<dyn SafeUser>>,
     sink: &mut K,
-) -> Option<Status> {
+) -> Option<(Status, Tally)> {
+    let recording = RefCell::new(Recording::new(rt.alloc(), sink).ok()?);
+    let mut lines = CountingSink {
+        sink: RecordingSink::new(&recording),
+        tally: Tally::new(rt.alloc()).ok()?,
+    };
     let mut cabinet = FileCabinet::new(rt);
     let mut clock = MachineClock::new(rt);
-    let mut wires = TellingWires {
+    let sockets = TellingWires {
         wires: MioWires::new(rt.alloc(), rt).ok()?,
+        ears: Ears::new(rt.alloc()).ok()?,
         rt,
     };
-    wires.wires.keep_time(clock.now());
+    let mut wires = RecordedWires::new(sockets, &recording);
+    wires.wires.wires.keep_time(clock.now());
     let seeded: io::Result<ChaCha20Rng> = make_rng(&rt);
     let mut randoms = seeded.ok()?;
     let status = run(
         rt.alloc(),
         words,
         &mut cabinet,
-        sink,
+        &mut lines,
         &mut wires,
         &mut clock,
         &mut randoms,
         users,
     );
+    // What the last turn told waits still.
+    let status = match wires.write_out() {
+        Ok(()) => status,
+        Err(_) => Status(5),
+    };
     telling::unfetched(rt, status, cabinet.why());
-    telling::wires(rt, status, wires.wires.fault());
-    wires.wires.finish(MOST_LINGER);
-    Some(status)
+    telling::wires(rt, status, wires.wires.wires.fault());
+    wires.wires.wires.finish(MOST_LINGER);
+    let CountingSink { sink: _, tally } = lines;
+    telling::counted(rt, status, &tally, &wires.wires.ears);
+    Some((status, tally))
 }
 
 // Has the C library keep the memory of connections that closed for those that come. glibc gives back to the system what is free at the end of
@@ -95,7 +115,7 @@ fn serve<K: Sink>(
     rt: HostRuntime,
     words: &[String],
     sink: &mut K,
-) -> Result<Option<Status>, NoMemory> {
+) -> Result<Option<(Status, Tally)>, NoMemory> {
     let alloc = rt.alloc();
     keep_memory(alloc);
     let mut users: Vec<Box<dyn SafeUser>> = Vec::with_capacity(alloc, MOST_SERVED)?;
@@ -111,7 +131,7 @@ fn call<K: Sink>(
     rt: HostRuntime,
     words: &[String],
     sink: &mut K,
-) -> Result<Option<Status>, NoMemory> {
+) -> Result<Option<(Status, Tally)>, NoMemory> {
     let alloc = rt.alloc();
     let user: Box<dyn SafeUser> = Box::new(alloc, position_reports(alloc)?)?;
     let mut users: Vec<Box<dyn SafeUser>> = Vec::with_capacity(alloc, 1)?;
@@ -135,36 +155,25 @@ fn off_line<K: Sink>(rt: HostRuntime, words: &[String], sink: &mut K) -> Option<
 }
 
 // What the words ask for, and what is told of it. None where the objects can't be made.
-fn answered<K: Sink + Drop>(
-    rt: HostRuntime,
-    words: &[String],
-    sink: &mut CountingSink<K>,
-) -> Option<Status> {
+fn answered<K: Sink>(rt: HostRuntime, words: &[String], sink: &mut K) -> Option<Status> {
     let command = command_from(words);
     if !command.needs_wires() {
         return off_line(rt, words, sink);
     }
     let is_call = matches!(command, Command::Call { .. });
-    sink.tally = Some(Tally::new(rt.alloc()).ok()?);
-    let status = if is_call {
+    let (status, tally) = if is_call {
         call(rt, words, sink).ok()??
     } else {
         serve(rt, words, sink).ok()??
     };
-    if let Some(tally) = &sink.tally {
-        telling::counted(rt, status, tally);
-        if is_call && status.0 == 0 {
-            telling::called(rt, tally);
-        }
+    if is_call && status.0 == 0 {
+        telling::called(rt, &tally);
     }
     Some(status)
 }
 
 fn status(rt: HostRuntime) -> Status {
-    let mut sink = CountingSink {
-        sink: StdoutSink::new(io::writer(&rt)),
-        tally: None,
-    };
+    let mut sink = StdoutSink::new(io::writer(&rt));
     let answer = match words(&rt) {
         Ok(Some(words)) => answered(rt, words.as_slice(), &mut sink),
         // Words that aren't UTF-8 fit no command.

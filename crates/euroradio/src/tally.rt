@@ -1,6 +1,5 @@
 //! What the lines of a recording tell, counted for people.
 
-use crate::ears::Ears;
 use er_base::{NoMemory, decimal, next_word};
 use memchr::memchr;
 use std::alloc::Global;
@@ -42,8 +41,6 @@ pub(crate) struct Tally {
     pub(crate) releases: Vec<Releases>,
     /// The newest release.
     pub(crate) newest: Option<Release>,
-    /// What was heard between flags.
-    pub(crate) ears: Ears,
     // How many digits the newest moment has.
     digits: usize,
 }
@@ -60,7 +57,6 @@ impl Tally {
             refused: 0,
             releases: Vec::with_capacity(alloc, MOST_REASONS)?,
             newest: None,
-            ears: Ears::new(alloc)?,
             digits: 0,
         })
     }
@@ -69,9 +65,9 @@ impl Tally {
     pub(crate) fn hear(&mut self, piece: &[u8]) {
         if let [b'>', b' ', words @ ..] = piece {
             let words = self.behind_moment(words);
-            let (conn, digits) = number(words);
-            let lines = self.event(conn, behind(words, digits));
-            self.outcomes(conn, digits, lines);
+            let digits = memchr(b' ', words).unwrap_or(words.len());
+            let lines = self.event(behind(words, digits));
+            self.outcomes(digits, lines);
         }
     }
 
@@ -85,17 +81,15 @@ impl Tally {
     }
 
     // The words of an event behind its connection, and the lines of its outcomes: these lines.
-    fn event<'a>(&mut self, conn: u64, words: &'a [u8]) -> &'a [u8] {
-        // Most are of this kind.
-        if let [b'o', b'c', b't', b'e', b't', b's', b' ', digits @ ..] = words {
-            let octets = self.ears.hear(conn, digits);
-            return behind(digits, octets.saturating_mul(2));
-        }
+    fn event<'a>(&mut self, words: &'a [u8]) -> &'a [u8] {
         let (line, lines) = first_line(words);
+        // Most are octets.
+        if let [b'o', ..] = line {
+            return lines;
+        }
         match next_word(line) {
             Some((b"call" | b"answer", _)) => {
-                self.connections = self.connections.saturating_add(1);
-                self.ears.open(conn);
+                self.connections = self.connections.saturating_add(1)
             }
             Some((b"full" | b"unserved", _)) => {
                 self.turned_away = self.turned_away.saturating_add(1)
@@ -106,8 +100,8 @@ impl Tally {
         lines
     }
 
-    // The lines of outcomes at a connection, whose number has so many digits.
-    fn outcomes(&mut self, conn: u64, digits: usize, lines: &[u8]) {
+    // The lines of outcomes at a connection whose number has so many digits.
+    fn outcomes(&mut self, digits: usize, lines: &[u8]) {
         let mut rest = lines;
         for _ in 0..MOST_OUTCOMES {
             let [b'<', b' ', words @ ..] = rest else {
@@ -119,21 +113,18 @@ impl Tally {
                 return;
             }
             let (line, lines) = first_line(words);
-            self.outcome(conn, line);
+            self.outcome(line);
             rest = lines;
         }
     }
 
     // An outcome, behind its connection.
-    fn outcome(&mut self, conn: u64, words: &[u8]) {
+    fn outcome(&mut self, words: &[u8]) {
         match next_word(words) {
             Some((b"connected", _)) => self.connected = self.connected.saturating_add(1),
             Some((b"accepted", _)) => self.accepted = self.accepted.saturating_add(1),
             Some((b"refused", _)) => self.refused = self.refused.saturating_add(1),
-            Some((b"released", rest)) => {
-                self.ears.close(conn);
-                self.release(rest);
-            }
+            Some((b"released", rest)) => self.release(rest),
             _ => {}
         }
     }
@@ -179,16 +170,4 @@ fn first_line(lines: &[u8]) -> (&[u8], &[u8]) {
         Some(end) => (lines.get(..end).unwrap_or(&[]), behind(lines, end)),
         None => (lines, &[]),
     }
-}
-
-// The number that is the first word, and how many digits it has.
-fn number(words: &[u8]) -> (u64, usize) {
-    let mut number = 0_u64;
-    for (place, octet) in words.iter().enumerate() {
-        if *octet == b' ' {
-            return (number, place);
-        }
-        number = number.wrapping_mul(10).wrapping_add(u64::from(*octet & 15));
-    }
-    (number, words.len())
 }

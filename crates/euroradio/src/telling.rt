@@ -1,5 +1,6 @@
 //! What is written to the standard error, for people. Nothing there is a key, a text or a random number, and no clause speaks of it.
 
+use crate::ears::Ears;
 use crate::tally::{Release, Tally};
 use er_base::NoMemory;
 use er_program::{FileFault, Status};
@@ -63,11 +64,11 @@ pub(crate) fn unwritten(rt: HostRuntime, status: Status) {
 }
 
 /// What was counted, but for a run that failed before any connection.
-pub(crate) fn counted(rt: HostRuntime, status: Status, tally: &Tally) {
+pub(crate) fn counted(rt: HostRuntime, status: Status, tally: &Tally, ears: &Ears) {
     if status.0 != 0 && tally.connections == 0 && tally.turned_away == 0 {
         return;
     }
-    if let Ok(line) = counts(rt.alloc(), tally) {
+    if let Ok(line) = counts(rt.alloc(), tally, ears) {
         let _ = rt.eprintln(line);
     }
 }
@@ -93,7 +94,7 @@ pub(crate) fn called(rt: HostRuntime, tally: &Tally) {
     }
 }
 
-fn counts(alloc: Global, tally: &Tally) -> Result<String, NoMemory> {
+fn counts(alloc: Global, tally: &Tally, ears: &Ears) -> Result<String, NoMemory> {
     let mut line = String::new(alloc);
     write!(
         line,
@@ -105,11 +106,7 @@ fn counts(alloc: Global, tally: &Tally) -> Result<String, NoMemory> {
         ", messages accepted {}, said {}, refused {}",
         tally.accepted, tally.said, tally.refused
     )?;
-    write!(
-        line,
-        ", frames {}, bad {}",
-        tally.ears.frames, tally.ears.bad
-    )?;
+    write!(line, ", frames {}, bad {}", ears.frames, ears.bad)?;
     for known in tally.releases.iter() {
         let Release {
             reason,

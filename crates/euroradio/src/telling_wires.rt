@@ -1,14 +1,17 @@
-//! Wires that tell people where they listen.
+//! Wires that tell people where they listen, and count what they hear.
 
 ghost use Rattle.std.specs.Prelude.{None};
 
+use crate::ears::Ears;
 use link_trait::{Conn, Failed, Happening, ReadAnswer, Wires, WriteAnswer};
 use mio_wires::MioWires;
 
-/// Wires over sockets, which write to the standard error at which address and port they listen. All else is the sockets'.
+/// Wires over sockets, which write to the standard error at which address and port they listen, and count the frames that come. All else
+/// is the sockets'.
 #[derive(Drop)]
 pub(crate) struct TellingWires {
     pub(crate) wires: MioWires<HostRuntime>,
+    pub(crate) ears: Ears,
     pub(crate) rt: HostRuntime,
 }
 
@@ -31,15 +34,27 @@ impl Wires for TellingWires {
     }
 
     fn dial(&mut self, address: &str) -> Result<Conn, Failed> {
-        self.wires.dial(address)
+        let answer = self.wires.dial(address);
+        if let Ok(conn) = answer {
+            self.ears.open(conn.0);
+        }
+        answer
     }
 
     fn turn(&mut self, until: Option<u64>) -> Happening {
-        self.wires.turn(until)
+        let happening = self.wires.turn(until);
+        if let Happening::Accepted(conn) = happening {
+            self.ears.open(conn.0);
+        }
+        happening
     }
 
     fn read(&mut self, conn: Conn, into: &mut [u8]) -> ReadAnswer {
-        self.wires.read(conn, into)
+        let answer = self.wires.read(conn, into);
+        if let ReadAnswer::Some(count) = answer {
+            self.ears.hear(conn.0, into.get(..count).unwrap_or(&[]));
+        }
+        answer
     }
 
     fn write(&mut self, conn: Conn, piece: &[u8]) -> WriteAnswer {
@@ -47,6 +62,7 @@ impl Wires for TellingWires {
     }
 
     fn close(&mut self, conn: Conn) {
+        self.ears.close(conn.0);
         self.wires.close(conn);
     }
 }
