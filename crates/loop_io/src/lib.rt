@@ -5,6 +5,8 @@
 
 mod reading;
 mod visit;
+mod workspace;
 mod writing;
 
 pub use visit::{Visit, begin_call, visit_session};
+pub use workspace::Workspace;

@@ -7,14 +7,12 @@ ghost use Rattle.loop_session.specs.Keeping.{kept_ends};
 ghost use Rattle.loop_session.specs.Parts.{rules_of_session, Chooses};
 ghost use Rattle.loop_io.specs.Visiting.{read_by, VisitsOn, Keep};
 
+use crate::workspace::Workspace;
 use crate::writing::rest;
 use er_users::SafeUser;
 use link_trait::{Conn, ReadAnswer, Sink, Wires};
 use loop_session::{LoopFault, Scratch, Session, When};
 use safety_automaton::KeyFinder;
-
-// The most octets that one read asks for.
-const MOST_READ: usize = 4_096;
 
 // The first octets of a slice.
 fn front(octets: &[u8], count: usize) -> &[u8]
@@ -62,7 +60,7 @@ pub(crate) fn read<U: SafeUser, K: KeyFinder, W: Wires, S: Sink>(
     session: &mut Session<U>,
     keys: &K,
     when: &When,
-    scratch: &mut Scratch,
+    workspace: &mut Workspace,
     wires: &mut W,
     sink: &mut S,
 ) -> Result<bool, LoopFault>
@@ -70,11 +68,18 @@ pub(crate) fn read<U: SafeUser, K: KeyFinder, W: Wires, S: Sink>(
     ensures number { session.new.number ≡ session.old.number }
     ensures keep { Keep S.Sink W.Wires sink.old sink.new wires.old wires.new }
 {
-    let mut octets = [0; MOST_READ];
-    let answer = wires.read(Conn(session.number()), &mut octets);
-    take_in(session, answer, &octets, keys, when, scratch, sink)?;
+    let answer = wires.read(Conn(session.number()), &mut workspace.read);
+    take_in(
+        session,
+        answer,
+        &workspace.read,
+        keys,
+        when,
+        &mut workspace.scratch,
+        sink,
+    )?;
     if gave_nothing(answer) {
         return Ok(true);
     }
-    rest(session, when, scratch, wires, sink)
+    rest(session, when, &mut workspace.scratch, wires, sink)
 }

@@ -8,6 +8,7 @@ ghost use Rattle.loop_io.specs.Visiting.{visit_by, event_by, VisitsOn, Stay, Kee
 ghost use Rattle.loop_io.specs.Writing.{ClosesDueSession};
 
 use crate::reading::read;
+use crate::workspace::Workspace;
 use crate::writing::rest;
 use er_base::Moment;
 use er_users::SafeUser;
@@ -75,7 +76,7 @@ pub fn visit_session<U: SafeUser, K: KeyFinder, W: Wires, S: Sink>(
     visit: Visit,
     keys: &K,
     when: &When,
-    scratch: &mut Scratch,
+    workspace: &mut Workspace,
     wires: &mut W,
     sink: &mut S,
 ) -> Result<bool, LoopFault>
@@ -84,14 +85,14 @@ pub fn visit_session<U: SafeUser, K: KeyFinder, W: Wires, S: Sink>(
     ensures keep { Keep S.Sink W.Wires sink.old sink.new wires.old wires.new }
 {
     match visit {
-        Visit::Tick => tick(session, when, scratch, wires, sink),
+        Visit::Tick => tick(session, when, &mut workspace.scratch, wires, sink),
         Visit::Read => {
             if session.is_released() {
                 return Ok(true);
             }
-            read(session, keys, when, scratch, wires, sink)
+            read(session, keys, when, workspace, wires, sink)
         }
-        Visit::Write => rest(session, when, scratch, wires, sink),
+        Visit::Write => rest(session, when, &mut workspace.scratch, wires, sink),
         Visit::Expire => Ok(expire(session, when, wires)),
     }
 }

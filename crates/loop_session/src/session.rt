@@ -69,6 +69,13 @@ impl<U: SafeUser> Session<U> {
         }
     }
 
+    /// Its end, where it stands: the session is over.
+    pub fn into_end(self) -> Box<End>
+        ensures { result.value ≡ self.end }
+    {
+        self.end
+    }
+
     /// The number of its connection.
     pub fn number(&self) -> u64
         ensures { result ≡ self.now.number }

@@ -11,8 +11,8 @@ use crate::wake_times::WakeTimes;
 use er_base::NoMemory;
 use er_users::SafeUser;
 use link_trait::{Sink, Wires};
-use loop_io::{Visit, visit_session};
-use loop_session::{LoopFault, Scratch, Session, When};
+use loop_io::{Visit, Workspace, visit_session};
+use loop_session::{LoopFault, Session, When};
 use safety_automaton::KeyFinder;
 use slab::Slab;
 use std::alloc::Global;
@@ -82,7 +82,7 @@ impl<U: SafeUser> Book<U> {
         reason: Visit,
         keys: &K,
         when: &When,
-        scratch: &mut Scratch,
+        workspace: &mut Workspace,
         wires: &mut W,
         sink: &mut S,
     ) -> Result<(), LoopFault>
@@ -100,7 +100,7 @@ impl<U: SafeUser> Book<U> {
             return Ok(());
         };
         let before = session.wakes();
-        match visit_session(session, reason, keys, when, scratch, wires, sink) {
+        match visit_session(session, reason, keys, when, workspace, wires, sink) {
             Ok(true) => {
                 let now = session.wakes();
                 self.wake_times.change(number, before, now)?;
@@ -108,7 +108,7 @@ impl<U: SafeUser> Book<U> {
             }
             Ok(false) => {
                 self.places.remove(&number);
-                self.slots.try_remove(slot);
+                workspace.keep_place(self.slots.try_remove(slot));
                 self.wake_times.change(number, before, None)?;
                 Ok(())
             }
@@ -124,7 +124,7 @@ impl<U: SafeUser> Book<U> {
         sequence: &mut Vec<u64>,
         keys: &K,
         when: &When,
-        scratch: &mut Scratch,
+        workspace: &mut Workspace,
         wires: &mut W,
         sink: &mut S,
     ) -> Result<(), LoopFault>
@@ -142,7 +142,7 @@ impl<U: SafeUser> Book<U> {
             reason,
             keys,
             when,
-            scratch,
+            workspace,
             wires,
             sink,
         )
@@ -155,7 +155,7 @@ impl<U: SafeUser> Book<U> {
         reason: Visit,
         keys: &K,
         when: &When,
-        scratch: &mut Scratch,
+        workspace: &mut Workspace,
         wires: &mut W,
         sink: &mut S,
     ) -> Result<(), LoopFault>
@@ -167,7 +167,7 @@ impl<U: SafeUser> Book<U> {
         ensures keep { Keep S.Sink W.Wires sink.old sink.new wires.old wires.new }
     {
         for number in sequence {
-            self.visit(*number, reason, keys, when, scratch, wires, sink)?;
+            self.visit(*number, reason, keys, when, workspace, wires, sink)?;
         }
         Ok(())
     }

@@ -25,8 +25,8 @@ use er_end::End;
 use er_trace::Event;
 use er_users::SafeUser;
 use link_trait::{Clock, Conn, Happening, Sink, Wires};
-use loop_io::Visit;
-use loop_session::{LoopFault, Scratch, Session, When, write_event};
+use loop_io::{Visit, Workspace};
+use loop_session::{LoopFault, Session, When, write_event};
 use rand_core::Rng;
 use safety_automaton::KeyFinder;
 use std::alloc::Global;
@@ -53,7 +53,7 @@ pub(crate) struct LiveLoop<U: SafeUser> {
     pub(crate) turns: u64,
     // Room for the numbers of the sessions that are visited in a row.
     pub(crate) numbers: Vec<u64>,
-    pub(crate) scratch: Scratch,
+    pub(crate) workspace: Workspace,
 }
 
 // Whether a moment is there and has come.
@@ -97,12 +97,24 @@ fn next_behind(happening: Happening, has_closed: bool) -> Result<Next, LoopFault
 }
 
 // An end that answers, on the heap, where it stays.
-fn answering_end(alloc: Global, plan: &LoopPlan, ra: u64, now: Moment) -> Result<Box<End>, NoMemory>
+fn answering_end(
+    alloc: Global,
+    plan: &LoopPlan,
+    ra: u64,
+    now: Moment,
+    workspace: &mut Workspace,
+) -> Result<Box<End>, NoMemory>
     ensures { IfOk result (λ end. end.value ≡ kept_opened (AnswersWith plan.now.settings plan.now.rbc ra now)) }
 {
     see_settings(&plan.settings);
     let end = End::answer(alloc, &plan.settings, plan.rbc.get(), ra, now.get())?;
-    Ok(Box::new(alloc, end)?)
+    match workspace.take_place() {
+        Some(mut place) => {
+            *place = end;
+            Ok(place)
+        }
+        None => Ok(Box::new(alloc, end)?),
+    }
 }
 
 impl<U: SafeUser> LiveLoop<U> {
@@ -120,7 +132,7 @@ impl<U: SafeUser> LiveLoop<U> {
             moment: Moment::new(0),
             turns: 0,
             numbers: Vec::with_capacity(alloc, MOST_LIVE)?,
-            scratch: Scratch::new(alloc)?,
+            workspace: Workspace::new(alloc, MOST_LIVE)?,
         })
     }
 
@@ -155,7 +167,7 @@ impl<U: SafeUser> LiveLoop<U> {
             &mut self.numbers,
             keys,
             &when,
-            &mut self.scratch,
+            &mut self.workspace,
             wires,
             sink,
         )?;
@@ -164,7 +176,7 @@ impl<U: SafeUser> LiveLoop<U> {
             &mut self.numbers,
             keys,
             &when,
-            &mut self.scratch,
+            &mut self.workspace,
             wires,
             sink,
         )?;
@@ -187,7 +199,7 @@ impl<U: SafeUser> LiveLoop<U> {
         ensures rests { KeepsLoopMomentAndTurns self.old self.new }
         ensures keep { Keep S.Sink W.Wires sink.old sink.new wires.old wires.new }
     {
-        write_event(self.moment, conn.0, why, &mut self.scratch, sink)?;
+        write_event(self.moment, conn.0, why, &mut self.workspace.scratch, sink)?;
         wires.close(conn);
         Ok(())
     }
@@ -217,13 +229,19 @@ impl<U: SafeUser> LiveLoop<U> {
         ensures sunk { (S.state sink.old).faults ≤ (S.state sink.new).faults }
     {
         let ra = randoms.next_u64();
-        let end = answering_end(alloc, plan, ra, self.moment)?;
+        let end = answering_end(alloc, plan, ra, self.moment, &mut self.workspace)?;
         let session = Session::begin(alloc, conn.0, end, user);
         let event = Event::Answer {
             rbc: plan.rbc.get(),
             ra,
         };
-        write_event(self.moment, conn.0, event, &mut self.scratch, sink)?;
+        write_event(
+            self.moment,
+            conn.0,
+            event,
+            &mut self.workspace.scratch,
+            sink,
+        )?;
         self.book.add(session)?;
         Ok(())
     }
@@ -290,7 +308,7 @@ impl<U: SafeUser> LiveLoop<U> {
                     Visit::Read,
                     keys,
                     &when,
-                    &mut self.scratch,
+                    &mut self.workspace,
                     wires,
                     sink,
                 )
@@ -302,7 +320,7 @@ impl<U: SafeUser> LiveLoop<U> {
                     Visit::Write,
                     keys,
                     &when,
-                    &mut self.scratch,
+                    &mut self.workspace,
                     wires,
                     sink,
                 )

@@ -77,7 +77,7 @@ impl<U: SafeUser> LiveLoop<U> {
             &call,
             pair,
             &when,
-            &mut self.scratch,
+            &mut self.workspace.scratch,
             wires,
             sink,
         )?;
