@@ -11,6 +11,10 @@ import sys
 import threading
 import time
 
+sys.dont_write_bytecode = True
+
+from train import Train  # noqa: E402
+
 program, work = sys.argv[1:]
 shim = os.path.join(work, "clock.so")
 KMAC = "0123456789abcdef23456789abcdef01456789abcdef0123"
@@ -157,6 +161,36 @@ check(status == -signal.SIGTERM, f"a kill ends the server: {status}")
 check(server.replays(), "what a kill leaves replays to itself")
 print(f"an idle server takes {idle}, after 300 trains {busy}")
 
+# ---- the memory of a connection that is over goes to one that comes: it doesn't grow while trains come and go beside others that stay
+
+def ride(address):
+    """The line of a train that is connected and had one report said back, and the train."""
+    host, port = address.split(":")
+    line, train = socket.create_connection((host, int(port)), timeout=20), Train(5, 9, KMAC, os.urandom)
+    line.sendall(train.start())
+    said = False
+    while not train.heard:
+        line.sendall(train.receive(line.recv(65536)))
+        if train.state == "connected" and not said:
+            said = True
+            line.sendall(train.say(b"position-report-00000001"))
+    return line, train
+
+
+server = Server("-")
+riders = [ride(server.address) for _ in range(60)]
+before = int(server.kept("VmRSS").split()[0])
+for again in range(120):
+    line, train = riders[again * 7 % 60]
+    line.sendall(train.half_a_frame())
+    line.close()
+    riders[again * 7 % 60] = ride(server.address)
+grown = int(server.kept("VmRSS").split()[0]) - before
+server.end(signal.SIGTERM)
+for line, _ in riders:
+    line.close()
+check(grown <= 256, f"120 trains in the places of others that were cut off: {grown} KiB more")
+
 # ---- what goes to the line was recorded before, and where it can't be recorded nothing goes
 
 SET_UP = "7e013febdf7e"
@@ -179,6 +213,27 @@ for conn in (1, 2, 3):
         check(line.recv(4096) == b"" and f"< {conn} released 1 5 local\n" in recorded(server), f"a release is recorded before its connection is closed: {recorded(server)}")
 status, _ = server.end(signal.SIGTERM)
 check(status == -signal.SIGTERM and server.replays(), "what is left replays")
+
+
+# A wait for others to be written with is no turn of its own.
+server = Server("1")
+time.sleep(0.3)
+check(server.process.poll() is None and "trace 1" in recorded(server), f"one turn lasts until somebody comes: {server.process.poll()} {recorded(server)}")
+server.end(signal.SIGTERM)
+
+# What brings no answer is recorded soon too: of a connection that says nothing, and where octets without a meaning come all the time.
+server = Server("-")
+host, port = server.address.split(":")
+with socket.create_connection((host, int(port)), timeout=10) as line:
+    time.sleep(0.5)
+    check(re.search(r"^> \d+ 1 answer 9 [0-9a-f]+\n", recorded(server), re.M), f"a connection that says nothing is recorded: {recorded(server)}")
+    line.setsockopt(socket.IPPROTO_TCP, socket.TCP_NODELAY, 1)
+    for _ in range(100):
+        line.sendall(b"~")
+        time.sleep(0.005)
+    soon = sum(len(octets) // 2 for octets in re.findall(r"^> \d+ 1 octets ([7e]+)\n", recorded(server), re.M))
+    check(soon >= 50, f"octets that come without end are recorded as they come: {soon} of 100")
+server.end(signal.SIGTERM)
 
 
 def grows_to(octets):
