@@ -73,7 +73,7 @@ fn on_line<K: Sink>(
         ears: Ears::new(rt.alloc()).ok()?,
         rt,
     };
-    let mut wires = RecordedWires::new(sockets, &recording, MachineClock::new(rt));
+    let mut wires = RecordedWires::new(sockets, &recording);
     wires.wires.wires.keep_time(clock.now());
     let seeded: io::Result<ChaCha20Rng> = make_rng(&rt);
     let mut randoms = seeded.ok()?;

@@ -49,11 +49,6 @@ impl<'s, K: Sink> Recording<'s, K> {
         answer
     }
 
-    /// Whether lines wait.
-    pub(crate) fn waits(&self) -> bool {
-        !self.lines.is_empty()
-    }
-
     /// Writes the lines that wait.
     pub(crate) fn write_out(&mut self) -> Result<(), Failed> {
         if self.has_failed {

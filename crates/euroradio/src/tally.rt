@@ -65,7 +65,7 @@ impl Tally {
     pub(crate) fn hear(&mut self, piece: &[u8]) {
         if let [b'>', b' ', words @ ..] = piece {
             let words = self.behind_moment(words);
-            let digits = digits_before_space(words);
+            let digits = memchr(b' ', words).unwrap_or(words.len());
             let lines = self.event(behind(words, digits));
             self.outcomes(digits, lines);
         }
@@ -157,14 +157,6 @@ impl Tally {
             let _room = self.releases.push(Releases { release, count: 1 });
         }
     }
-}
-
-// How many octets stand before the first space. A number of a connection has few digits: a step for each costs less than a search.
-fn digits_before_space(words: &[u8]) -> usize {
-    words
-        .iter()
-        .position(|octet| *octet == b' ')
-        .unwrap_or(words.len())
 }
 
 // What stands behind so many octets and one more.
