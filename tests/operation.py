@@ -215,13 +215,13 @@ status, _ = server.end(signal.SIGTERM)
 check(status == -signal.SIGTERM and server.replays(), "what is left replays")
 
 
-# A wait for others to be written with is no turn of its own.
+# One turn lasts until somebody comes, and what was told before is recorded then.
 server = Server("1")
 time.sleep(0.3)
 check(server.process.poll() is None and "trace 1" in recorded(server), f"one turn lasts until somebody comes: {server.process.poll()} {recorded(server)}")
 server.end(signal.SIGTERM)
 
-# What brings no answer is recorded soon too: of a connection that says nothing, and where octets without a meaning come all the time.
+# What brings no answer is recorded too: of a connection that says nothing, and where octets without a meaning come all the time.
 server = Server("-")
 host, port = server.address.split(":")
 with socket.create_connection((host, int(port)), timeout=10) as line:
