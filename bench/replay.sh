@@ -1,12 +1,12 @@
 #!/usr/bin/env bash
 # Times the built program's `replay` of a trace of 16 MiB and of one a quarter as long: first of short events (a set-up frame each, which is
 # answered), then of events as long as may be (4,096 octets, 682 set-up frames). Prints seconds of processor time and memory; the cost is to
-# grow with the trace. Nothing is asserted.
+# grow with the trace. PROGRAM names another program than the built one, and then nothing is built; one that is built stays. Nothing is asserted.
 set -u
+[ -n "${PROGRAM:-}" ] && PROGRAM=$(realpath "$PROGRAM")
 cd "$(dirname "$0")/.." || exit 1
-program=$PWD/crates/euroradio/out/euroradio
-rm -f "$program"
-(cd crates/euroradio && rt run > /dev/null 2>&1)
+program=${PROGRAM:-$PWD/crates/euroradio/out/euroradio}
+[ -n "${PROGRAM:-}" ] || (cd crates/euroradio && rt run > /dev/null 2>&1)
 [ -x "$program" ] || { echo "the program was not built"; exit 1; }
 command -v python3 > /dev/null || { echo "python3 is wanted, to measure"; exit 0; }
 work=$(mktemp -d)

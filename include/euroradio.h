@@ -72,7 +72,7 @@ extern "C" {
 #endif
 
 /* The version of this header, as euroradio_version answers it: 100 times the major number, and the minor one. */
-#define EURORADIO_VERSION 100
+#define EURORADIO_VERSION 101
 
 /* A handle. */
 typedef struct euroradio_end {
@@ -133,7 +133,7 @@ typedef struct euroradio_deeds {
     uint32_t connected; /* 1 where the safe connection came to stand in this event */
     uint32_t peer;      /* .. with the peer of this ETCS number */
     uint32_t released;  /* 1 where this event released the end */
-    uint8_t reason;     /* .. for this reason and sub-reason (docs/EMBEDDING.md lists them) */
+    uint8_t reason;     /* .. for this reason and sub-reason (euroradio_reason has their words) */
     uint8_t sub;
     uint8_t by_peer;    /* .. 1 where the peer did it */
     uint8_t zero;       /* 0 */
@@ -227,6 +227,10 @@ size_t euroradio_waiting(euroradio_end *end);
 /* Whether and why the end is released, at any time: at OK deeds->released is 1, deeds->reason, sub and by_peer say
  * why, and all else is zero; at NONE it isn't released. Answers OK, NONE; CLOSED. */
 int32_t euroradio_released(euroradio_end *end, euroradio_deeds *deeds);
+
+/* Copies what a reason and a sub-reason of a release mean, in words of ASCII for people, at most 64 octets, as many
+ * as fit: how many. No zero stands behind them. */
+size_t euroradio_reason(uint8_t reason, uint8_t sub, uint8_t *into, size_t room);
 
 /* The frames that the station ignored so far. Answers OK; CLOSED, where *counts is all zero. */
 int32_t euroradio_counted(euroradio_end *end, euroradio_counts *counts);

@@ -98,7 +98,7 @@ line 5: a frame that is none: not one frame from flag to flag
 line 7: a frame that is none: not one frame from flag to flag
 status 1"
 judge "frames that are drawn beside them" "$(grep -c 'class="frame' "$work/bad-charts/link-1.svg") $(grep -c 'class="frame' "$work/bad-charts/link-2.svg")" "2 2"
-judge "a text that is none" "$(echo 'a letter' | tools/chart 2>&1; echo "status $?")" "line 1: no line of a drill's text, a trace or a tap: a
+judge "a text that is none" "$(echo 'a letter' | tools/chart 2>&1; echo "status $?")" "line 1: no line of a drill's text, a trace or a tap: a; nothing behind it is read
 status 1"
 head -5 "$work/lossy-session.txt" > "$work/cut"
 told=$(tools/chart --drill "$work/lossy-session.drill" 1 < "$work/cut" 2>&1 > "$work/cut.svg")
@@ -108,7 +108,7 @@ sed 's/^repeat 1 e/repeet 1 e/' "$work/lossy-session.drill" > "$work/wrong.drill
 told=$(tools/chart --drill "$work/wrong.drill" 1 < "$work/lossy-session.txt" 2>&1 > "$work/wrong.svg")
 judge "a drill file with a bad line" "$(echo "$told" | head -1)" "$work/wrong.drill: line 12: no step of a drill: repeet"
 judge "and the text that doesn't fit it" "$(echo "$told" | sed -n 2p)" "line 18: no step of the drill file prints it; drawn where the text has it"
-judge "words that are wrong" "$(tools/chart --drill "$work/none" < "$work/cut" 2>&1 | tail -1)" "chart: error: $work/none: No such file or directory"
+judge "words that are wrong" "$(tools/chart --drill "$work/none" < "$work/cut" 2>&1 | tail -1)" "chart: $work/none: No such file or directory"
 
 # 10,000 frames, folded and not, beside the file and alone: below a minute. Twice as many take less than three times the memory.
 for count in 2500 5000; do

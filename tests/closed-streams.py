@@ -96,7 +96,7 @@ with tempfile.TemporaryDirectory() as work:
         "audit": ["audit", keys, os.path.join(examples, "recorded-link.tap")],
         "bulk": ["bulk", "1", "2"],
         "serve": ["serve", keys, "127.0.0.1:0", "9", "0"],
-        "no command": ["--help"],
+        "no command": ["help"],
     }
     for name, words in COMMANDS.items():
         whole = run((), words, out)

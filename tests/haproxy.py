@@ -6,6 +6,7 @@ import socket
 import subprocess
 import sys
 import tempfile
+import time
 
 sys.dont_write_bytecode = True
 
@@ -27,8 +28,8 @@ def check(holds, what):
         print("failed:", what)
 
 
-def configured(work, ports):
-    """The configuration of the examples, at these ports."""
+def configured(work, ports, bounds=None):
+    """The configuration of the examples, at these ports; with `bounds` an address has these: all calls come from one here."""
     with open(CONFIGURATION) as text:
         lines = text.read()
     for was, port in zip((FRONT, *BEHIND), ports):
@@ -36,6 +37,8 @@ def configured(work, ports):
         check(count == 1, f"the configuration names port {was} once")
     lines, count = re.subn(r"(?<=stats socket )\S+", os.path.join(work, "admin"), lines)
     check(count == 1, "the configuration names one socket of its own")
+    lines, count = re.subn(r"(sc0_conn_(?:cur|rate) gt) \d+", lambda found: f"{found[1]} {bounds}" if bounds else found[0], lines)
+    check(count == 2, "the configuration bounds the connections of an address, and how many come in a minute")
     path = os.path.join(work, "haproxy.cfg")
     with open(path, "w") as file:
         file.write(lines)
@@ -116,6 +119,34 @@ def ended(process):
     process.wait(timeout=60)
 
 
+def is_gone(client):
+    """Whether a client is cut off, within ten seconds."""
+    try:
+        return client.recv(1) == b""
+    except ConnectionError:
+        return True
+    except OSError:
+        return False
+
+
+def bounded(ports):
+    """By the very bounds of the file an address has eight connections at once, and sixty in a minute; another address is served meanwhile. Answers how many
+    calls were served."""
+    clients = [socket.create_connection(("127.0.0.1", ports[0]), timeout=10, source_address=("127.0.0.9", 0)) for _ in range(8)]
+    begin = time.monotonic()
+    ninth = socket.create_connection(("127.0.0.1", ports[0]), timeout=3, source_address=("127.0.0.9", 0))
+    check(is_gone(ninth) and time.monotonic() - begin < 3, "the ninth connection of an address is cut off at once")
+    check(called(ports[0], 8) == 8, "eight calls of another address are served meanwhile")
+    check(all(map(is_gone, clients)), "who says nothing is cut off")
+    check(time.monotonic() - begin < 30, "within five seconds or so")
+    for client in (*clients, ninth):
+        client.close()
+    # Eight of a minute's sixty were spent.
+    served = sum(called(ports[0], 1) for _ in range(60))
+    check(served == 52 or served > 52 and time.monotonic() - begin > 50, f"sixty calls in a minute: {served} and 8")
+    return 8 + served
+
+
 def judge(paths):
     """What the recordings of all serves tell: how many connections each answered; each connection replays to itself."""
     counts, whole = [], 0
@@ -147,6 +178,9 @@ with tempfile.TemporaryDirectory() as work:
         with open(path, "wb") as out:
             serves.append(begun([program, "serve", keys, f"127.0.0.1:{port}", "9", "1000000000"], port, out))
     balancer = begun([haproxy, "-f", configured(work, ports), "-db"], ports[0], subprocess.DEVNULL)
+    before = bounded(ports)
+    ended(balancer)
+    balancer = begun([haproxy, "-f", configured(work, ports, 100_000), "-db"], ports[0], subprocess.DEVNULL)
 
     # Clients that never reach a serve: two hundred that say nothing, and some that say no frame.
     silent = [connected(ports[0]) for _ in range(200)]
@@ -155,15 +189,11 @@ with tempfile.TemporaryDirectory() as work:
         client.sendall(b"GET / HTTP/1.0\r\n\r\n")
 
     check(called(ports[0], CALLS) == CALLS, "each call is connected, and its three reports come back")
-    for client in noise:
-        try:
-            gone = client.recv(1) == b""
-        except OSError:
-            gone = True
-        check(gone, "who says no frame is cut off")
+    check(all(map(is_gone, noise)), "who says no frame is cut off")
+    check(all(map(is_gone, silent)), "who says nothing is cut off")
     answered, whole = judge(recordings)
-    check(sum(answered) == CALLS, f"the serves answered the calls and nothing else: {answered}")
-    check(whole == CALLS, f"each serve heard three reports a call, and a release: {whole}")
+    check(sum(answered) == CALLS + before, f"the serves answered the calls and nothing else: {answered}")
+    check(whole == CALLS + before, f"each serve heard three reports a call, and a release: {whole}")
     check(min(answered) >= CALLS // 6, f"each serve has its share: {answered}")
 
     drained(work, ports[0], recordings)
@@ -176,7 +206,7 @@ with tempfile.TemporaryDirectory() as work:
         ended(process)
     behind, whole = judge(recordings)
     check(behind[0] == was[0] and sum(behind) == sum(was) + AT_ONCE, f"by the others alone: {was}, then {behind}")
-    check(whole == CALLS + 2 * AT_ONCE, f"each call was heard: {whole}")
+    check(whole == CALLS + before + 2 * AT_ONCE, f"each call was heard: {whole}")
     for client in (*silent, *noise):
         client.close()
 

@@ -86,5 +86,34 @@ for number in SAMPLE if which == "sample" else ALL:
     if status != 7 or not text.endswith(LAST) or not is_beginning(text[: -len(LAST)]):
         failed += 1
         print(f"failed: growth {number} refused: status {status}, {text[-200:]}")
+
+# ---- the commands that read a file: one growth after the other is refused, each ends with want of memory behind a beginning of what it prints, or prints all
+
+COMMANDS = [
+    ["drill", "examples/whole-session.drill"], ["audit", "examples/recorded-session.keys", "examples/recorded-link.tap"],
+    ["replay", "examples/recorded-session.keys", "examples/recorded-session.trace"], ["bits", "examples/recorded-line.bits"],
+    ["migrate", "examples/recorded-session.keys"], ["bulk", "7", "3"],
+]
+for words in COMMANDS:
+    whole = subprocess.run([program, *words], capture_output=True, timeout=60)
+    ended = {0: 0, 7: 0}
+    for number in range(1, 400 if which == "sample" else 100_000):
+        if os.path.exists(mark):
+            os.remove(mark)
+        environment = dict(os.environ, LD_PRELOAD=shim, REFUSE=str(number), REFUSED=mark)
+        run = subprocess.run([program, *words], capture_output=True, timeout=60, env=environment)
+        if not os.path.exists(mark):
+            break
+        is_whole = (run.returncode, run.stdout) == (0, whole.stdout)
+        is_cut = run.returncode == 7 and run.stdout.endswith(LAST) and whole.stdout.startswith(run.stdout[: -len(LAST)])
+        if is_whole or is_cut:
+            ended[run.returncode] += 1
+        else:
+            failed += 1
+            print(f"failed: {words[0]}, growth {number} refused: status {run.returncode}, {run.stdout[-80:]}")
+    print(f"{words[0]}: {ended[7]} growths refused, {ended[0]} borne")
+    if whole.returncode != 0 or ended[7] == 0:
+        failed += 1
+        print(f"failed: {words[0]} with all its memory: status {whole.returncode}")
 print(f"{refused} growths refused, {borne} borne, {failed} failed")
 sys.exit(1 if failed or refused == borne else 0)

@@ -137,6 +137,7 @@ for seconds, (came, text, told, looked) in results.items():
     check(len(frames) == 6, f"set by {seconds} s: six set-up frames: {came}")
     steps = [b - a for a, b in zip(frames, frames[1:])]
     check(all(0.5 <= step <= 2.5 for step in steps), f"set by {seconds} s: a set-up frame each second: {steps}")
+    check(sum(steps) <= 8, f"set by {seconds} s: five seconds from the first to the last: {steps}")
     check("< 1 released 1 1 local\n" in text, f"set by {seconds} s: given up with 1.1: {text[-200:]}")
     moments = [int(m) for m in re.findall(r"^> (\d+) ", text, re.M)]
     check(moments == sorted(moments) and 5_500 <= moments[-1] - moments[0] <= 15_000, f"set by {seconds} s: moments go on: {moments}")
@@ -272,6 +273,122 @@ with open("/dev/full", "wb") as full:
         call.communicate(timeout=20)
         check(got == b"" and call.returncode == 5, f"a call that can't record says nothing and ends with 5: {got} {call.returncode}")
 
+# ---- what a server tells while it serves: its keys, what isn't as usual with the peer's address, at most a line a second
+
+server = Server("-")
+line = server.process.stderr.readline().decode()
+check(line == "euroradio: keys 1, of radio block centre 9 1, of which 1 hold now\n", f"the keys of a server: {line!r}")
+other = path("other-keys")
+with open(other, "w") as f:
+    f.write(KEYS.replace(KMAC, KMAC[::-1]).replace("rbc = 9", "rbc = 9\n") + f'\n[[key]]\nengine = 6\nrbc = 9\nkmac = "{KMAC}"\n')
+status, _, told = ended(["call", other, server.address, "6", "9", "1000"])
+check(status == 0 and "3.1 peer: the radio block centre 9 has no key of engine 6 at this moment" in told, f"a call without a key at the centre: {status} {told}")
+server.call()
+line = server.process.stderr.readline().decode()
+check(re.fullmatch(r"euroradio: connection 1 of 127\.0\.0\.1:\d+: released 3\.1 local: no key of this engine holds at the radio block centre\n", line), f"a refused train: {line!r}")
+time.sleep(1.1)
+for _ in range(3):
+    ended(["call", other, server.address, "5", "9", "1000"])
+time.sleep(1.1)
+server.call()
+status, rest = server.end(signal.SIGTERM)
+check(len(re.findall(r"^euroradio: connection \d+ of 127\.0\.0\.1:\d+: released \d\.\d (?:local|peer): ", rest, re.M)) in (1, 2), f"at most a line a second: {rest!r}")
+check(re.search(r"; and [12] more that were not as usual$", rest, re.M), f"what came besides is counted: {rest!r}")
+check(not secrets(rest), f"no secret on the standard error: {rest}")
+done = subprocess.run([program, "serve", keys, "127.0.0.1:0", "77", "0"], capture_output=True, timeout=20)
+check(b"keys 1, of radio block centre 77 0, of which 0 hold now" in done.stderr and b"warning: no key holds for radio block centre 77" in done.stderr, f"a server without keys: {done.stderr!r}")
+
+# Where the recording is cut off at any place of a session, each octet that the train got stands in it.
+
+def session(server, texts):
+    """The octets that a train got which is connected and has each of these texts said back, and the train. It ends where nothing more comes."""
+    host, port = server.address.split(":")
+    got, train = b"", Train(5, 9, KMAC, os.urandom)
+    try:
+        with socket.create_connection((host, int(port)), timeout=5) as line:
+            line.sendall(train.start())
+            said = 0
+            while len(train.heard) < len(texts) and (octets := line.recv(65536)):
+                got += octets
+                line.sendall(train.receive(octets))
+                if train.state == "connected" and said == len(train.heard) < len(texts):
+                    line.sendall(train.say(texts[said]))
+                    said += 1
+    except OSError:
+        pass
+    return got, train
+
+
+def written(server):
+    """The octets that the recording tells to have gone to its one connection, a last line that was cut off among them."""
+    told = "".join(re.findall(r"^< 1 octets ([0-9a-f]*)", recorded(server), re.M))
+    return bytes.fromhex(told[: len(told) // 2 * 2])
+
+
+TEXTS = [b"position-report-00000001", b"position-report-00000002", bytes(range(200))]
+server = Server("-")
+got, train = session(server, TEXTS)
+server.end(signal.SIGTERM)
+whole = os.path.getsize(server.recording)
+check(train.heard == TEXTS and written(server).startswith(got), f"a whole session is recorded: {len(train.heard)} {len(got)} {len(written(server))}")
+unrecorded = []
+for room in range(100, whole, 60):
+    server = Server("-", preexec_fn=grows_to(room), restore_signals=False)
+    got, train = session(server, TEXTS)
+    server.end(signal.SIGTERM)
+    if not written(server).startswith(got):
+        unrecorded.append((room, len(got), len(written(server))))
+check(not unrecorded, f"no octet goes that a recording of any length doesn't hold: {unrecorded}")
+
+# ---- messages of every length are said back
+
+LONG = [bytes([length % 251]) * length for length in (1, 122, 123, 700, 701, 1023)]
+server = Server("-")
+got, train = session(server, LONG)
+server.end(signal.SIGTERM)
+check(train.heard == LONG, f"messages of 1 to 1,023 octets are said back: {[len(text) for text in train.heard]}")
+check(server.replays(), "their recording replays")
+
+# ---- random numbers are drawn anew at each start
+
+words = []
+for _ in range(2):
+    server = Server("-")
+    status, text, told = server.call()
+    server.end(signal.SIGTERM)
+    words += re.findall(r"^> \d+ 1 call 5 9 ([0-9a-f]{16})$", text, re.M) + re.findall(r"^> \d+ 1 answer 9 ([0-9a-f]{16})$", recorded(server), re.M)
+check(len(words) == len(set(words)) == 4, "two servers and two calls have four different random numbers")
+
+# ---- where T1 of three ends expires in one turn, they are visited in rising number
+
+def ticks_of_one_turn():
+    """The connections of which T1 expired at one moment, in their order: of three that had their AU2 and say nothing more, while the server was stopped."""
+    server = Server("-")
+    host, port = server.address.split(":")
+    lines = []
+    for _ in range(3):
+        line, train = socket.create_connection((host, int(port)), timeout=10), Train(5, 9, KMAC, os.urandom)
+        line.sendall(train.start())
+        line.sendall(train.receive(line.recv(4096)))
+        line.recv(4096)
+        lines.append(line)
+    server.process.send_signal(signal.SIGSTOP)
+    time.sleep(1.3)
+    server.process.send_signal(signal.SIGCONT)
+    time.sleep(0.7)
+    server.end(signal.SIGTERM)
+    for line in lines:
+        line.close()
+    ticks = re.findall(r"^> (\d+) (\d+) tick$", recorded(server), re.M)
+    return [int(conn) for moment, conn in ticks if moment == ticks[0][0]]
+
+
+for _ in range(5):
+    visited = ticks_of_one_turn()
+    if len(visited) == 3:
+        break
+check(visited == [1, 2, 3], f"ends whose T1 expires in one turn are visited in rising number: {visited}")
+
 # ---- a bound of turns, and the line of counts
 
 server = Server("40")
@@ -330,9 +447,9 @@ with open(path("long"), "wb") as f:
     f.truncate(33_554_433)
 status, text, told = ended(["replay", keys, path("long")])
 check(status == 2 and "33554432" in told, f"a file that is too long: {status} {told}")
-for words in (["--help"], ["--version"], [], ["serve", keys, "127.0.0.1:0", "9", "--"], ["bulk", "1", "-"], ["serve", keys, "127.0.0.1:0", "9", "1000000001"]):
+for words in ([], ["serve", keys, "127.0.0.1:0", "9", "--"], ["bulk", "1", "-"], ["serve", keys, "127.0.0.1:0", "9", "1000000001"]):
     status, text, told = ended(words)
-    check((status, text) == (1, "! usage\n") and told.startswith("euroradio" if words == ["--version"] else "usage: euroradio"), f"{words}: {status} {told[:60]}")
+    check((status, text) == (1, "! usage\n") and "\nusage: euroradio" in told, f"{words}: {status} {told[:60]}")
 
 # ---- a file that may not grow: the system kills, unless its signal is ignored
 

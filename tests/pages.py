@@ -22,9 +22,9 @@ sys.dont_write_bytecode = True
 TOP = os.path.dirname(os.path.dirname(os.path.abspath(__file__)))
 # Words that the tree needn't have, by the reason.
 ELSEWHERE = {
-    "the toolchain's identity": "logic dac8208d650f15bf",
+    "what commands make": "out/euroradio crates/euroradio/out/euroradio",
     "words, flags and messages of the toolchain": "holes fix RT_JOBS Processes hides statements variables",
-    "commands and flags of the system": "nice gc sections v2",
+    "commands and flags of the system": "nice gc sections v2 copytruncate",
     "what isn't used, and why": "sigaction signalfd sigprocmask ppoll z_stream",
     "stands for any such name": "TOrd lemma my_lemma f_n New::make Tests",
 }
@@ -81,6 +81,14 @@ class Tree:
             return any(fnmatch.fnmatchcase(end, pattern) for end in self.ends)
         file, _, name = path.rpartition(".")
         return path in self.ends or f"{path}.antt" in self.ends or any(name in self.words[it] for it in self.words if f"/{it}".endswith(f"/{file}.antt"))
+
+    def is_spec(self, path, crates):
+        parts = path.split("/")
+        return parts[0] == "crates" and parts[1] in crates and parts[2] == "specs"
+
+    def defines(self, path, owner, name):
+        """Whether this file of specs/ is named after the owner, or has it as a record, and has the name."""
+        return name in self.words[path] and (path.endswith(f"/{owner}.antt") or owner in self.words[path])
 
     def has_names(self, names):
         names = [name for name in names if not re.fullmatch(r"[A-Z]+", name)]
@@ -149,6 +157,18 @@ def counts(tree):
     }
 
 
+def lost_in_rows(tree, page):
+    """(line, name) of each definition in a row of a table, as FILE.NAME, that no crate of the row has: the crates that the row names by CRATE/specs or CRATE::, any
+    where it names none."""
+    for number, line in enumerate(read(page).split("\n"), 1):
+        texts = [each for it in re.findall(r"`([^`]+)`", line) for each in unfolded(it)] if line.startswith("|") else []
+        crates = {word for it in texts for word in re.findall(r"\b([a-z_0-9]+)(?=/specs|::)", it) if word in tree.crates} or tree.crates
+        for it in texts:
+            found = re.fullmatch(r"(?:([a-z_0-9]+)/specs/)?([A-Z]\w+)\.([A-Za-z_]\w*)(?:\.\w+)?", it)
+            if found and not any(tree.defines(path, found[2], found[3]) for path in tree.words if tree.is_spec(path, {found[1]} if found[1] else crates)):
+                yield number, it
+
+
 def told(page, counted):
     """(line, what, told, there) of each count on a page."""
     text = read(page)
@@ -175,6 +195,9 @@ def main():
                 print(f"{page}:{line}: `{text}`: the tree has no {', '.join(lacking)}")
             else:
                 passed += 1
+        for line, name in lost_in_rows(tree, page):
+            failed += 1
+            print(f"{page}:{line}: `{name}`: no crate of the row has it")
         for line, what, said, there in told(page, counted):
             if said == there:
                 passed += 1

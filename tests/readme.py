@@ -33,12 +33,13 @@ LINK = re.compile(r"\]\(((?!\w+:)[^)\s]+)\)")
 LEFT_OUT = {
     "bash .ci/run": "the gate, which runs this script",
     "bash tests/quick.sh": "runs this script",
+    "bash tests/program.sh": "what it makes is there: the program that is tried",
     "(cd crates/euroradio && rt ": "the toolchain would prove this copy anew; the gate proves, builds and runs the program before",
     "wireshark ": "opens a window",
     "sudo ": "changes the machine",
 }
 # Commands that are run where what they name is installed.
-WANTED = ("tshark", "haproxy", "systemd-analyze", "rt", "tcpdump")
+WANTED = ("tshark", "haproxy", "systemd-analyze", "rt", "tcpdump", "openssl")
 MOST_SECONDS = 900
 
 
@@ -195,10 +196,17 @@ def linked(source, folder, without=()):
             os.symlink(os.path.join(source, name), os.path.join(folder, name))
 
 
+def copied(folder, program):
+    """A copy of the top in which the program that is tried stands where `tests/program.sh` leaves one."""
+    linked(TOP, folder, ("out",))
+    os.mkdir(os.path.join(folder, "out"))
+    os.symlink(os.path.abspath(program), os.path.join(folder, "out/euroradio"))
+
+
 def with_program(folder, program):
-    """A copy in which another program stands in the built one's place, and no command builds one."""
+    """Another program stands in the built one's place in this copy, and no command builds one."""
     LEFT_OUT["(cd crates/euroradio && rt "] = "another program is tried"
-    linked(TOP, folder, ("crates",))
+    os.remove(os.path.join(folder, "crates"))
     linked(os.path.join(TOP, "crates"), os.path.join(folder, "crates"), ("euroradio",))
     linked(os.path.join(TOP, "crates/euroradio"), os.path.join(folder, "crates/euroradio"), ("out",))
     os.mkdir(os.path.join(folder, "crates/euroradio/out"))
@@ -208,10 +216,9 @@ def with_program(folder, program):
 def main():
     program = os.environ.get("PROGRAM")
     with tempfile.TemporaryDirectory() as folder:
+        copied(folder, program or os.path.join(TOP, "crates/euroradio/out/euroradio"))
         if program:
             with_program(folder, program)
-        else:
-            linked(TOP, folder)
         os.environ["PATH"] += ":/usr/sbin"
         pages = Pages(folder)
         for path in PAGES:

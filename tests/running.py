@@ -4,6 +4,7 @@ import os
 import re
 import shlex
 import shutil
+import socket
 import subprocess
 import sys
 import tempfile
@@ -60,6 +61,28 @@ def unit():
     check(len(names) == 1 and re.fullmatch(r"\d{8}T\d{6}Z\.recording", names[0]), f"one recording, named by its start: {names}")
     parts, told = parts_of(os.path.join(state, names[0]), os.path.join(work, "parts"))
     check(len(parts) == 1 and not told and replays_to_itself(program, keys, parts), f"its recording replays: {parts} {told}")
+    refused(words, environment)
+
+
+def refused(words, environment):
+    """A key file that is refused, and one that isn't there, end the unit's command with a status behind which systemd doesn't start it again; an address that is in
+    use doesn't."""
+    with open(UNIT) as text:
+        prevented = re.search(r"^RestartPreventExitStatus=(.*)$", text.read(), re.M)[1].split()
+    found = []
+    for name, text in (("cut", KEYS.replace('0123"', '012"')), ("none", None), ("good", KEYS)):
+        folder = os.path.join(work, name)
+        os.mkdir(folder)
+        if text:
+            with open(os.path.join(folder, "keys"), "w") as file:
+                file.write(text)
+        state = os.path.join(folder, "state")
+        os.mkdir(state)
+        with socket.create_server(("127.0.0.1", 0)) as taken:
+            given = dict(environment, CREDENTIALS_DIRECTORY=folder, STATE_DIRECTORY=state, ADDRESS=f"127.0.0.1:{taken.getsockname()[1]}")
+            run = subprocess.run(words, env=given, stderr=subprocess.DEVNULL, timeout=60, check=False)
+        found.append((run.returncode, str(run.returncode) in prevented))
+    check(found == [(4, True), (2, True), (6, False)], f"statuses, and whether the unit isn't started again: {found}")
 
 
 def through_a_pipe():

@@ -12,6 +12,8 @@ from decoding import controls, framing, network, safety, transport  # noqa: E402
 from des import TripleKey  # noqa: E402
 
 CREDIT = 15
+# A TPDU has 128 octets, of which five are not the user's.
+SEGMENT = 123
 
 
 class Broken(Exception):
@@ -134,12 +136,16 @@ class Train:
             raise Broken(f"the MAC or the flag of {sapdu.kind}")
 
     def _segment(self, message):
-        """A DT: one segment, of a message that fits into it."""
-        number = self.segments_sent % 128
-        if len(message) > 123 or number == self.edge % 128:
-            raise Broken("a message that doesn't fit, or no credit")
-        self.segments_sent += 1
-        return self._info(b"\x04\xf0\x00\x01" + bytes([0x80 | number]) + message)
+        """DTs: the segments of a message, each of as many octets as fit."""
+        octets = b""
+        for begin in range(0, len(message), SEGMENT):
+            number = self.segments_sent % 128
+            if number == self.edge % 128:
+                raise Broken("no credit")
+            self.segments_sent += 1
+            last = 0x80 if begin + SEGMENT >= len(message) else 0
+            octets += self._info(b"\x04\xf0\x00\x01" + bytes([last | number]) + message[begin : begin + SEGMENT])
+        return octets
 
     def _info(self, tpdu):
         """An I frame of a network block."""

@@ -41,19 +41,34 @@ local AWAITED_BEHIND = {AU1 = "AU3", AU2 = "AR", AU3 = "DT", AR = "DT", DT = "DT
 
 local LONGEST_FRAME, LONGEST_TPDU, LONGEST_MESSAGE, LARGEST_SIZE = 1030, 1024, 1032, 1024
 
+-- Why an end releases, in the words that the program has.
 local CAUSES = {
-  ["1.1"] = "more than N2 expiries without an answer to the set-up frame", ["1.2"] = "more than N2 expiries of T1 without progress",
-  ["1.3"] = "link frame error", ["1.4"] = "the peer's DISC, DM or FRMR", ["1.5"] = "the events ended", ["1.6"] = "fault of the line",
-  ["1.7"] = "stalled", ["2.1"] = "DR whose user data isn't a DI with the peer's direction flag",
-  ["2.2"] = "TPDU fault, or a TPDU against the rules of the transport", ["2.3"] = "reassembled message above 1,032 octets",
-  ["2.4"] = "network block fault", ["3.1"] = "no key at the moment of AU1", ["3.2"] = "MAC of AU2 wrong", ["3.3"] = "MAC of AU3 wrong",
-  ["3.4"] = "MAC of AR wrong", ["3.5"] = "responder's identity differs", ["3.6"] = "safety feature unknown", ["4.1"] = "MAC of DT wrong",
-  ["4.2"] = "direction flag wrong", ["5.1"] = "SaPDU not expected in this state", ["5.2"] = "malformed SaPDU",
-  ["6.1"] = "set-up time spent before the connection",
+  ["1.1"] = "the set-up of the link was not answered",
+  ["1.2"] = "no progress on the link: T1 expired too often in a row",
+  ["1.3"] = "a frame that the link may not get",
+  ["1.4"] = "the link was disconnected: DISC, DM or FRMR",
+  ["1.5"] = "the line ended",
+  ["1.6"] = "the line failed",
+  ["1.7"] = "the line stalled: too much waited to be sent",
+  ["2.1"] = "a DR without the DI of its sender",
+  ["2.2"] = "a TPDU that is faulty or may not come now",
+  ["2.3"] = "a message above 1,032 octets",
+  ["2.4"] = "a faulty network block",
+  ["3.1"] = "no key of this engine holds at the radio block centre",
+  ["3.2"] = "the MAC of AU2 is wrong: the keys of both ends differ",
+  ["3.3"] = "the MAC of AU3 is wrong",
+  ["3.4"] = "the MAC of AR is wrong",
+  ["3.5"] = "another radio block centre answered than was called",
+  ["3.6"] = "the safety feature is unknown",
+  ["4.1"] = "the MAC of a DT is wrong",
+  ["4.2"] = "a SaPDU with the direction flag of its receiver",
+  ["5.1"] = "a SaPDU that is not expected now",
+  ["5.2"] = "octets that are no SaPDU",
+  ["6.1"] = "the time for the set-up was spent",
 }
 
 local function cause_of(reason)
-  return reason:match("^0%.") and "own user" or CAUSES[reason] or "unknown"
+  return reason:match("^0%.") and "released by the user" or CAUSES[reason] or "a reason that this profile does not have"
 end
 
 -- ---------------------------------------------------------------------------------------------------------------------------------------

@@ -563,6 +563,25 @@ static void counts(void) {
     close_wire(&wire);
 }
 
+/* The words of a reason: whole, cut short, and those of what no end of this kind sends. */
+static void reasons(void) {
+    static const char no_key[] = "no key of this engine holds at the radio block centre";
+    uint8_t words[65], few[3];
+    unsigned reason, sub;
+    size_t longest = 0;
+    CHECK(euroradio_reason(3, 1, words, sizeof words) == sizeof no_key - 1);
+    CHECK(memcmp(words, no_key, sizeof no_key - 1) == 0);
+    CHECK(euroradio_reason(0, 7, words, sizeof words) == euroradio_reason(0, 0, words, sizeof words));
+    CHECK(euroradio_reason(3, 1, few, sizeof few) == 3);
+    CHECK(memcmp(few, no_key, 3) == 0);
+    CHECK(euroradio_reason(3, 1, words, 0) == 0);
+    for (reason = 0; reason < 256; reason++)
+        for (sub = 0; sub < 256; sub++)
+            if (euroradio_reason((uint8_t)reason, (uint8_t)sub, words, sizeof words) > longest)
+                longest = euroradio_reason((uint8_t)reason, (uint8_t)sub, words, sizeof words);
+    CHECK(longest <= 64);
+}
+
 int main(void) {
     usual_key = key_of(ENGINE, CENTRE, 0, MOST);
     CHECK(euroradio_version() == EURORADIO_VERSION);
@@ -578,5 +597,6 @@ int main(void) {
     releases();
     copies();
     counts();
+    reasons();
     return checked("calls");
 }

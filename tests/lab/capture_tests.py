@@ -85,7 +85,7 @@ def set_up(judge):
     judge.same("what is told", (said, status), ([
         "line 4: a frame that isn't intact: bad check sequence", "line 6: a frame that isn't intact: too short",
         "line 7: a frame that isn't intact: aborted"], 1))
-    judge.same("the interfaces", capture.interfaces, [(147, "link 1", ""), (147, "link 2", "")])
+    judge.same("the interfaces", capture.interfaces, [(147, "link 1", "engine 5"), (147, "link 2", "")])
     judge.same("the packets", capture.packets, [
         (0, 0, b"\x01\x3f", 2, 2, ""), (0, 1, b"\x01\x73", 2, 1, ""), (1, 2, b"\x01\x3f", 2, 2, ""),
         (0, 3, b"\x01\x3f\xea\xdf", 4, 2 | 1 << 24, "bad frame: bad check sequence"), (1, 4, b"\x01", 1, 1 | 1 << 26, "bad frame: too short"),
@@ -94,9 +94,6 @@ def set_up(judge):
     judge.same("link 2 alone", (capture.interfaces, len(capture.packets), len(said), status), ([(147, "link 2", "")], 3, 2, 1))
     capture, said, status = captured(text, "3")
     judge.same("a link that isn't there", (capture.interfaces, said, status), ([], ["no line of link or connection 3"], 1))
-    judge.same("words that are none", subprocess.run([sys.executable, "tools/pcap", "x"], stdin=subprocess.DEVNULL, stderr=subprocess.DEVNULL,
-                                                     check=False).returncode, 2)
-    judge.same("the help", subprocess.run([sys.executable, "tools/pcap", "--help"], stdout=subprocess.DEVNULL, check=False).returncode, 0)
     long = "7e" + "00" * 1000 + "7e" + "01" * 1033 + "7e"
     capture, said, status = captured(f"1 e frame {long}\n")
     judge.same("a frame that is too long", [(len(packet[2]),) + packet[3:] for packet in capture.packets],
@@ -124,15 +121,16 @@ def recordings(judge):
 
 
 def bad_input(judge):
-    text = f"no text\n1 e frame {SABM}\n1 e frame 7e013febd\n1 r frame {UA}\n1 e fram\n1 e frame ffff\n1 r frame {UA[:-4]}\n1 r frame {UA}"
+    text = f"1 e frame {SABM}\nno text\n1 e frame 7e013febd\n1 r frame {UA}\n1 e fram\n1 e frame ffff\n1 r frame {UA[:-4]}\n1 r frame {UA}"
     capture, said, status = captured(text)
     judge.same("bad lines are told, and the rest is written", (said, status, [packet[2].hex() for packet in capture.packets]), ([
-        "line 1: no line of a drill's text, a trace or a tap: no", "line 3: an odd number of digits: 7e013febd", "line 5: no word that a drill prints: fram",
+        "line 2: no decimal: no", "line 3: an odd number of digits: 7e013febd", "line 5: no word that a drill prints: fram",
         "line 6: a frame that isn't closed, left out", "line 7: a frame that isn't intact: too short"], 1, ["013f", "0173", "017383", "0173"]))
     capture, said, status = captured(f"1 e frame ffff{SABM}\n")
     judge.same("octets before the first flag", (said, status, len(capture.packets)), (["line 1: 2 octets before the first flag, left out"], 1, 1))
     capture, said, status = captured(b"\0\1\2\n\xff")
-    judge.same("no text", (len(said), status, capture.interfaces), (2, 1, []))
+    judge.same("no text", (said, status, capture.interfaces), (
+        ["line 1: no line of a drill's text, a trace or a tap: \\x00\\x01\\x02; nothing behind it is read"], 1, []))
     judge.same("nothing", captured("")[1:], ([], 0))
 
 

@@ -80,9 +80,8 @@ def whole_ones(judge):
         1: HEADER + b"> 1 1 answer 9 0000000000000001\n> 3 1 ended\n< 1 released 1 5 local\n", 2: HEADER + b"> 2 2 full 256\n",
         3: HEADER + b"> 2 3 unserved 1\n"}, [], 0))
     judge.same("events alone", split(away, "--whole", "--events")[0], away.replace(b"< 1 released 1 5 local\n", b""))
-    for words in (["x"], ["--whole", "1"], ["--folder", "f", "1"], ["--folder", "f", "--whole"]):
+    for words in (["1", "2"], ["--whole", "1"], ["--folder", "f", "1"], ["--folder", "f", "--whole"]):
         judge.same(f"the words {words}", split(text, *words)[2], 2)
-    judge.same("the help", split(text, "--help")[2], 0)
 
 
 def cut_ones(judge):

@@ -80,12 +80,21 @@ def bad_lines(judge):
         reading = sources.read(f"trace 1 7 15 128 1000 5 40000\n> 0 1 answer 9 0000000000000001\n{line}\n< 1 octets {UA}\n")
         judge.same(f"the bad line {line[:60]}", ([str(bad) for bad in reading.bad], len(reading.links[0].items)), ([f"line 3: {why}"], 2))
     judge.same("a bad header", [str(bad) for bad in sources.read("trace 2\n> 0 1 answer 9 0000000000000001\n").bad],
-               ["line 1: no header of a trace: `trace 1` and six numbers are wanted"])
+               ["line 1: no header of a trace: `trace 1` and six numbers are wanted; nothing behind it is read"])
+    judge.same("a header without its numbers", [str(bad) for bad in sources.read("trace 1 7 15 128 x 5 40000\n> 0 1 answer 9 0000000000000001\n").bad],
+               ["line 1: no header of a trace: no decimal: x; nothing behind it is read"])
     judge.same("a bad header of a tap", [bad.line for bad in sources.read("tap 2\nlink 1 5 9 0\n").bad], [1])
     judge.same("the steps of a drill", [str(bad) for bad in sources.read("drill 1 full\n").bad],
-               ["line 1: the steps of a drill; what `euroradio drill` prints of them is wanted"])
+               ["line 1: the steps of a drill; what `euroradio drill` prints of them is wanted; nothing behind it is read"])
     reading = sources.read(bytes(range(256)) + b"\nno text\n1 e frame 7e\n")
-    judge.same("no text, and then some", (reading.kind, [bad.line for bad in reading.bad], len(reading.links)), ("drill", [1, 2, 3], 1))
+    judge.same("no text, and then some", (reading.kind, [bad.line for bad in reading.bad], len(reading.links)), (None, [1], 0))
+    judge.same("a capture", [str(bad) for bad in sources.read(b"\n\r\r\n\x1c\0\0\0\n1 e frame 7e\n").bad],
+               ["line 1: a capture; a text is wanted, and tools/tap makes a tap of it"])
+    judge.same("control octets", str(sources.read("1 e frame 7e\n\x1b[2J\x07 x\n").bad[0]), "line 2: no decimal: \\x1b[2J\\x07")
+    away = sources.read("trace 1 7 15 128 1000 5 40000\n> 2 3 full 256\n> 3 3 ended\n< 3 released 1 5 local\n> 4 4 unserved 1\n> 5 4 answer 9 0000000000000001\n")
+    judge.same("connections that were turned away", ([(link.name, link.away, len(link.items)) for link in away.links], [str(bad) for bad in away.bad]), (
+        [("connection 3", True, 1), ("connection 4", True, 1)],
+        ["line 3: connection 3 was turned away", "line 4: connection 3 was turned away", "line 6: connection 4 was turned away"]))
     judge.same("nothing at all", (sources.read(b"").kind, sources.read(b"").bad), (None, []))
 
 

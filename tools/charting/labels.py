@@ -2,12 +2,32 @@
 from decoding import controls, framing, safety
 from decoding.faults import Fault
 
-REASONS = {"0": "the user's release", "1.1": "no answer to the set-up of the link", "1.2": "no progress: N2 expiries of T1", "1.3": "link frame error",
-           "1.4": "DISC, DM or FRMR of the peer", "1.5": "the line ended", "1.6": "the line failed", "1.7": "the line stalled",
-           "2.1": "DR without a DI", "2.2": "TPDU error", "2.3": "message too long", "2.4": "network block error",
-           "3.1": "no key of this pair", "3.2": "MAC of AU2 wrong", "3.3": "MAC of AU3 wrong", "3.4": "MAC of AR wrong",
-           "3.5": "another responder answered", "3.6": "safety feature unknown", "4.1": "MAC of DT wrong", "4.2": "direction flag wrong",
-           "5.1": "SaPDU not expected", "5.2": "malformed SaPDU", "6.1": "time of the set-up spent"}
+# Why an end is released, in the words that the program has.
+REASONS = {
+    "0": "released by the user",
+    "1.1": "the set-up of the link was not answered",
+    "1.2": "no progress on the link: T1 expired too often in a row",
+    "1.3": "a frame that the link may not get",
+    "1.4": "the link was disconnected: DISC, DM or FRMR",
+    "1.5": "the line ended",
+    "1.6": "the line failed",
+    "1.7": "the line stalled: too much waited to be sent",
+    "2.1": "a DR without the DI of its sender",
+    "2.2": "a TPDU that is faulty or may not come now",
+    "2.3": "a message above 1,032 octets",
+    "2.4": "a faulty network block",
+    "3.1": "no key of this engine holds at the radio block centre",
+    "3.2": "the MAC of AU2 is wrong: the keys of both ends differ",
+    "3.3": "the MAC of AU3 is wrong",
+    "3.4": "the MAC of AR is wrong",
+    "3.5": "another radio block centre answered than was called",
+    "3.6": "the safety feature is unknown",
+    "4.1": "the MAC of a DT is wrong",
+    "4.2": "a SaPDU with the direction flag of its receiver",
+    "5.1": "a SaPDU that is not expected now",
+    "5.2": "octets that are no SaPDU",
+    "6.1": "the time for the set-up was spent",
+}
 SHOWN = 5
 
 

@@ -126,10 +126,15 @@ class Drawer:
             note.text = told
 
 
+TURNED_AWAY = {"full": "turned away, since {} trains were there", "unserved": "turned away, since {} connections were served before"}
+
+
 def remark_words(item):
-    """A tick, `N passes K` and `N end passes P waiting A B` in words."""
+    """A tick, a connection that was turned away, `N passes K` and `N end passes P waiting A B` in words."""
     if item.word == "tick":
         return "tick"
+    if item.word in TURNED_AWAY:
+        return TURNED_AWAY[item.word].format(item.words[0])
     if item.word == "passes":
         return labels.count(int(item.words[0]), "frame") + " passed"
     _, total, _, engine, rbc = item.words

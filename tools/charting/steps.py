@@ -1,8 +1,8 @@
-"""Reads a drill file: its level, its settings, its steps. A line that is none is named with its number, and reading goes on behind it."""
+"""Reads a drill file: its level, its settings, its steps. A line that is none is named with its number, and reading goes on behind it, but not behind a bad header."""
 from dataclasses import dataclass, field
 from typing import Dict, List
 
-from decoding.sources import BadLine, BadWord, decimal, octets_of, side_of
+from decoding.sources import BadLine, BadWord, NoHeader, decimal, octets_of, side_of
 
 LEVELS = ("safe", "link", "link-sr", "full")
 # The window at level link-sr where no line says it.
@@ -45,6 +45,9 @@ def read(text):
             continue
         try:
             _line(drill, number, words)
+        except NoHeader as why:
+            drill.bad.append(BadLine(number, f"{why}; nothing behind it is read"))
+            break
         except BadWord as why:
             drill.bad.append(BadLine(number, str(why)))
     return drill
@@ -53,7 +56,7 @@ def read(text):
 def _line(drill, number, words):
     if not drill.level:
         if words[:2] != ["drill", "1"] or len(words) != 3 or words[2] not in LEVELS:
-            raise BadWord("no header of a drill: `drill 1 safe`, `drill 1 link`, `drill 1 link-sr` or `drill 1 full` is wanted")
+            raise NoHeader("no header of a drill: `drill 1 safe`, `drill 1 link`, `drill 1 link-sr` or `drill 1 full` is wanted")
         drill.level, drill.selective = words[2].removesuffix("-sr"), words[2] == "link-sr"
         if drill.selective:
             drill.settings["window"] = SELECTIVE_WINDOW

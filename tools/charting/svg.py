@@ -6,6 +6,8 @@ waited it sinks in the middle, which stands for the line between the ends, down 
 from dataclasses import dataclass
 from xml.sax.saxutils import escape
 
+from decoding.sources import printable
+
 from .folding import folds_of
 from .model import CHANGE, LOSS, LOST, OTHER, PUT, REPEAT, SENT, TAKEN, UNTOLD, WAITS
 
@@ -53,7 +55,7 @@ class Layout:
 
 def text(x, y, words, name, anchor=""):
     place = f' text-anchor="{anchor}"' if anchor else ""
-    return f'<text x="{x}" y="{y}" class="{name}"{place}>{escape(words)}</text>'
+    return f'<text x="{x}" y="{y}" class="{name}"{place}>{escape(printable(words))}</text>'
 
 
 def cut(words, most):

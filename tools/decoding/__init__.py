@@ -11,7 +11,7 @@ It is written from the standards' tables, apart from the proved program, so that
 | safety | SaPDUs: UNISIG SUBSET-037, the safety layer |
 | conversation | all of these over the frames of a link, both directions |
 | sources | texts: what a drill prints, a trace or recording, a tap |
-| captures | writes captures in the format pcapng |
+| captures | reads and writes captures in the format pcapng |
 
 Python's standard library is all that it needs.
 """

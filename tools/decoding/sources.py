@@ -6,7 +6,8 @@
 | trace or recording | `trace 1 ..` | `> M C octets HEX`: the end of connection C got it at moment M; `< C octets HEX`: it sent it |
 | tap | `tap 1` | `octets N S HEX`: S sent it and the other end got it |
 
-A line that is none of its text's is named with its number, and reading goes on behind it.
+A line that is none of its text's is named with its number, and reading goes on behind it; but where the first line shows no kind of text, or is a
+faulty header of one, reading ends there. Words that are quoted have their control octets escaped.
 """
 import binascii
 from dataclasses import dataclass, field
@@ -21,6 +22,8 @@ OTHER = {"e": "r", "r": "e"}
 
 DRILL, TRACE, TAP = "drill", "trace", "tap"
 LAST_MOMENT = 10 ** 15
+# How captures of the format pcapng begin.
+CAPTURE = "\n\r\r\n"
 SETTINGS = ["window", "credit", "size", "t1", "n2", "setup"]
 
 # The arguments of each line: d a decimal, s a side, x octets in hexadecimal, h the same of 8 octets; a word stands for itself.
@@ -36,6 +39,15 @@ class BadWord(ValueError):
     """A word or line that isn't in the grammar of its text."""
 
 
+class NoHeader(BadWord):
+    """The first line shows no kind of text, or is a faulty header."""
+
+
+def printable(text):
+    """A text in which what can't be printed, as control octets, is escaped."""
+    return "".join(letter if letter.isprintable() else repr(letter)[1:-1] for letter in text)
+
+
 @dataclass(frozen=True)
 class BadLine:
     """A line that couldn't be read, or whose octets are no frames: its number, from 1, and why."""
@@ -44,7 +56,7 @@ class BadLine:
     why: str
 
     def __str__(self):
-        return f"line {self.line}: {self.why}"
+        return f"line {self.line}: {printable(self.why)}"
 
 
 @dataclass(slots=True)
@@ -74,7 +86,8 @@ class Item:
 class Link:
     """One link of a drill or tap, or one connection of a trace, with all that happened on it in order.
 
-    `role` is the side of a connection's own end; `engine` and `rbc` are ETCS numbers where they are told; `moment` is that of a tap's link.
+    `role` is the side of a connection's own end; `engine` and `rbc` are ETCS numbers where they are told; `moment` is that of a tap's link. A
+    connection that is `away` was turned away: it got no end, and has no other line.
     """
 
     kind: str
@@ -85,10 +98,19 @@ class Link:
     rbc: Optional[int] = None
     moment: Optional[int] = None
     up: bool = False
+    away: bool = False
 
     @property
     def name(self):
         return f"{self.kind} {self.number}"
+
+    def numbers(self):
+        """The ETCS numbers of engine and RBC, as far as the text tells them: as the link is opened, or as an end is connected with the other."""
+        found = {"e": self.engine, "r": self.rbc}
+        for item in self.items:
+            if item.word == "connected" and found[OTHER[item.side]] is None:
+                found[OTHER[item.side]] = int(item.words[0])
+        return found["e"], found["r"]
 
     @property
     def level(self):
@@ -116,17 +138,21 @@ def read(data):
     if isinstance(data, bytes):
         data = data.decode("latin-1")
     reader, reading = None, Reading()
+    if data.startswith(CAPTURE):
+        reading.bad.append(BadLine(1, "a capture; a text is wanted, and tools/tap makes a tap of it"))
+        return reading
     for number, line in enumerate(data.split("\n"), 1):
         words = line.split(" ")
         words = [word for word in words if word]
         if not words or line.startswith("#"):
             continue
-        if reader is None:
-            reader = _reader_for(words, reading)
         try:
             if reader is None:
-                raise BadWord(_no_text(words))
+                reader = _reader_for(words, reading)
             reader.line(number, words)
+        except NoHeader as why:
+            reading.bad.append(BadLine(number, f"{why}; nothing behind it is read"))
+            break
         except BadWord as why:
             reading.bad.append(BadLine(number, str(why)))
     if reader is not None:
@@ -135,20 +161,16 @@ def read(data):
 
 
 def _reader_for(words, reading):
-    """The reader of the kind of text that this line begins; None where it begins none."""
+    """The reader of the kind of text that this line begins."""
     if words[0] == "tap":
         return _TapReader(reading)
     if words[0] == "trace" or words[0] in (">", "<"):
         return _TraceReader(reading)
     if words[0] == "!" or len(words) > 1 and words[0].isdigit() and words[1] in ("e", "r", "passes", "end"):
         return _DrillReader(reading)
-    return None
-
-
-def _no_text(words):
     if words[0] == "drill":
-        return "the steps of a drill; what `euroradio drill` prints of them is wanted"
-    return f"no line of a drill's text, a trace or a tap: {words[0][:40]}"
+        raise NoHeader("the steps of a drill; what `euroradio drill` prints of them is wanted")
+    raise NoHeader(f"no line of a drill's text, a trace or a tap: {words[0][:40]}")
 
 
 def decimal(word, most=2 ** 64 - 1):
@@ -196,8 +218,11 @@ def _arguments(forms, words):
 def trace_header(words):
     """The settings that the first line of a trace tells, by their names."""
     if words[:2] != ["trace", "1"] or len(words) != 8:
-        raise BadWord("no header of a trace: `trace 1` and six numbers are wanted")
-    return dict(zip(SETTINGS, map(decimal, words[2:])))
+        raise NoHeader("no header of a trace: `trace 1` and six numbers are wanted")
+    try:
+        return dict(zip(SETTINGS, map(decimal, words[2:])))
+    except BadWord as why:
+        raise NoHeader(f"no header of a trace: {why}") from None
 
 
 @dataclass(frozen=True)
@@ -310,13 +335,17 @@ class _TraceReader(_Reader):
     def _add(self, number, conn, own, name, words, octets):
         fresh = conn not in self.by_number
         link = self.link(conn)
-        if name in ("call", "answer") and link.role is not None:
+        if link.away:
+            raise BadWord(f"connection {conn} was turned away")
+        if name in ("call", "answer") and link.role is not None or name in ("full", "unserved") and not fresh:
             raise BadWord(f"connection {conn} is opened twice")
         if name in ("call", "answer"):
             link.role = "e" if name == "call" else "r"
             link.rbc = int(words[-2])
             link.engine = int(words[0]) if name == "call" else link.engine
-        elif fresh and name not in ("full", "unserved"):
+        elif name in ("full", "unserved"):
+            link.away = True
+        elif fresh:
             self.unopened.append(link)
             self.reading.bad.append(BadLine(number, f"connection {conn} wasn't opened by call or answer; its end is taken from its frames"))
         on_line = name == "octets"
@@ -352,7 +381,7 @@ class _TapReader(_Reader):
         if not self.begun:
             self.begun = True
             if words != ["tap", "1"]:
-                raise BadWord("no header of a tap: `tap 1` is wanted")
+                raise NoHeader("no header of a tap: `tap 1` is wanted")
             return
         if words[0] == "link":
             self._open(words)

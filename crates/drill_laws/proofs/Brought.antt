@@ -32,23 +32,23 @@ use Rattle.drill_laws.proofs.Hearing.{heard_told, AllHear, Nothing, silent, IsNo
 
 -- ---- what holds of each element of a list, behind those before it
 
-abbrev Along : (List Occurrence → Occurrence → Type 0) → List Occurrence → List Occurrence → Type 0
+abbrev pub Along : (List Occurrence → Occurrence → Type 0) → List Occurrence → List Occurrence → Type 0
 Along P seen [] = Unit {0}
 Along P seen (x ∷ xs) = P seen x × Along P (seen ++ x ∷ []) xs
 
-along_append : (P : List Occurrence → Occurrence → Type 0) (seen xs ys : List Occurrence) → Along P seen xs → Along P (seen ++ xs) ys → Along P seen (xs ++ ys)
+pub along_append : (P : List Occurrence → Occurrence → Type 0) (seen xs ys : List Occurrence) → Along P seen xs → Along P (seen ++ xs) ys → Along P seen (xs ++ ys)
 along_append P seen [] ys hx hy = subst (λ (zs : List Occurrence). Along P zs ys) (append-nil seen) hy
 along_append P seen (x ∷ xs) ys hx hy =
     (hx.0, along_append P (seen ++ x ∷ []) xs ys hx.1 (subst (λ (zs : List Occurrence). Along P zs ys) (sym (append_assoc seen (x ∷ []) xs)) hy))
 
-along_at : (P : List Occurrence → Occurrence → Type 0) (seen before after : List Occurrence) (x : Occurrence) → Along P seen (before ++ x ∷ after) → P (seen ++ before) x
+pub along_at : (P : List Occurrence → Occurrence → Type 0) (seen before after : List Occurrence) (x : Occurrence) → Along P seen (before ++ x ∷ after) → P (seen ++ before) x
 along_at P seen [] after x h = subst (λ (zs : List Occurrence). P zs x) (sym (append-nil seen)) h.0
 along_at P seen (y ∷ before) after x h =
     subst (λ (zs : List Occurrence). P zs x) (append_assoc seen (y ∷ []) before) (along_at P (seen ++ y ∷ []) before after x h.1)
 
 -- ---- octets that were passed
 
-passed_more : (side : Side) (xs ys : List Occurrence) → passed_of side (xs ++ ys) ≡ passed_of side xs ++ passed_of side ys
+pub passed_more : (side : Side) (xs ys : List Occurrence) → passed_of side (xs ++ ys) ≡ passed_of side xs ++ passed_of side ys
 passed_more side xs ys = flat_map-append (λ o. if is_side side o.side then flat_map (λ octets. octets) (passed_in o.outcome) else []) xs ys
 
 none_if : (b : Bool) (passed : List (List ℕ)) → passed ≡ [] → (if b then flat_map (λ octets. octets) passed else []) ≡ []

@@ -1,8 +1,8 @@
 -- A link of level safe that is loss-free so far delivers; and a drain as long as its bound leaves nothing waiting.
-use Rattle.std.proofs.Common.{◌≡◌, inl, inr, ℕ, zero, suc, ◌+◌, ◌≤◌, ◌||◌, nat_lt, if◌then◌else◌, true, false, Bool, List, [], ◌∷◌, ◌++◌, map, length, refl, sym, ap, ap₂, subst, ◌∙◌, append-nil, arith}
-use Rattle.std.specs.Prelude.{Option, Some, None}
+use Rattle.std.proofs.Common.{◌≡◌, inl, inr, ℕ, zero, suc, ◌+◌, ◌≤◌, ◌||◌, if◌then◌else◌, false, Bool, List, [], ◌∷◌, ◌++◌, map, length, refl, sym, ap, ap₂, subst, ◌∙◌, append-nil, arith}
+use Rattle.std.specs.Prelude.{Option, None}
 use Rattle.std.specs.List.{list_any}
-use Rattle.std.proofs.lemmas.Bool.{or_parts, ltb-false, le-ltb}
+use Rattle.std.proofs.lemmas.Bool.{or_parts, le-ltb}
 use Rattle.std.proofs.lemmas.List.Concat.{flat_map-append}
 use Rattle.er_base.specs.declared.side.Side.{Side}
 use Rattle.er_base.specs.declared.side.Side.TheVariants.{E, R}
@@ -22,7 +22,7 @@ use Rattle.drill_model.specs.Outcomes.{DrillOutcome, Altered, Inserted, Occurren
 use Rattle.drill_model.specs.Links.{Link, LinkOpening, OfPair, OfStations, waiting_of, Pass, pass, link_step}
 use Rattle.hdlc_station_model.specs.Lines.{next_of}
 use Rattle.drill_model.specs.Worlds.{DrillPlan, link_at, history_on, next_side, overfull_side, Drain, drain, drain_on, world_run}
-use Rattle.drill_model.specs.Kinds.{sent_by, accepted_by, deliveries, is_disturbance, is_disturbed, is_disorder, is_disordered, IsNumbered, IsLossFree, EndsAgree, bound}
+use Rattle.drill_model.specs.Kinds.{FramesHaveRoom, sent_by, accepted_by, deliveries, is_disturbance, is_disturbed, is_disorder, is_disordered, IsNumbered, IsLossFree, EndsAgree, bound}
 use Rattle.drill_model.specs.Steps.{AllFit}
 use Rattle.drill_laws.specs.Laws.{FitsSettings, DeliversAlways}
 use Rattle.drill_laws.specs.LawsOfEnds.{StackLaws, StationLaws}
@@ -32,6 +32,8 @@ use Rattle.drill_model.specs.Growth.{FactsGrow, HistoryGrows, HistoryOfOwn, Hist
 use Rattle.er_settings.specs.Ranges.{AllAllowed}
 use Rattle.er_settings.specs.Laws.{AreBounded, AllowedAreBounded}
 use Rattle.hdlc_pair_laws.specs.Laws.{Delivery, DeliveryBound, DrainEmpties}
+use Rattle.drill_laws.proofs.Openings.{has_room}
+use Rattle.drill_laws.proofs.Taking.{empty_is_used_up}
 use Rattle.drill_laws.proofs.Stationed.{Either}
 use Rattle.drill_laws.proofs.Losing.{allowed_of, narrow_of}
 use Rattle.drill_laws.proofs.Emptying.{wired_delivers}
@@ -105,20 +107,7 @@ module _ (only : StepsOnly) where
 
   -- ---- drains
 
-  abbrev Fits : Link → Type 0
-  Fits l = (length l.from_e ≤ 4096) × (length l.from_r ≤ 4096)
-
-  fits_in : (b c : Bool) → (if b then Some E else if c then Some R else None) ≡ None → (b ≡ false) × (c ≡ false)
-  fits_in true c e = cc
-  fits_in false true e = cc
-  fits_in false false e = (refl, refl)
-
-  fits_of : (l : Link) → overfull_side l ≡ None → Fits l
-  fits_of l none =
-      let parts = fits_in (nat_lt 4096 (length l.from_e)) (nat_lt 4096 (length l.from_r)) none in
-      (ltb-false 4096 (length l.from_e) parts.0, ltb-false 4096 (length l.from_r) parts.1)
-
-  none_of : (l : Link) → Fits l → overfull_side l ≡ None
+  none_of : (l : Link) → FramesHaveRoom l → overfull_side l ≡ None
   none_of l fits = rw (le-ltb 4096 (length l.from_e) fits.0, le-ltb 4096 (length l.from_r) fits.1) refl
 
   module _ (grow : FactsGrow) (law : FlowsDeliver) (opening : PairOpening) (fit : FitsOpening opening) (agree : Agrees opening) where
@@ -137,12 +126,12 @@ module _ (only : StepsOnly) where
     -- so many more passes leave nothing waiting
     abbrev Empties : ℕ → (Link → Drain) → Type 0
     Empties most drained =
-        (l : Link) (history : List Occurrence) (f : Flow) → IsView opening f l history → Flows opening f → Fits l → most_of opening f ≤ f.deliveries + most
+        (l : Link) (history : List Occurrence) (f : Flow) → IsView opening f l history → Flows opening f → FramesHaveRoom l → most_of opening f ≤ f.deliveries + most
         → Nothing (drained l).link
 
     fits_after : (f : Flow) (l : Link) (side : Side) (frame : List ℕ) (frames : List (List ℕ)) (m : Link) (later : List Occurrence) → Flows opening f
         → under_way f side ≡ frame ∷ frames → IsView opening (delivered opening f side frame frames) m later
-        → (length f.from_e ≤ 4096) × (length f.from_r ≤ 4096) → Fits m
+        → (length f.from_e ≤ 4096) × (length f.from_r ≤ 4096) → FramesHaveRoom m
     fits_after f l E frame frames m later flows is v small =
         let long : length f.from_e ≡ length (frame ∷ frames) = ap length is in
         let rest : length m.from_e ≡ length frames = ap length v.from_e_is in
@@ -157,7 +146,7 @@ module _ (only : StepsOnly) where
         (subst (λ (x : List (List ℕ)). length x ≤ 4096) (sym v.from_e_is) room, omega arith)
 
     passes_empty : (most : ℕ) (others : Link → Drain) → Empties most others → (l : Link) (history : List Occurrence) (f : Flow) → IsView opening f l history → Flows opening f
-        → Fits l → most_of opening f ≤ f.deliveries + suc most → (side : Side) (frame : List ℕ) (frames : List (List ℕ)) → waiting_of l side ≡ frame ∷ frames
+        → FramesHaveRoom l → most_of opening f ≤ f.deliveries + suc most → (side : Side) (frame : List ℕ) (frames : List (List ℕ)) → waiting_of l side ≡ frame ∷ frames
         → under_way f side ≡ frame ∷ frames → Nothing (others (link_step l (Pass side)).0).link
     passes_empty most others each l history f v flows fits enough side frame frames waits is =
         let g : Flow = delivered opening f side frame frames in
@@ -167,13 +156,13 @@ module _ (only : StepsOnly) where
         let more : g.deliveries ≡ f.deliveries + 1 = one_more opening f side frame frames in
         let small : (length f.from_e ≤ 4096) × (length f.from_r ≤ 4096) =
         (subst (λ (x : List (List ℕ)). length x ≤ 4096) v.from_e_is fits.0, subst (λ (x : List (List ℕ)). length x ≤ 4096) v.from_r_is fits.1) in
-        let after : Fits a.0 = fits_after f l side frame frames a.0 (history ++ a.1) flows is there small in
+        let after : FramesHaveRoom a.0 = fits_after f l side frame frames a.0 (history ++ a.1) flows is there small in
         let still : most_of opening g ≤ g.deliveries + most = omega arith in
         let Q : List (List ℕ) → Type 0 = λ frames. Nothing (others (pass l side frames).0).link in
         subst Q (sym waits) (each a.0 (history ++ a.1) g there (Delivers f side frame frames is flows) after still)
 
     drains_on : (most : ℕ) (others : Link → Drain) → Empties most others → (l : Link) (history : List Occurrence) (f : Flow) → IsView opening f l history → Flows opening f
-        → Fits l → most_of opening f ≤ f.deliveries + suc most → (xs ys : List (List ℕ)) → l.from_e ≡ xs → l.from_r ≡ ys
+        → FramesHaveRoom l → most_of opening f ≤ f.deliveries + suc most → (xs ys : List (List ℕ)) → l.from_e ≡ xs → l.from_r ≡ ys
         → Nothing (drain_on others l (next_of xs ys) None).link
     drains_on most others each l history f v flows fits enough [] [] e r = (e, r)
     drains_on most others each l history f v flows fits enough [] (frame ∷ frames) e r =
@@ -209,7 +198,7 @@ module _ (only : StepsOnly) where
       ∙ ap₂ (λ (x y : List (List ℕ)). set_up_sapdus o + (length x + length y)) (sent E) (sent R) in
       let count : deliveries history ≡ f.deliveries = v.count in
       let bounded : f.deliveries ≤ most_of o f = has.bounded in
-      let D : LinkOpening → Type 0 = λ p. IsEmpty p l → IsDelivered p history l in
+      let D : LinkOpening → Type 0 = λ p. IsEmpty p history l → IsDelivered p history l in
       let done : D (OfPair o) = λ empty.
       let complete : IsFlowComplete f = has.complete (sym v.from_e_is ∙ empty.0) (sym v.from_r_is ∙ empty.1) in
       record {
@@ -224,7 +213,7 @@ module _ (only : StepsOnly) where
         done = subst D (sym v.opening_is) done;
         drains = λ none most enough.
             let so_many : most_of o f ≤ f.deliveries + most = omega arith in
-            drain_empties grow law o fit agree most l history f v t.flows (fits_of l none) so_many;
+            drain_empties grow law o fit agree most l history f v t.flows (has_room l none) so_many;
       }
 
 -- ---- worlds
@@ -264,6 +253,7 @@ module _ (laws : StationLaws) (stacks : StackLaws) (unforged : OrderedAreUnforge
                   stacked_delivers settings l history stacked allowed stacks free
                   (unforged plan steps fit allowed n l is
                   (record { numbered = subst IsNumbered (sym t.opening_is) tt; ordered = calm_ordered history free.undisturbed }) free.agree)
+                  (empty_is_used_up stacks.only stacks.calls stacks.opens grow own other plan steps n l is)
             ]
         | inr w ↦
             let kind : l.opening ≡ OfStations w.0 = w.1.sees.opening_is in

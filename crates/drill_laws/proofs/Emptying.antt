@@ -59,7 +59,7 @@ module _ (laws : StationLaws) (delivers : Delivery) (deliveries_bound : Delivery
       let free : p.loss_free ≡ true = not_false p.loss_free (sym v.free ∙ loss_free.undisturbed) in
       let is : l.opening ≡ OfStations selective = w.sees.opening_is in
       let same : bound settings l.opening history ≡ of_pair.bound p = ap (λ (o : LinkOpening). bound settings o history) is ∙ most_is in
-      let D : LinkOpening → Type 0 = λ o. IsEmpty o l → IsDelivered o history l in
+      let D : LinkOpening → Type 0 = λ o. IsEmpty o history l → IsDelivered o history l in
       let done : D (OfStations selective) = λ empty. all_payloads free empty in
       record {
         unforged = ap (λ (fs : List SideFact). list_any (λ (m : MarkedFact). m.forged) (marked fs)) v.tells;

@@ -18,6 +18,7 @@ use Rattle.drill_model.specs.Worlds.{DrillPlan, World, Came, link_at, history_on
 use Rattle.drill_model.specs.Kinds.{sent_in, sent_by, is_disorder, is_disturbance}
 use Rattle.drill_model.specs.Growth.{FactsGrow, HistoryGrows, HistoryOfOwn, HistoryOfOther, RunGrows}
 use Rattle.drill_model.specs.Effects.{Effect, Sends, IsRefused, Passes, Loses, Repeats, Alters, Inserts, Releases, Expires, effect_of, effect_in, Effects, effects_in, HasRunOut, At, of_first, of_alter, of_copy, OfTick, TickEffects, of_passes, HasEffects, StepsHaveEffects, IsPartOf, Nothing, LeavesOut, TakesIn, texts_sent_by_step, SendsAreSteps, disorders, disturbs, NoneRunsOut, QuietKeepsOrder, QuietIsLossFree, Steps}
+use Rattle.drill_laws.proofs.LineKept.{line_is_kept}
 use Rattle.drill_laws.proofs.Openings.{numbered}
 use Rattle.drill_laws.proofs.StepEffects.{effects_append}
 use Rattle.drill_laws.proofs.WorldEffects.{brought, step_effects, step_closed}
@@ -404,4 +405,5 @@ module _ (only : StepsOnly) (facts : FactsGrow) (grow : HistoryGrows) (own : His
     sends = sends_are_steps plan steps;
     order = quiet_keeps_order plan steps;
     loss_free = quiet_is_loss_free plan steps;
+    line = line_is_kept only grow own other plan steps;
   }

@@ -1,5 +1,5 @@
 -- What is claimed of the world holds at every moment of the steps that are done, by the laws of every list of steps.
-use Rattle.std.proofs.Common.{◌≡◌, ℕ, zero, suc, ◌+◌, inl, inr, List, [], ◌∷◌, ◌++◌, take, slice_get, Some, None, sym, subst, ap, ◌∙◌, arith}
+use Rattle.std.proofs.Common.{◌≡◌, ℕ, zero, suc, ◌+◌, inl, inr, List, [], ◌∷◌, ◌++◌, take, slice_get, Some, sym, subst, ap, ◌∙◌, arith}
 use Rattle.std.proofs.lemmas.List.{take_all, take_more}
 use Rattle.std.proofs.lemmas.Option.{slice_get_cases, slice_get_within, get_or_from_slice_get}
 use Rattle.er_scenario.specs.declared.step.Step.{Step}
@@ -7,10 +7,13 @@ use Rattle.er_scenario.specs.declared.step.Step.TheVariants as does
 use Rattle.er_settings.specs.Ranges.{AllAllowed}
 use Rattle.drill_model.specs.Links.{LinkOpening, OfPair, OfStations, OfStacks, Link}
 use Rattle.drill_model.specs.Steps.{AllFit}
-use Rattle.drill_model.specs.Worlds.{DrillPlan, link_at, overfull_side, world_run}
+use Rattle.drill_model.specs.Worlds.{DrillPlan, link_at, world_run}
 use Rattle.drill_model.specs.Faults.{AllDone}
+use Rattle.drill_model.specs.Kinds.{FramesHaveRoom}
 use Rattle.drill_model.specs.Effects.{Steps}
-use Rattle.drill_model.specs.Hearing.{HeardIsBrought}
+use Rattle.drill_model.specs.Hearing.{HeardIsBrought, PayloadsAreBrought}
+use Rattle.drill_model.specs.Opened.{LinksAreOpened, SettingsStay}
+use Rattle.drill_model.specs.Sides.{EndsAnswer}
 use Rattle.drill_model.specs.Claims.{TakesInOrder, OrderIsUnforged}
 use Rattle.drill_model.specs.Headline.{Holds, FitsLevel, HoldsAlways}
 use Rattle.drill_laws.specs.Laws.{LawfulAlways, OpensAlways, RoomAlways, FitsSteps, InOrderAlways, LosingLineReasonsAlways, DeliversAlways, RepairsAlways, DrainsAlways}
@@ -21,9 +24,9 @@ take_one_more : (steps : List Step) (k : ℕ) (s : Step) → slice_get steps k �
 take_one_more steps k s at =
     take_more steps k s (slice_get_within steps k s at) ∙ ap (λ (x : Step). take k steps ++ x ∷ []) (get_or_from_slice_get steps k s s at)
 
--- behind the steps that are done no link is overfull
+-- behind the steps that are done each link has room
 room : RoomAlways → (plan : DrillPlan) (steps : List Step) (k : ℕ) → AllDone plan steps k → (n : ℕ) (l : Link)
-    → link_at (world_run plan (take k steps)).0 n ≡ Some l → overfull_side l ≡ None
+    → link_at (world_run plan (take k steps)).0 n ≡ Some l → FramesHaveRoom l
 room law plan steps zero done n l at = absurd (cc)
 room law plan steps (suc k) done n l at =
     let plus : k + 1 ≡ suc k = omega arith in
@@ -53,6 +56,18 @@ first_fit steps zero all = tt
 first_fit [] (suc k) all = tt
 first_fit (s ∷ steps) (suc k) all = (all.0, first_fit steps k all.1)
 
+abbrev OpenedAlways : Type 0
+OpenedAlways = (plan : DrillPlan) (steps : List Step) → LinksAreOpened plan steps
+
+abbrev SettingsAlways : Type 0
+SettingsAlways = (plan : DrillPlan) (steps : List Step) → SettingsStay plan steps
+
+abbrev PayloadsAlways : Type 0
+PayloadsAlways = (plan : DrillPlan) (steps : List Step) → PayloadsAreBrought plan steps
+
+abbrev EndsAlways : Type 0
+EndsAlways = (plan : DrillPlan) (steps : List Step) → EndsAnswer plan steps
+
 abbrev StepsAlways : Type 0
 StepsAlways = (plan : DrillPlan) (steps : List Step) → Steps plan steps
 
@@ -69,10 +84,14 @@ UnforgedAlways =
 -- the laws of every list of steps
 pub record Laws : Type 0 where
   pub opens : OpensAlways
+  pub opened : OpenedAlways
+  pub settings : SettingsAlways
   pub room : RoomAlways
   pub steps : StepsAlways
   pub lawful : LawfulAlways
   pub heard : HeardAlways
+  pub arrived : PayloadsAlways
+  pub ends : EndsAlways
   pub takes : TakesAlways
   pub in_order : InOrderAlways
   pub reasons : LosingLineReasonsAlways
@@ -81,14 +100,18 @@ pub record Laws : Type 0 where
   pub repairs : RepairsAlways
   pub drains : DrainsAlways
 
--- behind steps, where no link is overfull
+-- behind steps, where each link has room
 holds_behind : Laws → (plan : DrillPlan) (steps : List Step) → FitsLevel plan.level plan.settings → AllFit steps
-    → ((n : ℕ) (l : Link) → link_at (world_run plan steps).0 n ≡ Some l → overfull_side l ≡ None) → Holds plan steps
+    → ((n : ℕ) (l : Link) → link_at (world_run plan steps).0 n ≡ Some l → FramesHaveRoom l) → Holds plan steps
 holds_behind laws plan steps fits all room = record {
   opens = laws.opens plan steps;
+  opened = laws.opened plan steps;
+  settings = laws.settings plan steps;
   steps = laws.steps plan steps;
   lawful = laws.lawful plan steps;
   heard = laws.heard plan steps;
+  arrived = laws.arrived plan steps;
+  ends = laws.ends plan steps;
   takes = laws.takes plan steps;
   in_order = λ n l at. laws.in_order plan steps n l at (settings_fit laws.opens plan steps fits n l at) (steps_fit steps l.opening all);
   reasons = λ n l at. laws.reasons plan steps n l at (settings_fit laws.opens plan steps fits n l at) (steps_fit steps l.opening all);

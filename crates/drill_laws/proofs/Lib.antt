@@ -5,6 +5,8 @@ mod Stationed
 mod Worlds
 mod Talking
 mod Printing
+mod Counted
+mod ReadingBack
 mod Viewing
 mod Openings
 mod Losing
@@ -27,16 +29,25 @@ mod WorldEffects
 mod FileEffects
 mod Hearing
 mod Brought
+mod Emptied
 mod Taking
 mod StackEnding
 mod Keyed
 mod StackOrdered
 mod OrderUnforged
 mod OneLink
+mod Flowing
+mod LineKept
 mod Given
 mod Repairing
 mod StackRepairing
 mod Recovering
+mod Bringing
+mod Arriving
+mod SettingsStay
+mod Judging
+mod Resting
+mod Answering
 pub mod StackRuns
 mod SettingsFit
 pub mod Holding

@@ -41,7 +41,7 @@ unfolding drain
 drain_keeps P passes zero l history p = rw (append-nil history) p
 drain_keeps P passes (suc most) l history p = drain_on_keeps P passes (drain most) (drain_keeps P passes most) l history (next_side l) (overfull_side l) p
 
-some_same : (l m : Link) → Some l ≡ Some m → l ≡ m
+pub some_same : (l m : Link) → Some l ≡ Some m → l ≡ m
 some_same l m e = cc
 
 -- P of link n behind these steps and of what came at it
@@ -56,7 +56,7 @@ of_link P plan steps n l is h =
     subst (λ (m : Link). P m (history_on n (world_run plan steps).1)) (some_same h.link l (sym h.is ∙ is)) h.holds
 
 module _ (grow : HistoryGrows) (own : HistoryOfOwn) (other : HistoryOfOther) where
-  placed : (w : World) (n : ℕ) (l : Link) → link_at (with_link w n l) n ≡ Some l
+  pub placed : (w : World) (n : ℕ) (l : Link) → link_at (with_link w n l) n ≡ Some l
   placed w n l = let same : (n == n) ≡ true = eq-eqb n n refl in rw same refl
 
   -- ---- a drain
@@ -100,7 +100,7 @@ module _ (grow : HistoryGrows) (own : HistoryOfOwn) (other : HistoryOfOther) whe
       under : (n i : ℕ) → n < i → n ≡ i → ⊥
       under n i below e = omega arith
 
-  here : (w : World) (n : ℕ) (l : Link) (s : LinkStep) → link_at w n ≡ Some l → Leads n (at_link w n (link_at w n) s) (link_step l s)
+  pub here : (w : World) (n : ℕ) (l : Link) (s : LinkStep) → link_at w n ≡ Some l → Leads n (at_link w n (link_at w n) s) (link_step l s)
   here w n l s is = rw is (record { link = placed w n (link_step l s).0; came = own n (link_step l s).1 })
 
   pub ticks_lead : (moment : ℕ) (w : World) (n i count : ℕ) (l : Link) → link_at w n ≡ Some l → i ≤ n → n < i + count

@@ -28,6 +28,7 @@ use Rattle.drill_laws.proofs.Worlds.{AtPlace}
 use Rattle.drill_laws.proofs.Talking.{Speaks, world_stands}
 use Rattle.drill_laws.proofs.OneLink.{given, mended}
 use Rattle.drill_laws.proofs.Losing.{kept_of, opening_at}
+use Rattle.drill_laws.proofs.Taking.{empty_is_used_up}
 use Rattle.drill_laws.proofs.Given.{Given, passes_kept, takes_kept, tick_kept}
 use Rattle.drill_laws.proofs.Repairing.{pair_drains, pair_repairs}
 use Rattle.drill_laws.proofs.Stacked.{Numbers, opening_of, stack_level, stack_acts, IsStacked}
@@ -77,7 +78,7 @@ module _ (laws : StationLaws) (bounds : AllowedAreBounded) (facts : FactsGrow) (
 
     module _ (is : link_at (world_run plan before).0 n ≡ Some l) (repairable : IsRepairable (came before) l) (are : ArePassesAndTakes n first)
         (there : link_at (world_run plan begun).0 n ≡ Some m) (none : NoneWaits m) (on : (world_run plan begun).0.moment ≤ moment) (go_on : GoOn moment m)
-        (later : ArePassesAndTakes n second) (at_end : link_at (world_run plan all).0 n ≡ Some k) (empty : IsEmpty k.opening k) where
+        (later : ArePassesAndTakes n second) (at_end : link_at (world_run plan all).0 n ≡ Some k) (empty : IsEmpty k.opening (came all) k) where
       stations_repair : Recovery → (selective : Bool) → IsWired plan.settings selective l (came before) → FitsSettings plan.settings l.opening → IsDelivered k.opening (came all) k
       stations_repair law selective w fit =
           let s : StationLinkOpening = opening_at bounds plan.settings selective l (came before) w fit w.moment in
@@ -91,7 +92,7 @@ module _ (laws : StationLaws) (bounds : AllowedAreBounded) (facts : FactsGrow) (
           let c : Given v r k (came all) =
           mended grow own other runs (Given v r) (passes_kept v acts r) (takes_kept v acts r) facts plan before first moment second n m k there on later at_end
           (tick_kept v acts m (came begun) q moment a.sees) in
-          let waits : NoneWaits k = subst (λ (o : LinkOpening). IsEmpty o k) c.sees.opening_is empty in
+          let waits : NoneWaits k = subst (λ (o : LinkOpening). IsEmpty o (came all) k) c.sees.opening_is empty in
           subst (λ (o : LinkOpening). IsDelivered o (came all) k) (sym c.sees.opening_is)
           (pair_repairs laws l (came before) s w.steps w.sees (kept_of plan.settings selective l (came before) w repairable.ordered) repairable law m k (came begun) (came all) a none
           moment go_on c waits)
@@ -109,7 +110,8 @@ module _ (laws : StationLaws) (bounds : AllowedAreBounded) (facts : FactsGrow) (
           mended grow own other runs (Given v r) (passes_kept v acts r) (takes_kept v acts r) facts plan before first moment second n m k there on later at_end
           (tick_kept v acts m (came begun) q moment a.sees) in
           subst (λ (o : LinkOpening). IsDelivered o (came all) k) (sym c.sees.opening_is)
-          (of_stacks.stacks_repair plan.settings l (came before) t allowed repairable law m k (came begun) (came all) a none moment go_on c empty)
+          (of_stacks.stacks_repair plan.settings l (came before) t allowed repairable law m k (came begun) (came all) a none moment go_on c
+          (empty_is_used_up stacks.only stacks.calls stacks.opens grow own other plan all n k at_end empty))
 
   pub repairs_always : StackLaws → RunGrows → Recovery → of_ends.Recovery → RepairsAlways
   repairs_always stacks runs law ends_law plan before n first moment second fits l m k is repairable are there none on go_on later at_end empty =

@@ -13,7 +13,8 @@ use Rattle.drill_model.specs.Links.{LinkOpening, Link}
 use Rattle.drill_model.specs.Worlds.{DrillPlan, is_link, link_at, fixed_opening, link_opening, wire_opening, world_run}
 use Rattle.drill_model.specs.Headline.{FitsLevel}
 use Rattle.drill_laws.specs.Laws.{OpensAlways, FitsSettings}
-use Rattle.drill_model.specs.Claims.{opening_where_link_named, opening_by, or_opening, opening_of}
+use Rattle.drill_model.specs.Opened.{opening_by, or_opening, opening_of}
+use Rattle.drill_laws.proofs.Openings.{opening_where_link_named, fixed_line, link_line, wire_line}
 
 -- where there is an opening, the settings fit it
 abbrev Fit : Settings → Option LinkOpening → Type 0
@@ -51,11 +52,13 @@ named_fit settings n m opening fit =
 
 step_fit : (plan : DrillPlan) (n : ℕ) (s : Step) → FitsLevel plan.level plan.settings → Fit plan.settings (opening_by plan n s)
 step_fit plan n (does.Fixed m engine rbc ke kr) fits =
-    named_fit plan.settings n m (fixed_opening plan.level engine rbc ke kr) (fixed_fit plan.level plan.settings engine rbc ke kr)
+    subst (Fit plan.settings) (sym (fixed_line plan.level n m engine rbc ke kr))
+    (named_fit plan.settings n m (fixed_opening plan.level engine rbc ke kr) (fixed_fit plan.level plan.settings engine rbc ke kr))
 step_fit plan n (does.Link m engine rbc ke kr ra rb) fits =
-    named_fit plan.settings n m (link_opening plan.level engine rbc ke kr ra rb) (link_fit plan.level plan.settings engine rbc ke kr ra rb (all_allowed plan.level plan.settings fits))
+    subst (Fit plan.settings) (sym (link_line plan.level n m engine rbc ke kr ra rb))
+    (named_fit plan.settings n m (link_opening plan.level engine rbc ke kr ra rb) (link_fit plan.level plan.settings engine rbc ke kr ra rb (all_allowed plan.level plan.settings fits)))
 step_fit plan n (does.Wire m) fits =
-    named_fit plan.settings n m (wire_opening plan.level) (wire_fit plan.level plan.settings fits)
+    subst (Fit plan.settings) (sym (wire_line plan.level n m)) (named_fit plan.settings n m (wire_opening plan.level) (wire_fit plan.level plan.settings fits))
 step_fit plan n _ fits = tt
 
 either_fit : (settings : Settings) (first later : Option LinkOpening) → Fit settings first → Fit settings later → Fit settings (or_opening first later)

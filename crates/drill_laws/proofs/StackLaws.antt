@@ -24,11 +24,12 @@ use Rattle.drill_model.specs.Ends.{EndAtLevel, OfStack}
 use Rattle.drill_model.specs.Links.{Link, LinkOpening, OfPair, OfStations, OfStacks, opened_link, LinkStep, Send}
 use Rattle.drill_model.specs.Worlds.{DrillPlan, Drain, drain, link_at, history_on, world_run}
 use Rattle.drill_model.specs.Kinds.{releases_in, is_disturbed, IsOrderKeeping, IsLossFree, EndsAgree, deliveries, bound}
-use Rattle.drill_model.specs.Claims.{IsInOrder, IsLosingLineReason, IsConnectedEnd, HasTakenAll, IsEmpty, IsDelivered, IsUnforged}
+use Rattle.drill_model.specs.Claims.{IsInOrder, IsLosingLineReason, IsConnectedEnd, IsEmpty, IsDelivered, IsUnforged}
 use Rattle.drill_model.specs.Claims as claim
 use Rattle.drill_model.specs.Steps.{AllFit}
 use Rattle.drill_model.specs.Growth.{FactsGrow, HistoryGrows, HistoryOfOwn, HistoryOfOther}
 use Rattle.drill_laws.specs.LawsOfEnds.{StackLaws}
+use Rattle.drill_laws.proofs.Emptied.{HasUsedAll, IsUsedUp}
 use Rattle.drill_laws.proofs.Losing.{prefix_of, not_false}
 use Rattle.drill_laws.proofs.Worlds.{AtPlace, Keeps, world_lives}
 use Rattle.drill_laws.proofs.Viewing.{FitsLinkStep, FitsLinkOpening, step_opening, no_send_fits}
@@ -124,11 +125,12 @@ module _ (settings : Settings) (l : Link) (history : List Occurrence) (t : IsSta
   pub connected_end : (end : EndAtLevel) (m : Stack) → end ≡ OfStack m → is_connected m.core.safe.safety.phase ≡ true → IsConnectedEnd end
   connected_end end m is e = subst IsConnectedEnd (sym is) (connected_phase m.core.safe.safety.phase e)
 
-  pub taken_of : (end : EndAtLevel) (m : Stack) → end ≡ OfStack m → HasTakenAll end → m.core.upper.used ≡ length m.core.upper.accepted
-  taken_of end m is taken = subst HasTakenAll is taken
+  pub taken_of : (end : EndAtLevel) (m : Stack) → end ≡ OfStack m → HasUsedAll end → m.core.upper.used ≡ length m.core.upper.accepted
+  taken_of end m is taken = subst HasUsedAll is taken
 
-  pub stacked_delivers : StackLaws → IsLossFree l.opening history → IsUnforged history → claim.Delivers settings history l
-  stacked_delivers laws free unforged =
+  pub stacked_delivers : StackLaws → IsLossFree l.opening history → IsUnforged history → (IsEmpty l.opening history l → IsUsedUp l.opening l)
+      → claim.Delivers settings history l
+  stacked_delivers laws free unforged uses =
       let v = t.sees in
       let is_free : p.loss_free ≡ true = free_of free.undisturbed in
       let agree : Agree s = agree_of free in
@@ -136,7 +138,7 @@ module _ (settings : Settings) (l : Link) (history : List Occurrence) (t : IsSta
       let same : bound settings l.opening history ≡ of_pair.bound settings p = bound_is in
       let count : deliveries history ≡ p.passes = v.count in
       let o : LinkOpening = opening_of t.k in
-      let D : LinkOpening → Type 0 = λ x. IsEmpty x l → IsDelivered x history l in
+      let D : LinkOpening → Type 0 = λ x. IsUsedUp x l → IsDelivered x history l in
       let done : D o = λ empty.
       let has = laws.delivery s t.steps t.fit agree is_free
       (sym v.from_e_is ∙ empty.0, sym v.from_r_is ∙ empty.1, taken_of l.e p.e v.e_is empty.2, taken_of l.r p.r v.r_is empty.3) in
@@ -149,7 +151,7 @@ module _ (settings : Settings) (l : Link) (history : List Occurrence) (t : IsSta
       record {
         unforged = unforged;
         bounded = subst (λ (n : ℕ). deliveries history ≤ n) (sym same) (subst (λ (n : ℕ). n ≤ of_pair.bound settings p) (sym count) most);
-        done = subst D (sym v.opening_is) done;
+        done = λ empty. subst D (sym v.opening_is) done (uses empty);
         drains = λ roomy passes enough.
             let d : Drain = drain passes l in
             let there = drain_sees (stack_level t.k) (stack_acts laws.only laws.calls t.k) passes l history p v in

@@ -15,7 +15,8 @@ use Rattle.drill_model.specs.Outcomes.{Occurrence}
 use Rattle.drill_model.specs.Links.{Link, LinkOpening}
 use Rattle.drill_model.specs.Kinds.{EndsAgree}
 use Rattle.drill_model.specs.Recovery.{IsLive, GoesOnAt, GoOn, NoneWaits, IsRepairable}
-use Rattle.drill_model.specs.Claims.{HasAll, IsEmpty}
+use Rattle.drill_model.specs.Claims.{HasAll}
+use Rattle.drill_laws.proofs.Emptied.{IsUsedUp}
 use Rattle.drill_laws.proofs.Wiring.{Sees}
 use Rattle.drill_laws.proofs.Stacked.{Numbers, opening_of, finds_of, stack_level, paired, IsStacked}
 use Rattle.drill_laws.proofs.Given.{Given, run_through, none_waits}
@@ -36,9 +37,9 @@ module _ (settings : Settings) (l : Link) (history : List Occurrence) (t : IsSta
   abbrev before : Pair
   before = pair_of settings l history t
 
-  empty_pair : (k : Link) (all : List Occurrence) (p : Pair) → Sees (stack_level t.k) k all p → IsEmpty k.opening k → of_pair.IsEmpty p
+  empty_pair : (k : Link) (all : List Occurrence) (p : Pair) → Sees (stack_level t.k) k all p → IsUsedUp k.opening k → of_pair.IsEmpty p
   empty_pair k all p v empty =
-      let parts : IsEmpty (opening_of t.k) k = subst (λ (o : LinkOpening). IsEmpty o k) v.opening_is empty in (
+      let parts : IsUsedUp (opening_of t.k) k = subst (λ (o : LinkOpening). IsUsedUp o k) v.opening_is empty in (
         sym v.from_e_is ∙ parts.0,
         sym v.from_r_is ∙ parts.1,
         taken_of settings l history t allowed k.e p.e v.e_is parts.2,
@@ -56,7 +57,7 @@ module _ (settings : Settings) (l : Link) (history : List Occurrence) (t : IsSta
 
   -- behind passes and takes, a tick, and passes and takes
   pub stacks_repair : of_recovery.Recovery → (m k : Link) (begun all : List Occurrence) (a : Given (stack_level t.k) before m begun) → NoneWaits m → (moment : ℕ) → GoOn moment m
-      → Given (stack_level t.k) (pair_step (end_kind (finds_of t.k)) (on_pair.Tick moment) (pair_run (end_kind (finds_of t.k)) before a.steps)) k all → IsEmpty k.opening k → HasAll all k
+      → Given (stack_level t.k) (pair_step (end_kind (finds_of t.k)) (on_pair.Tick moment) (pair_run (end_kind (finds_of t.k)) before a.steps)) k all → IsUsedUp k.opening k → HasAll all k
   stacks_repair law m k begun all a none moment go_on c empty =
       let s : EndLinkOpening = pair_opening settings l history t allowed in
       let kind : EndKind Stack = end_kind (finds_of t.k) in

@@ -86,7 +86,7 @@ parts_tell true None more released frames = run_tells more released frames
 parts_tell false (Some payload) more released frames = run_tells more released frames
 parts_tell false None more released frames = run_tells more released frames
 
-call_tells : (s : Station) → told_effects (outcomes_told_by_station s) ≡ []
+pub call_tells : (s : Station) → told_effects (outcomes_told_by_station s) ≡ []
 call_tells s = parts_tell s.deed.up s.deed.payload s.deed.more s.deed.released (said_octets s)
 
 frames_heard_tell : (selective : Bool) (moment : ℕ) (vs : List Verdict) (s : Station) → told_effects (frames_heard selective moment vs s).1 ≡ []
@@ -156,7 +156,7 @@ core_tells x =
     ∙ ap₂ (λ (xs ys : List Effect). xs ++ ys) (facts_tell x.upper.spoke) (release_tells x.leaves (said_octets x.line))
     ∙ append-nil (sends_of (sent_in_step x.upper.spoke))
 
-kept_tells : (U : ℕ) (T : List (List ℕ)) (x : Core) → Keeps U T x → told_effects (outcomes_told_by_stack x) ≡ sends_of T
+pub kept_tells : (U : ℕ) (T : List (List ℕ)) (x : Core) → Keeps U T x → told_effects (outcomes_told_by_stack x) ≡ sends_of T
 kept_tells U T x h = core_tells x ∙ ap sends_of h.1
 
 -- a message was taken, or none was there
@@ -308,11 +308,11 @@ ran_out_due : (timer : Option ℕ) (now : ℕ) → RanOut now timer → is_due t
 ran_out_due None now ran = absurd ran
 ran_out_due (Some expiry) now ran = le-leb expiry now ran
 
-connected_is : (phase : Phase) → is_connected phase ≡ true → IsConnectedPhase phase
+pub connected_is : (phase : Phase) → is_connected phase ≡ true → IsConnectedPhase phase
 connected_is (Connected peer session) c = tt
 connected_is _ c = absurd cc
 
-is_the_connected : (phase : Phase) → IsConnectedPhase phase → is_connected phase ≡ true
+pub is_the_connected : (phase : Phase) → IsConnectedPhase phase → is_connected phase ≡ true
 is_the_connected (Connected peer session) c = refl
 is_the_connected _ c = absurd c
 

@@ -1,5 +1,5 @@
--- What the user of an end took is a prefix of what the end accepted.
-use Rattle.std.proofs.Common.{◌≡◌, inl, inr, ℕ, ◌+◌, ◌-◌, ◌≤◌, ◌<◌, ◌==◌, nat_lt, not, max, if◌then◌else◌, true, false, Bool, List, [], ◌∷◌, ◌++◌, length, map, take, get_or, slice_get, refl, sym, ap, ap₂, subst, ◌∙◌, append-nil, append_assoc, arith}
+-- What the user of an end took is a prefix of what the end accepted, and each take gives the oldest that is left.
+use Rattle.std.proofs.Common.{◌≡◌, inl, inr, ℕ, zero, suc, ◌+◌, ◌-◌, ◌≤◌, ◌<◌, ◌==◌, nat_lt, not, max, if◌then◌else◌, true, false, Bool, List, [], ◌∷◌, ◌++◌, length, map, take, drop, get_or, slice_get, refl, sym, ap, ap₂, subst, ◌∙◌, append-nil, append_assoc, arith}
 use Rattle.std.specs.Prelude.{Option, Some, None}
 use Rattle.std.specs.List.{flat_map}
 use Rattle.std.proofs.lemmas.Bool.{cases_lt, eq-eqb, ne_eqb}
@@ -38,16 +38,20 @@ use Rattle.drill_model.specs.StackReports.{OpensOrderly, CallsReport, IsOrderly}
 use Rattle.drill_model.specs.Ends.{EndAtLevel, OfSafe, OfStation, OfStack, EndEvent, outcomes_by, end_step}
 use Rattle.drill_model.specs.Ends as event
 use Rattle.drill_model.specs.Waiting.{LineChange, Lose, Repeat, Alter, Put, change_first}
-use Rattle.drill_model.specs.Links.{Link, LinkOpening, OfPair, OfStations, OfStacks, waiting_of, with_waiting, key_on, give, link_of, joined_pair, opened_link, LinkStep, Send, Pass, Change, Take, Release as ReleaseStep, Tick, pass, link_step}
-use Rattle.drill_model.specs.Worlds.{DrillPlan, link_at, history_on, world_run}
+use Rattle.drill_model.specs.Links.{Link, LinkOpening, OfPair, OfStations, OfStacks, end_of, waiting_of, with_waiting, key_on, give, link_of, joined_pair, opened_link, LinkStep, Send, Pass, Change, Take, Release as ReleaseStep, Tick, pass, link_step}
+use Rattle.drill_model.specs.Worlds.{DrillPlan, World, link_at, history_on, at_link, world_run}
 use Rattle.drill_model.specs.Kinds.{accepted_in, accepted_by, took_in, taken_by}
-use Rattle.drill_model.specs.Claims.{TakesInOrder}
-use Rattle.drill_model.specs.Growth.{HistoryGrows, HistoryOfOwn, HistoryOfOther}
+use Rattle.drill_model.specs.Claims.{told_of_left, TakeTells, IsToldOfTake, TakesInOrder, IsEmpty}
+use Rattle.drill_model.specs.Growth.{FactsGrow, HistoryGrows, HistoryOfOwn, HistoryOfOther}
 use Rattle.drill_laws.proofs.StackKeeping.{starts_keep, comes_keep, leaves_keep, ticks_keep, uses_none, uses_one, sends_keep}
 use Rattle.drill_laws.proofs.StackGoing.{StackDoes, stack_does}
 use Rattle.drill_laws.proofs.Worlds.{AtPlace, Keeps as KeepsWorld, world_lives}
 use Rattle.drill_laws.proofs.Wiring.{flat_mapped, accepted_grows, accepted_e_e, accepted_e_r, accepted_r_r, accepted_r_e}
-use Rattle.drill_laws.proofs.Talking.{any_steps}
+use Rattle.drill_laws.specs.LawsOfEnds.{StationLaws}
+use Rattle.drill_laws.proofs.Emptied.{HasUsedAll, IsUsedUp}
+use Rattle.drill_laws.proofs.OneLink.{here}
+use Rattle.drill_laws.proofs.Stationed.{Either}
+use Rattle.drill_laws.proofs.Talking.{Speaks, any_steps, world_stands}
 
 -- the messages that outcomes say were taken
 abbrev told_taken : List DrillOutcome → List (List ℕ)
@@ -456,7 +460,118 @@ module _ (only : StepsOnly) (reports : CallsReport) where
     place_prefix (Some l) history E h = end_prefix l.e (taken_by E history) (accepted_by E history) h.0
     place_prefix (Some l) history R h = end_prefix l.r (taken_by R history) (accepted_by R history) h.1
 
-    pub takes_in_order : HistoryGrows → HistoryOfOwn → HistoryOfOther → (plan : DrillPlan) (steps : List Step) → TakesInOrder plan steps
-    takes_in_order grow own other plan steps n side =
-        place_prefix (link_at (world_run plan steps).0 n) (history_on n (world_run plan steps).1) side
-        (world_lives grow own other plan (λ o. Unit {0}) (λ s. Unit {0}) TakesIn (taking plan.settings) steps (any_steps plan steps) n)
+    -- ---- what is left to take
+
+    used_all : (end : EndAtLevel) (taken accepted : List (List ℕ)) → TakesAt end taken accepted → taken ≡ accepted → HasUsedAll end
+    used_all (OfSafe s) taken accepted h all = tt
+    used_all (OfStation selective s stream) taken accepted h all = tt
+    used_all (OfStack m) taken accepted h all =
+        sym (length-take-le m.core.upper.used m.core.upper.accepted h.within) ∙ ap length (sym h.taken_is ∙ all ∙ sym h.accepted_is)
+
+    used_up : (o : LinkOpening) (l : Link) (history : List Occurrence) → TakesIn l history → IsEmpty o history l → IsUsedUp o l
+    used_up (OfPair opening) l history h empty = empty
+    used_up (OfStations selective) l history h empty = empty
+    used_up (OfStacks engine rbc ke kr ra rb) l history h empty = (
+      empty.0,
+      empty.1,
+      used_all l.e (taken_by E history) (accepted_by E history) h.0 empty.2,
+      used_all l.r (taken_by R history) (accepted_by R history) h.1 empty.3,
+    )
+
+    module _ (grow : HistoryGrows) (own : HistoryOfOwn) (other : HistoryOfOther) where
+      takes_at : (plan : DrillPlan) (steps : List Step) (n : ℕ) → AtPlace TakesIn (link_at (world_run plan steps).0 n) (history_on n (world_run plan steps).1)
+      takes_at plan steps n = world_lives grow own other plan (λ o. Unit {0}) (λ s. Unit {0}) TakesIn (taking plan.settings) steps (any_steps plan steps) n
+
+      -- an empty link is one from which its stacks count every message as taken
+      pub empty_is_used_up : (plan : DrillPlan) (steps : List Step) (n : ℕ) (l : Link) → link_at (world_run plan steps).0 n ≡ Some l
+          → IsEmpty l.opening (history_on n (world_run plan steps).1) l → IsUsedUp l.opening l
+      empty_is_used_up plan steps n l is empty =
+          let history : List Occurrence = history_on n (world_run plan steps).1 in
+          used_up l.opening l history (subst (λ (place : Option Link). AtPlace TakesIn place history) is (takes_at plan steps n)) empty
+
+      -- ---- the oldest that is left
+
+      parts_of : (u : ℕ) (xs : List (List ℕ)) → xs ≡ take u xs ++ drop u xs
+      parts_of zero xs = refl
+      parts_of (suc u) [] = refl
+      parts_of (suc u) (x ∷ xs) = ap (λ (ys : List (List ℕ)). x ∷ ys) (parts_of u xs)
+
+      oldest_left : (xs : List (List ℕ)) (u : ℕ) → told_of_take (slice_get xs u) ≡ told_of_left (drop u xs) ∷ []
+      oldest_left [] zero = refl
+      oldest_left [] (suc u) = refl
+      oldest_left (x ∷ xs) zero = refl
+      oldest_left (x ∷ xs) (suc u) = oldest_left xs u
+
+      -- outcomes that say of no message that it was taken
+      none_taken : (s side : Side) (os : List DrillOutcome) → told_taken os ≡ [] → taken_by s (map (at_end side) os) ≡ []
+      none_taken E E os none = flat_mapped (taken_of E) took_in E (λ o. refl) os ∙ none
+      none_taken E R os none = flat_mapped (taken_of E) nowhere R (λ o. refl) os ∙ flat_nowhere os
+      none_taken R E os none = flat_mapped (taken_of R) nowhere E (λ o. refl) os ∙ flat_nowhere os
+      none_taken R R os none = flat_mapped (taken_of R) took_in R (λ o. refl) os ∙ none
+
+      stack_tells : (m : Stack) (moment : ℕ) (side : Side) (history came : List Occurrence) → StackTakes m (taken_by side history) (accepted_by side history)
+          → came ≡ map (at_end side) (told_of_take (model.oldest m.core.upper) ++ outcomes_told_by_stack (step_take model moment m.core)) → TakeTells side history came
+      stack_tells m moment side history came h is =
+          let u : ℕ = m.core.upper.used in
+          let A : List (List ℕ) = m.core.upper.accepted in
+          let os : List DrillOutcome = outcomes_told_by_stack (step_take model moment m.core) in
+          record {
+            left = drop u A;
+            accepted = sym h.accepted_is ∙ parts_of u A ∙ ap (λ (xs : List (List ℕ)). xs ++ drop u A) (sym h.taken_is);
+            later = map (at_end side) os;
+            is = is ∙ ap (λ (xs : List DrillOutcome). map (at_end side) (xs ++ os)) (oldest_left A u);
+            once = λ s. none_taken s side os (core_takes (step_take model moment m.core));
+          }
+
+      at_side : (l : Link) (history : List Occurrence) (side : Side) → TakesIn l history → TakesAt (end_of l side) (taken_by side history) (accepted_by side history)
+      at_side l history E h = h.0
+      at_side l history R h = h.1
+
+      -- what comes of a take at each kind of end
+      safe_take : (l : Link) (side : Side) (s : Safety) → end_of l side ≡ OfSafe s → (link_step l (Take side)).1 ≡ []
+      safe_take l side s is = ap (λ (end : EndAtLevel). map (at_end side) (end_step (key_on l.opening) l.moment end event.Take).1) is
+
+      station_take : (l : Link) (side : Side) (selective : Bool) (s : Station) (stream : List ℕ) → end_of l side ≡ OfStation selective s stream
+          → (link_step l (Take side)).1 ≡ []
+      station_take l side selective s stream is = ap (λ (end : EndAtLevel). map (at_end side) (end_step (key_on l.opening) l.moment end event.Take).1) is
+
+      stack_take : (l : Link) (history : List Occurrence) (side : Side) (m : Stack) → end_of l side ≡ OfStack m → TakesIn l history
+          → TakeTells side history (link_step l (Take side)).1
+      stack_take l history side m is h =
+          stack_tells m l.moment side history (link_step l (Take side)).1
+          (subst (λ (end : EndAtLevel). TakesAt end (taken_by side history) (accepted_by side history)) is (at_side l history side h))
+          (ap (λ (end : EndAtLevel). map (at_end side) (end_step (key_on l.opening) l.moment end event.Take).1) is)
+
+      module _ (facts : FactsGrow) where
+        take_tells : (settings : Settings) (l : Link) (history : List Occurrence) (side : Side) → TakesIn l history → Either settings (Speaks facts) l history
+            → IsToldOfTake l.opening side history (link_step l (Take side)).1
+        take_tells settings l history side h (inl (inl t)) =
+            subst (λ (o : LinkOpening). IsToldOfTake o side history (link_step l (Take side)).1) (sym t.opening_is) (of_side side)
+          where
+            of_side : (s : Side) → (link_step l (Take s)).1 ≡ []
+            of_side E = safe_take l E t.pair.e t.e_is
+            of_side R = safe_take l R t.pair.r t.r_is
+        take_tells settings l history side h (inl (inr t)) =
+            subst (λ (o : LinkOpening). IsToldOfTake o side history (link_step l (Take side)).1) (sym t.opening_is) (of_side side)
+          where
+            of_side : (s : Side) → TakeTells s history (link_step l (Take s)).1
+            of_side E = stack_take l history E t.e t.e_is h
+            of_side R = stack_take l history R t.r t.r_is h
+        take_tells settings l history side h (inr w) =
+            subst (λ (o : LinkOpening). IsToldOfTake o side history (link_step l (Take side)).1) (sym w.1.sees.opening_is) (of_side side)
+          where
+            of_side : (s : Side) → (link_step l (Take s)).1 ≡ []
+            of_side E = station_take l E _ _ _ w.1.sees.e_is
+            of_side R = station_take l R _ _ _ w.1.sees.r_is
+
+        pub takes_in_order : StationLaws → (plan : DrillPlan) (steps : List Step) → TakesInOrder plan steps
+        takes_in_order laws plan steps = record {
+          prefix = λ n side. place_prefix (link_at (world_run plan steps).0 n) (history_on n (world_run plan steps).1) side (takes_at plan steps n);
+          oldest = λ before after n side l split is.
+              let w : World = (world_run plan before).0 in
+              let history : List Occurrence = history_on n (world_run plan before).1 in
+              let came : history_on n (at_link w n (link_at w n) (Take side)).1 ≡ (link_step l (Take side)).1 = (here grow own other w n l (Take side) is).came in
+              subst (IsToldOfTake l.opening side history) (sym came)
+              (take_tells plan.settings l history side (subst (λ (place : Option Link). AtPlace TakesIn place history) is (takes_at plan before n))
+              (subst (λ (place : Option Link). AtPlace (Either plan.settings (Speaks facts)) place history) is (world_stands laws facts grow own other plan before n)));
+        }

@@ -185,7 +185,7 @@ one_of s t (Some release) is h =
       told = is;
     })
 
-either_of : (s t : Station) → TellsRelease s t → LeavesRelease s t ⊎ GivesRelease t
+pub either_of : (s t : Station) → TellsRelease s t → LeavesRelease s t ⊎ GivesRelease t
 either_of s t h = one_of s t t.deed.released refl h
 
 -- a station was released so
@@ -282,7 +282,7 @@ call_went s t first more late says ready handed taken releases inert =
 
 module _ (laws : StationLaws) where
   -- an answer leaves what a call told
-  finished : (s u : Station) → (LeavesRelease s u ⊎ GivesRelease u) → LeavesRelease s (finishes u) ⊎ GivesRelease (finishes u)
+  pub finished : (s u : Station) → (LeavesRelease s u ⊎ GivesRelease u) → LeavesRelease s (finishes u) ⊎ GivesRelease (finishes u)
   finished s u h =
       let f = laws.finish u in
       let told : (finishes u).deed.released ≡ u.deed.released = ap (λ (d : Deed). d.released) f.deed in

@@ -3,17 +3,41 @@ use Rattle.std.proofs.Common.{◌≡◌, ◌⊎◌, inl, inr, ℕ, zero, suc, �
 use Rattle.std.specs.Prelude.{Option, Some, None}
 use Rattle.std.proofs.lemmas.Bool.{cases_eq, cases_Bool, and_parts, ltb-true}
 use Rattle.er_base.specs.declared.side.Side.{Side}
+use Rattle.er_base.specs.declared.side.Side.TheVariants.{E, R}
 use Rattle.er_scenario.specs.declared.step.Step.{Step}
 use Rattle.er_scenario.specs.declared.step.Step.TheVariants as does
 use Rattle.safety_automaton.specs.Rules.{StepsOnly}
+use Rattle.hdlc_station_model.specs.Lines.{next_of}
 use Rattle.drill_model.specs.Outcomes.{NothingWaits, Occurrence, at_end}
 use Rattle.drill_model.specs.Waiting.{Lose, Repeat, Alter, Put}
 use Rattle.drill_model.specs.Links.{Link, LinkOpening, opened_link, waiting_of, LinkStep, Send, Pass, Change, Take, Release, Tick, link_step}
 use Rattle.drill_model.specs.Worlds.{DrillPlan, World, Came, On, Drained, is_link, link_at, history_on, went_on, fixed_opening, link_opening, wire_opening, open_link, at_link, next_side, overfull_side, Drain, drain, drain_on, drain_link, copy_frame, copy_between, tick_each_link, tick_world, world_step}
 use Rattle.drill_model.specs.Growth.{HistoryGrows, HistoryOfOwn, HistoryOfOther}
-use Rattle.drill_model.specs.Effects.{Sends, IsRefused, Passes, Loses, Repeats, Inserts, Releases, Effects, effects_in, At, of_first, of_alter, of_copy, OfTick, TickEffects, DrainEffects, HasEffects}
+use Rattle.drill_model.specs.Effects.{Sends, IsRefused, Passes, Loses, Repeats, Inserts, Releases, Effects, effects_in, At, of_first, of_alter, of_copy, OfTick, TickEffects, IsNextToPass, DrainEffects, HasEffects}
+use Rattle.drill_laws.proofs.Openings.{has_room, overfull_has_none}
 use Rattle.drill_laws.proofs.OneLink.{drain_leads, other_rests, ticks_lead}
 use Rattle.drill_laws.proofs.StepEffects.{effects_append, opened_effects, send_effects, pass_effects, take_effects, release_effects, tick_effects, lose_effects, repeat_effects, alter_effects, put_effects}
+
+-- ---- where a drain goes on
+
+none_next : (from_e from_r : List (List ℕ)) → next_of from_e from_r ≡ None → (from_e ≡ []) × (from_r ≡ [])
+none_next [] [] is = (refl, refl)
+none_next [] (frame ∷ frames) is = absurd cc
+none_next (frame ∷ frames) from_r is = absurd cc
+
+is_next : (l : Link) (side : Side) → next_side l ≡ Some side → IsNextToPass l side
+is_next l E is = of_e l.from_e l.from_r is
+  where
+    of_e : (from_e from_r : List (List ℕ)) → next_of from_e from_r ≡ Some E → 1 ≤ length from_e
+    of_e [] [] is = absurd cc
+    of_e [] (frame ∷ frames) is = absurd cc
+    of_e (frame ∷ frames) from_r is = omega arith
+is_next l R is = of_r l.from_e l.from_r is
+  where
+    of_r : (from_e from_r : List (List ℕ)) → next_of from_e from_r ≡ Some R → (from_e ≡ []) × (1 ≤ length from_r)
+    of_r [] [] is = absurd cc
+    of_r [] (frame ∷ frames) is = (refl, omega arith)
+    of_r (frame ∷ frames) from_r is = absurd cc
 
 module _ (only : StepsOnly) (grow : HistoryGrows) (own : HistoryOfOwn) (other : HistoryOfOther) where
   -- ---- openings
@@ -126,15 +150,18 @@ module _ (only : StepsOnly) (grow : HistoryGrows) (own : HistoryOfOwn) (other : 
   -- ---- drains
 
   drains_on : (most : ℕ) (others : Link → Drain) → ((l : Link) → DrainEffects most l (effects_in (others l).came)) → (l : Link) (next overfull : Option Side)
-      → DrainEffects (suc most) l (effects_in (drain_on others l next overfull).came)
-  drains_on most others each l None overfull = record { sides = []; few = omega arith; are = refl }
-  drains_on most others each l (Some side) (Some overfull) = record { sides = []; few = omega arith; are = refl }
-  drains_on most others each l (Some side) None =
+      → next_side l ≡ next → overfull_side l ≡ overfull → DrainEffects (suc most) l (effects_in (drain_on others l next overfull).came)
+  drains_on most others each l None overfull n o =
+      record { sides = []; few = omega arith; exact = inr (inl (none_next l.from_e l.from_r n)); are = refl }
+  drains_on most others each l (Some side) (Some at) n o =
+      record { sides = []; few = omega arith; exact = inr (inr (overfull_has_none l at o)); are = refl }
+  drains_on most others each l (Some side) None n o =
       let a : Link × List Occurrence = link_step l (Pass side) in
       let rest = each a.0 in
       record {
         sides = side ∷ rest.sides;
         few = more (length rest.sides) most rest.few;
+        exact = (is_next l side n, has_room l o, rest.exact);
         are = effects_append a.1 (others a.0).came ∙ ap₂ (λ (xs ys : Effects). xs ++ ys) (pass_effects only l side) rest.are;
       }
     where
@@ -143,8 +170,8 @@ module _ (only : StepsOnly) (grow : HistoryGrows) (own : HistoryOfOwn) (other : 
 
   drain_effects : (most : ℕ) (l : Link) → DrainEffects most l (effects_in (drain most l).came)
   unfolding drain
-  drain_effects zero l = record { sides = []; few = omega arith; are = refl }
-  drain_effects (suc most) l = drains_on most (drain most) (drain_effects most) l (next_side l) (overfull_side l)
+  drain_effects zero l = record { sides = []; few = omega arith; exact = inl refl; are = refl }
+  drain_effects (suc most) l = drains_on most (drain most) (drain_effects most) l (next_side l) (overfull_side l) refl refl
 
   drained_elsewhere : (w : World) (n m most : ℕ) (place : Option Link) → (m ≡ n → ⊥) → history_on n (drain_link w m most place).1 ≡ []
   drained_elsewhere w n m most None apart = refl

@@ -6,11 +6,12 @@ use Rattle.er_settings.specs.Ranges.{AllAllowed}
 use Rattle.er_scenario.specs.declared.step.Step.{Step}
 use Rattle.drill_model.specs.Links.{LinkOpening, OfPair, OfStations, OfStacks, Link}
 use Rattle.drill_model.specs.Steps.{AllFit}
-use Rattle.drill_model.specs.Worlds.{DrillPlan, link_at, history_on, overfull_side, world_run}
+use Rattle.drill_model.specs.Worlds.{DrillPlan, link_at, history_on, world_run}
 use Rattle.drill_model.specs.Faults.{fault_behind}
-use Rattle.drill_model.specs.Kinds.{releases_in, IsOrderKeeping, IsLossFree}
+use Rattle.drill_model.specs.Kinds.{releases_in, FramesHaveRoom, IsOrderKeeping, IsLossFree}
 use Rattle.drill_model.specs.Recovery.{IsRepairable, AreStations, DrainEmpties}
-use Rattle.drill_model.specs.Claims.{opening_of, LawfulAt, IsInOrder, IsLosingLineReason, Delivers, Repairs}
+use Rattle.drill_model.specs.Opened.{opening_of}
+use Rattle.drill_model.specs.Claims.{LawfulAt, IsInOrder, IsLosingLineReason, Delivers, Repairs}
 
 -- ---- authentic messages and peers, openings
 
@@ -27,11 +28,11 @@ OpensAlways =
 
 -- ---- room
 
--- behind a step that is done not too many frames wait on any link
+-- behind a step that is done at most 4,096 frames wait in each direction of any link
 abbrev pub RoomAlways : Type 0
 RoomAlways =
     (plan : DrillPlan) (before : List Step) (s : Step) → fault_behind plan before s ≡ None
-    → (n : ℕ) (l : Link) → link_at (world_run plan (before ++ s ∷ [])).0 n ≡ Some l → overfull_side l ≡ None
+    → (n : ℕ) (l : Link) → link_at (world_run plan (before ++ s ∷ [])).0 n ≡ Some l → FramesHaveRoom l
 
 -- ---- settings
 

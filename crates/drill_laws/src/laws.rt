@@ -5,13 +5,17 @@ ghost use Rattle.er_settings.specs.Ranges.{AllAllowed};
 ghost use Rattle.er_scenario.specs.declared.step.Step.{Step};
 ghost use Rattle.drill_model.specs.Steps.{AllFit};
 ghost use Rattle.drill_model.specs.Worlds.{DrillPlan};
-ghost use Rattle.drill_model.specs.Hearing.{HeardIsBrought};
+ghost use Rattle.drill_model.specs.Opened.{LinksAreOpened, SettingsStay};
+ghost use Rattle.drill_model.specs.Hearing.{HeardIsBrought, PayloadsAreBrought};
 ghost use Rattle.drill_model.specs.Effects.{Steps};
+ghost use Rattle.drill_model.specs.Sides.{EndsAnswer};
 ghost use Rattle.drill_laws.specs.LawsOfEnds.{StackLaws, StationLaws};
 ghost use Rattle.drill_laws.specs.Laws.{LawfulAlways, OpensAlways, RoomAlways, InOrderAlways, LosingLineReasonsAlways, DeliversAlways, RepairsAlways, DrainsAlways};
 ghost use Rattle.drill_model.specs.Claims.{OrderIsUnforged, TakesInOrder};
 ghost use Rattle.drill_model.specs.Headline.{HoldsAlways};
 ghost use Rattle.drill_model.specs.Printing.{PrintedAsMarked, LinesInOrder};
+ghost use Rattle.drill_model.specs.PrintedCounts.{DrainsCount, OnlyDrainsAreTold, TotalsCount, LinksAreClosed};
+ghost use Rattle.drill_model.specs.PrintedWords.{TextReadsBack, DrillsAreTold, DrillTextReadsBack};
 ghost use Rattle.drill_laws.specs.Stacks.{StacksRun};
 
 // What each call of a station of either kind does to its lists and its release.
@@ -45,9 +49,12 @@ pub fn holds()
     ensures { HoldsAlways }
 {
     worlds();
+    settings_stay();
     steps();
     lawful();
     heard();
+    payloads();
+    ends_answer();
     takes();
     in_order();
     losing_line_reasons();
@@ -73,6 +80,32 @@ pub fn printed()
     ensures order { LinesInOrder }
 {
     safety_pair_laws::laws::marks_grow();
+    drill_model::laws::histories();
+}
+
+/// From the printed text of a drill all is told again that came and is printed, in its order and with its marks, and what its closing lines say,
+/// where the numbers have 64 bits and the octets are octets.
+pub fn text_reads_back()
+    ensures told { DrillsAreTold }
+    ensures drills { DrillTextReadsBack }
+    ensures lines { TextReadsBack }
+{
+    counted();
+    er_base::laws::printed_lines();
+    er_base::laws::printed_words();
+    er_base::laws::decimal_words();
+    er_base::laws::hexadecimal_words();
+}
+
+/// What is printed as a count is the number of what came: the line of a drain tells the passes of that drain, and no other step has such a line;
+/// the totals are counts over the links 1 to 64; and each link that was opened has one closing line, with its passes and the frames that wait.
+pub fn counted()
+    ensures drains { DrainsCount }
+    ensures only_drains { OnlyDrainsAreTold }
+    ensures totals { TotalsCount }
+    ensures closings { LinksAreClosed }
+{
+    safety_automaton::laws::steps();
     drill_model::laws::histories();
 }
 
@@ -117,9 +150,12 @@ pub fn delivery()
     drill_model::laws::histories();
 }
 
-/// A link has the opening of the step that opened it; and behind a step that is done not too many frames wait on any link.
+/// A link has the opening of the first step that opens its number; a step opens a link exactly where its line is one of the level's and names
+/// a number of 1 to 64 that isn't open, and then the link is as that line and the settings say; and behind
+/// a step that is done at most 4,096 frames wait in each direction of any link.
 pub fn worlds()
     ensures opens { OpensAlways }
+    ensures opened { (plan : DrillPlan) (steps : List Step) → LinksAreOpened plan steps }
     ensures room { RoomAlways }
 {
     drill_model::laws::histories();
@@ -147,12 +183,43 @@ pub fn heard()
     drill_model::laws::histories();
 }
 
-/// What the user of an end took is a prefix of what the end accepted, whatever the steps.
+/// What a station accepted, whatever its line did, is the information of an I frame whose check sequence is right, and which the octets closed
+/// that were passed to it last; with selective reject also one that an earlier pass brought.
+pub fn payloads()
+    ensures { (plan : DrillPlan) (steps : List Step) → PayloadsAreBrought plan steps }
+{
+    drill_model::laws::histories();
+}
+
+/// Each end of a link keeps the file's settings, at every moment: its station the modulo, the window, N2 and T1, a stack also the time for its
+/// set-up.
+pub fn settings_stay()
+    ensures { (plan : DrillPlan) (steps : List Step) → SettingsStay plan steps }
+{
+    drill_model::laws::histories();
+}
+
+/// What the user of an end took is a prefix of what the end accepted, whatever the steps; and each take of a link of level full tells the oldest message
+/// that was accepted and not taken yet, or that there is none.
 pub fn takes()
     ensures { (plan : DrillPlan) (steps : List Step) → TakesInOrder plan steps }
 {
     safety_automaton::laws::steps();
     drill_model::laws::stacks_report();
+    station_laws();
+    drill_model::laws::histories();
+}
+
+/// What an end answers, whatever the steps: a send is refused exactly where its end is released, isn't connected, the length is out of range or
+/// 16 wait, with that reason; a user's release at an end that told none is one with the reason 0 and the user's sub-reason; an end tells one
+/// release at the most, and is released exactly where it told one; and behind its last frames a released end accepts, sends and tells nothing
+/// more.
+pub fn ends_answer()
+    ensures { (plan : DrillPlan) (steps : List Step) → EndsAnswer plan steps }
+{
+    safety_automaton::laws::steps();
+    station_laws();
+    hdlc_pair_laws::laws::timers_start();
     drill_model::laws::histories();
 }
 

@@ -1,6 +1,6 @@
--- The words of the headline (this profile), in the order of its fields: openings, authentic messages and peers, what users take, a line that only loses and
--- repeats, delivery, recovery.
-use Rattle.std.specs.Prelude.{ℕ, ◌≡◌, ◌≤◌, ◌==◌, ◌&&◌, false, if◌then◌else◌, List, [], ◌∷◌, ◌++◌, length, Option, Some, None}
+-- The words of the headline (this profile), in the order of its fields: authentic messages and peers, what users take, a line that only loses
+-- and repeats, delivery, recovery.
+use Rattle.std.specs.Prelude.{ℕ, ◌≡◌, ◌≤◌, false, List, [], ◌∷◌, ◌++◌, length, Option, Some, None}
 use Rattle.std.specs.List.{list_any}
 use Rattle.er_base.specs.declared.release.Release.{Release}
 use Rattle.er_base.specs.declared.side.Side.{Side}
@@ -16,34 +16,12 @@ use Rattle.hdlc_station_model.specs.declared.phase.Phase.TheVariants as phase
 use Rattle.hdlc_station_model.specs.Lines as lines
 use Rattle.hdlc_station_model.specs.Lines.{IsPrefix}
 use Rattle.er_end_model.specs.Reasons as reasons
-use Rattle.drill_model.specs.Outcomes.{Occurrence, facts_in}
+use Rattle.drill_model.specs.Outcomes.{DrillOutcome, Took, NothingToTake, Occurrence, at_end, facts_in}
 use Rattle.drill_model.specs.Ends.{EndAtLevel, OfSafe, OfStation, OfStack}
 use Rattle.drill_model.specs.Links.{LinkOpening, OfPair, OfStations, OfStacks, Link}
-use Rattle.drill_model.specs.Worlds.{DrillPlan, is_link, link_at, history_on, fixed_opening, link_opening, wire_opening, overfull_side, drain, world_run}
+use Rattle.drill_model.specs.Worlds.{DrillPlan, link_at, history_on, overfull_side, drain, world_step, world_run}
 use Rattle.drill_model.specs.Kinds.{sent_by, accepted_by, taken_by, deliveries, IsOrderKeeping, EndsAgree, bound}
 use Rattle.drill_model.specs.Recovery.{GoOn, NoneWaits, IsRepairable, ArePassesAndTakes, AreStations, DrainEmpties}
-
--- ---- openings
-
--- a line that opens link m opens link n, where they are one, and the number of a link
-abbrev pub opening_where_link_named : (n m : ℕ) → Option LinkOpening → Option LinkOpening
-opening_where_link_named n m opening = if (m == n) && is_link m then opening else None
-
--- how a step opens link n, if it does
-abbrev pub opening_by : DrillPlan → ℕ → Step → Option LinkOpening
-opening_by plan n (does.Fixed m engine rbc ke kr) = opening_where_link_named n m (fixed_opening plan.level engine rbc ke kr)
-opening_by plan n (does.Link m engine rbc ke kr ra rb) = opening_where_link_named n m (link_opening plan.level engine rbc ke kr ra rb)
-opening_by plan n (does.Wire m) = opening_where_link_named n m (wire_opening plan.level)
-opening_by plan n other = None
-
-abbrev pub or_opening : Option LinkOpening → Option LinkOpening → Option LinkOpening
-or_opening None later = later
-or_opening (Some opening) later = Some opening
-
--- the first step that opens link n counts: a second is refused
-abbrev pub opening_of : DrillPlan → ℕ → List Step → Option LinkOpening
-opening_of plan n [] = None
-opening_of plan n (s ∷ rest) = or_opening (opening_by plan n s) (opening_of plan n rest)
 
 -- ---- authentic messages and peers
 
@@ -60,10 +38,35 @@ LawfulAt (Some l) history = IsLawfulHistory l.opening history
 
 -- ---- what users take
 
--- what the user of an end took is a prefix of what the end accepted
-abbrev pub TakesInOrder : DrillPlan → List Step → Type 0
-TakesInOrder plan steps =
-    (n : ℕ) (side : Side) → IsPrefix (taken_by side (history_on n (world_run plan steps).1)) (accepted_by side (history_on n (world_run plan steps).1))
+-- what a take tells first, by the messages that were accepted and not taken yet, the oldest first
+abbrev pub told_of_left : List (List ℕ) → DrillOutcome
+told_of_left [] = NothingToTake
+told_of_left (message ∷ left) = Took message
+
+-- a take at this side of a link with this history tells the oldest message that was accepted and not taken yet, or, where there is none,
+-- that there is none; and it tells of no second message
+pub record TakeTells (side : Side) (history came : List Occurrence) : Type 0 where
+  pub left : List (List ℕ)
+  pub accepted : accepted_by side history ≡ taken_by side history ++ left
+  pub later : List Occurrence
+  pub is : came ≡ at_end side (told_of_left left) ∷ later
+  pub once : (s : Side) → taken_by s later ≡ []
+
+-- at levels safe, link and link-sr a message counts as taken at once, and a take does nothing
+abbrev pub IsToldOfTake : LinkOpening → Side → (history came : List Occurrence) → Type 0
+IsToldOfTake (OfPair opening) side history came = came ≡ []
+IsToldOfTake (OfStations selective) side history came = came ≡ []
+IsToldOfTake (OfStacks engine rbc ke kr ra rb) side history came = TakeTells side history came
+
+-- what the user of an end took is a prefix of what the end accepted; and each step of a file that takes at an open link gives the user
+-- the oldest message that is left
+pub record TakesInOrder (plan : DrillPlan) (steps : List Step) : Type 0 where
+  pub prefix : (n : ℕ) (side : Side)
+      → IsPrefix (taken_by side (history_on n (world_run plan steps).1)) (accepted_by side (history_on n (world_run plan steps).1))
+  pub oldest : (before after : List Step) (n : ℕ) (side : Side) (l : Link) → steps ≡ before ++ does.Take n side ∷ after
+      → link_at (world_run plan before).0 n ≡ Some l
+      → IsToldOfTake l.opening side (history_on n (world_run plan before).1)
+      (history_on n (world_step plan (world_run plan before).0 (does.Take n side)).1)
 
 -- ---- a line that only loses and repeats
 
@@ -116,17 +119,17 @@ pub record HasAllPayloads (history : List Occurrence) (l : Link) : Type 0 where
   pub at_r : accepted_by R history ≡ sent_by E history
   pub at_e : 1 ≤ length (sent_by E history) → accepted_by E history ≡ sent_by R history
 
--- the user of an end took every message that was accepted; at levels safe, link and link-sr a message counts as taken at once
-abbrev pub HasTakenAll : EndAtLevel → Type 0
-HasTakenAll (OfSafe s) = Unit {0}
-HasTakenAll (OfStation selective s stream) = Unit {0}
-HasTakenAll (OfStack m) = m.core.upper.used ≡ length m.core.upper.accepted
+-- the user of an end took every message that the end accepted
+abbrev pub HasTakenAll : Side → List Occurrence → Type 0
+HasTakenAll side history = taken_by side history ≡ accepted_by side history
 
--- an empty link: no frame waits, and at level full every accepted message was taken
-abbrev pub IsEmpty : LinkOpening → Link → Type 0
-IsEmpty (OfPair opening) l = (l.from_e ≡ []) × (l.from_r ≡ [])
-IsEmpty (OfStations selective) l = (l.from_e ≡ []) × (l.from_r ≡ [])
-IsEmpty (OfStacks engine rbc ke kr ra rb) l = (l.from_e ≡ []) × (l.from_r ≡ []) × HasTakenAll l.e × HasTakenAll l.r
+-- an empty link: no frame waits, and at level full every accepted message was taken; at levels safe, link and link-sr a message counts as
+-- taken at once
+abbrev pub IsEmpty : LinkOpening → List Occurrence → Link → Type 0
+IsEmpty (OfPair opening) history l = (l.from_e ≡ []) × (l.from_r ≡ [])
+IsEmpty (OfStations selective) history l = (l.from_e ≡ []) × (l.from_r ≡ [])
+IsEmpty (OfStacks engine rbc ke kr ra rb) history l =
+    (l.from_e ≡ []) × (l.from_r ≡ []) × HasTakenAll E history × HasTakenAll R history
 
 -- what is delivered on an empty link
 abbrev pub IsDelivered : LinkOpening → List Occurrence → Link → Type 0
@@ -139,7 +142,7 @@ IsDelivered (OfStacks engine rbc ke kr ra rb) history l = HasAll history l
 pub record Delivers (settings : Settings) (history : List Occurrence) (l : Link) : Type 0 where
   pub unforged : IsUnforged history
   pub bounded : deliveries history ≤ bound settings l.opening history
-  pub done : IsEmpty l.opening l → IsDelivered l.opening history l
+  pub done : IsEmpty l.opening history l → IsDelivered l.opening history l
   pub drains : overfull_side l ≡ None → (most : ℕ) → bound settings l.opening history ≤ most
       → ((drain most l).link.from_e ≡ []) × ((drain most l).link.from_r ≡ [])
 
@@ -152,11 +155,12 @@ abbrev pub Repairs : DrillPlan → (before : List Step) (n : ℕ) (first : List 
 Repairs plan before n first moment second =
     let given = world_run plan (before ++ first) in
     let all = world_run plan (before ++ first ++ does.Tick moment ∷ second) in
-    (l m k : Link) → link_at (world_run plan before).0 n ≡ Some l → IsRepairable (history_on n (world_run plan before).1) l
-    → ArePassesAndTakes n first → link_at given.0 n ≡ Some m → NoneWaits m
-    → given.0.moment ≤ moment → GoOn moment m
-    → ArePassesAndTakes n second → link_at all.0 n ≡ Some k → IsEmpty k.opening k
-    → IsDelivered k.opening (history_on n all.1) k
+    (at_start before_tick at_last : Link)
+    → link_at (world_run plan before).0 n ≡ Some at_start → IsRepairable (history_on n (world_run plan before).1) at_start
+    → ArePassesAndTakes n first → link_at given.0 n ≡ Some before_tick → NoneWaits before_tick
+    → given.0.moment ≤ moment → GoOn moment before_tick
+    → ArePassesAndTakes n second → link_at all.0 n ≡ Some at_last → IsEmpty at_last.opening (history_on n all.1) at_last
+    → IsDelivered at_last.opening (history_on n all.1) at_last
 
 -- what is claimed of the world that a list of steps leads to: a drain of each link of two stations that is repairable, of as many passes as its
 -- bound, leaves no frame waiting; and where the steps end with passes and takes of a link, a tick, and passes and takes of that link, they repair it

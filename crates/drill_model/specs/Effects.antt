@@ -1,6 +1,6 @@
 -- What a step of a file brings about at a link that is open, in the words of the step: what was sent, passed, lost, repeated, altered,
 -- inserted, released by a user and found expired is what the file's steps say (this profile).
-use Rattle.std.specs.Prelude.{ℕ, ◌≡◌, ◌≤◌, ◌==◌, ◌&&◌, ◌||◌, ◌⊎◌, max, not, nat_lt, Bool, true, false, if◌then◌else◌, List, [], ◌∷◌, ◌++◌, length, map, Option, Some, None}
+use Rattle.std.specs.Prelude.{ℕ, zero, suc, ◌≡◌, ◌≤◌, ◌==◌, ◌&&◌, ◌||◌, ◌⊎◌, max, not, nat_lt, Bool, true, false, if◌then◌else◌, List, [], ◌∷◌, ◌++◌, length, map, Option, Some, None}
 use Rattle.std.specs.List.{flat_map, list_any}
 use Rattle.er_base.specs.declared.side.Side.{Side}
 use Rattle.er_base.specs.declared.side.Side.TheVariants.{E, R}
@@ -12,7 +12,8 @@ use Rattle.drill_model.specs.Outcomes.{DrillOutcome, OfSafety, Handed, Arrived, 
 use Rattle.drill_model.specs.Ends.{EndAtLevel, OfSafe, OfStation, OfStack}
 use Rattle.drill_model.specs.Links.{Link, waiting_of, Pass, link_step}
 use Rattle.drill_model.specs.Worlds.{DrillPlan, World, link_at, history_on, world_step, world_run}
-use Rattle.drill_model.specs.Kinds.{sent_by, EndsAgree, IsNumbered, IsOrderKeeping, IsLossFree}
+use Rattle.drill_model.specs.Kinds.{sent_by, FramesHaveRoom, EndsAgree, IsNumbered, IsOrderKeeping, IsLossFree}
+use Rattle.drill_model.specs.Line.{LineIsKept}
 
 -- ---- effects
 
@@ -32,15 +33,25 @@ pub data Effect : Type 0 where
   -- a timer was found expired
   Expires : Effect
 
+-- the effect that a fact of the safety layer tells of, if it tells of one
 abbrev pub effect_of : Fact → List Effect
 effect_of (Sent user key text) = Sends user ∷ []
-effect_of other = []
+effect_of (Sealed key text) = []
+effect_of (Verified heard key text) = []
+effect_of (Connected heard connection text) = []
+effect_of (Accepted heard user key text) = []
 
 -- the effect that an outcome tells of, if it tells of one
 abbrev pub effect_in : DrillOutcome → List Effect
 effect_in (OfSafety fact) = effect_of fact
 effect_in (Handed payload) = Sends payload ∷ []
+effect_in (Arrived payload) = []
+effect_in Up = []
+effect_in (Took message) = []
+effect_in NothingToTake = []
 effect_in (Refused refusal) = IsRefused ∷ []
+effect_in (Released release) = []
+effect_in (Frame octets) = []
 effect_in Expired = Expires ∷ []
 effect_in (UserReleased sub) = Releases sub ∷ []
 effect_in (Passed octets) = Passes octets ∷ []
@@ -48,7 +59,8 @@ effect_in Lost = Loses ∷ []
 effect_in Repeated = Repeats ∷ []
 effect_in Altered = Alters ∷ []
 effect_in Inserted = Inserts ∷ []
-effect_in other = []
+effect_in NothingWaits = []
+effect_in (IsShort length) = []
 
 -- an effect at an end, or at what it sent
 abbrev pub Effects : Type 0
@@ -64,8 +76,9 @@ abbrev pub RanOut : (now : ℕ) → Option ℕ → Type 0
 RanOut now None = ⊥
 RanOut now (Some moment) = moment ≤ now
 
--- a timer of an end ran out: T1 of its station, and of a stack that isn't released, also the time for its set-up while it isn't connected.
--- A moment below the last one counts as the last one
+-- a timer of an end ran out: T1 of its station, and of a stack that isn't released, also the time for its set-up while it isn't
+-- connected. A station, and a stack besides its station, each keep the moment of their own last event; a moment below the last one counts
+-- as the last one
 abbrev pub HasRunOut : (now : ℕ) → EndAtLevel → Type 0
 HasRunOut now (OfSafe side) = ⊥
 HasRunOut now (OfStation selective s stream) = RanOut (max s.moment now) s.timer
@@ -76,7 +89,8 @@ HasRunOut now (OfStack m) =
 
 -- ---- the effects of each step
 
--- at a link of this number alone
+-- at the link that a step names: `own` is the number that the step names, n that of the link looked at. Where they are one, the claim is
+-- of the effects, and where they aren't, the step has none
 abbrev pub At : (own n : ℕ) → Effects → Type 0 → Type 0
 At own n effects claim = (own ≡ n → claim) × ((own ≡ n → ⊥) → effects ≡ [])
 
@@ -115,13 +129,28 @@ abbrev pub of_passes : Link → List Side → Effects
 of_passes l [] = []
 of_passes l (side ∷ sides) = of_first side Passes (waiting_of l side) ++ of_passes (link_step l (Pass side)).0 sides
 
--- a drain is at most so many passes
+-- a drain passes next a frame of e where one waits, else one of r
+abbrev pub IsNextToPass : Link → Side → Type 0
+IsNextToPass l E = 1 ≤ length l.from_e
+IsNextToPass l R = (l.from_e ≡ []) × (1 ≤ length l.from_r)
+
+-- a drain of at most so many passes, from link l on, passes frames of these sides: it goes on where a frame waits and no direction has
+-- too many, and it ends where there were as many passes, where no frame waits, or where a direction has too many
+abbrev pub ArePassesOfDrain : (most : ℕ) → Link → List Side → Type 0
+ArePassesOfDrain most l [] = (most ≡ 0) ⊎ ((l.from_e ≡ []) × (l.from_r ≡ [])) ⊎ (FramesHaveRoom l → ⊥)
+ArePassesOfDrain zero l (side ∷ sides) = ⊥
+ArePassesOfDrain (suc most) l (side ∷ sides) =
+    IsNextToPass l side × FramesHaveRoom l × ArePassesOfDrain most (link_step l (Pass side)).0 sides
+
+-- the effects of a drain are those of its passes
 pub record DrainEffects (most : ℕ) (l : Link) (effects : Effects) : Type 0 where
   pub sides : List Side
   pub few : length sides ≤ most
+  pub exact : ArePassesOfDrain most l sides
   pub are : effects ≡ of_passes l sides
 
--- the effects of a step at link n, which is l in this world
+-- the effects of a step at link n, which is l in this world. A take has none: what its user gets is told by `TakesInOrder` (Claims), and
+-- what its end then sends by `LineIsKept` (Line)
 abbrev pub HasEffects : World → (n : ℕ) → Link → Step → Effects → Type 0
 HasEffects w n l (does.Fixed m engine rbc ke kr) effects = effects ≡ []
 HasEffects w n l (does.Link m engine rbc ke kr ra rb) effects = effects ≡ []
@@ -155,15 +184,28 @@ pub data IsPartOf : List (List ℕ) → List (List ℕ) → Type 0 where
 
 -- the texts that a file has a side of link n send
 abbrev pub texts_sent_by_step : (n : ℕ) → Side → Step → List (List ℕ)
+texts_sent_by_step n side (does.Fixed m engine rbc ke kr) = []
+texts_sent_by_step n side (does.Link m engine rbc ke kr ra rb) = []
+texts_sent_by_step n side (does.Wire m) = []
 texts_sent_by_step n side (does.Send m s text) = if (m == n) && is_side s side then text ∷ [] else []
-texts_sent_by_step n side other = []
+texts_sent_by_step n side (does.Pass m s) = []
+texts_sent_by_step n side (does.Lose m s) = []
+texts_sent_by_step n side (does.Repeat m s) = []
+texts_sent_by_step n side (does.Alter m s place mask) = []
+texts_sent_by_step n side (does.Put m s text) = []
+texts_sent_by_step n side (does.Copy m s k t) = []
+texts_sent_by_step n side (does.Take m s) = []
+texts_sent_by_step n side (does.Release m s sub) = []
+texts_sent_by_step n side (does.Tick moment) = []
+texts_sent_by_step n side (does.Drain m most) = []
 
 -- what an end sent is the text of a step that sends at that side, in their order
 abbrev pub SendsAreSteps : DrillPlan → List Step → Type 0
 SendsAreSteps plan steps =
     (n : ℕ) (side : Side) → IsPartOf (sent_by side (history_on n (world_run plan steps).1)) (flat_map (texts_sent_by_step n side) steps)
 
--- a step that alters what waits on link n, or inserts there
+-- a step that alters what waits on link n, or inserts there. This one and the next stand in premises alone: a step that were left out
+-- would make the laws below say more, or make them false
 abbrev pub disorders : (n : ℕ) → Step → Bool
 disorders n (does.Alter m s place mask) = m == n
 disorders n (does.Put m s text) = m == n
@@ -203,3 +245,5 @@ pub record Steps (plan : DrillPlan) (steps : List Step) : Type 0 where
   pub sends : SendsAreSteps plan steps
   pub order : QuietKeepsOrder plan steps
   pub loss_free : QuietIsLossFree plan steps
+  -- the frames that wait are those that the ends told, as the steps changed them
+  pub line : LineIsKept plan steps

@@ -1,4 +1,5 @@
--- Known answers, worked out by hand: what short drills bring about, of what kind their links are, and how a mark is printed.
+-- Known answers, worked out by hand: what short drills bring about, of what kind their links are, what the line does to the frames that
+-- wait, and how a mark is printed.
 use Rattle.std.specs.Prelude.{◌≡◌, ℕ, false, true, List, [], ◌∷◌, ◌++◌, codes, refl}
 use Rattle.std.specs.Fmt.{digits}
 use Rattle.bit_lists.specs.LowestFirst.{low_bits, low_number}
@@ -17,10 +18,11 @@ use Rattle.er_scenario.specs.declared.step.Step.TheVariants as does
 use Rattle.safety_pair_laws.specs.Facts.{Sent, Accepted}
 use Rattle.drill_model.specs.Outcomes.{Occurrence, OfSafety, at_end}
 use Rattle.drill_model.specs.Links.{OfStations}
-use Rattle.drill_model.specs.Worlds.{DrillPlan, Came, On, drain, tick_each_link, history_on, world_run}
+use Rattle.drill_model.specs.Worlds.{DrillPlan, Came, On, new_world, drain, tick_each_link, history_on, world_run}
 use Rattle.drill_model.specs.Marks.{marks_from}
 use Rattle.drill_model.specs.Kinds.{is_disordered, is_disturbed, IsOrderKeeping, IsLossFree}
 use Rattle.drill_model.specs.Effects.{Sends, IsRefused, Passes, Loses, Repeats, Alters, Inserts, Releases, Expires, effects_in}
+use Rattle.drill_model.specs.Line.{octet_changed, changed_by_step}
 use Rattle.drill_model.specs.Texts.{head, up_line, accepted_line, passes_line, closing_line, closing_from, lines, first_lines, last_lines}
 
 abbrev plan : DrillPlan
@@ -90,6 +92,46 @@ known_disorder = refl
 pub known_change : is_disordered (history (losing ++ does.Alter 1 E 1 2 ∷ [])) ≡ true
 unfolding spelling escaped escaped_octet content_of control_of fcs_of fcs_bits dividend remainder divided_once add_front sent_bits low_bits low_number
 known_change = refl
+
+-- ---- the line
+
+-- an octet that is changed, one past the end, and a mask that changes none
+pub known_octet : octet_changed 1 2 (0x7e ∷ 0x01 ∷ 0x3f ∷ []) ≡ 0x7e ∷ 0x03 ∷ 0x3f ∷ []
+known_octet = refl
+
+pub known_past : octet_changed 3 2 (0x7e ∷ 0x01 ∷ 0x3f ∷ []) ≡ 0x7e ∷ 0x01 ∷ 0x3f ∷ []
+known_past = refl
+
+pub known_mask : octet_changed 1 0 (0x7e ∷ 0x01 ∷ 0x3f ∷ []) ≡ 0x7e ∷ 0x01 ∷ 0x3f ∷ []
+known_mask = refl
+
+-- two frames that wait at e, each changed so by a step that names that side of that link, and by none that names another side or another
+-- link
+abbrev waiting : List (List ℕ)
+waiting = (7 ∷ []) ∷ (8 ∷ []) ∷ []
+
+pub known_lost : changed_by_step new_world 1 E (does.Lose 1 E) waiting ≡ (8 ∷ []) ∷ []
+known_lost = refl
+
+pub known_doubled : changed_by_step new_world 1 E (does.Repeat 1 E) waiting ≡ (7 ∷ []) ∷ (7 ∷ []) ∷ (8 ∷ []) ∷ []
+known_doubled = refl
+
+pub known_altered : changed_by_step new_world 1 E (does.Alter 1 E 0 1) waiting ≡ (6 ∷ []) ∷ (8 ∷ []) ∷ []
+known_altered = refl
+
+pub known_put : changed_by_step new_world 1 E (does.Put 1 E (9 ∷ [])) waiting ≡ (9 ∷ []) ∷ (7 ∷ []) ∷ (8 ∷ []) ∷ []
+known_put = refl
+
+pub known_other_side : changed_by_step new_world 1 R (does.Lose 1 E) waiting ≡ waiting
+known_other_side = refl
+
+pub known_other_link : changed_by_step new_world 2 E (does.Lose 1 E) waiting ≡ waiting
+known_other_link = refl
+
+-- the set-up frame of e, copied to r: it waits there before what waited
+pub known_copied : changed_by_step (world_run plan (does.Wire 1 ∷ [])).0 1 R (does.Copy 1 E 1 R) waiting ≡ set_up ∷ waiting
+unfolding drain tick_each_link frames_of between_flags all_but_last cut verdict_on verdict_on_content checked_part check_number unescaped ends_in_escape spelling escaped escaped_octet content_of control_of fcs_of fcs_bits dividend remainder divided_once add_front sent_bits low_bits low_number
+known_copied = refl
 
 -- ---- text
 

@@ -1,4 +1,5 @@
--- Known answers, worked out by hand: a message that is accepted at levels safe and full, and one whose MAC is wrong in its last octet.
+-- Known answers, worked out by hand: a message that is accepted at levels safe and full, one whose MAC is wrong in its last octet, and two
+-- KMACs that differ in one of three keys.
 use Rattle.std.specs.Prelude.{◌≡◌, ℕ, false, true, List, [], ◌∷◌, ◌++◌, Some, refl}
 use Rattle.std.specs.List.{flat_map}
 use Rattle.bit_lists.specs.Bits.{bits, number, pick, xor}
@@ -58,6 +59,20 @@ pub known_safe : history_on 1 (world_run safe_plan (
     ∷ at_end R (Released (record { reason = 4; sub = 1; by_peer = false })) ∷ at_end R (Frame (0x11 ∷ 4 ∷ 1 ∷ [])) ∷ []
 unfolding bits number pick xor box_output substituted cipher_function rounds cipher keys_from round_keys triple_encipher blocks chained mac_bits mac_of message_text eight number_in
 known_safe = refl
+
+-- ---- the set-up
+
+-- a KMAC of which the third key alone is another
+abbrev other_key : TripleKey
+other_key = record { first = 0x0123456789abcdef; second = 0x23456789abcdef01; third = 0x456789abcdef0125 }
+
+-- a radio block centre that has it is no peer: the engine refuses its AU2 with 3.2
+abbrev calling : List Step
+calling = does.Link 1 5 9 key (Some other_key) 0x99aabbccddeeff00 0x1112131415161718 ∷ does.Pass 1 E ∷ does.Pass 1 R ∷ []
+
+pub known_other_kmac : releases_in (history_on 1 (world_run safe_plan calling).1) ≡ record { reason = 3; sub = 2; by_peer = false } ∷ []
+unfolding bits number pick xor box_output substituted cipher_function rounds cipher keys_from round_keys triple_encipher blocks chained mac_bits mac_of session_of au2_text eight number_in
+known_other_kmac = refl
 
 -- ---- level full
 

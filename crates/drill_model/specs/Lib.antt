@@ -11,14 +11,19 @@ pub mod Worlds
 pub mod Faults
 pub mod Marks
 pub mod Kinds
+pub mod Line
 pub mod Effects
+pub mod Sides
 pub mod Hearing
 pub mod Totals
 pub mod Texts
 pub mod Recovery
+pub mod Opened
 pub mod Claims
 pub mod Headline
 pub mod Printing
+pub mod PrintedCounts
+pub mod PrintedWords
 pub mod KnownAnswers
 pub mod KnownPayloads
 pub mod KnownStacks
@@ -26,4 +31,6 @@ pub mod KnownEffects
 pub mod KnownMessages
 pub mod KnownRecovery
 pub mod KnownStackRecovery
+pub mod KnownTotals
+pub mod KnownDrillFiles
 pub mod Growth

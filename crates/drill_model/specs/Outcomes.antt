@@ -52,15 +52,47 @@ at_end side outcome = record { side = side; outcome = outcome }
 -- the facts of the safety layer among outcomes
 abbrev pub facts_at : Side → DrillOutcome → List SideFact
 facts_at side (OfSafety fact) = at_side side fact ∷ []
-facts_at side other = []
+facts_at side (Handed payload) = []
+facts_at side (Arrived payload) = []
+facts_at side Up = []
+facts_at side (Took message) = []
+facts_at side NothingToTake = []
+facts_at side (Refused refusal) = []
+facts_at side (Released release) = []
+facts_at side (Frame octets) = []
+facts_at side Expired = []
+facts_at side (UserReleased sub) = []
+facts_at side (Passed octets) = []
+facts_at side Lost = []
+facts_at side Repeated = []
+facts_at side Altered = []
+facts_at side Inserted = []
+facts_at side NothingWaits = []
+facts_at side (IsShort length) = []
 
 abbrev pub facts_in : List Occurrence → List SideFact
 facts_in history = flat_map (λ o. facts_at o.side o.outcome) history
 
 -- the frames among outcomes
 abbrev pub frames_of_outcome : DrillOutcome → List (List ℕ)
+frames_of_outcome (OfSafety fact) = []
+frames_of_outcome (Handed payload) = []
+frames_of_outcome (Arrived payload) = []
+frames_of_outcome Up = []
+frames_of_outcome (Took message) = []
+frames_of_outcome NothingToTake = []
+frames_of_outcome (Refused refusal) = []
+frames_of_outcome (Released release) = []
 frames_of_outcome (Frame octets) = octets ∷ []
-frames_of_outcome other = []
+frames_of_outcome Expired = []
+frames_of_outcome (UserReleased sub) = []
+frames_of_outcome (Passed octets) = []
+frames_of_outcome Lost = []
+frames_of_outcome Repeated = []
+frames_of_outcome Altered = []
+frames_of_outcome Inserted = []
+frames_of_outcome NothingWaits = []
+frames_of_outcome (IsShort length) = []
 
 abbrev pub frames_in : List DrillOutcome → List (List ℕ)
 frames_in outcomes = flat_map frames_of_outcome outcomes

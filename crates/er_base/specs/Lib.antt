@@ -6,6 +6,7 @@ pub mod Numbers
 pub mod Hexadecimal
 pub mod Sides
 pub mod Causes
+pub mod ReasonWords
 pub mod Memory
 pub mod TextFaults
 pub mod Lines

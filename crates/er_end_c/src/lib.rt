@@ -23,6 +23,6 @@ pub use face::{CCounts, CDeeds, CKey, CSettings};
 pub use handle::CEnd;
 pub use makers::{euroradio_answer, euroradio_answer_keys, euroradio_call, euroradio_free};
 pub use reads::{
-    euroradio_accepted, euroradio_counted, euroradio_deadline, euroradio_out, euroradio_released,
-    euroradio_taken, euroradio_version, euroradio_waiting,
+    euroradio_accepted, euroradio_counted, euroradio_deadline, euroradio_out, euroradio_reason,
+    euroradio_released, euroradio_taken, euroradio_version, euroradio_waiting,
 };

@@ -1,6 +1,7 @@
 //! The calls that read what an end is and what its last event left.
 
 ghost use Rattle.std.specs.Prelude.{◌≡◌, ◌≤◌, length, option_map, MatchOption};
+ghost use Rattle.er_base.specs.ReasonWords.{reason_words};
 ghost use Rattle.er_end.specs.KeptEnds.{waiting_in, deadline_of};
 ghost use Rattle.er_end.specs.Inboxes.{newest_of};
 ghost use Rattle.er_end_c.specs.Handles.{end_held_in_handle};
@@ -9,6 +10,7 @@ ghost use Rattle.er_end_c.specs.Reads.{text_of_held_end, text_or_empty, copied, 
 use crate::face::{CCounts, CDeeds};
 use crate::handle::CEnd;
 use crate::status;
+use er_base::Release;
 use std::alloc::Global;
 
 /// Copies octets that the last event sent, from the index `from` on.
@@ -133,12 +135,26 @@ pub extern "C" fn euroradio_counted(alloc: Global, end: &mut CEnd, counts: &mut 
     status::OK
 }
 
-/// The version of the library: 10,000 times the major one, 100 times the minor one, and the patch.
+/// Copies what a reason and a sub-reason of a release mean, in words for people.
+#[unsafe(no_mangle)]
+pub extern "C" fn euroradio_reason(reason: u8, sub: u8, into: &mut [u8]) -> usize
+    ensures copied { into.new ≡ octets_written_over (copied (reason_words reason sub) 0 (length into.old)) into.old }
+    ensures count { result ≡ length (copied (reason_words reason sub) 0 (length into.old)) }
+{
+    let release = Release {
+        reason,
+        sub,
+        by_peer: false,
+    };
+    copy(release.words().as_bytes(), 0, into)
+}
+
+/// The version of the library: 100 times the major one, and the minor one.
 #[unsafe(no_mangle)]
 pub extern "C" fn euroradio_version() -> u32
-    ensures { result ≡ 100 }
+    ensures { result ≡ 101 }
 {
-    100
+    101
 }
 
 // Copies what fits, from an index on: how many octets.

@@ -11,7 +11,7 @@ use Rattle.drill_model.specs.Links.{Link, LinkOpening, LinkStep}
 use Rattle.drill_model.specs.Worlds.{DrillPlan, World, Came, new_world, is_link, link_at, overfull_side, at_link, open_link, drain_link, tick_each_link, tick_world, world_step, world_run_from, world_run, link_opening}
 use Rattle.drill_model.specs.Faults.{or_else, refusal_of_step, overfull_fault, overfull_at, first_overfull, overfull_of, fault_behind}
 use Rattle.drill_laws.specs.Laws.{OpensAlways}
-use Rattle.drill_model.specs.Claims.{opening_by, or_opening, opening_of}
+use Rattle.drill_model.specs.Opened.{opening_by, or_opening, opening_of}
 use Rattle.drill_bulk.specs.Turns.{kmac}
 use Rattle.er_program.specs.BulkTexts.{bulk_plan, steps_of_bulk}
 use Rattle.er_program.proofs.BulkSteps.{IsGood, AreGood, moment_after, first_step, later_steps, steps_are, later_good}

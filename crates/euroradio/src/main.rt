@@ -1,25 +1,24 @@
 //! The program: it makes the real objects, lets the top call do what the words ask for, and ends with its status.
 #![tactic(auto)]
 
-mod counting_sink;
-mod ears;
+mod ended;
 mod objects;
+mod origin;
 mod recorded_wires;
 mod recording;
 mod streams;
-mod tally;
-mod telling;
 mod telling_wires;
+mod told;
+mod watched_cabinet;
 
-use crate::counting_sink::CountingSink;
-use crate::ears::Ears;
+use crate::ended::Ended;
 use crate::objects::position_reports;
 use crate::recorded_wires::RecordedWires;
 use crate::recording::{Recording, RecordingSink};
 use crate::streams::stand_ins;
-use crate::tally::Tally;
 use crate::telling_wires::TellingWires;
-use er_base::NoMemory;
+use crate::watched_cabinet::WatchedCabinet;
+use er_base::{NoMemory, decimal};
 use er_program::{
     Clock, Command, FileCabinet, MachineClock, Sink, Status, StdoutSink, command_from, run,
     run_off_line, unmade,
@@ -28,10 +27,12 @@ use er_users::{Echo, SafeUser};
 use mio_wires::MioWires;
 use rand::make_rng;
 use rand_chacha::ChaCha20Rng;
+use readiness_loop::MOST_LIVE;
 use std::alloc::Global;
 use std::cell::RefCell;
 use std::process::ExitCode;
 use std::{env, io};
+use telling::{Ears, LastLine, Watch};
 
 // The connections that `serve` serves in its life, one user each.
 const MOST_SERVED: usize = 65_536;
@@ -53,26 +54,30 @@ fn words(rt: &HostRuntime) -> Result<Option<Vec<String>>, NoMemory> {
     }
 }
 
-// A command that runs over wires, with these users: its status, and the count of what its recording tells. None where there is no memory for the
-// objects, or no seed.
+// The number of the radio block centre where the words are those of `serve`.
+fn radio_block_centre(words: &[String]) -> Option<u64> {
+    match words {
+        [command, _, _, rbc, _] if command.as_str() == "serve" => decimal(rbc.as_bytes()),
+        _ => None,
+    }
+}
+
+// A command that runs over wires, with these users. None where there is no memory for the objects, or no seed.
 fn on_line<K: Sink>(
     rt: HostRuntime,
     words: &[String],
     users: Vec<Box<dyn SafeUser>>,
     sink: &mut K,
-) -> Option<(Status, Tally)> {
-    let recording = RefCell::new(Recording::new(rt.alloc(), sink).ok()?);
-    let mut lines = CountingSink {
-        sink: RecordingSink::new(&recording),
-        tally: Tally::new(rt.alloc()).ok()?,
-    };
-    let mut cabinet = FileCabinet::new(rt);
+) -> Option<Ended> {
+    let rbc = radio_block_centre(words);
+    let watch = Watch::new(rt.alloc(), rbc).ok()?;
+    let recording = RefCell::new(Recording::new(rt.alloc(), sink, watch).ok()?);
+    let mut lines = RecordingSink::new(&recording);
+    let mut cabinet = WatchedCabinet::new(FileCabinet::new(rt), &recording, rbc, rt);
     let mut clock = MachineClock::new(rt);
-    let sockets = TellingWires {
-        wires: MioWires::new(rt.alloc(), rt).ok()?,
-        ears: Ears::new(rt.alloc()).ok()?,
-        rt,
-    };
+    let bare = MioWires::new(rt.alloc(), rt).ok()?;
+    let ears = Ears::new(rt.alloc(), MOST_LIVE).ok()?;
+    let sockets = TellingWires::new(bare, ears, &recording, rt);
     let mut wires = RecordedWires::new(sockets, &recording);
     wires.wires.wires.keep_time(clock.now());
     let seeded: io::Result<ChaCha20Rng> = make_rng(&rt);
@@ -92,12 +97,19 @@ fn on_line<K: Sink>(
         Ok(()) => status,
         Err(_) => Status(5),
     };
-    telling::unfetched(rt, status, cabinet.why());
-    telling::wires(rt, status, wires.wires.wires.fault());
+    let ended = Ended {
+        status,
+        file: cabinet.cabinet.why(),
+        wires: wires.wires.wires.fault(),
+    };
     wires.wires.wires.finish(MOST_LINGER);
-    let CountingSink { sink: _, tally } = lines;
-    telling::counted(rt, status, &tally, &wires.wires.ears);
-    Some((status, tally))
+    if let Ok(recording) = recording.try_borrow() {
+        told::counted(rt, &ended, &recording.watch, &wires.wires.ears);
+        if status.0 == 0 && rbc.is_none() {
+            told::called(rt, words, &recording.watch.tally);
+        }
+    }
+    Some(ended)
 }
 
 // Has the C library keep the memory of connections that closed for those that come. glibc gives back to the system what is free at the end of
@@ -115,7 +127,7 @@ fn serve<K: Sink>(
     rt: HostRuntime,
     words: &[String],
     sink: &mut K,
-) -> Result<Option<(Status, Tally)>, NoMemory> {
+) -> Result<Option<Ended>, NoMemory> {
     let alloc = rt.alloc();
     keep_memory(alloc);
     let mut users: Vec<Box<dyn SafeUser>> = Vec::with_capacity(alloc, MOST_SERVED)?;
@@ -131,7 +143,7 @@ fn call<K: Sink>(
     rt: HostRuntime,
     words: &[String],
     sink: &mut K,
-) -> Result<Option<(Status, Tally)>, NoMemory> {
+) -> Result<Option<Ended>, NoMemory> {
     let alloc = rt.alloc();
     let user: Box<dyn SafeUser> = Box::new(alloc, position_reports(alloc)?)?;
     let mut users: Vec<Box<dyn SafeUser>> = Vec::with_capacity(alloc, 1)?;
@@ -140,57 +152,85 @@ fn call<K: Sink>(
 }
 
 // What a command without wires asks for.
-fn off_line<K: Sink>(rt: HostRuntime, words: &[String], sink: &mut K) -> Option<Status> {
+fn off_line<K: Sink>(rt: HostRuntime, words: &[String], sink: &mut K) -> Option<Ended> {
     let command = command_from(words);
     if command.needs_wires() {
         return None;
     }
     let mut cabinet = FileCabinet::new(rt);
     let status = run_off_line(rt.alloc(), &command, &mut cabinet, sink);
-    telling::unfetched(rt, status, cabinet.why());
-    if matches!(command, Command::Misused) {
-        telling::usage(rt, words);
-    }
-    Some(status)
+    Some(Ended {
+        status,
+        file: cabinet.why(),
+        wires: None,
+    })
 }
 
-// What the words ask for, and what is told of it. None where the objects can't be made.
-fn answered<K: Sink>(rt: HostRuntime, words: &[String], sink: &mut K) -> Option<Status> {
+// What the words ask for. None where the objects can't be made.
+fn answered<K: Sink>(rt: HostRuntime, words: &[String], sink: &mut K) -> Option<Ended> {
     let command = command_from(words);
     if !command.needs_wires() {
         return off_line(rt, words, sink);
     }
-    let is_call = matches!(command, Command::Call { .. });
-    let (status, tally) = if is_call {
-        call(rt, words, sink).ok()??
+    if matches!(command, Command::Call { .. }) {
+        call(rt, words, sink).ok()?
     } else {
-        serve(rt, words, sink).ok()??
-    };
-    if is_call && status.0 == 0 {
-        telling::called(rt, &tally);
+        serve(rt, words, sink).ok()?
     }
-    Some(status)
+}
+
+// What the words ask for, and what is told of it on the standard error.
+fn status_of(rt: HostRuntime, words: &[String]) -> Status {
+    let mut sink = LastLine::new(StdoutSink::new(io::writer(&rt)));
+    let ended = match answered(rt, words, &mut sink) {
+        Some(ended) => ended,
+        None => Ended {
+            status: unmade(&mut sink),
+            file: None,
+            wires: None,
+        },
+    };
+    told::ended(rt, words, &ended, sink.line());
+    ended.status
 }
 
 fn status(rt: HostRuntime) -> Status {
-    let mut sink = StdoutSink::new(io::writer(&rt));
-    let answer = match words(&rt) {
-        Ok(Some(words)) => answered(rt, words.as_slice(), &mut sink),
+    match words(&rt) {
+        Ok(Some(words)) => match asked(words.as_slice()) {
+            Some(text) => said(rt, text),
+            None => status_of(rt, words.as_slice()),
+        },
         // Words that aren't UTF-8 fit no command.
-        Ok(None) => answered(rt, &[], &mut sink),
-        Err(_want) => None,
+        Ok(None) => status_of(rt, &[]),
+        Err(_want) => unmade(&mut StdoutSink::new(io::writer(&rt))),
+    }
+}
+
+// What the words ask to be told of the program itself.
+fn asked(words: &[String]) -> Option<&'static str> {
+    let [word] = words else {
+        return None;
     };
-    let status = match answer {
-        Some(status) => status,
-        None => unmade(&mut sink),
-    };
-    telling::unwritten(rt, status);
-    status
+    match word.as_str() {
+        "--help" | "-h" => Some(told::USAGE),
+        "--version" | "-V" => Some(origin::VERSION),
+        _ => None,
+    }
+}
+
+// Prints a text.
+fn said(rt: HostRuntime, text: &str) -> Status {
+    let mut sink = StdoutSink::new(io::writer(&rt));
+    if text.is_empty() || sink.write(text.as_bytes()).is_ok() {
+        return Status(0);
+    }
+    let _ = eprintln!(rt; "euroradio: a write to the standard output failed");
+    Status(5)
 }
 
 fn main(rt: HostRuntime) -> ExitCode {
     let Some(stand_ins) = stand_ins(rt) else {
-        telling::closed(rt);
+        told::closed(rt);
         return ExitCode::from(5);
     };
     let status = status(rt);

@@ -6,26 +6,33 @@ use er_base::NoMemory;
 use link_trait::{Failed, Sink};
 use std::alloc::Global;
 use std::cell::RefCell;
+use telling::Watch;
 
 // The most octets of lines that wait.
 const MOST_WAITING: usize = 65_536;
 
-/// The lines that wait, and the sink to which they go.
+/// The lines that wait, the sink to which they go, and the watch that hears them.
 #[derive(Drop)]
 pub(crate) struct Recording<'s, K: Sink> {
     sink: &'s mut K,
     lines: Vec<u8>,
     // Nothing is written behind a write that failed.
     has_failed: bool,
+    pub(crate) watch: Watch,
 }
 
 impl<'s, K: Sink> Recording<'s, K> {
     /// No line waits. Later calls take no memory.
-    pub(crate) fn new(alloc: Global, sink: &'s mut K) -> Result<Recording<'s, K>, NoMemory> {
+    pub(crate) fn new(
+        alloc: Global,
+        sink: &'s mut K,
+        watch: Watch,
+    ) -> Result<Recording<'s, K>, NoMemory> {
         Ok(Recording {
             sink,
             lines: Vec::with_capacity(alloc, MOST_WAITING)?,
             has_failed: false,
+            watch,
         })
     }
 
@@ -46,6 +53,17 @@ impl<'s, K: Sink> Recording<'s, K> {
         self.write_out()?;
         let answer = self.sink.write(lines);
         self.has_failed = answer.is_err();
+        answer
+    }
+
+    // The same, which the watch hears where they are taken.
+    fn hear(&mut self, lines: &[u8]) -> Result<(), Failed>
+        requires { 0 < length lines.now }
+    {
+        let answer = self.add(lines);
+        if answer.is_ok() {
+            self.watch.hear(lines);
+        }
         answer
     }
 
@@ -86,7 +104,7 @@ impl<'r, 's, K: Sink> Sink for RecordingSink<'r, 's, K> {
     fn write(&mut self, piece: &[u8]) -> Result<(), Failed> {
         let _faults = self.faults;
         let answer = match self.recording.try_borrow_mut() {
-            Ok(mut recording) => recording.add(piece),
+            Ok(mut recording) => recording.hear(piece),
             Err(_) => Err(Failed),
         };
         if answer.is_err() {

@@ -15,7 +15,7 @@ use std::alloc::Global;
 use std::collections::VecDeque;
 use std::io;
 use std::io::{ErrorKind, Read, Write};
-use std::net::Shutdown;
+use std::net::{Shutdown, SocketAddr};
 
 /// The most connections that are open at once: 256 that are live, and one that is accepted to be closed.
 pub const MOST_CONNECTIONS: usize = 257;
@@ -236,6 +236,12 @@ impl Lines {
                 Some(seen)
             }
         }
+    }
+
+    // The address of the peer of the connection of this number.
+    pub fn peer(&self, number: u64) -> Option<SocketAddr> {
+        let slot = self.slot_of(number)?;
+        self.slots.get(slot)?.stream.peer_addr().ok()
     }
 
     // Reads from the connection of this number.

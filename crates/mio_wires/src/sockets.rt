@@ -103,6 +103,11 @@ impl<R: Net + Clock + Drop> Sockets<R> {
         self.listener.as_ref()?.local_addr().ok()
     }
 
+    // The address of the peer of the connection of this number.
+    pub fn peer(&self, number: u64) -> Option<SocketAddr> {
+        self.lines.peer(number)
+    }
+
     // Begins a connection to the peer at an IP address and a port, and answers its number, the next behind the newest.
     pub fn dial(&mut self, address: &str, newest: u64) -> Result<u64, WireFault>
         ensures { IfOk result (λ number. number ≡ newest + 1) }

@@ -85,6 +85,11 @@ impl<R: Net + Clock + Drop> MioWires<R> {
         self.sockets.address()
     }
 
+    /// The address and the port of the peer of an open connection, for people: None where the system knows none any more.
+    pub fn peer(&self, conn: Conn) -> Option<SocketAddr> {
+        self.sockets.peer(conn.0)
+    }
+
     /// Why the newest listen, dial or turn that failed did so.
     pub fn fault(&self) -> Option<WireFault> {
         self.fault

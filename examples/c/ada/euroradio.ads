@@ -29,7 +29,7 @@ package Euroradio is
    Bad_Keys      : constant Status := -6;
    No_Memory     : constant Status := -7;
 
-   Version_Of_Binding : constant Unsigned_32 := 100;
+   Version_Of_Binding : constant Unsigned_32 := 101;
    Message_Most       : constant := 1_023;
    Out_Most           : constant := 200_208;
    Waiting_Most       : constant := 15;
@@ -150,6 +150,9 @@ package Euroradio is
 
    function Is_Released (The_End : in out Handle; Told : out Deeds) return Status
      with Import, Convention => C, External_Name => "euroradio_released";
+
+   function Copy_Reason (Reason, Sub : Unsigned_8; Into : in out Octets; Room : size_t) return size_t
+     with Import, Convention => C, External_Name => "euroradio_reason";
 
    function Counted (The_End : in out Handle; Told : out Counts) return Status
      with Import, Convention => C, External_Name => "euroradio_counted";

@@ -1,0 +1,267 @@
+//! What is written to the standard error, for people. Nothing there is a key, a text or a random number, and no clause speaks of it.
+
+use crate::ended::Ended;
+use er_base::{NoMemory, Release};
+use er_program::{Command, FileFault, MOST_FILE_OCTETS, command_from};
+use std::alloc::Global;
+use std::fmt::Write;
+use std::fs;
+use std::io::Read;
+use telling::{
+    Ears, FileKind, KeysHeld, Tally, Watch, file_refused, keys_refused, overfull, put_octets,
+    put_text, side,
+};
+
+/// The commands.
+pub(crate) const USAGE: &str = "usage: euroradio COMMAND, one of
+  drill SCENARIO                        runs the steps of a scenario
+  replay KEYS TRACE                     replays a trace or a recording
+  audit KEYS TAP                        tells of each SaPDU of tapped links what it is, and whether it is good
+  bits FILE                             reads a recorded synchronous line
+  bulk SEED COUNT                       sends COUNT messages, 0 to 10000, over a line that loses and repeats
+  migrate KEYS                          prints a key file as one of version 2
+  serve KEYS ADDRESS RBC TURNS          serves trains at an IP address and port, as 127.0.0.1:4711
+  call KEYS ADDRESS ENGINE RBC TURNS    calls as a train
+  --help, --version                     print this text, and which program this is
+ADDRESS is an IP address and a port. ENGINE and RBC are ETCS numbers, 0 to 16777215. TURNS is 0 to 1000000000, or - for no bound.
+";
+
+/// The standard output is closed.
+pub(crate) fn closed(rt: HostRuntime) {
+    let _ = eprintln!(rt; "euroradio: a standard stream is closed, and nothing was done");
+}
+
+// A line, where there was memory for it.
+fn tell(rt: HostRuntime, line: Result<String, NoMemory>) {
+    if let Ok(line) = line {
+        let _ = eprintln!(rt; "euroradio: {line}");
+    }
+}
+
+/// Why a run ended as it did, where it didn't end well. `last` is the last line that it printed.
+pub(crate) fn ended(rt: HostRuntime, words: &[String], ended: &Ended, last: &[u8]) {
+    let command = command_from(words);
+    match ended.status.0 {
+        1 => {
+            tell(rt, misused(rt.alloc(), words));
+            let _ = eprint!(rt; "{USAGE}");
+        }
+        2 => tell(rt, unfetched(rt.alloc(), last, ended.file)),
+        3 => {
+            if let Some((kind, name)) = file_of(&command) {
+                let text = octets_again(rt, name);
+                tell(
+                    rt,
+                    file_refused(rt.alloc(), kind, name, last, slice_of(&text)),
+                );
+            }
+        }
+        4 => {
+            if let Some(name) = keys_of(&command) {
+                let text = octets_again(rt, name);
+                tell(rt, keys_refused(rt.alloc(), name, last, slice_of(&text)));
+            }
+        }
+        5 => {
+            let _ = eprintln!(rt; "euroradio: a write to the standard output failed");
+        }
+        6 => tell(rt, wires_failed(rt.alloc(), &command, ended)),
+        7 => {
+            let _ = eprintln!(rt; "euroradio: memory ran out");
+        }
+        8 => {
+            let name = match file_of(&command) {
+                Some((_, name)) => name,
+                None => "bulk",
+            };
+            tell(rt, overfull(rt.alloc(), name, last));
+        }
+        _ => {}
+    }
+}
+
+// The file that a command reads besides keys.
+fn file_of<'a>(command: &Command<'a>) -> Option<(FileKind, &'a str)> {
+    match *command {
+        Command::Drill { name } => Some((FileKind::Drill, name)),
+        Command::Bits { name } => Some((FileKind::Bits, name)),
+        Command::Replay { trace, .. } => Some((FileKind::Trace, trace)),
+        Command::Audit { tap, .. } => Some((FileKind::Tap, tap)),
+        Command::Misused
+        | Command::Migrate { .. }
+        | Command::Bulk { .. }
+        | Command::Serve { .. }
+        | Command::Call { .. } => None,
+    }
+}
+
+// The key file of a command.
+fn keys_of<'a>(command: &Command<'a>) -> Option<&'a str> {
+    match *command {
+        Command::Migrate { keys }
+        | Command::Replay { keys, .. }
+        | Command::Audit { keys, .. }
+        | Command::Serve { keys, .. }
+        | Command::Call { keys, .. } => Some(keys),
+        Command::Misused | Command::Drill { .. } | Command::Bits { .. } | Command::Bulk { .. } =>
+            None,
+    }
+}
+
+fn slice_of(octets: &Option<Vec<u8>>) -> Option<&[u8]> {
+    match octets {
+        Some(octets) => Some(octets.as_slice()),
+        None => None,
+    }
+}
+
+// The octets of a file, read once more. Of what isn't a file of a disk, as a pipe, they are gone.
+fn octets_again(rt: HostRuntime, name: &str) -> Option<Vec<u8>> {
+    if !fs::metadata(&rt, name).ok()?.is_file() {
+        return None;
+    }
+    let mut octets = Vec::new(rt.alloc());
+    let file = fs::open(&rt, name).ok()?;
+    let mut piece = file.take(MOST_FILE_OCTETS as u64);
+    piece.read_to_end(&mut octets).ok()?;
+    Some(octets)
+}
+
+// Words that fit no command.
+fn misused(alloc: Global, words: &[String]) -> Result<String, NoMemory> {
+    let mut line = String::new(alloc);
+    let Some((first, arguments)) = words.split_first() else {
+        line.push_str("a command is missing")?;
+        return Ok(line);
+    };
+    let Some((wanted, count)) = wanted_by(first.as_str()) else {
+        line.push('\'')?;
+        put_text(&mut line, first.as_str())?;
+        line.push_str("' is no command")?;
+        return Ok(line);
+    };
+    put_text(&mut line, first.as_str())?;
+    if arguments.len() != count {
+        let found = arguments.len();
+        write!(line, " wants {wanted}, and {found} words stand behind it")?;
+        return Ok(line);
+    }
+    write!(
+        line,
+        " wants {wanted}, and a number is out of its range or no number:"
+    )?;
+    for word in arguments.iter() {
+        line.push_str(" '")?;
+        put_text(&mut line, word.as_str())?;
+        line.push('\'')?;
+    }
+    Ok(line)
+}
+
+fn wanted_by(command: &str) -> Option<(&'static str, usize)> {
+    match command {
+        "drill" => Some(("SCENARIO", 1)),
+        "bits" => Some(("FILE", 1)),
+        "migrate" => Some(("KEYS", 1)),
+        "replay" => Some(("KEYS TRACE", 2)),
+        "audit" => Some(("KEYS TAP", 2)),
+        "bulk" => Some(("SEED COUNT", 2)),
+        "serve" => Some(("KEYS ADDRESS RBC TURNS", 4)),
+        "call" => Some(("KEYS ADDRESS ENGINE RBC TURNS", 5)),
+        _ => None,
+    }
+}
+
+// Why a file can't be had: the last line tells which.
+fn unfetched(alloc: Global, last: &[u8], why: Option<FileFault>) -> Result<String, NoMemory> {
+    let mut line = String::new(alloc);
+    let name = match last {
+        [
+            b'!',
+            b' ',
+            b'f',
+            b'e',
+            b't',
+            b'c',
+            b'h',
+            b' ',
+            name @ ..,
+            b'\n',
+        ] => name,
+        [b'!', b' ', b'f', b'e', b't', b'c', b'h', b' ', name @ ..] => name,
+        _ => b"",
+    };
+    put_octets(&mut line, name)?;
+    match why {
+        Some(FileFault::Long) => line.push_str(": it has more than 33554432 octets")?,
+        Some(FileFault::System(error)) => write!(line, ": {error}")?,
+        _ => line.push_str(": it can't be read")?,
+    }
+    Ok(line)
+}
+
+// Why a listen, a dial or a turn failed.
+fn wires_failed(alloc: Global, command: &Command<'_>, ended: &Ended) -> Result<String, NoMemory> {
+    let mut line = String::new(alloc);
+    match *command {
+        Command::Serve { address, .. } | Command::Call { address, .. } => {
+            put_text(&mut line, address)?;
+        }
+        _ => {}
+    }
+    match ended.wires {
+        Some(why) => write!(line, ": {why}")?,
+        None => line.push_str(": the system refused it")?,
+    }
+    Ok(line)
+}
+
+/// What was counted, but for a run that failed before any connection.
+pub(crate) fn counted(rt: HostRuntime, ended: &Ended, watch: &Watch, ears: &Ears) {
+    let tally = &watch.tally;
+    if ended.status.0 != 0 && tally.connections == 0 && tally.turned_away == 0 {
+        return;
+    }
+    if let Ok(line) = watch.counts(rt.alloc(), ears) {
+        let _ = rt.eprintln(line);
+    }
+}
+
+/// How many keys a server has for its trains.
+pub(crate) fn keys(rt: HostRuntime, rbc: u64, held: KeysHeld) {
+    let KeysHeld {
+        entries,
+        of_centre,
+        holding,
+    } = held;
+    let _ = eprintln!(rt;
+        "euroradio: keys {entries}, of radio block centre {rbc} {of_centre}, of which {holding} hold now"
+    );
+    if holding == 0 {
+        let _ = eprintln!(rt;
+            "euroradio: warning: no key holds for radio block centre {rbc}: each train will be released with 3.1"
+        );
+    }
+}
+
+/// What became of a call.
+pub(crate) fn called(rt: HostRuntime, words: &[String], tally: &Tally) {
+    let Some(release) = tally.newest else {
+        let _ = eprintln!(rt; "euroradio: the call was not released");
+        return;
+    };
+    let Release {
+        reason,
+        sub,
+        by_peer,
+    } = release;
+    let side = side(by_peer);
+    if let (3, 1, true, [_, _, _, engine, rbc, ..]) = (reason, sub, by_peer, words) {
+        let _ = eprintln!(rt;
+            "euroradio: the call was released, 3.1 peer: the radio block centre {rbc} has no key of engine {engine} at this moment"
+        );
+        return;
+    }
+    let text = release.words();
+    let _ = eprintln!(rt; "euroradio: the call was released, {reason}.{sub} {side}: {text}");
+}

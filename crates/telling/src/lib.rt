@@ -1,0 +1,31 @@
+//! What the program tells people, on the standard error: why a file or words are refused, and what a server does.
+//!
+//! This profile's own. Nothing that is told is a key, a message or a random number. Nothing is claimed of it: what is
+//! claimed of a run stands on the standard output.
+#![tactic(auto)]
+
+mod drill_words;
+mod ears;
+mod file_kind;
+mod held;
+mod key_faults;
+mod last_line;
+mod line_words;
+mod refusals;
+mod sentence;
+mod shown;
+mod tally;
+mod tap_words;
+mod trace_words;
+mod wanted;
+mod watch;
+
+pub use ears::Ears;
+pub use file_kind::FileKind;
+pub use held::{KeysHeld, keys_held};
+pub use key_faults::keys_refused;
+pub use last_line::LastLine;
+pub use refusals::{file_refused, overfull};
+pub use shown::{put_octets, put_text};
+pub use tally::{Heard, Tally, Uncommon};
+pub use watch::{Watch, side};
