@@ -43,6 +43,11 @@ def of_captures(judge):
     served = served.replace("> 0 2 ", "> 70000 2 ") + "\n> 70001 3 full 256\n"
     whole, again = tapped(served)
     judge.same("a recording of serve and its capture", (again, whole[0][0], whole[1:]), (whole, ["link 1 5 9 70000"], ([], 0)))
+    # An end that answers looks its key up when AU1 comes, in the engine's first I frame: here with the third event.
+    events = iter(range(70000, 80000))
+    later = "\n".join(line.replace("> 70000 2 ", f"> {next(events)} 2 ") if line.startswith("> 70000 2 ") else line for line in served.split("\n"))
+    whole, again = tapped(later)
+    judge.same("whose key is looked up later", (again, whole[0][0]), (whole, ["link 1 5 9 70002"]))
     text = f"{HEADER}> 8 1 answer 9 1122334455667788\n> 8 1 octets {SABM}\n< 1 octets {UA}\n"
     untold = ([], {}), ["connection 1 doesn't tell its ETCS numbers: --engine and --rbc are wanted"], 1
     judge.same("an engine that wasn't connected", tapped(text), (untold, untold))
