@@ -181,6 +181,7 @@ fn answered<K: Sink>(rt: HostRuntime, words: &[String], sink: &mut K) -> Option<
 
 // What the words ask for, and what is told of it on the standard error.
 fn status_of(rt: HostRuntime, words: &[String]) -> Status {
+    told::hints(rt, words);
     let mut sink = LastLine::new(StdoutSink::new(io::writer(&rt)));
     let ended = match answered(rt, words, &mut sink) {
         Some(ended) => ended,

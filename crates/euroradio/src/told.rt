@@ -7,9 +7,10 @@ use std::alloc::Global;
 use std::fmt::Write;
 use std::fs;
 use std::io::Read;
+use std::os::unix::fs::PermissionsExt;
 use telling::{
-    Ears, FileKind, KeysHeld, Tally, Watch, file_refused, keys_refused, overfull, put_octets,
-    put_text, side,
+    Ears, FileKind, KeysHeld, Tally, Watch, file_refused, key_hints, keys_refused, overfull,
+    put_octets, put_text, side,
 };
 
 /// The commands.
@@ -125,6 +126,38 @@ fn octets_again(rt: HostRuntime, name: &str) -> Option<Vec<u8>> {
     let mut piece = file.take(MOST_FILE_OCTETS as u64);
     piece.read_to_end(&mut octets).ok()?;
     Some(octets)
+}
+
+// What others than its owner may do with a file that has keys.
+const READ_BY_OTHERS: u32 = 0o004;
+
+/// What in the key file of a command may not be what was meant; of a command that runs over wires also that others than its owner may
+/// read the file.
+pub(crate) fn hints(rt: HostRuntime, words: &[String]) {
+    let command = command_from(words);
+    let Some(name) = keys_of(&command) else {
+        return;
+    };
+    if let Some(octets) = octets_again(rt, name) {
+        if let Ok(lines) = key_hints(rt.alloc(), name, octets.as_slice()) {
+            for line in lines.iter() {
+                let _ = eprintln!(rt; "euroradio: warning: {line}");
+            }
+        }
+    }
+    if command.needs_wires() && is_read_by_others(rt, name) {
+        let mut line = String::new(rt.alloc());
+        if put_text(&mut line, name).is_ok() {
+            let _ = eprintln!(rt; "euroradio: warning: {line}: others than its owner may read it");
+        }
+    }
+}
+
+fn is_read_by_others(rt: HostRuntime, name: &str) -> bool {
+    match fs::metadata(&rt, name) {
+        Ok(about) => about.permissions().mode() & READ_BY_OTHERS != 0,
+        Err(_) => false,
+    }
 }
 
 // Words that fit no command.
