@@ -30,7 +30,8 @@ def run(words, status, printed, told, more=""):
     check(done.returncode == status, f"{name}{more}: status {done.returncode}, wanted {status}")
     check(printed is None and done.stdout.endswith(b"! wires\n") or done.stdout.decode(errors="replace") == printed, f"{name}{more}: printed {done.stdout[-200:]!r}, wanted {printed!r}")
     text = done.stderr.decode(errors="replace")
-    lines = text.splitlines()
+    # Hints on the key file come before.
+    lines = [line for line in text.splitlines() if not line.startswith("euroradio: warning: ")]
     first = lines[0] if lines else ""
     check(first.startswith("euroradio: "), f"{name}{more}: told {text[:200]!r}")
     for it in told:
@@ -244,9 +245,37 @@ def key_files(folder):
             file.write(text if isinstance(text, bytes) else text.encode())
         for words in (["migrate", path], ["audit", path, good], ["replay", path, good], ["serve", path, "127.0.0.1:0", "9", "0"], ["call", path, "127.0.0.1:1", "5", "9", "0"]):
             run(words, 4, f"! keys {fault}\n", [f"{path}: ", *told], f" of {text[:60]!r}")
+    hints(folder, good)
     unfetched(folder, ["migrate", "FILE"])
     unfetched(folder, ["serve", "FILE", "127.0.0.1:0", "9", "0"])
     unfetched(folder, ["call", "FILE", "127.0.0.1:1", "5", "9", "0"])
+
+
+def hints(folder, tap):
+    """What in a key file that is taken may not be what was meant: a line each, and nothing of a file in which all is."""
+    two = KEYS.replace("version = 1", "version = 2") + "from = 0\nto = 9\n"
+    zero, equal, pair = "0" * 48, K[:16] + K[:16].upper() + K[:16], K[:16] + K[16:32] + K[16:32]
+    table = [
+        (KEYS, []), (two, []),
+        (KEYS + "from = 1\nto = 2\n", ["entry 1: 'from' is ignored in a file of version 1: the key holds at every moment", "entry 1: 'to' is ignored in a file of version 1: the key holds at every moment"]),
+        (two + "note = 1\n", ["entry 1: 'note' is ignored"]), (f"{K} = 1\n" + KEYS, ["'0123..' of 48 digits is ignored"]),
+        (KEYS.replace("[[key]]", "[[keys]]"), ["'keys' is ignored: each entry begins with a line [[key]]", "it has no entry, so no key"]),
+        ("version = 1\n", ["it has no entry, so no key"]), ("version = 1\nkey = []\n", ["it has no entry, so no key"]),
+        (KEYS.replace(K, zero), ["entry 1: kmac is zero"]), (KEYS.replace(K, equal), ["entry 1: the three keys of kmac are equal, so it is as strong as one"]),
+        (KEYS.replace(K, pair), ["entry 1: two keys of kmac that follow each other are equal, so it is as strong as one"]),
+    ]
+    path = os.path.join(folder, "hints")
+    for text, wanted in table:
+        with open(path, "w") as file:
+            file.write(text)
+        for words in (["migrate", path], ["audit", path, tap]):
+            done = subprocess.run([PROGRAM, *words], stdin=subprocess.DEVNULL, capture_output=True, text=True, timeout=20)
+            told = done.stderr.splitlines()
+            check(done.returncode == 0 and told == [f"euroradio: warning: {path}: {hint}" for hint in wanted], f"hints of {text[:90]!r}: {done.returncode} {told}")
+    for mode, wanted in ((0o644, 1), (0o604, 1), (0o640, 0), (0o600, 0)):
+        os.chmod(path, mode)
+        done = subprocess.run([PROGRAM, "serve", path, "127.0.0.1:0", "9", "0"], stdin=subprocess.DEVNULL, capture_output=True, text=True, timeout=20)
+        check(done.stderr.count(f"warning: {path}: others than its owner may read it\n") == wanted, f"mode {mode:o}: {done.stderr!r}")
 
 
 # Words that are no number in any place: signs, spaces, leading zeros, other bases, other digits, too large, none.

@@ -10,6 +10,7 @@ use toml::{Table, Value};
 const MOST_HINTS: usize = 20;
 
 // What is told of one file, a line each.
+#[derive(Drop)]
 struct Hints<'n> {
     alloc: Global,
     // The name of the file.
@@ -52,7 +53,7 @@ impl<'n> Hints<'n> {
 }
 
 /// What in a key file may not be what its writer meant, a line each: fields that are ignored, no entry at all, keys that are no
-/// three keys. Nothing where the octets are no document: why they are refused is told elsewhere. No digit of a key is told.
+/// three keys. Nothing where the octets are no document of version 1 or 2: why they are refused is told elsewhere. No digit of a key is told.
 pub fn key_hints(alloc: Global, name: &str, octets: &[u8]) -> Result<Vec<String>, NoMemory> {
     let mut hints = Hints {
         alloc,
@@ -62,8 +63,12 @@ pub fn key_hints(alloc: Global, name: &str, octets: &[u8]) -> Result<Vec<String>
     let Ok(document) = toml::table_from_slice(alloc, octets) else {
         return Ok(hints.lines);
     };
+    let has_windows = match document.get("version").and_then(Value::as_integer) {
+        Some(1) => false,
+        Some(2) => true,
+        _ => return Ok(hints.lines),
+    };
     of_document(&mut hints, &document)?;
-    let has_windows = document.get("version").and_then(Value::as_integer) == Some(2);
     let Some(entries) = document.get("key").and_then(Value::as_array) else {
         return Ok(hints.lines);
     };
