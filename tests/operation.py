@@ -22,6 +22,9 @@ KEYS = f'version = 1\n\n[[key]]\nengine = 5\nrbc = 9\nkmac = "{KMAC}"\n'
 REPORTS = [f"position-report-{n:08}" for n in (1, 2, 3)]
 passed = failed = 0
 
+# Of a key file that others may read a server tells first.
+os.umask(0o077)
+
 # A script that was begun in the background of a shell inherits that interrupts are ignored, and so would its servers.
 signal.signal(signal.SIGINT, signal.default_int_handler)
 
