@@ -1,4 +1,5 @@
 pub mod SlotValues
 pub mod Settled
 pub mod Taking
+pub mod Using
 pub mod Running

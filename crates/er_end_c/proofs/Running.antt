@@ -21,6 +21,9 @@ use Rattle.er_end_c.specs.Makings.{held_made}
 use Rattle.er_end_c.specs.Reads.{text_of_held_end, text_or_empty, out_of, newest_accepted_message, message_last_taken, none_or, else_, deadline_status, shown_deadline, shown_release_status, shown_release, count_waiting_at_handle, shown_counts}
 use Rattle.er_end_c.specs.Calls.{HandleCall, Start, Octets, Send, Take, Release, Tick, Ended, Fault, Stalled, is_moment_too_late, moment_of, event_of, octet_count_of_call, finds_in, handle_end_behind_call, told_at, deeds_at, held_after, status_after, deeds_after, DoesHandleCall}
 use Rattle.er_end_c.proofs.Taking.{last_taken}
+use Rattle.er_end_c.proofs.Using.{uses_octets}
+use Rattle.er_end_c.specs.Used.{UsesOctets}
+use Rattle.hdlc_frames.specs.Laws.{KeptStandsForStream}
 use Rattle.er_end_c.specs.Runs.{Answered, HasTexts, LeadsToHandle, event_used, stepped, model_after, model_run, is_send_refused, octets_told, accepted_told, taken_told, is_take, IsAnsweredIf, AreAnswered, ReadsAs, RunsAsModel}
 
 -- ---- texts
@@ -139,27 +142,27 @@ event_same Ended entries h used e u = refl
 event_same Fault entries h used e u = refl
 event_same Stalled entries h used e u = refl
 
-one_at : StepsAlike → (late : Bool) (entries : List KmacEntry) (a : Answered) (next : CEnd) (m : End) (h : Held) → key_entries_of_handle h ≡ entries → EndStands h.end m
+one_at : StepsAlike → KeptStandsForStream → (late : Bool) (entries : List KmacEntry) (a : Answered) (next : CEnd) (m : End) (h : Held) → key_entries_of_handle h ≡ entries → EndStands h.end m
     → end_held_in_handle next ≡ (if late then Some h else Some (held_with_end h (handle_end_behind_call a.call h)))
     → a.status ≡ (if late then late_moment else status_told (told_at a.call h))
     → a.deeds ≡ (if late then no_deeds else deeds_at a.call h)
     → HasTexts next a
     → IsAnsweredIf late (key_at entries) a m × Holds next entries (if late then m else (stepped (key_at entries) a m).0)
-one_at steps true entries a next m h e tied there s d t = ((s, d), record { found = h; there = there; keyed = e; tied = tied })
-one_at steps false entries a next m h e tied there s d t =
+one_at steps keeps true entries a next m h e tied there s d t = ((s, d), record { found = h; there = there; keyed = e; tied = tied })
+one_at steps keeps false entries a next m h e tied there s d t =
     let k : KEnd = h.end in let now : ℕ = moment_of a.call in let ev : Event = event_of (finds_in h) a.call in
     let u : a.deeds.used ≡ octet_count_of_call a.call k = ap (λ (x : CDeeds). x.used) d in
     let same = event_same a.call entries h a.deeds.used e u in
     let p = steps now ev k m tied in
     let told : told_at a.call h ≡ (stepped (key_at entries) a m).1 = p.1 ∙ ap (λ (x : Event). (step_event now x m).1) same in
     let unrefused : is_send_refused (stepped (key_at entries) a m).1 ≡ false → is_send_refused (told_at a.call h) ≡ false = λ n. ap is_send_refused told ∙ n in (
-      record {
+      (record {
         answer = s ∙ ap status_told told;
         tells = d ∙ ap (λ (x : List Outcome). record (deeds_told x) { used = octet_count_of_call a.call k }) told ∙ ap (λ n. record (deeds_told (stepped (key_at entries) a m).1) { used = n }) (sym u);
         sent = λ n. t.out_there ∙ ap (text_of_held_end out_of) there ∙ sym (octets_at a.call h (unrefused n)) ∙ ap octets_told told;
         came = λ n. t.accepted_there ∙ ap (text_of_held_end newest_accepted_message) there ∙ sym (accepted_at a.call h (unrefused n)) ∙ ap accepted_told told;
         took = λ n. t.taken_there ∙ ap (text_of_held_end message_last_taken) there ∙ sym (taken_at a.call h n) ∙ ap taken_told told;
-      },
+      }, subst (λ (n : ℕ). UsesOctets a.call m n) (sym u) (uses_octets keeps a.call k m tied)),
       record {
         found = held_with_end h (handle_end_behind_call a.call h);
         there = there;
@@ -168,10 +171,10 @@ one_at steps false entries a next m h e tied there s d t =
       },
     )
 
-one : StepsAlike → (entries : List KmacEntry) (a : Answered) (first next : CEnd) (m : End) → Holds first entries m → DoesHandleCall a.call first next a.status a.deeds → HasTexts next a
+one : StepsAlike → KeptStandsForStream → (entries : List KmacEntry) (a : Answered) (first next : CEnd) (m : End) → Holds first entries m → DoesHandleCall a.call first next a.status a.deeds → HasTexts next a
     → IsAnsweredIf (is_moment_too_late (moment_of a.call)) (key_at entries) a m × Holds next entries (model_after (key_at entries) a m)
-one steps entries a first next m holds does texts =
-    one_at steps (is_moment_too_late (moment_of a.call)) entries a next m holds.found holds.keyed holds.tied
+one steps keeps entries a first next m holds does texts =
+    one_at steps keeps (is_moment_too_late (moment_of a.call)) entries a next m holds.found holds.keyed holds.tied
     (does.held ∙ ap (held_after a.call) holds.there) (does.answer ∙ ap (status_after a.call) holds.there) (does.tells ∙ ap (deeds_after a.call) holds.there) texts
 
 -- ---- what is read
@@ -190,17 +193,17 @@ reads shows end entries m holds =
 
 -- ---- a run
 
-run_from : StepsAlike → ShowsAlike → (entries : List KmacEntry) (calls : List Answered) (first last : CEnd) (m : End) → Holds first entries m → LeadsToHandle calls first last
+run_from : StepsAlike → KeptStandsForStream → ShowsAlike → (entries : List KmacEntry) (calls : List Answered) (first last : CEnd) (m : End) → Holds first entries m → LeadsToHandle calls first last
     → AreAnswered (key_at entries) calls m × ReadsAs last (model_run (key_at entries) calls m)
-run_from steps shows entries [] first last m holds same =
+run_from steps keeps shows entries [] first last m holds same =
     (tt, reads shows last entries m (record { found = holds.found; there = same ∙ holds.there; keyed = holds.keyed; tied = holds.tied }))
-run_from steps shows entries (a ∷ calls) first last m holds leads =
+run_from steps keeps shows entries (a ∷ calls) first last m holds leads =
     let next : CEnd = leads.0 in
-    let o = one steps entries a first next m holds leads.1 leads.2 in
-    let rest = run_from steps shows entries calls next last (model_after (key_at entries) a m) o.1 leads.3 in
+    let o = one steps keeps entries a first next m holds leads.1 leads.2 in
+    let rest = run_from steps keeps shows entries calls next last (model_after (key_at entries) a m) o.1 leads.3 in
     ((o.0, rest.0), rest.1)
 
-pub runs_as_model : MadeStands → StepsAlike → ShowsAlike → RunsAsModel
-runs_as_model made steps shows opening entries calls first last allowed is leads =
-    run_from steps shows (optional_key_entries entries) calls first last (opened opening)
+pub runs_as_model : MadeStands → StepsAlike → KeptStandsForStream → ShowsAlike → RunsAsModel
+runs_as_model made steps keeps shows opening entries calls first last allowed is leads =
+    run_from steps keeps shows (optional_key_entries entries) calls first last (opened opening)
     (record { found = held_made opening entries; there = is; keyed = refl; tied = made opening allowed }) leads

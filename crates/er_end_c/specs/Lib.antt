@@ -7,4 +7,5 @@ pub mod Calls
 pub mod Makings
 pub mod Shown
 pub mod Reads
+pub mod Used
 pub mod Runs

@@ -14,6 +14,7 @@ use Rattle.er_end_c.specs.Deeds.{no_deeds, deeds_told, status_told, release_deed
 use Rattle.er_end_c.specs.Handles.{optional_key_entries, end_held_in_handle}
 use Rattle.er_end_c.specs.Makings.{IsHandleMade}
 use Rattle.er_end_c.specs.Reads.{text_of_held_end, out_of, newest_accepted_message, message_last_taken, none_or, else_, deadline_status, shown_deadline, shown_release_status, shown_release, count_waiting_at_handle, shown_counts}
+use Rattle.er_end_c.specs.Used.{UsesOctets}
 use Rattle.er_end_c.specs.Calls.{HandleCall, Start, Octets, Send, Take, Release, Tick, Ended, Fault, Stalled, is_moment_too_late, moment_of, DoesHandleCall}
 
 -- a call, what it answered, and the texts that could be copied behind it
@@ -116,7 +117,7 @@ is_take Ended = false
 is_take Fault = false
 is_take Stalled = false
 
--- a call answers what the step of the model tells: as its status, as its deeds, and as the texts to be copied, unless it is a send that was
+-- a call answers what the step of the model tells, for the octets that it uses: as its status, as its deeds, and as the texts to be copied, unless it is a send that was
 -- refused, behind which those of the event before may still be copied
 pub record IsAnswered (a : Answered) (told : List Outcome) : Type 0 where
   pub answer : a.status ≡ status_told told
@@ -127,7 +128,7 @@ pub record IsAnswered (a : Answered) (told : List Outcome) : Type 0 where
 
 abbrev pub IsAnsweredIf : (late : Bool) → Finds → Answered → End → Type 0
 IsAnsweredIf true finds a m = (a.status ≡ late_moment) × (a.deeds ≡ no_deeds)
-IsAnsweredIf false finds a m = IsAnswered a (stepped finds a m).1
+IsAnsweredIf false finds a m = IsAnswered a (stepped finds a m).1 × UsesOctets a.call m a.deeds.used
 
 abbrev pub AreAnswered : Finds → List Answered → End → Type 0
 AreAnswered finds [] m = Unit {0}

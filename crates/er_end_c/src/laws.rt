@@ -8,4 +8,5 @@ pub fn runs()
     ensures { RunsAsModel }
 {
     er_end::laws::standing();
+    hdlc_frames::laws::kept_stands_for_stream();
 }
