@@ -101,6 +101,21 @@ Near selective lx x ly y =
     × (x.phase ≡ Up)
     × (y.phase ≡ Up)
 
+-- the same of some ways alone: out says that it holds of what x sends, back of what y sends
+abbrev pub NearSome : (selective out back : Bool) → List Frame → Station → List Frame → Station → Type 0
+NearSome selective out back lx x ly y =
+    (out ≡ true → Toward selective (infos lx) (receive_numbers_in_frames ly) x y)
+    × (back ≡ true → HasAllSentComing selective (length x.taken) x.held (infos ly) y.sent)
+    × AllExchange lx
+    × AllExchange ly
+    × (x.phase ≡ Up)
+    × (y.phase ≡ Up)
+
+abbrev pub MendsSome : (selective out back : Bool) → List Frame → Station → List Frame → Station → Type 0
+MendsSome selective out back lx x ly y =
+    NearSome selective out back lx x ly y
+    × (back ≡ true → x.owed ≡ false → infos ly ≡ [] → EndsAtNumber y.acked (receive_numbers_in_frames lx) (length x.taken))
+
 -- what waits in both directions leads to all that was sent, and to its acknowledgement
 abbrev pub Mends : (selective : Bool) → List Frame → Station → List Frame → Station → Type 0
 Mends selective lx x ly y =
