@@ -14,7 +14,7 @@ use Rattle.hdlc_station_model.specs.Selective.{held_for, receives_as}
 use Rattle.hdlc_station_model.specs.Calls.{hands, finishes}
 use Rattle.hdlc_pair_laws.specs.Invariant.{IsStationPair, Both, Early, infos, receive_numbers_in_frames}
 use Rattle.hdlc_pair_laws.specs.Keeping.{found}
-use Rattle.hdlc_pair_laws.specs.Mending.{Own, HasAllSentComing, Mends, HasSetUpFrameWaiting, HasSetUpAnswerWaiting, Progress, Lossy, HalfTicked, Ticked, Reached, MayHear, MaySpeak}
+use Rattle.hdlc_pair_laws.specs.Mending.{Own, HasAllSentComing, Mends, MendsSome, HasSetUpFrameWaiting, HasSetUpAnswerWaiting, Progress, Lossy, HalfTicked, Ticked, Reached, MayHear, MaySpeak}
 use Rattle.hdlc_pair_laws.proofs.Ways.{way_bounds}
 use Rattle.hdlc_pair_laws.proofs.Rows.{set_up_at}
 use Rattle.hdlc_pair_laws.proofs.Hearing.{row_as}
@@ -24,8 +24,8 @@ use Rattle.hdlc_pair_laws.proofs.Delivers.{early_cannot, cannot_yet, sets_up, ag
 use Rattle.hdlc_pair_laws.proofs.LossFree.{unsent, unsent_hands, unsent_finishes}
 use Rattle.hdlc_pair_laws.proofs.Sound.{OwnIn}
 use Rattle.hdlc_pair_laws.proofs.Sounds.{Claim, ToR, ToE, own_begun}
-use Rattle.hdlc_pair_laws.proofs.Mending.{MendsIn, mends_swap, waiting_mends, hands_mends, finishes_mends}
-use Rattle.hdlc_pair_laws.proofs.MendRows.{go_back_mends, selective_mends}
+use Rattle.hdlc_pair_laws.proofs.Mending.{MendsIn, MendsSomeIn, mends_swap, to_some, of_some, waiting_some, waiting_mends, hands_mends, finishes_mends}
+use Rattle.hdlc_pair_laws.proofs.MendRows.{go_back_some, selective_some}
 use Rattle.hdlc_pair_laws.proofs.Repeats.{hands_fires, finishes_fires}
 
 -- ---- the calls but the tick keep what is reached
@@ -89,21 +89,28 @@ handed_reached Ticked selective false w now q x l y may is (inr (inr m)) = inr (
 
 -- ---- both are up: a frame comes
 
+pub received_some : ControlReadsBack → (selective out back : Bool) (k now : ℕ) (w : List Frame) (x : Station) (f : Frame) (fs : List Frame) (y : Station) → Both selective k w x (f ∷ fs) y
+    → (selective ≡ true → k ≡ x.window) → held_for (length x.taken) x.held ≡ None → MendsSome selective out back (w ++ x.said) x (f ∷ fs) y
+    → MendsSomeIn selective out back w (receives_as selective now (found y f) x) fs y
+received_some law selective out back k now w x f fs y b wide free h =
+    let z : Station = sees now x in
+    let e = heard_live selective now (found y f) x (ap is_down h.0.4) in
+    let row = heard_row law selective k (w ++ x.said) z f fs y b ∙ ap (λ (q : Phase). row_as selective q z (shown x.extended f) (information f)) h.0.4 in
+    subst (λ (t : Station). MendsSomeIn selective out back w t fs y) (sym (e ∙ ap sends_waiting row))
+    (waiting_some selective out back w fs y (row_as selective Up z (shown x.extended f) (information f)) (rows selective k w z f fs y b wide free h))
+  where
+    rows : (selective : Bool) (k : ℕ) (w : List Frame) (x : Station) (f : Frame) (fs : List Frame) (y : Station) → Both selective k w x (f ∷ fs) y
+        → (selective ≡ true → k ≡ x.window) → held_for (length x.taken) x.held ≡ None → MendsSome selective out back (w ++ x.said) x (f ∷ fs) y
+        → MendsSomeIn selective out back w (row_as selective Up x (shown x.extended f) (information f)) fs y
+    rows true k w x f fs y b wide free h = selective_some out back k w w x f fs fs y b (wide refl) free h
+    rows false k w x f fs y b wide free h = go_back_some out back k w x f fs y y b h
+
 pub received_mends : ControlReadsBack → (selective : Bool) (k now : ℕ) (w : List Frame) (x : Station) (f : Frame) (fs : List Frame) (y : Station) → Both selective k w x (f ∷ fs) y
     → (selective ≡ true → k ≡ x.window) → held_for (length x.taken) x.held ≡ None → Mends selective (w ++ x.said) x (f ∷ fs) y
     → MendsIn selective w (receives_as selective now (found y f) x) fs y
 received_mends law selective k now w x f fs y b wide free h =
-    let z : Station = sees now x in
-    let e = heard_live selective now (found y f) x (ap is_down h.0.4) in
-    let row = heard_row law selective k (w ++ x.said) z f fs y b ∙ ap (λ (q : Phase). row_as selective q z (shown x.extended f) (information f)) h.0.4 in
-    subst (λ (t : Station). MendsIn selective w t fs y) (sym (e ∙ ap sends_waiting row))
-    (waiting_mends selective w fs y (row_as selective Up z (shown x.extended f) (information f)) (rows selective k w z f fs y b wide free h))
-  where
-    rows : (selective : Bool) (k : ℕ) (w : List Frame) (x : Station) (f : Frame) (fs : List Frame) (y : Station) → Both selective k w x (f ∷ fs) y
-        → (selective ≡ true → k ≡ x.window) → held_for (length x.taken) x.held ≡ None → Mends selective (w ++ x.said) x (f ∷ fs) y
-        → MendsIn selective w (row_as selective Up x (shown x.extended f) (information f)) fs y
-    rows true k w x f fs y b wide free h = selective_mends k w w x f fs fs y b (wide refl) free h
-    rows false k w x f fs y b wide free h = go_back_mends k w x f fs y y b h
+    let t : Station = receives_as selective now (found y f) x in
+    of_some selective (w ++ t.said) t fs y (received_some law selective true true k now w x f fs y b wide free (to_some selective (w ++ x.said) x (f ∷ fs) y h))
 
 -- ---- the set-up frame comes to the called station
 

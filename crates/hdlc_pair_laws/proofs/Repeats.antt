@@ -89,7 +89,7 @@ module _ (w : List Frame) where
 -- ---- the tick
 
 -- T1 doesn't run and isn't found expired, or it is and the station doesn't give up
-ticked : (now : ℕ) (x : Station) (P : Station → Type 0) → is_down x.phase ≡ false → MayRepeat now x
+pub ticked : (now : ℕ) (x : Station) (P : Station → Type 0) → is_down x.phase ≡ false → MayRepeat now x
     → (x.timer ≡ None → P (sends_waiting (sees now x))) → (x.expiries < x.n2 → P (sends_waiting (expires_at x.phase (sees now x)))) → P (ticks now x)
 ticked now x P live may still due =
     cond_both (is_down x.phase) x (sends_waiting (expires_if_due (sees now x))) P (λ down. absurd (true≢false (sym down ∙ live)))
@@ -107,7 +107,7 @@ few x less = elim (cases_Bool (nat_lt x.n2 (x.expiries + 1))) [
   | inr e ↦ e
 ]
 
-up_expires : (x : Station) → x.expiries < x.n2 → expires_at Up x ≡ starts_timer (sends_again (counts_expiry x))
+pub up_expires : (x : Station) → x.expiries < x.n2 → expires_at Up x ≡ starts_timer (sends_again (counts_expiry x))
 up_expires x less = ap (λ (b : Bool). if b then gives_up NoProgress x else starts_timer (sends_again (counts_expiry x))) (few x less)
 
 setting_expires : (x : Station) → x.expiries < x.n2 → expires_at Setting x ≡ starts_timer (puts SetUp (counts_expiry x))

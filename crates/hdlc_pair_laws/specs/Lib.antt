@@ -7,6 +7,7 @@ pub mod LossFree
 pub mod Recovery
 pub mod Filling
 pub mod Timers
+pub mod EachEnd
 pub mod Mending
 pub mod Repairs
 pub mod KnownAnswers

@@ -1,6 +1,7 @@
 //! What holds of two stations over two lines, as facts that a caller can cite.
 
 ghost use Rattle.hdlc_pair_laws.specs.Keeping.{CallsKeep, FramesGive, PhasesStay, ReceivesTell, TicksTell};
+ghost use Rattle.hdlc_pair_laws.specs.EachEnd.{RecoveryInTurn, RecoveryOfEachEnd};
 ghost use Rattle.hdlc_pair_laws.specs.Filling.{GapsAreFilled};
 ghost use Rattle.hdlc_pair_laws.specs.LossFree.{FlowBounds, FlowKeeps};
 ghost use Rattle.hdlc_pair_laws.specs.Recovery.{DrainEmptiesLive, PassesBound, PassesRelease, Recovery};
@@ -98,6 +99,31 @@ pub fn recovery()
     control_reads_back();
     flag_parts();
     frame_alone();
+}
+
+/// The same of one end at a time: a moment finds T1 of one end expired, whatever T1 of the other does, and neither gives up; all that waits is given. Then
+/// T1 of that end doesn't run, no expiry is counted, and the other took all that this one was handed, whatever was lost the other way.
+pub fn recovery_of_each_end()
+    ensures { RecoveryOfEachEnd }
+{
+    control_reads_back();
+    flag_parts();
+    frame_alone();
+    hdlc_station_model::laws::receives_give();
+    hdlc_station_model::laws::releases_are_told();
+    hdlc_station_model::laws::released_are_inert();
+}
+
+/// So the deadlines of both ends may come in either order: behind the second one, and all that waits then, each end took all that the other was handed.
+pub fn recovery_in_turn()
+    ensures { RecoveryInTurn }
+{
+    control_reads_back();
+    flag_parts();
+    frame_alone();
+    hdlc_station_model::laws::receives_give();
+    hdlc_station_model::laws::releases_are_told();
+    hdlc_station_model::laws::released_are_inert();
 }
 
 /// A line that lost nothing so far: one frame is lost while two I frames or more wait from its end. REJ repairs that, or SREJ with selective reject:
