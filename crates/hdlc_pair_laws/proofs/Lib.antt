@@ -47,5 +47,7 @@ pub mod Filling
 pub mod FillCalls
 pub mod Calm
 pub mod Filled
+pub mod Ahead
+pub mod FilledAgain
 pub mod Asking
 pub mod AskCalls

@@ -84,7 +84,7 @@ both_phases Down q live begun first called = absurd cc
 pub timed_up : (x : Station) (c : Bool) (wd : ℕ) (l : List Frame) → x.phase ≡ Up → Own c wd l x → x.timer ≡ None → x.acked ≡ x.sent
 timed_up x c wd l up h none = ((subst (λ (p : Phase). Timed p x.timer x.expiries x.acked x.sent) up h.4).0 none).0
 
-timed_setting : (x : Station) (c : Bool) (wd : ℕ) (l : List Frame) → x.phase ≡ Setting → Own c wd l x → x.timer ≡ None → ⊥
+pub timed_setting : (x : Station) (c : Bool) (wd : ℕ) (l : List Frame) → x.phase ≡ Setting → Own c wd l x → x.timer ≡ None → ⊥
 timed_setting x c wd l setting h = subst (λ (p : Phase). Timed p x.timer x.expiries x.acked x.sent) setting h.4
 
 -- ---- the ticks

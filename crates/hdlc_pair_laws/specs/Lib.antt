@@ -6,6 +6,7 @@ pub mod Keeping
 pub mod LossFree
 pub mod Recovery
 pub mod Filling
+pub mod FillingAgain
 pub mod Timers
 pub mod EachEnd
 pub mod Mending

@@ -3,6 +3,7 @@
 ghost use Rattle.hdlc_pair_laws.specs.Keeping.{CallsKeep, FramesGive, PhasesStay, ReceivesTell, TicksTell};
 ghost use Rattle.hdlc_pair_laws.specs.EachEnd.{RecoveryInTurn, RecoveryOfEachEnd};
 ghost use Rattle.hdlc_pair_laws.specs.Filling.{GapsAreFilled};
+ghost use Rattle.hdlc_pair_laws.specs.FillingAgain.{GapsAreFilledAgain};
 ghost use Rattle.hdlc_pair_laws.specs.LossFree.{FlowBounds, FlowKeeps};
 ghost use Rattle.hdlc_pair_laws.specs.Recovery.{DrainEmptiesLive, PassesBound, PassesRelease, Recovery};
 ghost use Rattle.hdlc_pair_laws.specs.Repairs.{MendEnds, MendKeeps};
@@ -131,6 +132,17 @@ pub fn recovery_in_turn()
 /// payload itself.
 pub fn gaps_are_filled()
     ensures { GapsAreFilled }
+{
+    control_reads_back();
+    flag_parts();
+    frame_alone();
+}
+
+/// The same at any time in the life of a link: from a moment on at which nothing waits and nothing is unacknowledged, whatever the line lost and repeated
+/// before, the next loss before others is filled without an expiry of T1. With go-back the gap mark of the station that takes must be clear there: a
+/// frame that merely came twice leaves it set.
+pub fn gaps_are_filled_again()
+    ensures { GapsAreFilledAgain }
 {
     control_reads_back();
     flag_parts();
