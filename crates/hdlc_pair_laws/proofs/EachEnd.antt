@@ -1,6 +1,6 @@
 -- Recovery of one end at a time: the end whose T1 expires sends again all that is unacknowledged, and whatever the other one lost, once no frame waits that
 -- was taken. With the deadline of the other end all was taken both ways.
-use Rattle.std.proofs.Common.{if◌then◌else◌, ◌≡◌, ℕ, ◌+◌, ◌<◌, ◌≤◌, ◌⊎◌, inl, inr, max, Bool, true, false, not, ◌||◌, List, [], ◌∷◌, ◌++◌, length, Option, None, refl, sym, ◌∙◌, ap, subst, arith, append-nil, length-append, lt-ltb, true≢false}
+use Rattle.std.proofs.Common.{if◌then◌else◌, ◌≡◌, ℕ, ◌<◌, ◌≤◌, ◌⊎◌, inl, inr, max, Bool, true, false, not, ◌||◌, List, [], ◌∷◌, ◌++◌, length, Option, None, refl, sym, ◌∙◌, ap, subst, arith, append-nil, length-append, lt-ltb, true≢false}
 use Rattle.std.specs.Prelude.{nat_lt}
 use Rattle.std.specs.Option.{option_to_list}
 use Rattle.std.proofs.lemmas.Bool.{cases_Bool, cases_lt, cond_both}
@@ -9,7 +9,7 @@ use Rattle.er_base.specs.declared.side.Side.TheVariants.{E, R}
 use Rattle.er_base.specs.Sides.{other}
 use Rattle.hdlc_frames.specs.Laws.{ControlReadsBack}
 use Rattle.hdlc_station_model.specs.declared.phase.Phase.{Phase}
-use Rattle.hdlc_station_model.specs.declared.phase.Phase.TheVariants.{Idle, Setting, Up}
+use Rattle.hdlc_station_model.specs.declared.phase.Phase.TheVariants.{Idle, Up}
 use Rattle.hdlc_station_model.specs.Frames.{Frame, Rr}
 use Rattle.hdlc_station_model.specs.Stations.{Station, no_deed, is_up, is_down, sees, puts, settled}
 use Rattle.hdlc_station_model.specs.Sending.{waiting, sends_up_to, sends_waiting, sends_again, starts_timer, counts_expiry, settles, expires_at, expires_if_due, is_due}

@@ -1,5 +1,5 @@
 -- The law of gaps from any quiet moment on: nothing is unacknowledged there, and nothing is held or asked for, so all is as on a line that lost nothing.
-use Rattle.std.proofs.Common.{◌≡◌, ℕ, ◌+◌, ◌≤◌, inl, inr, Bool, true, false, List, [], ◌∷◌, ◌++◌, length, refl, sym, ◌∙◌, ap, subst, arith, true≢false}
+use Rattle.std.proofs.Common.{◌≡◌, ℕ, ◌≤◌, inl, inr, Bool, true, false, List, [], ◌∷◌, ◌++◌, length, refl, sym, ◌∙◌, ap, subst, arith, true≢false}
 use Rattle.er_base.specs.declared.side.Side.{Side}
 use Rattle.er_base.specs.declared.side.Side.TheVariants.{E, R}
 use Rattle.er_base.specs.Sides.{other}
@@ -11,7 +11,7 @@ use Rattle.pair_model.specs.Steps.{PairStep, Lose, pair_run, NoFrameWaits}
 use Rattle.pair_model.specs.Walks.{pair_run_append}
 use Rattle.hdlc_pair_laws.specs.Links.{StationLink, station_kind}
 use Rattle.hdlc_pair_laws.specs.Laws.{StationLinkOpening, after}
-use Rattle.hdlc_pair_laws.specs.Invariant.{HoldsOutOfOrderPayloads, IsStationPair, infos, receive_numbers_in_frames, reach}
+use Rattle.hdlc_pair_laws.specs.Invariant.{HoldsOutOfOrderPayloads, IsStationPair, reach}
 use Rattle.hdlc_pair_laws.specs.Flowing.{one_if, Shape}
 use Rattle.hdlc_pair_laws.specs.Recovery.{AreLive, IsRecovered}
 use Rattle.hdlc_pair_laws.specs.FillingAgain.{IsQuiet, MarksNoGap, after_anew, GapsAreFilledAgain}
