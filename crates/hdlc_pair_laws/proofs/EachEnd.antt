@@ -27,7 +27,7 @@ use Rattle.hdlc_pair_laws.specs.Flowing.{HasNoPayloadToSend}
 use Rattle.hdlc_pair_laws.specs.Keeping.{found, FramesGive}
 use Rattle.hdlc_pair_laws.specs.Recovery.{AreLive, GoOn}
 use Rattle.hdlc_pair_laws.specs.EachEnd.{IsFoundExpired, HasExpiryLeft, NoneGivesUp, IsRepaired, RecoveryOfEachEnd, RecoveryInTurn}
-use Rattle.hdlc_pair_laws.specs.Mending.{Timed, Own, Rested, AllAre, AllExchange, MendsSome}
+use Rattle.hdlc_pair_laws.specs.Mending.{Timed, Own, Rested, Shows, MendsSome}
 use Rattle.hdlc_pair_laws.proofs.Ways.{way_bounds}
 use Rattle.hdlc_pair_laws.proofs.Events.{swap, finishes_keeps, ticks_keeps}
 use Rattle.hdlc_pair_laws.proofs.Lines.{none_on_line, answered}
@@ -41,78 +41,11 @@ use Rattle.hdlc_pair_laws.proofs.SoundCalls.{ticks_leaves}
 use Rattle.hdlc_pair_laws.proofs.Sounds.{Claim, Sounds, ToR, ToE, e_does, r_does, e_own, r_own, same, passes_keep}
 use Rattle.hdlc_pair_laws.proofs.SoundRuns.{NoClaim, Sound, passes_sound, after_sound}
 use Rattle.hdlc_pair_laws.proofs.Mending.{MendsSomeIn, some_swap, waiting_some, finishes_some, sends_again_mends}
-use Rattle.hdlc_pair_laws.proofs.Repeats.{ticked, up_expires, up_fires, finishes_fires}
+use Rattle.hdlc_pair_laws.proofs.Repeats.{ticked, up_expires, finishes_shows}
 use Rattle.hdlc_pair_laws.proofs.Recovers.{Recovers, received_some, recovers_to_r, recovers_to_e}
 use Rattle.hdlc_pair_laws.proofs.Ticks.{fires_toward, called_phase, both_phases, timed_up, none_taken}
+use Rattle.hdlc_pair_laws.proofs.OneTick.{none_late, up_ticks, late_mends, ticks_some, early_stopped}
 use Rattle.hdlc_pair_laws.proofs.Recovered.{Behind, both_ticked, took_all, emptied, behind}
-
--- ---- a moment comes to a station that is up
-
--- of a moment that doesn't find T1 expired nothing comes
-rests_send : (x : Station) → HasNoPayloadToSend x → sends_waiting x ≡ x
-rests_send x (inl cannot) = unsent x cannot
-rests_send x (inr all) = let none : waiting x ≡ 0 = omega (arith, all) in ap (λ (n : ℕ). sends_up_to n x) none
-
-rests_tick : (now : ℕ) (x : Station) → x.phase ≡ Up → is_late now x ≡ false → Rested x → finishes (ticks now x) ≡ sees now x
-rests_tick now x up timely rests =
-    ap finishes
-    (ap (λ (b : Bool). if b then x else sends_waiting (expires_if_due (sees now x))) (ap is_down up) ∙ ap sends_waiting (not_due now x timely) ∙ rests_send (sees now x) rests.0)
-    ∙ unsent_finishes (sees now x) (rests.1 (ap is_down up))
-
-none_late : (now : ℕ) (x : Station) → x.timer ≡ None → is_late now x ≡ false
-none_late now x none = ap (λ (o : Option ℕ). is_due o (max x.moment now)) none
-
--- where T1 expires all is sent again, and each N(R) is V(R)
-abbrev Shows : List Frame → Station → Type 0
-Shows l x = AllAre (length x.taken) (receive_numbers_in_frames l) × AllExchange l × (x.phase ≡ Up)
-
-up_ticks : (c : Bool) (wd : ℕ) (w : List Frame) (now : ℕ) (x : Station) → w ≡ [] → x.said ≡ [] → x.phase ≡ Up → x.acked ≤ x.sent → Own c wd w x → Rested x → HasExpiryLeft now x
-    → Shows (w ++ (finishes (ticks now x)).said) (finishes (ticks now x))
-up_ticks c wd w now x nw quiet up low own rests left = elim (cases_Bool (is_late now x)) [
-  | inl late ↦
-      let t : Station = finishes (ticks now x) in
-      let f = finishes_fires [] (ticks now x) (up_fires now x up quiet low (timed_up x c wd w up own) (inr (late, left late))) in
-      subst (λ (l : List Frame). Shows (l ++ t.said) t) (sym nw) (f.1, f.2, f.3)
-  | inr timely ↦
-      subst (λ (t : Station). Shows (w ++ t.said) t) (sym (rests_tick now x up timely rests))
-      (subst (λ (l : List Frame). Shows (l ++ x.said) x) (sym nw) (subst (λ (l : List Frame). Shows l x) (sym quiet) (tt, tt, up)))
-]
-
--- so all that it sent comes, whatever the other one sent
-late_mends : (selective c : Bool) (k wd : ℕ) (w : List Frame) (now : ℕ) (x : Station) (l : List Frame) (y : Station) → w ≡ [] → x.said ≡ [] → IsStationPair selective k w x l y
-    → Both selective k w (finishes (ticks now x)) l y → Own c wd w x → x.phase ≡ Up → Shows l y → is_late now x ≡ true → x.expiries < x.n2
-    → MendsSomeIn selective true false w (finishes (ticks now x)) l y
-late_mends selective c k wd w now x l y nw quiet p b own up shows late less =
-    let t : Station = finishes (ticks now x) in
-    let before = way_bounds k x.handed x.acked x.sent y.taken (infos w) (receive_numbers_in_frames l) p.0.0 in
-    let after_it = way_bounds k t.handed t.acked t.sent y.taken (infos (w ++ t.said)) (receive_numbers_in_frames l) b.0.0 in
-    let low : x.acked ≤ x.sent = omega (arith, before.0, before.1) in
-    let f = finishes_fires [] (ticks now x) (up_fires now x up quiet low (timed_up x c wd w up own) (inr (late, less))) in
-    let all = fires_toward selective (infos t.said) (receive_numbers_in_frames l) t y after_it.0 after_it.1 f.0 shows.0 in
-    subst (λ (v : List Frame). MendsSome selective true false (v ++ t.said) t l y) (sym nw)
-    ((λ way. all, λ way. absurd (true≢false (sym way)), f.2, shows.1, f.3, shows.2), λ way owes none. absurd (true≢false (sym way)))
-
--- and what waits stays what it was where the other one ticks
-ticks_some : (selective out back : Bool) (w : List Frame) (now : ℕ) (x : Station) (l : List Frame) (y : Station) → x.phase ≡ Up → x.acked ≤ x.sent → HasExpiryLeft now x
-    → MendsSomeIn selective out back w x l y → MendsSomeIn selective out back w (finishes (ticks now x)) l y
-ticks_some selective out back w now x l y up low left h =
-    let z : Station = sees now x in
-    let v : Station = starts_timer (sends_again (counts_expiry z)) in
-    let P : Station → Type 0 = λ t. MendsSomeIn selective out back w t l y in
-    let goes : P (sends_waiting z) = waiting_some selective out back w l y z h in
-    finishes_some selective out back w l y (ticks now x)
-    (elim (cases_Bool (is_late now x)) [
-      | inl late ↦
-          ticked now x (λ t. MendsSomeIn selective out back w t l y) (ap is_down up) (inr (late, left late)) (λ none. waiting_some selective out back w l y z h)
-          (λ less.
-          let e : expires_at x.phase z ≡ v = ap (λ (q : Phase). expires_at q z) up ∙ up_expires z less in
-          subst (λ (t : Station). MendsSomeIn selective out back w (sends_waiting t) l y) (sym e)
-          (waiting_some selective out back w l y v (sends_again_mends selective out back w l y (counts_expiry z) low h)))
-      | inr timely ↦
-          subst (λ (t : Station). MendsSomeIn selective out back w t l y)
-          (sym (ap (λ (b : Bool). if b then x else sends_waiting (expires_if_due z)) (ap is_down up) ∙ ap sends_waiting (not_due now x timely)))
-          (waiting_some selective out back w l y z h)
-    ])
 
 -- ---- the payloads that were taken
 
@@ -150,15 +83,6 @@ some_taken wd w now x up own late = elim (cases_lt 0 (length x.taken)) [
       let low = t.2 in
       absurd (true≢false (sym late ∙ none_late now x (t.1 (let e : x.acked ≡ x.sent = omega (arith, unsent_yet, low) in e))))
 ]
-
--- while the calling station is setting up, T1 of the called one doesn't run
-early_stopped : (wd : ℕ) (w : List Frame) (y : Station) → (y.phase ≡ Idle) ⊎ (y.phase ≡ Up) → Own false wd w y → length y.taken ≡ 0 → y.timer ≡ None
-early_stopped wd w y (inl idle) own none = (subst (λ (p : Phase). Timed p y.timer y.expiries y.acked y.sent) idle own.4).0
-early_stopped wd w y (inr up) own none =
-    let t = subst (λ (p : Phase). Timed p y.timer y.expiries y.acked y.sent) up own.4 in
-    let unsent_yet : y.sent ≡ 0 = own.3 refl none in
-    let low = t.2 in
-    t.1 (omega (arith, unsent_yet, low))
 
 -- ---- what this end sent comes, whatever is lost of the other
 
@@ -234,16 +158,18 @@ module _ (selective : Bool) (wd : ℕ) where
       let ne : g.fe ≡ [] = none_on_line e g.fe (sym empty.0 ∙ g.stands.lined_x) in
       let nr : g.fr ≡ [] = none_on_line r g.fr (sym empty.1 ∙ g.stands.lined_y) in
       let t : Station = ticks l.moment e in
-      let b = finishes_keeps selective g.k g.fe t g.fr r (ticks_keeps selective g.k g.fe l.moment e g.fr r (e_begun selective l g.stands)) in
+      let b = ticks_keeps selective g.k g.fe l.moment e g.fr r (e_begun selective l g.stands) in
       let m : StationLink = tick_at (station_kind selective) E l in
       let h : Sounds selective wd (OneWay E) m = e_ticks (OneWay E) l g
-      (late_mends selective true g.k wd g.fe l.moment e g.fr r ne g.stands.quiet_x g.stands.pair b g.own_e up_e (subst (λ (q : List Frame). Shows q r) (sym nr) (tt, tt, up_r)) late less) in
+      (finishes_some selective true false g.fe g.fr r t
+      (late_mends selective true g.k wd g.fe l.moment e g.fr r ne g.stands.quiet_x g.stands.pair b g.own_e up_e (subst (λ (q : List Frame). Shows q r) (sym nr) (tt, tt, up_r)) late less)) in
       let unsaid : h.fr ++ r.said ≡ h.fr = ap (λ (q : List Frame). h.fr ++ q) h.stands.quiet_y ∙ append-nil h.fr in
       let z : Station = finishes (ticks l.moment r) in
       r_ticks (OneWay E) (OneWay E) m h
       (some_swap selective false true (h.fr ++ z.said) z h.fe m.e.station
+      (finishes_some selective false true h.fr h.fe m.e.station (ticks l.moment r)
       (ticks_some selective false true h.fr l.moment r h.fe m.e.station up_r (r_low (OneWay E) m h) left
-      (subst (λ (q : List Frame). MendsSome selective false true q r h.fe m.e.station) (sym unsaid) (some_swap selective true false h.fe m.e.station h.fr r h.claim))))
+      (subst (λ (q : List Frame). MendsSome selective false true q r h.fe m.e.station) (sym unsaid) (some_swap selective true false h.fe m.e.station h.fr r h.claim)))))
 
   -- or of the called one
   r_goes : (l : StationLink) → Sound selective wd l → NoFrameWaits l → l.e.station.phase ≡ Up → l.r.station.phase ≡ Up → is_late l.moment l.r.station ≡ true → l.r.station.expiries < l.r.station.n2
@@ -255,11 +181,12 @@ module _ (selective : Bool) (wd : ℕ) where
       let nr : g.fr ≡ [] = none_on_line r g.fr (sym empty.1 ∙ g.stands.lined_y) in
       let m : StationLink = tick_at (station_kind selective) E l in
       let h : Sounds selective wd Ticked m = e_ticks Ticked l g
-      (up_ticks true wd g.fe l.moment e ne g.stands.quiet_x up_e (e_low NoClaim l g) g.own_e g.rests_e left, nr, up_r) in
+      (finishes_shows g.fe (ticks l.moment e) (up_ticks true wd g.fe l.moment e ne g.stands.quiet_x up_e (e_low NoClaim l g) g.own_e g.rests_e.0 left), nr, up_r) in
       let t : Station = ticks l.moment r in
       let z : Station = finishes t in
-      let b = finishes_keeps selective h.k h.fr t h.fe m.e.station (ticks_keeps selective h.k h.fr l.moment r h.fe m.e.station (r_begun selective m h.stands)) in
-      let q = late_mends selective false h.k wd h.fr l.moment r h.fe m.e.station h.claim.1 h.stands.quiet_y (swap selective h.k h.fe m.e.station h.fr r h.stands.pair) b h.own_r up_r h.claim.0 late less in
+      let b = ticks_keeps selective h.k h.fr l.moment r h.fe m.e.station (r_begun selective m h.stands) in
+      let q = finishes_some selective true false h.fr h.fe m.e.station t
+      (late_mends selective false h.k wd h.fr l.moment r h.fe m.e.station h.claim.1 h.stands.quiet_y (swap selective h.k h.fe m.e.station h.fr r h.stands.pair) b h.own_r up_r h.claim.0 late less) in
       r_ticks Ticked (OneWay R) m h (
         some_swap selective true false (h.fr ++ z.said) z h.fe m.e.station q,
         refl,
@@ -301,20 +228,28 @@ record Done (x y : Station) : Type 0 where
   none : x.expiries ≡ 0
   took : y.taken ≡ x.handed
 
-way_done : (selective c : Bool) (k wd : ℕ) (lx : List Frame) (x : Station) (ly : List Frame) (y : Station) → 1 ≤ wd → lx ≡ [] → ly ≡ [] → IsStationPair selective k lx x ly y → Own c wd lx x
-    → Own (not c) wd ly y → Rested x → Rested y → MendsSome selective true false lx x ly y → (x.calling || nat_lt 0 (length x.taken)) ≡ true → Done x y
-way_done selective c k wd lx x ly y some ex ey p own_x own_y rests_x rests_y m may =
+-- all that it sent was taken, and is acknowledged
+pub way_acked : (selective c : Bool) (k wd : ℕ) (lx : List Frame) (x : Station) (ly : List Frame) (y : Station) → lx ≡ [] → ly ≡ [] → IsStationPair selective k lx x ly y → Own c wd ly y
+    → Rested y → MendsSome selective true false lx x ly y → (length y.taken ≡ x.sent) × (x.acked ≡ x.sent)
+way_acked selective c k wd lx x ly y ex ey p own_y rests_y m =
     let b = way_bounds k x.handed x.acked x.sent y.taken (infos lx) (receive_numbers_in_frames ly) p.0.0 in
     let way = subst (λ (t : List Frame). MendsSome selective true false t x [] y) ex (subst (λ (t : List Frame). MendsSome selective true false lx x t y) ey m) in
     let all : length y.taken ≡ x.sent = took_all selective (length y.taken) x.sent y.held b.1 own_y.5 (way.0.0 refl).0 in
     let acked : x.acked ≡ length y.taken = (way.0.0 refl).1 (rests_y.1 (ap is_down m.0.5)) refl in
-    let t = subst (λ (q : Phase). Timed q x.timer x.expiries x.acked x.sent) m.0.4 own_x.4 in
-    let sent : x.sent ≡ length x.handed = all_sent x c m.0.4 own_x.2 (sym (acked ∙ all)) (subst (λ (n : ℕ). 1 ≤ n) (sym own_x.1) some) may rests_x.0 in
-    record {
-      stopped = t.1 (acked ∙ all);
-      none = (t.0 (t.1 (acked ∙ all))).1;
-      took = whole y.taken x.handed x.sent p.0.0.prefix all sent;
-    }
+    (all, acked ∙ all)
+
+pub up_stopped : (c : Bool) (wd : ℕ) (lx : List Frame) (x : Station) → Own c wd lx x → x.phase ≡ Up → x.acked ≡ x.sent → (x.timer ≡ None) × (x.expiries ≡ 0)
+up_stopped c wd lx x own up acked =
+    let t = subst (λ (q : Phase). Timed q x.timer x.expiries x.acked x.sent) up own.4 in
+    (t.1 acked, (t.0 (t.1 acked)).1)
+
+way_done : (selective c : Bool) (k wd : ℕ) (lx : List Frame) (x : Station) (ly : List Frame) (y : Station) → 1 ≤ wd → lx ≡ [] → ly ≡ [] → IsStationPair selective k lx x ly y → Own c wd lx x
+    → Own (not c) wd ly y → Rested x → Rested y → MendsSome selective true false lx x ly y → (x.calling || nat_lt 0 (length x.taken)) ≡ true → Done x y
+way_done selective c k wd lx x ly y some ex ey p own_x own_y rests_x rests_y m may =
+    let a = way_acked selective (not c) k wd lx x ly y ex ey p own_y rests_y m in
+    let stopped = up_stopped c wd lx x own_x m.0.4 a.1 in
+    let sent : x.sent ≡ length x.handed = all_sent x c m.0.4 own_x.2 (sym a.1) (subst (λ (n : ℕ). 1 ≤ n) (sym own_x.1) some) may rests_x.0 in
+    record { stopped = stopped.0; none = stopped.1; took = whole y.taken x.handed x.sent p.0.0.prefix a.0 sent }
 
 module _ (selective : Bool) (wd : ℕ) (some : 1 ≤ wd) where
   -- behind the passes: one way is repaired, both stations are live, and what holds of each alone holds yet

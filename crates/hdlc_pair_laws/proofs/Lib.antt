@@ -39,6 +39,7 @@ pub mod Repeats
 pub mod Recovers
 pub mod Ticks
 pub mod Recovered
+pub mod OneTick
 pub mod EachEnd
 pub mod MendCalls
 pub mod Starting

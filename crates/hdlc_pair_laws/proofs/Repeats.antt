@@ -14,7 +14,7 @@ use Rattle.hdlc_station_model.specs.Events.{is_late}
 use Rattle.hdlc_pair_laws.specs.Invariant.{infos, receive_numbers_in_frames, info_of, receive_numbers_in_frame}
 use Rattle.hdlc_pair_laws.specs.Flowing.{Consecutive}
 use Rattle.hdlc_station_model.specs.Repeating.{MayRepeat}
-use Rattle.hdlc_pair_laws.specs.Mending.{AllAre, AllExchange, Fires}
+use Rattle.hdlc_pair_laws.specs.Mending.{AllAre, AllExchange, Fires, IsExchange, Shows}
 use Rattle.hdlc_pair_laws.proofs.Keeps.{more}
 use Rattle.hdlc_pair_laws.proofs.Flows.{consecutive_push}
 use Rattle.hdlc_pair_laws.proofs.Delivers.{early_cannot, cannot_yet}
@@ -85,6 +85,35 @@ module _ (w : List Frame) where
       cond_both (is_down x.phase) x (settles x) (FiresIn w) (λ down. h)
       (λ live. cond_both x.owed (record (puts f x) { owed = false }) x (FiresIn w)
       (λ owed. subst (λ l. Fires l x) (append_assoc w x.said (f ∷ [])) (shown_fires (w ++ x.said) x h)) (λ owes. h))
+
+-- each N(R) is V(R), whatever I frames go
+shows_push : (l : List Frame) (x : Station) (f : Frame) → IsExchange f → receive_numbers_in_frame f ≡ length x.taken ∷ [] → Shows l x → Shows (l ++ f ∷ []) x
+shows_push l x f is newest h = (
+  subst (λ ns. AllAre (length x.taken) ns) (sym (more receive_numbers_in_frame l f ∙ ap (λ ns. receive_numbers_in_frames l ++ ns) newest))
+      (all_push (length x.taken) (length x.taken) (receive_numbers_in_frames l) h.0 refl),
+  exchange_push l f h.1 is,
+  h.2,
+)
+
+module _ (w : List Frame) where
+  up_to_shows : (n : ℕ) (x : Station) → Shows (w ++ x.said) x → Shows (w ++ (sends_up_to n x).said) (sends_up_to n x)
+  up_to_shows zero x h = h
+  up_to_shows (suc n) x h = elim (cases_Bool (can_send x)) [
+    | inl can ↦ rw can (up_to_shows n (sends_next x) (subst (λ l. Shows l x) (append_assoc w x.said (info_at x x.sent ∷ [])) (shows_push (w ++ x.said) x (info_at x x.sent) tt refl h)))
+    | inr cannot ↦ rw cannot h
+  ]
+
+  pub hands_shows : (now : ℕ) (q : List ℕ) (x : Station) → Shows (w ++ x.said) x → Shows (w ++ (hands now q x).said) (hands now q x)
+  hands_shows now q x h =
+      let z : Station = record (sees now x) { handed = x.handed ++ q ∷ [] } in
+      cond_both (is_down x.phase) x (sends_waiting z) (λ t. Shows (w ++ t.said) t) (λ down. h) (λ live. up_to_shows (waiting z) z h)
+
+  pub finishes_shows : (x : Station) → Shows (w ++ x.said) x → Shows (w ++ (finishes x).said) (finishes x)
+  finishes_shows x h =
+      let f : Frame = Rr (length x.taken) in
+      cond_both (is_down x.phase) x (settles x) (λ t. Shows (w ++ t.said) t) (λ down. h)
+      (λ live. cond_both x.owed (record (puts f x) { owed = false }) x (λ t. Shows (w ++ t.said) t)
+      (λ owed. subst (λ l. Shows l x) (append_assoc w x.said (f ∷ [])) (shows_push (w ++ x.said) x f tt refl h)) (λ owes. h))
 
 -- ---- the tick
 

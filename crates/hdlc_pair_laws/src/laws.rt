@@ -6,7 +6,7 @@ ghost use Rattle.hdlc_pair_laws.specs.Filling.{GapsAreFilled};
 ghost use Rattle.hdlc_pair_laws.specs.FillingAgain.{GapsAreFilledAgain};
 ghost use Rattle.hdlc_pair_laws.specs.LossFree.{FlowBounds, FlowKeeps};
 ghost use Rattle.hdlc_pair_laws.specs.Recovery.{DrainEmptiesLive, PassesBound, PassesRelease, Recovery};
-ghost use Rattle.hdlc_pair_laws.specs.Repairs.{MendEnds, MendKeeps};
+ghost use Rattle.hdlc_pair_laws.specs.Repairs.{MendEnds, MendKeeps, OneWayEnds};
 ghost use Rattle.hdlc_pair_laws.specs.Timers.{Renewal, TimersRun, TimersStart};
 ghost use Rattle.hdlc_pair_laws.specs.Laws.{Prefix, LosingLineReasons, Delivery, DeliveryBound, DrainEmpties, FewWait};
 
@@ -178,10 +178,12 @@ pub fn passes_are_bounded()
 }
 
 /// Whatever layers stand above two stations: each call keeps what a recovery rests on, and the two ticks lead to what repairs a loss; once no
-/// frame waits behind them, all was taken: at the calling station where it was handed a payload itself.
+/// frame waits behind them, all was taken: at the calling station where it was handed a payload itself. Where T1 of one alone is found expired, all that
+/// it sent is acknowledged then.
 pub fn mending_keeps()
     ensures calls { MendKeeps }
     ensures done { MendEnds }
+    ensures one_way { OneWayEnds }
 {
     control_reads_back();
     hdlc_station_model::laws::receives_give();
