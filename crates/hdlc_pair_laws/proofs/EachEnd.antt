@@ -1,18 +1,18 @@
 -- Recovery of one end at a time: the end whose T1 expires sends again all that is unacknowledged, and whatever the other one lost, once no frame waits that
 -- was taken. With the deadline of the other end all was taken both ways.
-use Rattle.std.proofs.Common.{if◌then◌else◌, ◌≡◌, ℕ, ◌<◌, ◌≤◌, ◌⊎◌, inl, inr, max, Bool, true, false, not, ◌||◌, List, [], ◌∷◌, ◌++◌, length, Option, None, refl, sym, ◌∙◌, ap, subst, arith, append-nil, length-append, lt-ltb, true≢false}
+use Rattle.std.proofs.Common.{◌≡◌, ℕ, ◌<◌, ◌≤◌, ◌⊎◌, inl, inr, max, Bool, true, false, not, ◌||◌, List, [], ◌∷◌, ◌++◌, length, None, refl, sym, ◌∙◌, ap, subst, arith, append-nil, length-append, lt-ltb, true≢false}
 use Rattle.std.specs.Prelude.{nat_lt}
 use Rattle.std.specs.Option.{option_to_list}
-use Rattle.std.proofs.lemmas.Bool.{cases_Bool, cases_lt, cond_both}
+use Rattle.std.proofs.lemmas.Bool.{cases_lt, cond_both}
 use Rattle.er_base.specs.declared.side.Side.{Side}
 use Rattle.er_base.specs.declared.side.Side.TheVariants.{E, R}
 use Rattle.er_base.specs.Sides.{other}
 use Rattle.hdlc_frames.specs.Laws.{ControlReadsBack}
 use Rattle.hdlc_station_model.specs.declared.phase.Phase.{Phase}
-use Rattle.hdlc_station_model.specs.declared.phase.Phase.TheVariants.{Idle, Up}
+use Rattle.hdlc_station_model.specs.declared.phase.Phase.TheVariants.{Up}
 use Rattle.hdlc_station_model.specs.Frames.{Frame, Rr}
 use Rattle.hdlc_station_model.specs.Stations.{Station, no_deed, is_up, is_down, sees, puts, settled}
-use Rattle.hdlc_station_model.specs.Sending.{waiting, sends_up_to, sends_waiting, sends_again, starts_timer, counts_expiry, settles, expires_at, expires_if_due, is_due}
+use Rattle.hdlc_station_model.specs.Sending.{waiting, sends_waiting, sends_again, starts_timer, counts_expiry, settles, expires_at}
 use Rattle.hdlc_station_model.specs.Selective.{receives_as}
 use Rattle.hdlc_station_model.specs.Calls.{finishes, ticks}
 use Rattle.hdlc_station_model.specs.Events.{is_late}
@@ -23,7 +23,6 @@ use Rattle.pair_model.specs.Walks.{pair_run_append}
 use Rattle.hdlc_pair_laws.specs.Links.{StationLink, station_kind, opened_station_link}
 use Rattle.hdlc_pair_laws.specs.Laws.{StationLinkOpening, after}
 use Rattle.hdlc_pair_laws.specs.Invariant.{IsStationPair, Both, infos, receive_numbers_in_frames}
-use Rattle.hdlc_pair_laws.specs.Flowing.{HasNoPayloadToSend}
 use Rattle.hdlc_pair_laws.specs.Keeping.{found, FramesGive}
 use Rattle.hdlc_pair_laws.specs.Recovery.{AreLive, GoOn}
 use Rattle.hdlc_pair_laws.specs.EachEnd.{IsFoundExpired, HasExpiryLeft, NoneGivesUp, IsRepaired, RecoveryOfEachEnd, RecoveryInTurn}
@@ -32,18 +31,16 @@ use Rattle.hdlc_pair_laws.proofs.Ways.{way_bounds}
 use Rattle.hdlc_pair_laws.proofs.Events.{swap, finishes_keeps, ticks_keeps}
 use Rattle.hdlc_pair_laws.proofs.Lines.{none_on_line, answered}
 use Rattle.hdlc_pair_laws.proofs.Acts.{Frames, at_moment, e_begun, r_begun}
-use Rattle.hdlc_pair_laws.proofs.Flows.{not_due}
-use Rattle.hdlc_pair_laws.proofs.LossFree.{unsent, unsent_finishes}
 use Rattle.hdlc_pair_laws.proofs.Delivered.{all_sent, whole}
 use Rattle.hdlc_pair_laws.proofs.Telling.{phases_stay, ticks_tell}
 use Rattle.hdlc_pair_laws.proofs.Giving.{up_to_same}
 use Rattle.hdlc_pair_laws.proofs.SoundCalls.{ticks_leaves}
 use Rattle.hdlc_pair_laws.proofs.Sounds.{Claim, Sounds, ToR, ToE, e_does, r_does, e_own, r_own, same, passes_keep}
 use Rattle.hdlc_pair_laws.proofs.SoundRuns.{NoClaim, Sound, passes_sound, after_sound}
-use Rattle.hdlc_pair_laws.proofs.Mending.{MendsSomeIn, some_swap, waiting_some, finishes_some, sends_again_mends}
+use Rattle.hdlc_pair_laws.proofs.Mending.{MendsSomeIn, some_swap, finishes_some}
 use Rattle.hdlc_pair_laws.proofs.Repeats.{ticked, up_expires, finishes_shows}
 use Rattle.hdlc_pair_laws.proofs.Recovers.{Recovers, received_some, recovers_to_r, recovers_to_e}
-use Rattle.hdlc_pair_laws.proofs.Ticks.{fires_toward, called_phase, both_phases, timed_up, none_taken}
+use Rattle.hdlc_pair_laws.proofs.Ticks.{called_phase, both_phases, none_taken}
 use Rattle.hdlc_pair_laws.proofs.OneTick.{none_late, up_ticks, late_mends, ticks_some, early_stopped}
 use Rattle.hdlc_pair_laws.proofs.Recovered.{Behind, both_ticked, took_all, emptied, behind}
 

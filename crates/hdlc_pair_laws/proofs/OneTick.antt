@@ -1,29 +1,17 @@
 -- A moment comes to one of two stations that are up, between lines that are empty or not: where it finds T1 expired, all that the station sends comes,
 -- whatever the other one lost. Everywhere x acts and y doesn't, and w waited from x before the call.
-use Rattle.std.proofs.Common.{if◌then◌else◌, ◌≡◌, ℕ, ◌<◌, ◌≤◌, ◌⊎◌, inl, inr, max, Bool, true, false, not, ◌||◌, List, [], ◌∷◌, ◌++◌, length, Option, None, refl, sym, ◌∙◌, ap, subst, arith, append-nil, length-append, lt-ltb, true≢false}
-use Rattle.std.specs.Prelude.{nat_lt}
-use Rattle.std.specs.Option.{option_to_list}
-use Rattle.std.proofs.lemmas.Bool.{cases_Bool, cases_lt, cond_both}
-use Rattle.er_base.specs.declared.side.Side.{Side}
-use Rattle.er_base.specs.declared.side.Side.TheVariants.{E, R}
-use Rattle.er_base.specs.Sides.{other}
-use Rattle.hdlc_frames.specs.Laws.{ControlReadsBack}
+use Rattle.std.proofs.Common.{if◌then◌else◌, ◌≡◌, ℕ, ◌<◌, ◌≤◌, ◌⊎◌, inl, inr, max, Bool, true, false, List, [], ◌++◌, length, Option, None, refl, sym, ◌∙◌, ap, subst, arith, true≢false}
+use Rattle.std.proofs.lemmas.Bool.{cases_Bool}
 use Rattle.hdlc_station_model.specs.declared.phase.Phase.{Phase}
 use Rattle.hdlc_station_model.specs.declared.phase.Phase.TheVariants.{Idle, Up}
-use Rattle.hdlc_station_model.specs.Frames.{Frame, Rr}
-use Rattle.hdlc_station_model.specs.Stations.{Station, no_deed, is_up, is_down, sees, puts, settled}
-use Rattle.hdlc_station_model.specs.Sending.{waiting, sends_up_to, sends_waiting, sends_again, starts_timer, counts_expiry, settles, expires_at, expires_if_due, is_due}
-use Rattle.hdlc_station_model.specs.Selective.{receives_as}
-use Rattle.hdlc_station_model.specs.Calls.{finishes, ticks}
+use Rattle.hdlc_station_model.specs.Frames.{Frame}
+use Rattle.hdlc_station_model.specs.Stations.{Station, is_down, sees}
+use Rattle.hdlc_station_model.specs.Sending.{waiting, sends_up_to, sends_waiting, sends_again, starts_timer, counts_expiry, expires_at, expires_if_due, is_due}
+use Rattle.hdlc_station_model.specs.Calls.{ticks}
 use Rattle.hdlc_station_model.specs.Events.{is_late}
-use Rattle.hdlc_station_model.specs.Repeating.{MayRepeat}
-use Rattle.hdlc_pair_laws.specs.Links.{StationLink, station_kind, opened_station_link}
-use Rattle.hdlc_pair_laws.specs.Laws.{StationLinkOpening, after}
 use Rattle.hdlc_pair_laws.specs.Invariant.{IsStationPair, Both, infos, receive_numbers_in_frames}
 use Rattle.hdlc_pair_laws.specs.Flowing.{HasNoPayloadToSend}
-use Rattle.hdlc_pair_laws.specs.Keeping.{found, FramesGive}
-use Rattle.hdlc_pair_laws.specs.Recovery.{AreLive, GoOn}
-use Rattle.hdlc_pair_laws.specs.EachEnd.{IsFoundExpired, HasExpiryLeft, NoneGivesUp, IsRepaired, RecoveryOfEachEnd, RecoveryInTurn}
+use Rattle.hdlc_pair_laws.specs.EachEnd.{HasExpiryLeft}
 use Rattle.hdlc_pair_laws.specs.Mending.{Timed, Own, Shows, MendsSome}
 use Rattle.hdlc_pair_laws.proofs.Ways.{way_bounds}
 use Rattle.hdlc_pair_laws.proofs.Flows.{not_due}
