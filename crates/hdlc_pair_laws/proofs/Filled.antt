@@ -15,6 +15,7 @@ use Rattle.hdlc_pair_laws.specs.Invariant.{infos, receive_numbers_in_frames}
 use Rattle.hdlc_pair_laws.specs.Flowing.{Consecutive, EndsAtNumber, AllData, Still, Shape}
 use Rattle.hdlc_pair_laws.specs.Filling.{TwoWait, GapsAreFilled}
 use Rattle.hdlc_pair_laws.specs.Recovery.{IsRecovered}
+use Rattle.hdlc_pair_laws.specs.EachEnd.{IsMadeGood}
 use Rattle.hdlc_pair_laws.specs.Mending.{AllExchange, HasAllSentComing, Mends, leads}
 use Rattle.hdlc_pair_laws.proofs.Lines.{first_of_line, none_on_line}
 use Rattle.hdlc_pair_laws.proofs.Acts.{Frames}
@@ -260,18 +261,21 @@ side_mends : (side : Side) (selective : Bool) (fe : List Frame) (e : Station) (f
 side_mends E selective fe e fr r ee er h = filled_mends selective fe e fr r ee er h
 side_mends R selective fe e fr r ee er h = mends_swap selective fr r fe e (filled_mends selective fr r fe e er ee h)
 
-emptied : (selective : Bool) (wd : ℕ) (side : Side) (l : StationLink) → 1 ≤ wd → Sounds selective wd (Fills side) l → NoFrameWaits l → IsRecovered l
+emptied : (selective : Bool) (wd : ℕ) (side : Side) (l : StationLink) → 1 ≤ wd → Sounds selective wd (Fills side) l → NoFrameWaits l → IsMadeGood l
 emptied selective wd side l some g empty =
     let e : Station = l.e.station in
     let r : Station = l.r.station in
     let ee = none_on_line e g.fe (sym empty.0 ∙ g.stands.lined_x) in
     let er = none_on_line r g.fr (sym empty.1 ∙ g.stands.lined_y) in
     let m = mended selective g.k wd g.fe e g.fr r some ee er g.stands.pair g.own_e g.own_r g.rests_e g.rests_r (inr (inr (side_mends side selective g.fe e g.fr r ee er g.claim))) in
-    record { e_up = m.x_up; r_up = m.y_up; at_r = m.at_y; at_e = m.at_x }
+    (
+      record { e_up = m.x_up; r_up = m.y_up; at_r = m.at_y; at_e = m.at_x },
+      record { e_stopped = m.x_stopped.0; r_stopped = m.y_stopped.0; e_none = m.x_stopped.1; r_none = m.y_stopped.1 },
+    )
 
 -- of any link at which all is calm
 pub filled_behind : Frames → (selective : Bool) (wd : ℕ) (side : Side) (l : StationLink) → 1 ≤ wd → Sounds selective wd (Calm (other side)) l → TwoWait side l
-    → (passes : List PairStep) → ArePassesAndTakes passes → NoFrameWaits (pair_run (station_kind selective) l (Lose side ∷ passes)) → IsRecovered (pair_run (station_kind selective) l (Lose side ∷ passes))
+    → (passes : List PairStep) → ArePassesAndTakes passes → NoFrameWaits (pair_run (station_kind selective) l (Lose side ∷ passes)) → IsMadeGood (pair_run (station_kind selective) l (Lose side ∷ passes))
 filled_behind laws selective wd side l some h two passes are end =
     let lossy : StationLink = lose side (frames_from l side) l in
     let g = lost_fills selective wd side l two (frames_from l side) refl h in
@@ -284,4 +288,4 @@ gaps_are_filled laws s steps free side two passes are end =
     let b : Bool = s.selective in
     let split : after s (steps ++ Lose side ∷ passes) ≡ pair_run (station_kind b) l (Lose side ∷ passes) =
     pair_run_append (station_kind b) steps (Lose side ∷ passes) (opened_station_link b s.extended s.window s.n2 s.t1 s.moment) in
-    subst IsRecovered (sym split) (filled_behind laws b s.window side l s.some (after_calm laws (other side) s steps free) two passes are (subst NoFrameWaits split end))
+    subst IsRecovered (sym split) (filled_behind laws b s.window side l s.some (after_calm laws (other side) s steps free) two passes are (subst NoFrameWaits split end)).0

@@ -13,7 +13,8 @@ use Rattle.hdlc_pair_laws.specs.Links.{StationLink, station_kind}
 use Rattle.hdlc_pair_laws.specs.Laws.{StationLinkOpening, after}
 use Rattle.hdlc_pair_laws.specs.Invariant.{HoldsOutOfOrderPayloads, IsStationPair, reach}
 use Rattle.hdlc_pair_laws.specs.Flowing.{one_if, Shape}
-use Rattle.hdlc_pair_laws.specs.Recovery.{AreLive, IsRecovered}
+use Rattle.hdlc_pair_laws.specs.Recovery.{AreLive}
+use Rattle.hdlc_pair_laws.specs.EachEnd.{IsMadeGood}
 use Rattle.hdlc_pair_laws.specs.FillingAgain.{IsQuiet, MarksNoGap, after_anew, GapsAreFilledAgain}
 use Rattle.hdlc_pair_laws.specs.Mending.{Own, Rested}
 use Rattle.hdlc_pair_laws.proofs.Ways.{forward_le, way_bounds}
@@ -126,5 +127,5 @@ gaps_are_filled_again laws s steps kept live quiet side marks more free two pass
     let anew : StationLink = record (after s steps) { loss_free = true } in
     let l : StationLink = after_anew s steps more in
     let split : after_anew s steps (more ++ Lose side ∷ passes) ≡ pair_run (station_kind b) l (Lose side ∷ passes) = pair_run_append (station_kind b) more (Lose side ∷ passes) anew in
-    subst IsRecovered (sym split)
+    subst IsMadeGood (sym split)
     (filled_behind laws b s.window side l s.some (run_calm laws (other side) b s.window more anew (quiet_calm laws s steps kept live quiet side marks) free) two passes are (subst NoFrameWaits split end))

@@ -42,6 +42,14 @@ RecoveryOfEachEnd =
     → (second : List PairStep) → ArePassesAndTakes second → NoFrameWaits (after s (steps ++ first ++ Tick now ∷ second))
     → IsRepaired side (after s (steps ++ first ++ Tick now ∷ second))
 
+-- T1 of this end doesn't run, or a moment finds it expired and the station doesn't give up yet
+abbrev pub MayRepeatAt : Side → (now : ℕ) → StationLink → Type 0
+MayRepeatAt side now l = MayRepeat (max l.moment now) (end_of_side l side).station
+
+-- each end took all, and nothing of the loss is left
+abbrev pub IsMadeGood : StationLink → Type 0
+IsMadeGood l = IsRecovered l × IsRenewed l
+
 -- then comes a moment that finds T1 of the other end expired, where it still runs; then all that waits is given. With that each end took all that the
 -- other was handed: the deadlines of both may come in either order
 abbrev pub RecoveryInTurn : Type 0
@@ -51,7 +59,6 @@ RecoveryInTurn =
     → (now : ℕ) → NoneGivesUp now (after s (steps ++ first))
     → (side : Side) → IsFoundExpired side now (after s (steps ++ first))
     → (second : List PairStep) → ArePassesAndTakes second → NoFrameWaits (after s (steps ++ first ++ Tick now ∷ second))
-    → (later : ℕ)
-    → MayRepeat (max (after s (steps ++ first ++ Tick now ∷ second)).moment later) (end_of_side (after s (steps ++ first ++ Tick now ∷ second)) (other side)).station
+    → (later : ℕ) → MayRepeatAt (other side) later (after s (steps ++ first ++ Tick now ∷ second))
     → (third : List PairStep) → ArePassesAndTakes third → NoFrameWaits (after s (steps ++ first ++ Tick now ∷ second ++ Tick later ∷ third))
-    → IsRecovered (after s (steps ++ first ++ Tick now ∷ second ++ Tick later ∷ third)) × IsRenewed (after s (steps ++ first ++ Tick now ∷ second ++ Tick later ∷ third))
+    → IsMadeGood (after s (steps ++ first ++ Tick now ∷ second ++ Tick later ∷ third))

@@ -8,7 +8,8 @@ use Rattle.pair_model.specs.Links.{end_of_side}
 use Rattle.pair_model.specs.Steps.{PairStep, Lose, NoFrameWaits, ArePassesAndTakes, pair_run}
 use Rattle.hdlc_pair_laws.specs.Links.{StationLink, station_kind}
 use Rattle.hdlc_pair_laws.specs.Laws.{StationLinkOpening, after}
-use Rattle.hdlc_pair_laws.specs.Recovery.{AreLive, IsRecovered}
+use Rattle.hdlc_pair_laws.specs.Recovery.{AreLive}
+use Rattle.hdlc_pair_laws.specs.EachEnd.{IsMadeGood}
 use Rattle.hdlc_pair_laws.specs.Filling.{TwoWait}
 
 -- no frame waits, and T1 of neither station runs
@@ -26,7 +27,7 @@ after_anew s steps more = pair_run (station_kind s.selective) (record (after s s
 
 -- from a quiet moment of a line that keeps its order, while neither end was released, the line loses nothing; then the first frame that waits from an end is
 -- lost, whichever frame it is, while two I frames or more wait from it. Then what waits is given, and no moment comes at which T1 could be found
--- expired. Once no frame waits, each end took all that the other was handed
+-- expired. Once no frame waits, each end took all that the other was handed, and T1 of neither runs: it is quiet again
 abbrev pub GapsAreFilledAgain : Type 0
 GapsAreFilledAgain =
     (s : StationLinkOpening) (steps : List PairStep) → (after s steps).order_kept ≡ true → AreLive (after s steps) → IsQuiet (after s steps)
@@ -34,4 +35,4 @@ GapsAreFilledAgain =
     → (more : List PairStep) → (after_anew s steps more).loss_free ≡ true
     → TwoWait side (after_anew s steps more)
     → (passes : List PairStep) → ArePassesAndTakes passes → NoFrameWaits (after_anew s steps (more ++ Lose side ∷ passes))
-    → IsRecovered (after_anew s steps (more ++ Lose side ∷ passes))
+    → IsMadeGood (after_anew s steps (more ++ Lose side ∷ passes))
