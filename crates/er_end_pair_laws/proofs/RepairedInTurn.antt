@@ -26,7 +26,7 @@ use Rattle.er_end_pair_laws.proofs.Given.{give}
 use Rattle.er_end_pair_laws.proofs.Happens.{ticked_keeps, e_begins, r_begins}
 use Rattle.er_end_pair_laws.proofs.Worlds.{none_on_line}
 use Rattle.er_end_pair_laws.proofs.Mended.{In, ticked_mends, ticked_lives}
-use Rattle.er_end_pair_laws.proofs.Mending.{Mends, MayGo, e_mends, r_mends, r_between, other_mends}
+use Rattle.er_end_pair_laws.proofs.Mending.{Mends, e_mends, r_mends, r_between, other_mends}
 use Rattle.er_end_pair_laws.proofs.Lasting.{after_lasts, calm_mends, both_go}
 use Rattle.er_end_pair_laws.proofs.Repaired.{both_tick, behind}
 
