@@ -83,9 +83,9 @@ some_taken wd w now x up own late = elim (cases_lt 0 (length x.taken)) [
 
 -- ---- what this end sent comes, whatever is lost of the other
 
-abbrev OneWay : Side → Claim
-OneWay E selective fe e fr r = MendsSome selective true false fe e fr r
-OneWay R selective fe e fr r = MendsSome selective false true fe e fr r × (r.deed ≡ no_deed) × (1 ≤ length r.taken)
+abbrev SideMends : Side → Claim
+SideMends E selective fe e fr r = MendsSome selective true false fe e fr r
+SideMends R selective fe e fr r = MendsSome selective false true fe e fr r × (r.deed ≡ no_deed) × (1 ≤ length r.taken)
 
 answered_some : ControlReadsBack → (selective out back c : Bool) (k wd now : ℕ) (w : List Frame) (x : Station) (f : Frame) (fs : List Frame) (y : Station) → (selective ≡ true → k ≡ wd) → x.said ≡ []
     → Both selective k w x (f ∷ fs) y → Own c wd w x → MendsSome selective out back w x (f ∷ fs) y → MendsSomeIn selective out back w (answered selective now y f x) fs y
@@ -94,7 +94,7 @@ answered_some law selective out back c k wd now w x f fs y wide quiet b own h =
     finishes_some selective out back w fs y (receives_as selective now (found y f) x)
     (received_some law selective out back k now w x f fs y b (λ s. wide s ∙ sym own.1) own.5 (subst (λ (t : List Frame). MendsSome selective out back t x (f ∷ fs) y) (sym unsaid) h))
 
-to_r : ControlReadsBack → FramesGive → (wd : ℕ) (side : Side) → ToR wd (OneWay side)
+to_r : ControlReadsBack → FramesGive → (wd : ℕ) (side : Side) → ToR wd (SideMends side)
 to_r law give wd E selective k now fr r f fs e wide quiet b own_r own_e rests_r rests_e h =
     let t : Station = answered selective now e f r in
     some_swap selective false true (fr ++ t.said) t fs e (answered_some law selective false true false k wd now fr r f fs e wide quiet b own_r (some_swap selective true false (f ∷ fs) e fr r h))
@@ -106,15 +106,15 @@ to_r law give wd R selective k now fr r f fs e wide quiet b own_r own_e rests_r 
       omega (arith, more, h.2),
     )
 
-to_e : ControlReadsBack → (wd : ℕ) (side : Side) → ToE wd (OneWay side)
+to_e : ControlReadsBack → (wd : ℕ) (side : Side) → ToE wd (SideMends side)
 to_e law wd E selective k now fe e f fs r wide quiet b own_e own_r rests_e rests_r h = answered_some law selective true false true k wd now fe e f fs r wide quiet b own_e h
 to_e law wd R selective k now fe e f fs r wide quiet b own_e own_r rests_e rests_r h = (answered_some law selective false true true k wd now fe e f fs r wide quiet b own_e h.0, h.1, h.2)
 
 -- ---- the moment comes to both
 
 -- the calling one had its tick
-abbrev Ticked : Claim
-Ticked selective fe e fr r = Shows fe e × (fr ≡ []) × (r.phase ≡ Up)
+abbrev CallingShows : Claim
+CallingShows selective fe e fr r = Shows fe e × (fr ≡ []) × (r.phase ≡ Up)
 
 module _ (selective : Bool) (wd : ℕ) where
   e_ticks : (P : Claim) (l : StationLink) (g : Sound selective wd l) → let x : Station = finishes (ticks l.moment l.e.station) in P selective (g.fe ++ x.said) (settled x) g.fr l.r.station
@@ -148,7 +148,7 @@ module _ (selective : Bool) (wd : ℕ) where
 
   -- T1 of the calling one is found expired
   e_goes : (l : StationLink) → Sound selective wd l → NoFrameWaits l → l.e.station.phase ≡ Up → l.r.station.phase ≡ Up → is_late l.moment l.e.station ≡ true → l.e.station.expiries < l.e.station.n2
-      → HasExpiryLeft l.moment l.r.station → Sounds selective wd (OneWay E) (tick_at (station_kind selective) R (tick_at (station_kind selective) E l))
+      → HasExpiryLeft l.moment l.r.station → Sounds selective wd (SideMends E) (tick_at (station_kind selective) R (tick_at (station_kind selective) E l))
   e_goes l g empty up_e up_r late less left =
       let e : Station = l.e.station in
       let r : Station = l.r.station in
@@ -157,34 +157,34 @@ module _ (selective : Bool) (wd : ℕ) where
       let t : Station = ticks l.moment e in
       let b = ticks_keeps selective g.k g.fe l.moment e g.fr r (e_begun selective l g.stands) in
       let m : StationLink = tick_at (station_kind selective) E l in
-      let h : Sounds selective wd (OneWay E) m = e_ticks (OneWay E) l g
+      let h : Sounds selective wd (SideMends E) m = e_ticks (SideMends E) l g
       (finishes_some selective true false g.fe g.fr r t
       (late_mends selective true g.k wd g.fe l.moment e g.fr r ne g.stands.quiet_x g.stands.pair b g.own_e up_e (subst (λ (q : List Frame). Shows q r) (sym nr) (tt, tt, up_r)) late less)) in
       let unsaid : h.fr ++ r.said ≡ h.fr = ap (λ (q : List Frame). h.fr ++ q) h.stands.quiet_y ∙ append-nil h.fr in
       let z : Station = finishes (ticks l.moment r) in
-      r_ticks (OneWay E) (OneWay E) m h
+      r_ticks (SideMends E) (SideMends E) m h
       (some_swap selective false true (h.fr ++ z.said) z h.fe m.e.station
       (finishes_some selective false true h.fr h.fe m.e.station (ticks l.moment r)
-      (ticks_some selective false true h.fr l.moment r h.fe m.e.station up_r (r_low (OneWay E) m h) left
+      (ticks_some selective false true h.fr l.moment r h.fe m.e.station up_r (r_low (SideMends E) m h) left
       (subst (λ (q : List Frame). MendsSome selective false true q r h.fe m.e.station) (sym unsaid) (some_swap selective true false h.fe m.e.station h.fr r h.claim)))))
 
   -- or of the called one
   r_goes : (l : StationLink) → Sound selective wd l → NoFrameWaits l → l.e.station.phase ≡ Up → l.r.station.phase ≡ Up → is_late l.moment l.r.station ≡ true → l.r.station.expiries < l.r.station.n2
-      → HasExpiryLeft l.moment l.e.station → Sounds selective wd (OneWay R) (tick_at (station_kind selective) R (tick_at (station_kind selective) E l))
+      → HasExpiryLeft l.moment l.e.station → Sounds selective wd (SideMends R) (tick_at (station_kind selective) R (tick_at (station_kind selective) E l))
   r_goes l g empty up_e up_r late less left =
       let e : Station = l.e.station in
       let r : Station = l.r.station in
       let ne : g.fe ≡ [] = none_on_line e g.fe (sym empty.0 ∙ g.stands.lined_x) in
       let nr : g.fr ≡ [] = none_on_line r g.fr (sym empty.1 ∙ g.stands.lined_y) in
       let m : StationLink = tick_at (station_kind selective) E l in
-      let h : Sounds selective wd Ticked m = e_ticks Ticked l g
+      let h : Sounds selective wd CallingShows m = e_ticks CallingShows l g
       (finishes_shows g.fe (ticks l.moment e) (up_ticks true wd g.fe l.moment e ne g.stands.quiet_x up_e (e_low NoClaim l g) g.own_e g.rests_e.0 left), nr, up_r) in
       let t : Station = ticks l.moment r in
       let z : Station = finishes t in
       let b = ticks_keeps selective h.k h.fr l.moment r h.fe m.e.station (r_begun selective m h.stands) in
       let q = finishes_some selective true false h.fr h.fe m.e.station t
       (late_mends selective false h.k wd h.fr l.moment r h.fe m.e.station h.claim.1 h.stands.quiet_y (swap selective h.k h.fe m.e.station h.fr r h.stands.pair) b h.own_r up_r h.claim.0 late less) in
-      r_ticks Ticked (OneWay R) m h (
+      r_ticks CallingShows (SideMends R) m h (
         some_swap selective true false (h.fr ++ z.said) z h.fe m.e.station q,
         refl,
         subst (λ (ts : List (List ℕ)). 1 ≤ length ts) (sym (ticks_taken l.moment r up_r (inr (late, less)))) (some_taken wd g.fr l.moment r up_r g.own_r late),
@@ -192,7 +192,7 @@ module _ (selective : Bool) (wd : ℕ) where
 
   -- while the calling one is setting up both ticks lead to what repairs all, and T1 of the called one doesn't run
   e_ticked : (l : StationLink) (now : ℕ) → Sound selective wd l → AreLive l → NoFrameWaits l → NoneGivesUp now l → IsFoundExpired E now l
-      → Sounds selective wd Recovers (tick (station_kind selective) now l) ⊎ Sounds selective wd (OneWay E) (tick (station_kind selective) now l)
+      → Sounds selective wd Recovers (tick (station_kind selective) now l) ⊎ Sounds selective wd (SideMends E) (tick (station_kind selective) now l)
   e_ticked l now h live empty none late =
       let e : Station = l.e.station in
       let r : Station = l.r.station in
@@ -205,7 +205,7 @@ module _ (selective : Bool) (wd : ℕ) where
       ]
 
   r_ticked : (l : StationLink) (now : ℕ) → Sound selective wd l → AreLive l → NoFrameWaits l → NoneGivesUp now l → IsFoundExpired R now l
-      → Sounds selective wd (OneWay R) (tick (station_kind selective) now l)
+      → Sounds selective wd (SideMends R) (tick (station_kind selective) now l)
   r_ticked l now h live empty none late =
       let e : Station = l.e.station in
       let r : Station = l.r.station in
@@ -259,14 +259,14 @@ module _ (selective : Bool) (wd : ℕ) (some : 1 ≤ wd) where
   forgets Q l h =
       record { k = h.k; fe = h.fe; fr = h.fr; stands = h.stands; own_e = h.own_e; own_r = h.own_r; rests_e = h.rests_e; rests_r = h.rests_r; first = h.first; wide = h.wide; begun = h.begun; claim = tt }
 
-  one_emptied : (side : Side) (l : StationLink) → NoFrameWaits l → Sounds selective wd (OneWay side) l → Passed side l
+  one_emptied : (side : Side) (l : StationLink) → NoFrameWaits l → Sounds selective wd (SideMends side) l → Passed side l
   one_emptied E l empty g =
       let e : Station = l.e.station in
       let r : Station = l.r.station in
       let ne : g.fe ≡ [] = none_on_line e g.fe (sym empty.0 ∙ g.stands.lined_x) in
       let nr : g.fr ≡ [] = none_on_line r g.fr (sym empty.1 ∙ g.stands.lined_y) in
       let d = way_done selective true g.k wd g.fe e g.fr r some ne nr g.stands.pair g.own_e g.own_r g.rests_e g.rests_r g.claim (ap (λ (c : Bool). c || nat_lt 0 (length e.taken)) g.own_e.0) in
-      record { repaired = record { stopped = d.stopped; none = d.none; took = d.took }; live = (ap is_down g.claim.0.4, ap is_down g.claim.0.5); sound = forgets (OneWay E) l g }
+      record { repaired = record { stopped = d.stopped; none = d.none; took = d.took }; live = (ap is_down g.claim.0.4, ap is_down g.claim.0.5); sound = forgets (SideMends E) l g }
   one_emptied R l empty g =
       let e : Station = l.e.station in
       let r : Station = l.r.station in
@@ -276,7 +276,7 @@ module _ (selective : Bool) (wd : ℕ) (some : 1 ≤ wd) where
       let may : (r.calling || nat_lt 0 (length r.taken)) ≡ true = ap (λ (c : Bool). c || nat_lt 0 (length r.taken)) g.own_r.0 ∙ lt-ltb 0 (length r.taken) took in
       let d = way_done selective false g.k wd g.fr r g.fe e some nr ne (swap selective g.k g.fe e g.fr r g.stands.pair) g.own_r g.own_e g.rests_r g.rests_e
       (some_swap selective false true g.fe e g.fr r g.claim.0) may in
-      record { repaired = record { stopped = d.stopped; none = d.none; took = d.took }; live = (ap is_down g.claim.0.0.4, ap is_down g.claim.0.0.5); sound = forgets (OneWay R) l g }
+      record { repaired = record { stopped = d.stopped; none = d.none; took = d.took }; live = (ap is_down g.claim.0.0.4, ap is_down g.claim.0.0.5); sound = forgets (SideMends R) l g }
 
   both_emptied : (l : StationLink) → NoFrameWaits l → Sounds selective wd Recovers l → Passed E l
   both_emptied l empty g =
@@ -290,12 +290,12 @@ module _ (selective : Bool) (wd : ℕ) (some : 1 ≤ wd) where
       let m : StationLink = tick (station_kind selective) now l in
       elim (e_ticked selective wd l now h live empty none late) [
         | inl g ↦ both_emptied (pair_run (station_kind selective) m second) end (passes_keep selective wd Recovers laws (recovers_to_r laws.back wd) (recovers_to_e laws.back wd) second m are g).0
-        | inr g ↦ one_emptied E (pair_run (station_kind selective) m second) end (passes_keep selective wd (OneWay E) laws (to_r laws.back give wd E) (to_e laws.back wd E) second m are g).0
+        | inr g ↦ one_emptied E (pair_run (station_kind selective) m second) end (passes_keep selective wd (SideMends E) laws (to_r laws.back give wd E) (to_e laws.back wd E) second m are g).0
       ]
   passed laws give R l now h live empty none late second are end =
       let m : StationLink = tick (station_kind selective) now l in
       let g = r_ticked selective wd l now h live empty none late in
-      one_emptied R (pair_run (station_kind selective) m second) end (passes_keep selective wd (OneWay R) laws (to_r laws.back give wd R) (to_e laws.back wd R) second m are g).0
+      one_emptied R (pair_run (station_kind selective) m second) end (passes_keep selective wd (SideMends R) laws (to_r laws.back give wd R) (to_e laws.back wd R) second m are g).0
 
 -- ---- the laws
 

@@ -32,7 +32,8 @@ pub record IsRepaired (side : Side) (l : StationLink) : Type 0 where
   pub took : (end_of_side l (other side)).station.taken ≡ (end_of_side l side).station.handed
 
 -- whatever the line lost and repeated, while no end was released: all that waits is given; then comes a moment that finds T1 of one end expired,
--- of the other or not; then all that waits is given. With that what this end was handed is taken, whatever the other lost
+-- of the other or not; then all that waits is given. With that what this end was handed is taken, whatever the other lost. That refuses a station that
+-- sends at an expiry the first unacknowledged frame alone: where two were lost, one is taken and T1 runs on
 abbrev pub RecoveryOfEachEnd : Type 0
 RecoveryOfEachEnd =
     (s : StationLinkOpening) (steps : List PairStep) → (after s steps).order_kept ≡ true → AreLive (after s steps)
@@ -51,7 +52,7 @@ abbrev pub IsMadeGood : StationLink → Type 0
 IsMadeGood l = IsRecovered l × IsRenewed l
 
 -- then comes a moment that finds T1 of the other end expired, where it still runs; then all that waits is given. With that each end took all that the
--- other was handed: the deadlines of both may come in either order
+-- other was handed: the deadlines of both may come in either order. That refuses the same station
 abbrev pub RecoveryInTurn : Type 0
 RecoveryInTurn =
     (s : StationLinkOpening) (steps : List PairStep) → (after s steps).order_kept ≡ true → AreLive (after s steps)

@@ -27,7 +27,8 @@ after_anew s steps more = pair_run (station_kind s.selective) (record (after s s
 
 -- from a quiet moment of a line that keeps its order, while neither end was released, the line loses nothing; then the first frame that waits from an end is
 -- lost, whichever frame it is, while two I frames or more wait from it. Then what waits is given, and no moment comes at which T1 could be found
--- expired. Once no frame waits, each end took all that the other was handed, and T1 of neither runs: it is quiet again
+-- expired. Once no frame waits, each end took all that the other was handed, and T1 of neither runs: it is quiet again. That
+-- refuses a station with go-back that says REJ three times in its life and then RR: at the first loss it does what it should
 abbrev pub GapsAreFilledAgain : Type 0
 GapsAreFilledAgain =
     (s : StationLinkOpening) (steps : List PairStep) → (after s steps).order_kept ≡ true → AreLive (after s steps) → IsQuiet (after s steps)
