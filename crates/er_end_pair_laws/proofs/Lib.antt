@@ -31,6 +31,7 @@ pub mod Flowing
 pub mod Drained
 pub mod Delivered
 pub mod Repaired
+pub mod RepairedInTurn
 pub mod Bounded
 pub mod Together
 pub mod Apart

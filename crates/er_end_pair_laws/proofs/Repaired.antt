@@ -53,7 +53,7 @@ module _ (laws : MendingLawsBelow) (s : EndLinkOpening) where
       r_mends laws s HalfTicked Ticked l g (step_tick model l.moment l.r.core) (ticked_keeps laws.below s false h.k h.fr x h.fe l.e.core refl (r_begins laws.below s h.k h.fe l.e.core h.fr l.r.core l.moment h.two))
       (ticked_mends laws Ticked s false tt h.fr h.fe l.e.core.line x live w)
 
-  both_tick : (l : EndLink) (now : ℕ) → Mends Lossy s l → NoFrameWaits l → GoOn now l → Mends Ticked s (tick (end_kind s.finder) now l)
+  pub both_tick : (l : EndLink) (now : ℕ) → Mends Lossy s l → NoFrameWaits l → GoOn now l → Mends Ticked s (tick (end_kind s.finder) now l)
   both_tick l now g empty may =
       let to : ℕ = max l.moment now in
       let flag : Bool = l.loss_free && not (is_end_expired_at to l.e || is_end_expired_at to l.r) in
@@ -74,7 +74,7 @@ module _ (laws : MendingLawsBelow) (s : EndLinkOpening) where
         all = has_all laws.below s agree l g.live_e g.live_r (quiet_at s l h g.live_e g.live_r empty m.x_up m.at_y m.at_x);
       }
 
-  behind : MendEnds → Agree s → (l : EndLink) → Mends Lossy s l → NoFrameWaits l → (now : ℕ) → GoOn now l → (second : List PairStep) → ArePassesAndTakes second
+  pub behind : MendEnds → Agree s → (l : EndLink) → Mends Lossy s l → NoFrameWaits l → (now : ℕ) → GoOn now l → (second : List PairStep) → ArePassesAndTakes second
       → IsEmpty (pair_run (end_kind s.finder) l (Tick now ∷ second)) → IsRecovered (pair_run (end_kind s.finder) l (Tick now ∷ second))
   behind ends agree l g empty now may second are end =
       let t : Mends Ticked s (tick (end_kind s.finder) now l) = both_tick l now g empty may in

@@ -7,4 +7,5 @@ pub mod Laws
 pub mod Ordered
 pub mod Greetings
 pub mod Recovery
+pub mod RecoveryInTurn
 pub mod LawsBelow

@@ -4,6 +4,7 @@ ghost use Rattle.er_end_pair_laws.specs.Laws.{Delivery, DeliveryBound, DrainEmpt
 ghost use Rattle.er_end_pair_laws.specs.Ordered.{InStepWhileOrdered};
 ghost use Rattle.er_end_pair_laws.specs.Greetings.{Greets};
 ghost use Rattle.er_end_pair_laws.specs.Recovery.{PassesRelease, Recovery};
+ghost use Rattle.er_end_pair_laws.specs.RecoveryInTurn.{RecoveryInTurn};
 ghost use Rattle.er_end_pair_laws.specs.LawsBelow.{LawsBelow, LossFreeLawsBelow};
 
 // What the public laws of the layers below say.
@@ -113,6 +114,16 @@ pub fn greets()
 pub fn recovery()
     ensures recovered { Recovery }
     ensures live { PassesRelease }
+{
+    laws_below();
+    hdlc_pair_laws::laws::mending_keeps();
+}
+
+/// So the deadlines of both stations may come in either order: a moment finds T1 of one end expired, of the other or not, and no end gives up; all that
+/// waits is given; a moment finds T1 of the other end expired, where it still runs, and the time for the set-up isn't spent; all that waits is given, and
+/// all that was accepted is taken. Then both ends are live and connected, and each accepted all that the other sent, in order.
+pub fn recovery_in_turn()
+    ensures { RecoveryInTurn }
 {
     laws_below();
     hdlc_pair_laws::laws::mending_keeps();

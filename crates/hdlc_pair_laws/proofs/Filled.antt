@@ -5,8 +5,9 @@ use Rattle.er_base.specs.declared.side.Side.TheVariants.{E, R}
 use Rattle.hdlc_frames.specs.Laws.{ControlReadsBack}
 use Rattle.hdlc_station_model.specs.Frames.{Frame, Info, Rr, Rej, Srej, SetUp, Disc, Dm, Ua}
 use Rattle.hdlc_station_model.specs.Stations.{Station}
+use Rattle.er_base.specs.Sides.{other}
 use Rattle.pair_model.specs.Links.{frames_from}
-use Rattle.pair_model.specs.Steps.{Lose, lose, pair_run, NoFrameWaits}
+use Rattle.pair_model.specs.Steps.{PairStep, Lose, lose, pair_run, NoFrameWaits, ArePassesAndTakes}
 use Rattle.pair_model.specs.Walks.{pair_run_append}
 use Rattle.hdlc_pair_laws.specs.Links.{StationLink, station_kind, opened_station_link}
 use Rattle.hdlc_pair_laws.specs.Laws.{after}
@@ -14,6 +15,7 @@ use Rattle.hdlc_pair_laws.specs.Invariant.{infos, receive_numbers_in_frames}
 use Rattle.hdlc_pair_laws.specs.Flowing.{Consecutive, EndsAtNumber, AllData, Still, Shape}
 use Rattle.hdlc_pair_laws.specs.Filling.{TwoWait, GapsAreFilled}
 use Rattle.hdlc_pair_laws.specs.Recovery.{IsRecovered}
+use Rattle.hdlc_pair_laws.specs.EachEnd.{IsMadeGood}
 use Rattle.hdlc_pair_laws.specs.Mending.{AllExchange, HasAllSentComing, Mends, leads}
 use Rattle.hdlc_pair_laws.proofs.Lines.{first_of_line, none_on_line}
 use Rattle.hdlc_pair_laws.proofs.Acts.{Frames}
@@ -157,10 +159,10 @@ abbrev FilledAs : (selective : Bool) → List Frame → Station → List Frame �
 FilledAs true lx x ly y = HeldFilled lx x ly y
 FilledAs false lx x ly y = Filled lx x ly y
 
-lost_as : (selective c : Bool) (n : ℕ) (f : Frame) (fs : List Frame) (x : Station) (ly : List Frame) (y : Station) → Still c n (f ∷ fs) x ly y → IsCalm y → length y.taken + 2 ≤ x.sent
+lost_as : (selective c : Bool) (n : ℕ) (f : Frame) (fs : List Frame) (x : Station) (ly : List Frame) (y : Station) → Still c n (f ∷ fs) x ly y → IsCalm selective y → length y.taken + 2 ≤ x.sent
     → FilledAs selective fs x ly y
-lost_as true c n f fs x ly y h calm two = lost_held c n f fs x ly y h calm.1 two
-lost_as false c n f fs x ly y h calm two = lost_filled c n f fs x ly y h calm.0 two
+lost_as true c n f fs x ly y h calm two = lost_held c n f fs x ly y h calm two
+lost_as false c n f fs x ly y h calm two = lost_filled c n f fs x ly y h calm two
 
 -- both are up
 calling_still : (n : ℕ) (lx : List Frame) (x : Station) (ly : List Frame) (y : Station) → Shape n lx x ly y → 2 ≤ x.sent → Still true n lx x ly y
@@ -197,7 +199,7 @@ to_e law wd E false k now fe e f fs r wide quiet b own_e own_r rests_e rests_r h
 to_e law wd R false k now fe e f fs r wide quiet b own_e own_r rests_e rests_r h = receiver_step law k now fe e f fs r quiet b own_e.5 h
 
 module _ (selective : Bool) (wd : ℕ) where
-  lost_fills : (side : Side) (l : StationLink) → TwoWait side l → (line : List (List ℕ)) → frames_from l side ≡ line → Sounds selective wd Calm l → Sounds selective wd (Fills side) (lose side line l)
+  lost_fills : (side : Side) (l : StationLink) → TwoWait side l → (line : List (List ℕ)) → frames_from l side ≡ line → Sounds selective wd (Calm (other side)) l → Sounds selective wd (Fills side) (lose side line l)
   lost_fills E l two [] e h =
       let q = h.claim in
       absurd (no_line true q.0 h.fe l.e.station h.fr l.r.station (none_on_line l.e.station h.fe (sym e ∙ h.stands.lined_x))
@@ -211,14 +213,14 @@ module _ (selective : Bool) (wd : ℕ) where
       let x : Station = l.e.station in
       let y : Station = l.r.station in
       let f = first_of_line x octets rest h.fe (sym e ∙ h.stands.lined_x) in
-      e_loses selective wd Calm (Fills E) l octets rest h f
-      (lost_as selective true q.0 f.frame f.frames x h.fr y (subst (λ (s : List Frame). Still true q.0 s x h.fr y) f.all (calling_still q.0 h.fe x h.fr y q.1.0 (omega (arith, two)))) q.1.2 two)
+      e_loses selective wd (Calm R) (Fills E) l octets rest h f
+      (lost_as selective true q.0 f.frame f.frames x h.fr y (subst (λ (s : List Frame). Still true q.0 s x h.fr y) f.all (calling_still q.0 h.fe x h.fr y q.1.0 (omega (arith, two)))) q.1.1 two)
   lost_fills R l two (octets ∷ rest) e h =
       let q = h.claim in
       let x : Station = l.r.station in
       let y : Station = l.e.station in
       let f = first_of_line x octets rest h.fr (sym e ∙ h.stands.lined_y) in
-      r_loses selective wd Calm (Fills R) l octets rest h f
+      r_loses selective wd (Calm E) (Fills R) l octets rest h f
       (lost_as selective false q.0 f.frame f.frames x h.fe y (subst (λ (s : List Frame). Still false q.0 s x h.fe y) f.all (called_still q.0 h.fe y h.fr x q.1.0 (omega (arith, two)))) q.1.1 two)
 
 -- ---- no frame waits any more
@@ -259,22 +261,31 @@ side_mends : (side : Side) (selective : Bool) (fe : List Frame) (e : Station) (f
 side_mends E selective fe e fr r ee er h = filled_mends selective fe e fr r ee er h
 side_mends R selective fe e fr r ee er h = mends_swap selective fr r fe e (filled_mends selective fr r fe e er ee h)
 
-emptied : (selective : Bool) (wd : ℕ) (side : Side) (l : StationLink) → 1 ≤ wd → Sounds selective wd (Fills side) l → NoFrameWaits l → IsRecovered l
+emptied : (selective : Bool) (wd : ℕ) (side : Side) (l : StationLink) → 1 ≤ wd → Sounds selective wd (Fills side) l → NoFrameWaits l → IsMadeGood l
 emptied selective wd side l some g empty =
     let e : Station = l.e.station in
     let r : Station = l.r.station in
     let ee = none_on_line e g.fe (sym empty.0 ∙ g.stands.lined_x) in
     let er = none_on_line r g.fr (sym empty.1 ∙ g.stands.lined_y) in
     let m = mended selective g.k wd g.fe e g.fr r some ee er g.stands.pair g.own_e g.own_r g.rests_e g.rests_r (inr (inr (side_mends side selective g.fe e g.fr r ee er g.claim))) in
-    record { e_up = m.x_up; r_up = m.y_up; at_r = m.at_y; at_e = m.at_x }
+    (
+      record { e_up = m.x_up; r_up = m.y_up; at_r = m.at_y; at_e = m.at_x },
+      record { e_stopped = m.x_stopped.0; r_stopped = m.y_stopped.0; e_none = m.x_stopped.1; r_none = m.y_stopped.1 },
+    )
+
+-- of any link at which all is calm
+pub filled_behind : Frames → (selective : Bool) (wd : ℕ) (side : Side) (l : StationLink) → 1 ≤ wd → Sounds selective wd (Calm (other side)) l → TwoWait side l
+    → (passes : List PairStep) → ArePassesAndTakes passes → NoFrameWaits (pair_run (station_kind selective) l (Lose side ∷ passes)) → IsMadeGood (pair_run (station_kind selective) l (Lose side ∷ passes))
+filled_behind laws selective wd side l some h two passes are end =
+    let lossy : StationLink = lose side (frames_from l side) l in
+    let g = lost_fills selective wd side l two (frames_from l side) refl h in
+    let r = (passes_keep selective wd (Fills side) laws (to_r laws.back wd side) (to_e laws.back wd side) passes lossy are g).0 in
+    emptied selective wd side (pair_run (station_kind selective) lossy passes) some r end
 
 pub gaps_are_filled : Frames → GapsAreFilled
-gaps_are_filled laws s steps free side two passes p end =
+gaps_are_filled laws s steps free side two passes are end =
     let l : StationLink = after s steps in
     let b : Bool = s.selective in
-    let w : ℕ = s.window in
-    let lossy : StationLink = lose side (frames_from l side) l in
-    let split : after s (steps ++ Lose side ∷ passes) ≡ pair_run (station_kind b) lossy passes = pair_run_append (station_kind b) steps (Lose side ∷ passes) (opened_station_link b s.extended w s.n2 s.t1 s.moment) in
-    let g = lost_fills b w side l two (frames_from l side) refl (after_calm laws s steps free) in
-    let r = (passes_keep b w (Fills side) laws (to_r laws.back w side) (to_e laws.back w side) passes lossy p g).0 in
-    subst IsRecovered (sym split) (emptied b w side (pair_run (station_kind b) lossy passes) s.some r (subst NoFrameWaits split end))
+    let split : after s (steps ++ Lose side ∷ passes) ≡ pair_run (station_kind b) l (Lose side ∷ passes) =
+    pair_run_append (station_kind b) steps (Lose side ∷ passes) (opened_station_link b s.extended s.window s.n2 s.t1 s.moment) in
+    subst IsRecovered (sym split) (filled_behind laws b s.window side l s.some (after_calm laws (other side) s steps free) two passes are (subst NoFrameWaits split end)).0

@@ -28,10 +28,10 @@ record Given (x y : Station) : Type 0 where
   released : y.released ≡ newer y.deed.released x.released
   down : is_down y.phase ≡ is_release y.deed.released
 
-abbrev Same : Station → Station → Type 0
+abbrev pub Same : Station → Station → Type 0
 Same x y = (y.handed ≡ x.handed) × (y.taken ≡ x.taken) × (y.released ≡ x.released) × (y.phase ≡ x.phase) × (y.deed ≡ x.deed)
 
-up_to_same : (n : ℕ) (x : Station) → Same x (sends_up_to n x)
+pub up_to_same : (n : ℕ) (x : Station) → Same x (sends_up_to n x)
 up_to_same zero x = (refl, refl, refl, refl, refl)
 up_to_same (suc n) x =
     cond_both (can_send x) (sends_up_to n (sends_next x)) x (Same x) (λ e. up_to_same n (sends_next x)) (λ e. (refl, refl, refl, refl, refl))

@@ -39,6 +39,8 @@ pub mod Repeats
 pub mod Recovers
 pub mod Ticks
 pub mod Recovered
+pub mod OneTick
+pub mod EachEnd
 pub mod MendCalls
 pub mod Starting
 pub mod StartingCalls
@@ -46,5 +48,7 @@ pub mod Filling
 pub mod FillCalls
 pub mod Calm
 pub mod Filled
+pub mod Ahead
+pub mod FilledAgain
 pub mod Asking
 pub mod AskCalls

@@ -1,25 +1,32 @@
 -- Each call keeps what a recovery rests on, whatever layers stand above. Everywhere x acts and y doesn't, w waited from x before the call, and
 -- c says whether x is the calling station.
-use Rattle.std.proofs.Common.{◌≡◌, ℕ, inl, inr, Bool, true, false, not, ◌||◌, List, [], ◌∷◌, ◌++◌, Option, Some, None, refl, sym, ◌∙◌, ap, subst, arith, append-nil}
+use Rattle.std.proofs.Common.{◌≡◌, ◌⊎◌, ℕ, ◌<◌, ◌≤◌, true≢false, inl, inr, Bool, true, false, not, ◌||◌, List, [], ◌∷◌, ◌++◌, Option, Some, None, refl, sym, ◌∙◌, ap, subst, arith, append-nil}
 use Rattle.std.proofs.lemmas.Bool.{cond_both}
 use Rattle.er_base.specs.declared.release.Release.{Release}
 use Rattle.hdlc_frames.specs.Laws.{ControlReadsBack}
-use Rattle.hdlc_station_model.specs.declared.phase.Phase.TheVariants.{Idle}
+use Rattle.hdlc_station_model.specs.declared.phase.Phase.TheVariants.{Idle, Up}
 use Rattle.hdlc_station_model.specs.Frames.{Frame}
 use Rattle.hdlc_station_model.specs.Stations.{Station, is_up, is_down, made, settled}
 use Rattle.hdlc_station_model.specs.Calls.{starts, hands, finishes, ticks, closes}
 use Rattle.hdlc_station_model.specs.Selective.{receives_as}
 use Rattle.hdlc_station_model.specs.Reports.{is_release, ReleasesAreTold}
-use Rattle.hdlc_pair_laws.specs.Invariant.{IsStationPair, Both}
+use Rattle.hdlc_pair_laws.specs.Invariant.{IsStationPair, Both, infos, receive_numbers_in_frames}
 use Rattle.hdlc_pair_laws.specs.Keeping.{found, FramesGive}
 use Rattle.hdlc_station_model.specs.Repeating.{MayRepeat}
-use Rattle.hdlc_pair_laws.specs.Mending.{Own, Progress, Lossy, HalfTicked, Ticked, Reached, MayHear, MaySpeak, Began, Between, Within}
-use Rattle.hdlc_pair_laws.specs.Repairs.{MendKeeps, MendEnds}
+use Rattle.hdlc_station_model.specs.Events.{is_late}
+use Rattle.hdlc_pair_laws.specs.EachEnd.{HasExpiryLeft}
+use Rattle.hdlc_pair_laws.specs.Mending.{Own, Shows, Progress, Lossy, HalfTicked, Ticked, Shown, OneWay, Reached, MayHear, MaySpeak, Began, Between, Within}
+use Rattle.hdlc_pair_laws.specs.Repairs.{MendKeeps, MendEnds, OneWayEnds}
 use Rattle.hdlc_pair_laws.proofs.Telling.{phases_stay, ticks_tell}
 use Rattle.hdlc_pair_laws.proofs.Sounds.{own_gone, own_twice}
 use Rattle.hdlc_pair_laws.proofs.SoundCalls.{InCall, finishes_leaves, hands_in, ticks_in, closes_in, received_lives}
 use Rattle.hdlc_pair_laws.proofs.Recovers.{ReachedIn, turned_reached, settled_reached, finished_reached, handed_reached, received_reached}
-use Rattle.hdlc_pair_laws.proofs.Ticks.{calling_ticks, called_ticks}
+use Rattle.hdlc_pair_laws.proofs.Ticks.{calling_ticks, called_ticks, called_phase, both_phases, none_taken}
+use Rattle.hdlc_pair_laws.proofs.OneTick.{up_ticks, late_mends, ticks_some, early_stopped}
+use Rattle.hdlc_pair_laws.proofs.EachEnd.{way_acked, up_stopped}
+use Rattle.hdlc_pair_laws.proofs.Ways.{way_bounds}
+use Rattle.hdlc_pair_laws.proofs.Events.{swap, ticks_keeps}
+use Rattle.hdlc_pair_laws.proofs.Mending.{some_swap}
 use Rattle.hdlc_pair_laws.proofs.Recovered.{mended}
 
 -- ---- which station came up first
@@ -159,6 +166,58 @@ called_ticked selective k wd w now x l y p h may =
     behind HalfTicked Ticked selective false wd w z l l y t i g.peers (began_kept false z t y i.3 (ticks_tell.asleep now z) g.began)
     (called_ticks selective k wd w now z l y refl b h.own g.reached may) g
 
+-- ---- the tick that finds T1 of one station expired
+
+live_phases : (selective : Bool) (k wd : ℕ) (lx : List Frame) (x : Station) (ly : List Frame) (y : Station) → IsStationPair selective k lx x ly y → Between Lossy selective true wd lx x ly y
+    → is_down x.phase ≡ false → is_down y.phase ≡ false → ((x.phase ≡ Up) × (y.phase ≡ Up)) ⊎ (y.timer ≡ None)
+live_phases selective k wd lx x ly y p h live_x live_y =
+    elim (both_phases x.phase y.phase live_x h.began.1 h.began.0 (called_phase y.phase y.calling y.sent live_y h.peers.0 p.1.2)) [
+      | inl up ↦ inl up
+      | inr early ↦ inr (early_stopped wd ly y early.1 h.peers (none_taken selective k lx x ly y early.0 p))
+    ]
+
+-- V(A) is at most V(S)
+low_at : (selective : Bool) (k : ℕ) (lx : List Frame) (x : Station) (ly : List Frame) (y : Station) → IsStationPair selective k lx x ly y → x.acked ≤ x.sent
+low_at selective k lx x ly y p =
+    let b = way_bounds k x.handed x.acked x.sent y.taken (infos lx) (receive_numbers_in_frames ly) p.0.0 in
+    omega (arith, b.0, b.1)
+
+-- the tick leads from p to q
+tick_leads : (p q : Progress) (selective c : Bool) (k wd : ℕ) (w : List Frame) (now : ℕ) (x : Station) (l : List Frame) (y : Station) → IsStationPair selective k w x l y → Between p selective c wd w x l y
+    → (Both selective k w (ticks now (settled x)) l y → ReachedIn p selective c w (settled x) l y → ReachedIn q selective c w (ticks now (settled x)) l y)
+    → Within q selective c wd w (ticks now (settled x)) l y
+tick_leads p q selective c k wd w now x l y pair h leads =
+    let z : Station = settled x in
+    let t : Station = ticks now z in
+    let g = begins p selective c k wd w x l y pair h in
+    let i = ticks_in c wd w now z g.given g.own in
+    let b : Both selective k w z l y = subst (λ (r : List Frame). IsStationPair selective k r z l y) (sym (append-nil w)) pair in
+    behind p q selective c wd w z l l y t i g.peers (began_kept c z t y i.3 (ticks_tell.asleep now z) g.began) (leads (ticks_keeps selective k w now z l y b) g.reached) g
+
+calling_expired : (selective : Bool) (k wd : ℕ) (w : List Frame) (now : ℕ) (x : Station) (l : List Frame) (y : Station) → w ≡ [] → l ≡ [] → IsStationPair selective k w x l y
+    → Between Lossy selective true wd w x l y → x.phase ≡ Up → y.phase ≡ Up → is_late now x ≡ true → x.expiries < x.n2 → Within (OneWay true) selective true wd w (ticks now (settled x)) l y
+calling_expired selective k wd w now x l y nw nl p h up_x up_y late less =
+    tick_leads Lossy (OneWay true) selective true k wd w now x l y p h
+    (λ b r. late_mends selective true k wd w now (settled x) l y nw refl p b h.own up_x (subst (λ (q : List Frame). Shows q y) (sym nl) (tt, tt, up_y)) late less)
+
+called_goes_on : (selective : Bool) (k wd : ℕ) (w : List Frame) (now : ℕ) (x : Station) (l : List Frame) (y : Station) → IsStationPair selective k w x l y
+    → Between (OneWay true) selective false wd w x l y → HasExpiryLeft now x → Within (OneWay true) selective false wd w (ticks now (settled x)) l y
+called_goes_on selective k wd w now x l y p h left =
+    tick_leads (OneWay true) (OneWay true) selective false k wd w now x l y p h
+    (λ b r. ticks_some selective false true w now (settled x) l y h.reached.0.4 (low_at selective k w x l y p) left r)
+
+calling_goes_on : (selective : Bool) (k wd : ℕ) (w : List Frame) (now : ℕ) (x : Station) (l : List Frame) (y : Station) → w ≡ [] → l ≡ [] → IsStationPair selective k w x l y
+    → Between Lossy selective true wd w x l y → x.phase ≡ Up → y.phase ≡ Up → HasExpiryLeft now x → Within Shown selective true wd w (ticks now (settled x)) l y
+calling_goes_on selective k wd w now x l y nw nl p h up_x up_y left =
+    tick_leads Lossy Shown selective true k wd w now x l y p h
+    (λ b r. (up_ticks true wd w now (settled x) nw refl up_x (low_at selective k w x l y p) h.own h.rests.0 left, nl, up_y))
+
+called_expired : (selective : Bool) (k wd : ℕ) (w : List Frame) (now : ℕ) (x : Station) (l : List Frame) (y : Station) → IsStationPair selective k w x l y
+    → Between Shown selective false wd w x l y → is_late now x ≡ true → x.expiries < x.n2 → Within (OneWay false) selective false wd w (ticks now (settled x)) l y
+called_expired selective k wd w now x l y p h late less =
+    tick_leads Shown (OneWay false) selective false k wd w now x l y p h
+    (λ b r. late_mends selective false k wd w now (settled x) l y h.reached.1 refl p b h.own h.reached.2 h.reached.0 late less)
+
 -- ---- no release
 
 reached_lives : (p : Progress) (selective c : Bool) (lx : List Frame) (x : Station) (ly : List Frame) (y : Station) → (p ≡ Lossy → ⊥) → Reached p selective c lx x ly y → is_down x.phase ≡ false
@@ -173,6 +232,12 @@ reached_lives Ticked selective true lx x ly y some (inr (inr m)) = ap is_down m.
 reached_lives Ticked selective false lx x ly y some (inl a) = elim a.3 [ inl idle ↦ ap is_down idle | inr up ↦ ap is_down up ]
 reached_lives Ticked selective false lx x ly y some (inr (inl a)) = ap is_down a.3
 reached_lives Ticked selective false lx x ly y some (inr (inr m)) = ap is_down m.0.4
+reached_lives Shown selective true lx x ly y some h = ap is_down h.0.2
+reached_lives Shown selective false lx x ly y some h = ap is_down h.2
+reached_lives (OneWay true) selective true lx x ly y some h = ap is_down h.0.4
+reached_lives (OneWay true) selective false lx x ly y some h = ap is_down h.0.4
+reached_lives (OneWay false) selective true lx x ly y some h = ap is_down h.0.4
+reached_lives (OneWay false) selective false lx x ly y some h = ap is_down h.0.4
 
 heard_lives : ControlReadsBack → (p : Progress) (selective c : Bool) (k wd : ℕ) (w : List Frame) (now : ℕ) (x : Station) (f : Frame) (fs : List Frame) (y : Station)
     → Both selective k w x (f ∷ fs) y → Within p selective c wd w x (f ∷ fs) y → is_down x.phase ≡ false → is_down y.phase ≡ false
@@ -201,6 +266,11 @@ mend_keeps law gives told = record {
   repeated = repeated;
   calling_ticked = calling_ticked;
   called_ticked = called_ticked;
+  live_phases = live_phases;
+  calling_expired = calling_expired;
+  called_goes_on = called_goes_on;
+  calling_goes_on = calling_goes_on;
+  called_expired = called_expired;
   lives = λ p selective c wd w x l y some h. reached_lives p selective c (w ++ x.said) x l y some h.reached;
   heard_lives = heard_lives law;
   heard_untold = λ selective now x f y quiet live. none_told (is_down x.phase) (receives_as selective now (found y f) x).deed.released (sym (gives selective now (found y f) x quiet).release.down ∙ live);
@@ -209,3 +279,14 @@ mend_keeps law gives told = record {
 
 pub mend_ends : MendEnds
 mend_ends selective k wd lx x ly y some ex ey p h = mended selective k wd lx x ly y some ex ey p h.own h.peers h.rests h.peer_rests h.reached
+
+pub one_way_ends : OneWayEnds
+one_way_ends selective true k wd lx x ly y ex ey p h = (
+  λ is. (up_stopped true wd lx x h.own h.reached.0.4 (way_acked selective false k wd lx x ly y ex ey p h.peers h.peer_rests h.reached).1).0,
+  λ is. absurd (true≢false is),
+)
+one_way_ends selective false k wd lx x ly y ex ey p h =
+    let m = some_swap selective false true lx x ly y h.reached in (
+      λ is. absurd (true≢false (sym is)),
+      λ is. (up_stopped false wd ly y h.peers m.0.4 (way_acked selective true k wd ly y lx x ey ex (swap selective k lx x ly y p) h.own h.rests m).1).0,
+    )

@@ -68,7 +68,7 @@ module _ (selective : Bool) (wd : ℕ) where
       (called_ticks selective g.k wd g.fr l.moment r g.fe e g.stands.quiet_y b g.own_r
       (subst (λ (v : List Frame). Reached HalfTicked selective false v r g.fe e) (sym unsaid) h) may))))
 
-  both_ticked : (l : StationLink) (now : ℕ) → Sound selective wd l → AreLive l → NoFrameWaits l → GoOn now l → Sounds selective wd Recovers (tick (station_kind selective) now l)
+  pub both_ticked : (l : StationLink) (now : ℕ) → Sound selective wd l → AreLive l → NoFrameWaits l → GoOn now l → Sounds selective wd Recovers (tick (station_kind selective) now l)
   both_ticked l now h live empty may =
       let first : StationLink = at_moment (max l.moment now) l in
       let g : Sound selective wd first = same selective wd NoClaim l h _ l.passes l.order_kept _ in
@@ -76,7 +76,7 @@ module _ (selective : Bool) (wd : ℕ) where
 
 -- ---- no frame waits any more
 
-took_all : (selective : Bool) (next sent : ℕ) (held : List (ℕ × List ℕ)) → next ≤ sent → held_for next held ≡ None → HasAllSentComing selective next held [] sent → next ≡ sent
+pub took_all : (selective : Bool) (next sent : ℕ) (held : List (ℕ × List ℕ)) → next ≤ sent → held_for next held ≡ None → HasAllSentComing selective next held [] sent → next ≡ sent
 took_all true next sent held le free h = elim (cases_lt next sent) [
   | inl lower ↦ elim (h next (omega arith) lower) [ inl is ↦ absurd (true≢false (sym is ∙ ap is_found free)) | inr w ↦ absurd w ]
   | inr top ↦ omega (arith, le, top)
@@ -127,7 +127,7 @@ mended selective k wd lx x ly y some ex ey p own_x own_y rests_x rests_y h =
     (subst (λ (t : List Frame). Own true wd t x) ex own_x) (subst (λ (t : List Frame). Own false wd t y) ey own_y) rests_x rests_y
     (subst (λ (t : List Frame). Reached Ticked selective true t x [] y) ex (subst (λ (t : List Frame). Reached Ticked selective true lx x t y) ey h))
 
-emptied : (selective : Bool) (wd : ℕ) (l : StationLink) → 1 ≤ wd → Sounds selective wd Recovers l → NoFrameWaits l → IsMended l.e.station l.r.station
+pub emptied : (selective : Bool) (wd : ℕ) (l : StationLink) → 1 ≤ wd → Sounds selective wd Recovers l → NoFrameWaits l → IsMended l.e.station l.r.station
 emptied selective wd l some g empty =
     let e : Station = l.e.station in
     let r : Station = l.r.station in
@@ -137,11 +137,11 @@ emptied selective wd l some g empty =
 -- ---- the laws
 
 -- what holds behind the tick and the passes
-record Behind (l : StationLink) : Type 0 where
-  recovered : IsRecovered l
-  renewed : IsRenewed l
+pub record Behind (l : StationLink) : Type 0 where
+  pub recovered : IsRecovered l
+  pub renewed : IsRenewed l
 
-behind : Frames → (selective : Bool) (wd : ℕ) (l : StationLink) → 1 ≤ wd → Sound selective wd l → AreLive l → NoFrameWaits l → (now : ℕ) → GoOn now l
+pub behind : Frames → (selective : Bool) (wd : ℕ) (l : StationLink) → 1 ≤ wd → Sound selective wd l → AreLive l → NoFrameWaits l → (now : ℕ) → GoOn now l
     → (second : List PairStep) → ArePassesAndTakes second → NoFrameWaits (pair_run (station_kind selective) l (Tick now ∷ second)) → Behind (pair_run (station_kind selective) l (Tick now ∷ second))
 behind laws selective wd l some h live empty now may second passes end =
     let g = both_ticked selective wd l now h live empty may in

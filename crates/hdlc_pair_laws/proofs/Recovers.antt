@@ -14,7 +14,7 @@ use Rattle.hdlc_station_model.specs.Selective.{held_for, receives_as}
 use Rattle.hdlc_station_model.specs.Calls.{hands, finishes}
 use Rattle.hdlc_pair_laws.specs.Invariant.{IsStationPair, Both, Early, infos, receive_numbers_in_frames}
 use Rattle.hdlc_pair_laws.specs.Keeping.{found}
-use Rattle.hdlc_pair_laws.specs.Mending.{Own, HasAllSentComing, Mends, HasSetUpFrameWaiting, HasSetUpAnswerWaiting, Progress, Lossy, HalfTicked, Ticked, Reached, MayHear, MaySpeak}
+use Rattle.hdlc_pair_laws.specs.Mending.{Own, HasAllSentComing, Mends, MendsSome, HasSetUpFrameWaiting, HasSetUpAnswerWaiting, Progress, Lossy, HalfTicked, Ticked, Shown, OneWay, Reached, MayHear, MaySpeak}
 use Rattle.hdlc_pair_laws.proofs.Ways.{way_bounds}
 use Rattle.hdlc_pair_laws.proofs.Rows.{set_up_at}
 use Rattle.hdlc_pair_laws.proofs.Hearing.{row_as}
@@ -24,9 +24,9 @@ use Rattle.hdlc_pair_laws.proofs.Delivers.{early_cannot, cannot_yet, sets_up, ag
 use Rattle.hdlc_pair_laws.proofs.LossFree.{unsent, unsent_hands, unsent_finishes}
 use Rattle.hdlc_pair_laws.proofs.Sound.{OwnIn}
 use Rattle.hdlc_pair_laws.proofs.Sounds.{Claim, ToR, ToE, own_begun}
-use Rattle.hdlc_pair_laws.proofs.Mending.{MendsIn, mends_swap, waiting_mends, hands_mends, finishes_mends}
-use Rattle.hdlc_pair_laws.proofs.MendRows.{go_back_mends, selective_mends}
-use Rattle.hdlc_pair_laws.proofs.Repeats.{hands_fires, finishes_fires}
+use Rattle.hdlc_pair_laws.proofs.Mending.{MendsIn, MendsSomeIn, mends_swap, some_swap, to_some, of_some, waiting_some, hands_some, finishes_some, waiting_mends, hands_mends, finishes_mends}
+use Rattle.hdlc_pair_laws.proofs.MendRows.{go_back_some, selective_some}
+use Rattle.hdlc_pair_laws.proofs.Repeats.{hands_fires, finishes_fires, hands_shows, finishes_shows}
 
 -- ---- the calls but the tick keep what is reached
 
@@ -44,6 +44,12 @@ turned_reached Ticked selective true lx x ly y (inr (inr m)) = inr (inr (mends_s
 turned_reached Ticked selective false lx x ly y (inl a) = inl a
 turned_reached Ticked selective false lx x ly y (inr (inl a)) = inr (inl a)
 turned_reached Ticked selective false lx x ly y (inr (inr m)) = inr (inr (mends_swap selective lx x ly y m))
+turned_reached Shown selective true lx x ly y h = h
+turned_reached Shown selective false lx x ly y h = h
+turned_reached (OneWay true) selective true lx x ly y h = some_swap selective true false lx x ly y h
+turned_reached (OneWay true) selective false lx x ly y h = some_swap selective false true lx x ly y h
+turned_reached (OneWay false) selective true lx x ly y h = some_swap selective false true lx x ly y h
+turned_reached (OneWay false) selective false lx x ly y h = some_swap selective true false lx x ly y h
 
 -- between two calls nothing is said and nothing is told
 pub settled_reached : (p : Progress) (selective c : Bool) (lx : List Frame) (x : Station) (ly : List Frame) (y : Station) → Reached p selective c lx x ly y
@@ -53,6 +59,12 @@ settled_reached HalfTicked selective true lx x ly y h = h
 settled_reached HalfTicked selective false lx x ly y h = h
 settled_reached Ticked selective true lx x ly y h = h
 settled_reached Ticked selective false lx x ly y h = h
+settled_reached Shown selective true lx x ly y h = h
+settled_reached Shown selective false lx x ly y h = h
+settled_reached (OneWay true) selective true lx x ly y h = h
+settled_reached (OneWay true) selective false lx x ly y h = h
+settled_reached (OneWay false) selective true lx x ly y h = h
+settled_reached (OneWay false) selective false lx x ly y h = h
 
 pub finished_reached : (p : Progress) (selective c : Bool) (w : List Frame) (x : Station) (l : List Frame) (y : Station) → MaySpeak p c → ReachedIn p selective c w x l y
     → ReachedIn p selective c w (finishes x) l y
@@ -66,6 +78,12 @@ finished_reached Ticked selective true w x l y may (inr (inr m)) = inr (inr (fin
 finished_reached Ticked selective false w x l y may (inl a) = subst (λ (t : Station). ReachedIn Ticked selective false w t l y) (sym (unsent_finishes x a.4.1)) (inl a)
 finished_reached Ticked selective false w x l y may (inr (inl a)) = subst (λ (t : Station). ReachedIn Ticked selective false w t l y) (sym (unsent_finishes x a.4.1)) (inr (inl a))
 finished_reached Ticked selective false w x l y may (inr (inr m)) = inr (inr (finishes_mends selective w l y x m))
+finished_reached Shown selective true w x l y may h = (finishes_shows w x h.0, h.1, h.2)
+finished_reached Shown selective false w x l y may h = absurd may
+finished_reached (OneWay true) selective true w x l y may h = finishes_some selective true false w l y x h
+finished_reached (OneWay true) selective false w x l y may h = finishes_some selective false true w l y x h
+finished_reached (OneWay false) selective true w x l y may h = finishes_some selective false true w l y x h
+finished_reached (OneWay false) selective false w x l y may h = finishes_some selective true false w l y x h
 
 -- before both are up no payload is sent
 pub handed_reached : (p : Progress) (selective c : Bool) (w : List Frame) (now : ℕ) (q : List ℕ) (x : Station) (l : List Frame) (y : Station) → MaySpeak p c → x.calling ≡ c
@@ -86,24 +104,37 @@ handed_reached Ticked selective false w now q x l y may is (inl a) =
 handed_reached Ticked selective false w now q x l y may is (inr (inl a)) =
     subst (λ (t : Station). ReachedIn Ticked selective false w t l y) (sym (unsent_hands now q x (ap is_down a.3) (cannot_yet x is a.4.2))) (inr (inl a))
 handed_reached Ticked selective false w now q x l y may is (inr (inr m)) = inr (inr (hands_mends selective w l y now q x m))
+handed_reached Shown selective true w now q x l y may is h = (hands_shows w now q x h.0, h.1, h.2)
+handed_reached Shown selective false w now q x l y may is h = absurd may
+handed_reached (OneWay true) selective true w now q x l y may is h = hands_some selective true false w l y now q x h
+handed_reached (OneWay true) selective false w now q x l y may is h = hands_some selective false true w l y now q x h
+handed_reached (OneWay false) selective true w now q x l y may is h = hands_some selective false true w l y now q x h
+handed_reached (OneWay false) selective false w now q x l y may is h = hands_some selective true false w l y now q x h
 
 -- ---- both are up: a frame comes
+
+pub received_some : ControlReadsBack → (selective out back : Bool) (k now : ℕ) (w : List Frame) (x : Station) (f : Frame) (fs : List Frame) (y : Station) → Both selective k w x (f ∷ fs) y
+    → (selective ≡ true → k ≡ x.window) → held_for (length x.taken) x.held ≡ None → MendsSome selective out back (w ++ x.said) x (f ∷ fs) y
+    → MendsSomeIn selective out back w (receives_as selective now (found y f) x) fs y
+received_some law selective out back k now w x f fs y b wide free h =
+    let z : Station = sees now x in
+    let e = heard_live selective now (found y f) x (ap is_down h.0.4) in
+    let row = heard_row law selective k (w ++ x.said) z f fs y b ∙ ap (λ (q : Phase). row_as selective q z (shown x.extended f) (information f)) h.0.4 in
+    subst (λ (t : Station). MendsSomeIn selective out back w t fs y) (sym (e ∙ ap sends_waiting row))
+    (waiting_some selective out back w fs y (row_as selective Up z (shown x.extended f) (information f)) (rows selective k w z f fs y b wide free h))
+  where
+    rows : (selective : Bool) (k : ℕ) (w : List Frame) (x : Station) (f : Frame) (fs : List Frame) (y : Station) → Both selective k w x (f ∷ fs) y
+        → (selective ≡ true → k ≡ x.window) → held_for (length x.taken) x.held ≡ None → MendsSome selective out back (w ++ x.said) x (f ∷ fs) y
+        → MendsSomeIn selective out back w (row_as selective Up x (shown x.extended f) (information f)) fs y
+    rows true k w x f fs y b wide free h = selective_some out back k w w x f fs fs y b (wide refl) free h
+    rows false k w x f fs y b wide free h = go_back_some out back k w x f fs y y b h
 
 pub received_mends : ControlReadsBack → (selective : Bool) (k now : ℕ) (w : List Frame) (x : Station) (f : Frame) (fs : List Frame) (y : Station) → Both selective k w x (f ∷ fs) y
     → (selective ≡ true → k ≡ x.window) → held_for (length x.taken) x.held ≡ None → Mends selective (w ++ x.said) x (f ∷ fs) y
     → MendsIn selective w (receives_as selective now (found y f) x) fs y
 received_mends law selective k now w x f fs y b wide free h =
-    let z : Station = sees now x in
-    let e = heard_live selective now (found y f) x (ap is_down h.0.4) in
-    let row = heard_row law selective k (w ++ x.said) z f fs y b ∙ ap (λ (q : Phase). row_as selective q z (shown x.extended f) (information f)) h.0.4 in
-    subst (λ (t : Station). MendsIn selective w t fs y) (sym (e ∙ ap sends_waiting row))
-    (waiting_mends selective w fs y (row_as selective Up z (shown x.extended f) (information f)) (rows selective k w z f fs y b wide free h))
-  where
-    rows : (selective : Bool) (k : ℕ) (w : List Frame) (x : Station) (f : Frame) (fs : List Frame) (y : Station) → Both selective k w x (f ∷ fs) y
-        → (selective ≡ true → k ≡ x.window) → held_for (length x.taken) x.held ≡ None → Mends selective (w ++ x.said) x (f ∷ fs) y
-        → MendsIn selective w (row_as selective Up x (shown x.extended f) (information f)) fs y
-    rows true k w x f fs y b wide free h = selective_mends k w w x f fs fs y b (wide refl) free h
-    rows false k w x f fs y b wide free h = go_back_mends k w x f fs y y b h
+    let t : Station = receives_as selective now (found y f) x in
+    of_some selective (w ++ t.said) t fs y (received_some law selective true true k now w x f fs y b wide free (to_some selective (w ++ x.said) x (f ∷ fs) y h))
 
 -- ---- the set-up frame comes to the called station
 
@@ -223,6 +254,15 @@ received_reached law Ticked selective false k wd w now x f fs y may wide b own p
 received_reached law Ticked selective false k wd w now x f fs y may wide b own peers (inr (inl a)) = absurd (let e : f ∷ fs ≡ [] = a.1 in let u : ⊥ = cc in u)
 received_reached law Ticked selective false k wd w now x f fs y may wide b own peers (inr (inr m)) =
     inr (inr (received_mends law selective k now w x f fs y b (λ s. wide s ∙ sym own.1) own.5 m))
+received_reached law Shown selective c k wd w now x f fs y may wide b own peers h = absurd may
+received_reached law (OneWay true) selective true k wd w now x f fs y may wide b own peers h =
+    received_some law selective true false k now w x f fs y b (λ s. wide s ∙ sym own.1) own.5 h
+received_reached law (OneWay true) selective false k wd w now x f fs y may wide b own peers h =
+    received_some law selective false true k now w x f fs y b (λ s. wide s ∙ sym own.1) own.5 h
+received_reached law (OneWay false) selective true k wd w now x f fs y may wide b own peers h =
+    received_some law selective false true k now w x f fs y b (λ s. wide s ∙ sym own.1) own.5 h
+received_reached law (OneWay false) selective false k wd w now x f fs y may wide b own peers h =
+    received_some law selective true false k now w x f fs y b (λ s. wide s ∙ sym own.1) own.5 h
 
 -- ---- the claim outlasts each pass
 

@@ -14,7 +14,7 @@ use Rattle.hdlc_station_model.specs.Events.{is_late}
 use Rattle.hdlc_pair_laws.specs.Invariant.{infos, receive_numbers_in_frames, info_of, receive_numbers_in_frame}
 use Rattle.hdlc_pair_laws.specs.Flowing.{Consecutive}
 use Rattle.hdlc_station_model.specs.Repeating.{MayRepeat}
-use Rattle.hdlc_pair_laws.specs.Mending.{AllAre, AllExchange, Fires}
+use Rattle.hdlc_pair_laws.specs.Mending.{AllAre, AllExchange, Fires, IsExchange, Shows}
 use Rattle.hdlc_pair_laws.proofs.Keeps.{more}
 use Rattle.hdlc_pair_laws.proofs.Flows.{consecutive_push}
 use Rattle.hdlc_pair_laws.proofs.Delivers.{early_cannot, cannot_yet}
@@ -86,10 +86,39 @@ module _ (w : List Frame) where
       (λ live. cond_both x.owed (record (puts f x) { owed = false }) x (FiresIn w)
       (λ owed. subst (λ l. Fires l x) (append_assoc w x.said (f ∷ [])) (shown_fires (w ++ x.said) x h)) (λ owes. h))
 
+-- each N(R) is V(R), whatever I frames go
+shows_push : (l : List Frame) (x : Station) (f : Frame) → IsExchange f → receive_numbers_in_frame f ≡ length x.taken ∷ [] → Shows l x → Shows (l ++ f ∷ []) x
+shows_push l x f is newest h = (
+  subst (λ ns. AllAre (length x.taken) ns) (sym (more receive_numbers_in_frame l f ∙ ap (λ ns. receive_numbers_in_frames l ++ ns) newest))
+      (all_push (length x.taken) (length x.taken) (receive_numbers_in_frames l) h.0 refl),
+  exchange_push l f h.1 is,
+  h.2,
+)
+
+module _ (w : List Frame) where
+  up_to_shows : (n : ℕ) (x : Station) → Shows (w ++ x.said) x → Shows (w ++ (sends_up_to n x).said) (sends_up_to n x)
+  up_to_shows zero x h = h
+  up_to_shows (suc n) x h = elim (cases_Bool (can_send x)) [
+    | inl can ↦ rw can (up_to_shows n (sends_next x) (subst (λ l. Shows l x) (append_assoc w x.said (info_at x x.sent ∷ [])) (shows_push (w ++ x.said) x (info_at x x.sent) tt refl h)))
+    | inr cannot ↦ rw cannot h
+  ]
+
+  pub hands_shows : (now : ℕ) (q : List ℕ) (x : Station) → Shows (w ++ x.said) x → Shows (w ++ (hands now q x).said) (hands now q x)
+  hands_shows now q x h =
+      let z : Station = record (sees now x) { handed = x.handed ++ q ∷ [] } in
+      cond_both (is_down x.phase) x (sends_waiting z) (λ t. Shows (w ++ t.said) t) (λ down. h) (λ live. up_to_shows (waiting z) z h)
+
+  pub finishes_shows : (x : Station) → Shows (w ++ x.said) x → Shows (w ++ (finishes x).said) (finishes x)
+  finishes_shows x h =
+      let f : Frame = Rr (length x.taken) in
+      cond_both (is_down x.phase) x (settles x) (λ t. Shows (w ++ t.said) t) (λ down. h)
+      (λ live. cond_both x.owed (record (puts f x) { owed = false }) x (λ t. Shows (w ++ t.said) t)
+      (λ owed. subst (λ l. Shows l x) (append_assoc w x.said (f ∷ [])) (shows_push (w ++ x.said) x f tt refl h)) (λ owes. h))
+
 -- ---- the tick
 
 -- T1 doesn't run and isn't found expired, or it is and the station doesn't give up
-ticked : (now : ℕ) (x : Station) (P : Station → Type 0) → is_down x.phase ≡ false → MayRepeat now x
+pub ticked : (now : ℕ) (x : Station) (P : Station → Type 0) → is_down x.phase ≡ false → MayRepeat now x
     → (x.timer ≡ None → P (sends_waiting (sees now x))) → (x.expiries < x.n2 → P (sends_waiting (expires_at x.phase (sees now x)))) → P (ticks now x)
 ticked now x P live may still due =
     cond_both (is_down x.phase) x (sends_waiting (expires_if_due (sees now x))) P (λ down. absurd (true≢false (sym down ∙ live)))
@@ -107,7 +136,7 @@ few x less = elim (cases_Bool (nat_lt x.n2 (x.expiries + 1))) [
   | inr e ↦ e
 ]
 
-up_expires : (x : Station) → x.expiries < x.n2 → expires_at Up x ≡ starts_timer (sends_again (counts_expiry x))
+pub up_expires : (x : Station) → x.expiries < x.n2 → expires_at Up x ≡ starts_timer (sends_again (counts_expiry x))
 up_expires x less = ap (λ (b : Bool). if b then gives_up NoProgress x else starts_timer (sends_again (counts_expiry x))) (few x less)
 
 setting_expires : (x : Station) → x.expiries < x.n2 → expires_at Setting x ≡ starts_timer (puts SetUp (counts_expiry x))

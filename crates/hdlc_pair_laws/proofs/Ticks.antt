@@ -49,7 +49,7 @@ ends_all : (low high : ℕ) (xs : List ℕ) → low ≡ high → AllAre high xs 
 ends_all low high [] e h = e
 ends_all low high (x ∷ xs) e h = ends_all x high xs h.0 h.1
 
-fires_toward : (selective : Bool) (waits : List (ℕ × List ℕ)) (shows : List ℕ) (x y : Station) → x.acked ≤ length y.taken → length y.taken ≤ x.sent
+pub fires_toward : (selective : Bool) (waits : List (ℕ × List ℕ)) (shows : List ℕ) (x y : Station) → x.acked ≤ length y.taken → length y.taken ≤ x.sent
     → Consecutive x.acked waits x.sent → AllAre (length y.taken) shows → Toward selective waits shows x y
 fires_toward selective waits shows x y low high all are = (
   comes_all selective x.acked (length y.taken) x.sent y.held waits low high all,
@@ -68,29 +68,29 @@ fires_mend selective k lx x ly y p fx fy =
 
 -- ---- the phases of two live stations
 
-called_phase : (p : Phase) (calling : Bool) (sent : ℕ) → is_down p ≡ false → calling ≡ false → Early p calling sent → (p ≡ Idle) ⊎ (p ≡ Up)
+pub called_phase : (p : Phase) (calling : Bool) (sent : ℕ) → is_down p ≡ false → calling ≡ false → Early p calling sent → (p ≡ Idle) ⊎ (p ≡ Up)
 called_phase Idle calling sent live called early = inl refl
 called_phase Setting calling sent live called early = absurd (true≢false (sym early.1 ∙ called))
 called_phase Up calling sent live called early = inr refl
 called_phase Down calling sent live called early = absurd cc
 
-both_phases : (p q : Phase) → is_down p ≡ false → (p ≡ Idle → ⊥) → (q ≡ Idle → is_up p ≡ false) → (q ≡ Idle) ⊎ (q ≡ Up) → ((p ≡ Up) × (q ≡ Up)) ⊎ ((p ≡ Setting) × ((q ≡ Idle) ⊎ (q ≡ Up)))
+pub both_phases : (p q : Phase) → is_down p ≡ false → (p ≡ Idle → ⊥) → (q ≡ Idle → is_up p ≡ false) → (q ≡ Idle) ⊎ (q ≡ Up) → ((p ≡ Up) × (q ≡ Up)) ⊎ ((p ≡ Setting) × ((q ≡ Idle) ⊎ (q ≡ Up)))
 both_phases Idle q live begun first called = absurd (begun refl)
 both_phases Setting q live begun first called = inr (refl, called)
 both_phases Up q live begun first (inl idle) = absurd (let e : true ≡ false = first idle in let u : ⊥ = cc in u)
 both_phases Up q live begun first (inr up) = inl (refl, up)
 both_phases Down q live begun first called = absurd cc
 
-timed_up : (x : Station) (c : Bool) (wd : ℕ) (l : List Frame) → x.phase ≡ Up → Own c wd l x → x.timer ≡ None → x.acked ≡ x.sent
+pub timed_up : (x : Station) (c : Bool) (wd : ℕ) (l : List Frame) → x.phase ≡ Up → Own c wd l x → x.timer ≡ None → x.acked ≡ x.sent
 timed_up x c wd l up h none = ((subst (λ (p : Phase). Timed p x.timer x.expiries x.acked x.sent) up h.4).0 none).0
 
-timed_setting : (x : Station) (c : Bool) (wd : ℕ) (l : List Frame) → x.phase ≡ Setting → Own c wd l x → x.timer ≡ None → ⊥
+pub timed_setting : (x : Station) (c : Bool) (wd : ℕ) (l : List Frame) → x.phase ≡ Setting → Own c wd l x → x.timer ≡ None → ⊥
 timed_setting x c wd l setting h = subst (λ (p : Phase). Timed p x.timer x.expiries x.acked x.sent) setting h.4
 
 -- ---- the ticks
 
 -- the called station took nothing of one that is setting up
-none_taken : (selective : Bool) (k : ℕ) (lx : List Frame) (x : Station) (ly : List Frame) (y : Station) → x.phase ≡ Setting → IsStationPair selective k lx x ly y → length y.taken ≡ 0
+pub none_taken : (selective : Bool) (k : ℕ) (lx : List Frame) (x : Station) (ly : List Frame) (y : Station) → x.phase ≡ Setting → IsStationPair selective k lx x ly y → length y.taken ≡ 0
 none_taken selective k lx x ly y setting p =
     let b = way_bounds k x.handed x.acked x.sent y.taken (infos lx) (receive_numbers_in_frames ly) p.0.0 in
     let unsent : x.sent ≡ 0 = (subst (λ (q : Phase). Early q x.calling x.sent) setting p.0.2).0 in

@@ -176,6 +176,24 @@ pub lost_both_ways : of_both (Drain 4 ∷ Send E (1 ∷ []) ∷ Drain 4 ∷ Send
 unfolding frames_of between_flags all_but_last cut verdict_on verdict_on_content checked_part check_number unescaped ends_in_escape spelling escaped escaped_octet content_of control_of fcs_of fcs_bits dividend remainder divided_once add_front sent_bits low_bits low_number
 lost_both_ways = (refl, refl)
 
+-- ---- two ticks, the deadlines of both stations one after the other: the first one repairs one way
+
+abbrev in_turn : (selective : Bool) → List PairStep → List Stand × (List (List ℕ) × List (List ℕ))
+in_turn selective steps = told selective (opened selective false 4) (steps ∷ (Tick 1000 ∷ Drain 20 ∷ []) ∷ (Tick 1300 ∷ Drain 20 ∷ []) ∷ [])
+
+abbrev in_turn_of_both : List PairStep → List Stand × (List (List ℕ) × List (List ℕ)) → Type 0
+in_turn_of_both steps told = (in_turn false steps ≡ told) × (in_turn true steps ≡ told)
+
+-- a frame of either station is lost, the calling one's first
+pub calling_first : in_turn_of_both (Drain 4 ∷ Send E (1 ∷ []) ∷ Drain 4 ∷ Send E (2 ∷ []) ∷ Tick 300 ∷ Send R (3 ∷ []) ∷ Lose E ∷ Lose R ∷ []) (up (0, 1) (0, 0) 4 ∷ up (0, 2) (0, 0) 6 ∷ up (1, 2) (0, 0) 8 ∷ [], ((3 ∷ []) ∷ [], (1 ∷ []) ∷ (2 ∷ []) ∷ []))
+unfolding frames_of between_flags all_but_last cut verdict_on verdict_on_content checked_part check_number unescaped ends_in_escape spelling escaped escaped_octet content_of control_of fcs_of fcs_bits dividend remainder divided_once add_front sent_bits low_bits low_number
+calling_first = (refl, refl)
+
+-- the called one's first
+pub called_first : in_turn_of_both (Drain 4 ∷ Send E (1 ∷ []) ∷ Drain 4 ∷ Send R (3 ∷ []) ∷ Tick 300 ∷ Send E (2 ∷ []) ∷ Lose E ∷ Lose R ∷ []) (up (0, 1) (0, 0) 4 ∷ up (1, 1) (0, 0) 6 ∷ up (1, 2) (0, 0) 8 ∷ [], ((3 ∷ []) ∷ [], (1 ∷ []) ∷ (2 ∷ []) ∷ []))
+unfolding frames_of between_flags all_but_last cut verdict_on verdict_on_content checked_part check_number unescaped ends_in_escape spelling escaped escaped_octet content_of control_of fcs_of fcs_bits dividend remainder divided_once add_front sent_bits low_bits low_number
+called_first = (refl, refl)
+
 -- ---- a frame is lost before others: with go-back, then with selective reject, it is asked for at once, and no moment comes
 
 abbrev filled : (selective : Bool) → List PairStep → List Stand × (List (List ℕ) × List (List ℕ))
@@ -202,3 +220,21 @@ filled_called = (refl, refl)
 pub filled_ready : filled_by (Drain 4 ∷ Send E (1 ∷ []) ∷ Pass E ∷ Send R (2 ∷ []) ∷ Send R (3 ∷ []) ∷ Lose R ∷ []) (up (0, 1) (0, 2) 3) (2, 1) 7 7 ((2 ∷ []) ∷ (3 ∷ []) ∷ [], (1 ∷ []) ∷ [])
 unfolding frames_of between_flags all_but_last cut verdict_on verdict_on_content checked_part check_number unescaped ends_in_escape spelling escaped escaped_octet content_of control_of fcs_of fcs_bits dividend remainder divided_once add_front sent_bits low_bits low_number
 filled_ready = (refl, refl)
+
+-- ---- the next loss in the life of a link
+
+-- of the frames 2 and 3 the first is lost
+abbrev next_loss : (selective : Bool) → List PairStep → List Stand × (List (List ℕ) × List (List ℕ))
+next_loss selective steps = told selective (opened selective false 4) (steps ∷ (Send E (2 ∷ []) ∷ Send E (3 ∷ []) ∷ Lose E ∷ Drain 30 ∷ []) ∷ [])
+
+-- T1 repaired one before. With go-back a frame passes, REJ, and two frames that are sent again, each with its RR; with selective reject a frame that is held,
+-- SREJ, the frame again, and RR
+pub filled_again : (next_loss false (Drain 4 ∷ Send E (1 ∷ []) ∷ Lose E ∷ Tick 1000 ∷ Drain 20 ∷ []) ≡ (up (0, 1) (0, 0) 4 ∷ up (0, 3) (0, 0) 10 ∷ [], ([], (1 ∷ []) ∷ (2 ∷ []) ∷ (3 ∷ []) ∷ []))) × (next_loss true (Drain 4 ∷ Send E (1 ∷ []) ∷ Lose E ∷ Tick 1000 ∷ Drain 20 ∷ []) ≡ (up (0, 1) (0, 0) 4 ∷ up (0, 3) (0, 0) 8 ∷ [], ([], (1 ∷ []) ∷ (2 ∷ []) ∷ (3 ∷ []) ∷ [])))
+unfolding frames_of between_flags all_but_last cut verdict_on verdict_on_content checked_part check_number unescaped ends_in_escape spelling escaped escaped_octet content_of control_of fcs_of fcs_bits dividend remainder divided_once add_front sent_bits low_bits low_number
+filled_again = (refl, refl)
+
+-- a frame came twice before. With go-back it left the gap mark set, so that the frame behind the loss is answered by RR and nothing asks for the lost
+-- one: T1 is left to do it. With selective reject it is filled
+pub came_twice : (next_loss false (Drain 4 ∷ Send E (1 ∷ []) ∷ Repeat E ∷ Drain 20 ∷ []) ≡ (up (0, 1) (0, 0) 6 ∷ up (0, 1) (0, 0) 8 ∷ [], ([], (1 ∷ []) ∷ []))) × (next_loss true (Drain 4 ∷ Send E (1 ∷ []) ∷ Repeat E ∷ Drain 20 ∷ []) ≡ (up (0, 1) (0, 0) 6 ∷ up (0, 3) (0, 0) 10 ∷ [], ([], (1 ∷ []) ∷ (2 ∷ []) ∷ (3 ∷ []) ∷ [])))
+unfolding frames_of between_flags all_but_last cut verdict_on verdict_on_content checked_part check_number unescaped ends_in_escape spelling escaped escaped_octet content_of control_of fcs_of fcs_bits dividend remainder divided_once add_front sent_bits low_bits low_number
+came_twice = (refl, refl)

@@ -6,7 +6,9 @@ pub mod Keeping
 pub mod LossFree
 pub mod Recovery
 pub mod Filling
+pub mod FillingAgain
 pub mod Timers
+pub mod EachEnd
 pub mod Mending
 pub mod Repairs
 pub mod KnownAnswers

@@ -101,6 +101,21 @@ Near selective lx x ly y =
     × (x.phase ≡ Up)
     × (y.phase ≡ Up)
 
+-- the same of some ways alone: out says that it holds of what x sends, back of what y sends
+abbrev pub NearSome : (selective out back : Bool) → List Frame → Station → List Frame → Station → Type 0
+NearSome selective out back lx x ly y =
+    (out ≡ true → Toward selective (infos lx) (receive_numbers_in_frames ly) x y)
+    × (back ≡ true → HasAllSentComing selective (length x.taken) x.held (infos ly) y.sent)
+    × AllExchange lx
+    × AllExchange ly
+    × (x.phase ≡ Up)
+    × (y.phase ≡ Up)
+
+abbrev pub MendsSome : (selective out back : Bool) → List Frame → Station → List Frame → Station → Type 0
+MendsSome selective out back lx x ly y =
+    NearSome selective out back lx x ly y
+    × (back ≡ true → x.owed ≡ false → infos ly ≡ [] → EndsAtNumber y.acked (receive_numbers_in_frames lx) (length x.taken))
+
 -- what waits in both directions leads to all that was sent, and to its acknowledgement
 abbrev pub Mends : (selective : Bool) → List Frame → Station → List Frame → Station → Type 0
 Mends selective lx x ly y =
@@ -115,6 +130,10 @@ AllAre n (x ∷ xs) = (x ≡ n) × AllAre n xs
 -- what a station sent at the tick: its I frames are all from V(A) to V(S) - 1, and each N(R) is V(R)
 abbrev pub Fires : List Frame → Station → Type 0
 Fires l x = Consecutive x.acked (infos l) x.sent × AllAre (length x.taken) (receive_numbers_in_frames l) × AllExchange l × (x.phase ≡ Up)
+
+-- whatever it sent at the tick, each N(R) is V(R)
+abbrev pub Shows : List Frame → Station → Type 0
+Shows l x = AllAre (length x.taken) (receive_numbers_in_frames l) × AllExchange l × (x.phase ≡ Up)
 
 -- of the calling station x and the called one y: no answer is owed, and nothing was taken
 abbrev pub IsUnused : Station → Station → Type 0
@@ -135,6 +154,10 @@ pub data Progress : Type 0 where
   Lossy : Progress
   HalfTicked : Progress
   Ticked : Progress
+  -- of two that are up: the calling one had its tick, whatever it found, and T1 of the called one is found expired next
+  Shown : Progress
+  -- T1 of the calling one was found expired, or of the called one, whatever the other lost
+  OneWay : (calling : Bool) → Progress
 
 -- what that says of the frames that wait
 abbrev pub Reached : Progress → (selective c : Bool) → List Frame → Station → List Frame → Station → Type 0
@@ -143,12 +166,20 @@ Reached HalfTicked selective true lx x ly y = HasSetUpFrameWaiting lx x ly y ⊎
 Reached HalfTicked selective false lx x ly y = HasSetUpFrameWaiting ly y lx x ⊎ (Fires ly y × (lx ≡ []) × (x.phase ≡ Up))
 Reached Ticked selective true lx x ly y = HasSetUpFrameWaiting lx x ly y ⊎ HasSetUpAnswerWaiting lx x ly y ⊎ Mends selective lx x ly y
 Reached Ticked selective false lx x ly y = HasSetUpFrameWaiting ly y lx x ⊎ HasSetUpAnswerWaiting ly y lx x ⊎ Mends selective lx x ly y
+Reached Shown selective true lx x ly y = Shows lx x × (ly ≡ []) × (y.phase ≡ Up)
+Reached Shown selective false lx x ly y = Shows ly y × (lx ≡ []) × (x.phase ≡ Up)
+Reached (OneWay true) selective true lx x ly y = MendsSome selective true false lx x ly y
+Reached (OneWay true) selective false lx x ly y = MendsSome selective false true lx x ly y
+Reached (OneWay false) selective true lx x ly y = MendsSome selective false true lx x ly y
+Reached (OneWay false) selective false lx x ly y = MendsSome selective true false lx x ly y
 
 -- a frame may come: not between the two ticks
 abbrev pub MayHear : Progress → Type 0
 MayHear Lossy = Unit {0}
 MayHear HalfTicked = ⊥
 MayHear Ticked = Unit {0}
+MayHear Shown = ⊥
+MayHear (OneWay calling) = Unit {0}
 
 -- payloads may be handed down: between the two ticks at the calling station alone, in its tick
 abbrev pub MaySpeak : Progress → (c : Bool) → Type 0
@@ -156,6 +187,9 @@ MaySpeak Lossy c = Unit {0}
 MaySpeak HalfTicked true = Unit {0}
 MaySpeak HalfTicked false = ⊥
 MaySpeak Ticked c = Unit {0}
+MaySpeak Shown true = Unit {0}
+MaySpeak Shown false = ⊥
+MaySpeak (OneWay calling) c = Unit {0}
 
 abbrev pub Began : (c : Bool) → Station → Station → Type 0
 Began true x y = HasBegun x y

@@ -1,7 +1,7 @@
 -- Lemmas: what two stations and the frames between them keep at each call, whatever the line lost and repeated, and from the tick on that
 -- repairs it, whatever layers stand above them; for the proofs of the crates of such layers. Everywhere x acts and y doesn't, w waited from
 -- x before the call, and l waits from y; c says whether x is the calling station.
-use Rattle.std.specs.Prelude.{◌≡◌, ℕ, ◌≤◌, Bool, true, false, not, List, [], ◌∷◌, ◌++◌, length, None}
+use Rattle.std.specs.Prelude.{◌≡◌, ◌⊎◌, ℕ, ◌<◌, ◌≤◌, Bool, true, false, not, List, [], ◌∷◌, ◌++◌, length, None}
 use Rattle.hdlc_station_model.specs.declared.phase.Phase.TheVariants.{Up}
 use Rattle.hdlc_station_model.specs.Frames.{Frame}
 use Rattle.hdlc_station_model.specs.Stations.{Station, no_deed, is_down, made, settled}
@@ -10,7 +10,9 @@ use Rattle.hdlc_station_model.specs.Selective.{receives_as}
 use Rattle.hdlc_pair_laws.specs.Invariant.{IsStationPair, Both}
 use Rattle.hdlc_pair_laws.specs.Keeping.{found}
 use Rattle.hdlc_station_model.specs.Repeating.{MayRepeat}
-use Rattle.hdlc_pair_laws.specs.Mending.{Progress, Lossy, HalfTicked, Ticked, MayHear, MaySpeak, Between, Within}
+use Rattle.hdlc_station_model.specs.Events.{is_late}
+use Rattle.hdlc_pair_laws.specs.EachEnd.{HasExpiryLeft}
+use Rattle.hdlc_pair_laws.specs.Mending.{Progress, Lossy, HalfTicked, Ticked, Shown, OneWay, MayHear, MaySpeak, Between, Within}
 
 -- each call keeps what holds, and the two ticks lead on
 pub record MendKeeps : Type 0 where
@@ -46,6 +48,24 @@ pub record MendKeeps : Type 0 where
   pub called_ticked : (selective : Bool) (k window : ℕ) (w : List Frame) (now : ℕ) (x : Station) (l : List Frame) (y : Station)
       → IsStationPair selective k w x l y → Between HalfTicked selective false window w x l y → MayRepeat now x
       → Within Ticked selective false window w (ticks now (settled x)) l y
+  -- ---- the tick where two stations are up and no frame waits: T1 of one of them is found expired, whatever the other one lost
+  -- both are up, or T1 of the called one doesn't run
+  pub live_phases : (selective : Bool) (k window : ℕ) (lx : List Frame) (x : Station) (ly : List Frame) (y : Station) → IsStationPair selective k lx x ly y
+      → Between Lossy selective true window lx x ly y → is_down x.phase ≡ false → is_down y.phase ≡ false → ((x.phase ≡ Up) × (y.phase ≡ Up)) ⊎ (y.timer ≡ None)
+  -- of the calling one; then the called one ticks
+  pub calling_expired : (selective : Bool) (k window : ℕ) (w : List Frame) (now : ℕ) (x : Station) (l : List Frame) (y : Station) → w ≡ [] → l ≡ []
+      → IsStationPair selective k w x l y → Between Lossy selective true window w x l y → x.phase ≡ Up → y.phase ≡ Up → is_late now x ≡ true → x.expiries < x.n2
+      → Within (OneWay true) selective true window w (ticks now (settled x)) l y
+  pub called_goes_on : (selective : Bool) (k window : ℕ) (w : List Frame) (now : ℕ) (x : Station) (l : List Frame) (y : Station)
+      → IsStationPair selective k w x l y → Between (OneWay true) selective false window w x l y → HasExpiryLeft now x
+      → Within (OneWay true) selective false window w (ticks now (settled x)) l y
+  -- the calling one ticks; then that of the called one is found expired
+  pub calling_goes_on : (selective : Bool) (k window : ℕ) (w : List Frame) (now : ℕ) (x : Station) (l : List Frame) (y : Station) → w ≡ [] → l ≡ []
+      → IsStationPair selective k w x l y → Between Lossy selective true window w x l y → x.phase ≡ Up → y.phase ≡ Up → HasExpiryLeft now x
+      → Within Shown selective true window w (ticks now (settled x)) l y
+  pub called_expired : (selective : Bool) (k window : ℕ) (w : List Frame) (now : ℕ) (x : Station) (l : List Frame) (y : Station)
+      → IsStationPair selective k w x l y → Between Shown selective false window w x l y → is_late now x ≡ true → x.expiries < x.n2
+      → Within (OneWay false) selective false window w (ticks now (settled x)) l y
   -- ---- no release
   -- from the tick on no station is released
   pub lives : (p : Progress) (selective c : Bool) (window : ℕ) (w : List Frame) (x : Station) (l : List Frame) (y : Station) → (p ≡ Lossy → ⊥)
@@ -78,3 +98,10 @@ abbrev pub MendEnds : Type 0
 MendEnds =
     (selective : Bool) (k window : ℕ) (lx : List Frame) (x : Station) (ly : List Frame) (y : Station) → 1 ≤ window → lx ≡ [] → ly ≡ []
     → IsStationPair selective k lx x ly y → Between Ticked selective true window lx x ly y → IsMended x y
+
+-- behind the tick of one of them, once no frame waits: all that it sent is acknowledged, so T1 doesn't run
+abbrev pub OneWayEnds : Type 0
+OneWayEnds =
+    (selective calling : Bool) (k window : ℕ) (lx : List Frame) (x : Station) (ly : List Frame) (y : Station) → lx ≡ [] → ly ≡ []
+    → IsStationPair selective k lx x ly y → Between (OneWay calling) selective true window lx x ly y
+    → (calling ≡ true → x.timer ≡ None) × (calling ≡ false → y.timer ≡ None)

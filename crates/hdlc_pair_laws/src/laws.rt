@@ -1,10 +1,12 @@
 //! What holds of two stations over two lines, as facts that a caller can cite.
 
 ghost use Rattle.hdlc_pair_laws.specs.Keeping.{CallsKeep, FramesGive, PhasesStay, ReceivesTell, TicksTell};
+ghost use Rattle.hdlc_pair_laws.specs.EachEnd.{RecoveryInTurn, RecoveryOfEachEnd};
 ghost use Rattle.hdlc_pair_laws.specs.Filling.{GapsAreFilled};
+ghost use Rattle.hdlc_pair_laws.specs.FillingAgain.{GapsAreFilledAgain};
 ghost use Rattle.hdlc_pair_laws.specs.LossFree.{FlowBounds, FlowKeeps};
 ghost use Rattle.hdlc_pair_laws.specs.Recovery.{DrainEmptiesLive, PassesBound, PassesRelease, Recovery};
-ghost use Rattle.hdlc_pair_laws.specs.Repairs.{MendEnds, MendKeeps};
+ghost use Rattle.hdlc_pair_laws.specs.Repairs.{MendEnds, MendKeeps, OneWayEnds};
 ghost use Rattle.hdlc_pair_laws.specs.Timers.{Renewal, TimersRun, TimersStart};
 ghost use Rattle.hdlc_pair_laws.specs.Laws.{Prefix, LosingLineReasons, Delivery, DeliveryBound, DrainEmpties, FewWait};
 
@@ -100,11 +102,47 @@ pub fn recovery()
     frame_alone();
 }
 
+/// The same of one end at a time: a moment finds T1 of one end expired, whatever T1 of the other does, and neither gives up; all that waits is given. Then
+/// T1 of that end doesn't run, no expiry is counted, and the other took all that this one was handed, whatever was lost the other way.
+pub fn recovery_of_each_end()
+    ensures { RecoveryOfEachEnd }
+{
+    control_reads_back();
+    flag_parts();
+    frame_alone();
+    hdlc_station_model::laws::receives_give();
+    hdlc_station_model::laws::releases_are_told();
+    hdlc_station_model::laws::released_are_inert();
+}
+
+/// So the deadlines of both ends may come in either order: behind the second one, and all that waits then, each end took all that the other was handed.
+pub fn recovery_in_turn()
+    ensures { RecoveryInTurn }
+{
+    control_reads_back();
+    flag_parts();
+    frame_alone();
+    hdlc_station_model::laws::receives_give();
+    hdlc_station_model::laws::releases_are_told();
+    hdlc_station_model::laws::released_are_inert();
+}
+
 /// A line that lost nothing so far: one frame is lost while two I frames or more wait from its end. REJ repairs that, or SREJ with selective reject:
 /// once all that waits is given, each end took all that the other was handed, without an expiry of T1; the calling one where it was handed a
 /// payload itself.
 pub fn gaps_are_filled()
     ensures { GapsAreFilled }
+{
+    control_reads_back();
+    flag_parts();
+    frame_alone();
+}
+
+/// The same at any time in the life of a link: from a moment on at which nothing waits and nothing is unacknowledged, whatever the line lost and repeated
+/// before, the next loss before others is filled without an expiry of T1. With go-back the gap mark of the station that takes must be clear there: a
+/// frame that merely came twice leaves it set.
+pub fn gaps_are_filled_again()
+    ensures { GapsAreFilledAgain }
 {
     control_reads_back();
     flag_parts();
@@ -140,10 +178,12 @@ pub fn passes_are_bounded()
 }
 
 /// Whatever layers stand above two stations: each call keeps what a recovery rests on, and the two ticks lead to what repairs a loss; once no
-/// frame waits behind them, all was taken: at the calling station where it was handed a payload itself.
+/// frame waits behind them, all was taken: at the calling station where it was handed a payload itself. Where T1 of one alone is found expired, all that
+/// it sent is acknowledged then.
 pub fn mending_keeps()
     ensures calls { MendKeeps }
     ensures done { MendEnds }
+    ensures one_way { OneWayEnds }
 {
     control_reads_back();
     hdlc_station_model::laws::receives_give();

@@ -1,5 +1,5 @@
 use Rattle.hdlc_pair_laws.proofs.Giving.{frames_give}
-use Rattle.hdlc_pair_laws.proofs.MendCalls.{mend_keeps, mend_ends}
+use Rattle.hdlc_pair_laws.proofs.MendCalls.{mend_keeps, mend_ends, one_way_ends}
 use Rattle.hdlc_pair_laws.proofs.laws.mending_keeps.Goals as goal
 
 pub returns-clause-calls : goal.returns-clause-calls
@@ -8,3 +8,6 @@ returns-clause-calls c =
 
 pub returns-clause-done : goal.returns-clause-done
 returns-clause-done c = mend_ends
+
+pub returns-clause-one_way : goal.returns-clause-one_way
+returns-clause-one_way c = one_way_ends
