@@ -68,6 +68,30 @@ def unfetched(folder, words):
     os.chmod(secret, 0o600)
 
 
+def grammar(folder, name, command, before, letters):
+    """Runs a command on each text of a table of tests/grammar: the line and the word of its first fault."""
+    with open(os.path.join(os.path.dirname(os.path.abspath(__file__)), "grammar", name), encoding="ascii") as table:
+        rows = [row.split("|", 1) for row in table.read().splitlines() if not row.startswith("#")]
+    path = os.path.join(folder, name)
+    for fault, text in rows:
+        with open(path, "w", newline="") as file:
+            file.write("".join(letters.get(letter, letter) for letter in text.replace("\\r", "\r")))
+        run([command, *before, path], 3, f"! line {fault}\n", [f"{path}: "], f" of {text[:60]!r}")
+    check(len(rows) > 100, f"the table {name} has {len(rows)} rows")
+
+
+def bounds(folder, command, before, rows):
+    """Texts that are filled up with one octet to the most that is taken, and behind that: what is printed of each."""
+    path = os.path.join(folder, "bound")
+    for begin, octet, most, over, fault in rows:
+        for length in (most, over):
+            with open(path, "wb") as file:
+                file.write(begin.encode().ljust(length, octet))
+            done = subprocess.run([PROGRAM, command, *before, path], stdin=subprocess.DEVNULL, capture_output=True, timeout=60)
+            refused = done.stdout == f"! line {fault}\n".encode() and done.returncode == 3
+            check(refused == (length == over), f"{command} of {length} octets {octet!r}: {done.returncode} {done.stdout[-80:]!r}")
+
+
 def drills(folder):
     full, safe = "drill 1 full\n", "drill 1 safe\n"
     opened = f"{full}link 1 5 9 {K} {K} 1122334455667788 0102030405060708\n"
@@ -123,6 +147,10 @@ def drills(folder):
     with open(path, "w") as file:
         file.write(f"drill 1 link\nwire 1\n{'put 1 e 41' + chr(10)}" + "put 1 e 41\n" * 4096)
     run(["drill", path], 8, "! overfull 1 e 4096\n", [f"{path}: ", "link 1", "4097th", "of what e sent"])
+    grammar(folder, "drills.txt", "drill", [], {"K": K, "R": "0123456789abcdef", ";": "\n"})
+    # Texts of 4,096 octets, 8,192 digits behind 22 or 21 octets, and files of 16 MiB.
+    bounds(folder, "drill", [], [("drill 1 safe\nsend 1 e ", b"5", 8214, 8216, "2 value"), ("drill 1 safe\nput 1 e ", b"a", 8213, 8215, "2 value"),
+                                 ("drill 1 safe\n#", b"x", 16777216, 16777217, "0 long")])
 
 
 def traces(folder):
@@ -176,6 +204,10 @@ def traces(folder):
         run(["replay", keys, path], 3, f"{header}{done}! line {line} {why}\n", [f"{path}: line {line}: ", *told])
     unfetched(folder, ["replay", keys, "FILE"])
     unfetched(folder, ["replay", "FILE", keys])
+    grammar(folder, "traces.txt", "replay", [keys], {"H": "trace 1 7 15 128 1000 5 40000", ";": "\n"})
+    # A text of 4,096 octets, 8,192 digits behind 43 octets, and a file of 16 MiB.
+    header = "trace 1 7 15 128 1000 5 40000\n"
+    bounds(folder, "replay", [keys], [(header + "> 0 1 octets ", b"0", 8235, 8237, "2 value"), (header + "#", b"x", 16777216, 16777217, "0 long")])
 
 
 def taps(folder):

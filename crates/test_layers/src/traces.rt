@@ -1,6 +1,6 @@
 ghost use Rattle.er_settings.specs.Ranges.{AllAllowed};
 
-use er_base::{NoMemory, Release, TextFault, Why};
+use er_base::{NoMemory, Release};
 use er_settings::Settings;
 use er_trace::{
     Event, Outcome, Trace, laws, print_entry, print_header, print_octets, print_outcome,
@@ -19,15 +19,6 @@ fn spelled_out(alloc: Global, text: &str) -> Result<Vec<u8>, NoMemory> {
         }
     }
     Ok(octets)
-}
-
-// The line and the word of a text's fault.
-fn fault_in(alloc: Global, text: &[u8]) -> Result<Option<(usize, Why)>, NoMemory> {
-    match read(alloc, text) {
-        Ok(_) => Ok(None),
-        Err(TextFault::At { line, why }) => Ok(Some((line, why))),
-        Err(TextFault::NoMemory(want)) => Err(want),
-    }
 }
 
 // A trace printed again, without outcomes.
@@ -84,138 +75,6 @@ fn prints_each_event_as_it_is_written(rt: HostRuntime) -> Result<(), Fail> {
         assert!(rt; is_printed(rt.alloc(), row)?, "{row}");
     }
     laws::printed_is_read();
-    Ok(())
-}
-
-// Faulty texts, each behind the line and the word of its first fault, by hand from the table of lines. H stands for a header; a
-// question mark is a word that is faulty anywhere, and must not count.
-const FAULTS: &str = "\
-1 Header|
-1 Header|;  ;# a comment
-1 Header| # x;H
-3 Header|;# a comment;trace 2 7 15 128 1000 5 40000
-1 Header|trace 1 7 15 128 1000 5
-1 Header|trace 1 7 15 128 1000 5 40000 8
-1 Header|trace 1 7 15 128 1000 5 40000 a b c
-1 Header|trace 01 7 15 128 1000 5 40000
-1 Header|Trace 1 7 15 128 1000 5 40000
-1 Header|trace 1 8 15 128 1000 5 40000
-1 Header|trace 1 0 15 128 1000 5 40000
-1 Header|trace 1 07 15 128 1000 5 40000
-1 Header|trace 1 7 16 128 1000 5 40000
-1 Header|trace 1 7 15 127 1000 5 40000
-1 Header|trace 1 7 15 128 99 5 40000
-1 Header|trace 1 7 15 128 1000 11 40000
-1 Header|trace 1 7 15 128 1000 5 999
-1 Header|trace 1 7 15 128 1000 5 x
-1 Header|> 0 1 tick;H
-2 Word|H;H
-2 Word|H; # x
-2 Word|H;foo
-2 Word|H;>0 1 tick
-2 Word|H;> x ? foo
-2 Word|H;> x ? Tick 1 2 3
-2 Word|H;> x ? connected 5
-2 Word|H;> 0 1 tick\r
-2 Count|H;>
-2 Count|H;> 0
-2 Count|H;> 0 1
-2 Count|H;> x ? tick 5
-2 Count|H;> x ? take 1 2 3 4 5 6 7 8
-2 Count|H;> x ? call 5 9
-2 Count|H;> x ? call 5 9 0000000000000001 1
-2 Count|H;> x ? answer 9
-2 Count|H;> x ? octets
-2 Count|H;> x ? octets - -
-2 Count|H;> x ? send
-2 Count|H;> x ? release
-2 Count|H;> x ? ended 1
-2 Count|H;> x ? fault 1
-2 Count|H;> x ? stalled 1
-2 Count|H;> x ? full
-2 Count|H;> x ? unserved 1 2
-2 Number|H;> x ? tick
-2 Number|H;> -1 ? tick
-2 Value|H;> 1000000000000001 ? tick
-2 Number|H;> 0 ? tick
-2 Number|H;> 0 18446744073709551616 tick
-2 Number|H;> 0 1 call x ? ?
-2 Value|H;> 0 1 call 16777216 ? ?
-2 Number|H;> 0 1 call 5 01 ?
-2 Value|H;> 0 1 call 5 16777216 ?
-2 Hex|H;> 0 1 call 5 9 -
-2 Hex|H;> 0 1 call 5 9 1
-2 Hex|H;> 0 1 call 5 9 000000000000001
-2 Hex|H;> 0 1 call 5 9 00000000000000010
-2 Hex|H;> 0 1 call 5 9 000000000000000001
-2 Hex|H;> 0 1 call 5 9 000000000000000x
-2 Number|H;> 0 1 answer x ?
-2 Value|H;> 0 1 answer 16777216 ?
-2 Hex|H;> 0 1 answer 9 1
-2 Hex|H;> 0 1 octets 7
-2 Hex|H;> 0 1 octets 0x7e
-2 Hex|H;> 0 1 send 7
-2 Number|H;> 0 1 release x
-2 Value|H;> 0 1 release 256
-2 Number|H;> 0 1 full x
-2 Number|H;> 0 1 unserved 18446744073709551616
-2 Count|H;<
-2 Count|H;< x
-2 Word|H;< ? foo
-2 Word|H;< ? tick
-2 Word|H;< ? refused foo
-2 Word|H;< ? refused none 1 2 3 4 5 6 7
-2 Count|H;< ? refused
-2 Count|H;< ? refused released 1
-2 Count|H;< ? refused released 1 2 3
-2 Count|H;< ? refused notconnected 1
-2 Count|H;< ? refused length
-2 Count|H;< ? refused full 1 2
-2 Count|H;< ? connected
-2 Count|H;< ? connected 1 2
-2 Count|H;< ? accepted
-2 Count|H;< ? taken - -
-2 Count|H;< ? none 1
-2 Count|H;< ? released 1 5
-2 Count|H;< ? released 1 5 local 1
-2 Count|H;< ? released 1 5 local 1 2 3 4 5 6 7
-2 Count|H;< ? octets
-2 Number|H;< ? none
-2 Number|H;< 18446744073709551616 none
-2 Number|H;< 1 connected x
-2 Value|H;< 1 connected 16777216
-2 Hex|H;< 1 accepted 4
-2 Hex|H;< 1 taken 0x
-2 Hex|H;< 1 octets g0
-2 Number|H;< 1 refused released x ?
-2 Value|H;< 1 refused released 256 ?
-2 Number|H;< 1 refused released 1 x
-2 Value|H;< 1 refused released 1 256
-2 Number|H;< 1 refused length x
-2 Number|H;< 1 refused full 18446744073709551616
-2 Number|H;< 1 released x ? foo
-2 Value|H;< 1 released 256 ? foo
-2 Number|H;< 1 released 1 x foo
-2 Value|H;< 1 released 1 256 foo
-2 Word|H;< 1 released 1 5 foo
-2 Word|H;< 1 released 1 5 Local
-4 Word|H;> 0 1 tick;# a comment;foo;> x 1 tick
-3 Hex|H;< 1 none;> 0 1 octets 7";
-
-fn is_refused(alloc: Global, row: &str) -> Result<bool, Fail> {
-    let (expected, text) = row.split_once('|').ok_or("no text")?;
-    let text = text.replace(alloc, "H", "trace 1 7 15 128 1000 5 40000")?;
-    let text = spelled_out(alloc, text.as_str())?;
-    let (line, why) = fault_in(alloc, text.as_slice())?.ok_or("no fault")?;
-    let fault = format!(in alloc; "{line} {why:?}")?;
-    Ok(fault.as_str() == expected)
-}
-
-#[test]
-fn tells_the_first_faulty_line(rt: HostRuntime) -> Result<(), Fail> {
-    for row in FAULTS.split('\n') {
-        assert!(rt; is_refused(rt.alloc(), row)?, "{row}");
-    }
     Ok(())
 }
 
@@ -280,33 +139,5 @@ fn prints_outcomes_and_what_is_lent(rt: HostRuntime) -> Result<(), Fail> {
     let expected = spelled_out(rt.alloc(), OUTCOME_LINES)?;
     assert!(rt; text.as_slice() == expected.as_slice());
     assert!(rt; is_lent(&read(rt.alloc(), text.as_slice())?));
-    Ok(())
-}
-
-// Whether a text that is filled up with one octet may have so many octets and no more: `over` are too many.
-fn has_bound(
-    alloc: Global,
-    lines: &str,
-    octet: u8,
-    most: usize,
-    over: usize,
-    fault: (usize, Why),
-) -> Result<bool, NoMemory> {
-    let mut text = spelled_out(alloc, lines)?;
-    text.resize(most, octet)?;
-    let within = fault_in(alloc, text.as_slice())?;
-    text.resize(over, octet)?;
-    let beyond = fault_in(alloc, text.as_slice())?;
-    Ok(within.is_none() && beyond == Some(fault))
-}
-
-// A text of 4,096 octets, 8,192 digits behind 43 octets, and a file of 16 MiB.
-#[test]
-fn takes_texts_and_files_up_to_their_limits(rt: HostRuntime) -> Result<(), Fail> {
-    let octets = "trace 1 7 15 128 1000 5 40000;> 0 1 octets ";
-    let comment = "trace 1 7 15 128 1000 5 40000;#";
-    let (text, file) = ((2, Why::Value), (0, Why::Long));
-    assert!(rt; has_bound(rt.alloc(), octets, b'0', 8_235, 8_237, text)?);
-    assert!(rt; has_bound(rt.alloc(), comment, b'x', 16_777_216, 16_777_217, file)?);
     Ok(())
 }
