@@ -1,5 +1,5 @@
 -- An end at which no row of the table is met goes on.
-use Rattle.std.proofs.Common.{◌≡◌, ◌⊎◌, inl, inr, ◌∙◌, ◌≤◌, ◌-◌, ℕ, zero, suc, max, Bool, true, false, not, ◌&&◌, ◌||◌, List, [], ◌∷◌, ◌++◌, length, Option, Some, None, Ok, Err, refl, sym, ap, ap₂, subst, append_assoc, append-nil, leb-true, option_to_list, All}
+use Rattle.std.proofs.Common.{◌≡◌, ◌⊎◌, inl, inr, ◌∙◌, ◌≤◌, ◌-◌, ℕ, zero, suc, max, Bool, true, false, not, ◌&&◌, ◌||◌, List, [], ◌∷◌, ◌++◌, length, Option, Some, None, Ok, Err, refl, sym, ap, subst, append_assoc, append-nil, leb-true, option_to_list, All}
 use Rattle.std.specs.Prelude.{◌==◌, nat_lt, nat_le, is_some, if◌then◌else◌}
 use Rattle.std.proofs.lemmas.Bool.{cond_both, and_parts}
 use Rattle.std.proofs.lemmas.List.Elements.{All-nil, All-cons, All-append}
@@ -19,10 +19,11 @@ use Rattle.x224_class2.specs.Tpdus.{GivenTpdu, Cr, Cc}
 use Rattle.x224_class2.specs.Transport.{Transport, ReceptionDeed, Nothing as NothingCame, Called, Confirmed, Message, Disconnected, TpduTurn, Rest, Opening, Acknowledgement, Data, turn_of, tpdu_at, state_behind, with_given, after_next, reception}
 use Rattle.x224_class2.specs.Transport as transport
 use Rattle.sapdu.specs.Spelling.{di_in}
-use Rattle.safety_automaton.specs.Safety.{no_keys, Safety, ConnectRequest, Received, DataRequest, SafetyOutcome, SentAu1, SentAu2, SentAu3, SentAr, ReceivedAr, AcceptedDt, SentDt, Refused, ReleasedLocally, ReleasedByPeer, NothingDone, octets_sent_in_outcome, peer_flag}
+use Rattle.sapdu.specs.Messages.{is_message}
+use Rattle.safety_automaton.specs.Safety.{no_keys, Safety, Phase, Ready, WaitAu1, WaitAu2, WaitAu3, WaitAr, Connected, SafetyEvent, ConnectRequest, Received, DataRequest, SafetyOutcome, SentAu1, SentAu2, SentAu3, SentAr, ReceivedAr, AcceptedDt, SentDt, Refused, ReleasedLocally, ReleasedByPeer, NothingDone, octets_sent_in_outcome, peer_flag}
 use Rattle.safety_automaton.specs.Safety as safety
 use Rattle.safety_automaton.specs.Reports.{report_of}
-use Rattle.safety_automaton.specs.Rules.{StepsOnly, IsStep}
+use Rattle.safety_automaton.specs.Rules.{IsOpen, StepsOnly, StepsEach, CauseReleases, IsStep, StaysIdle, AtReceived, AtDisconnect, AtConnect}
 use Rattle.er_end_model.specs.Steps.{Finds, new_event_at, send_dr, answer_dr, on_safety_release, why_of, with_safety_step, hand_text, skip_message, Carrier, InCr, InCc, InDt, hand_answer, keep_message, on_safety_report, on_text, on_transport_deed, on_joined_block, is_ready, connect_with_text, on_link_up, on_link_told, on_link_deed, hand_next_tpdu, has_next_tpdu, hand_waiting_tpdus, most_offers, send_owed_answer, conclude_event, step_start, step_frame, on_send, step_take, is_spent, is_connected, di_of, on_expiry, step_tick}
 use Rattle.er_end_model.specs.Layers.{Core, model}
 use Rattle.er_end_model.specs.Hearing.{text_in_deed, station_behind, IsTextOf}
@@ -33,26 +34,31 @@ use Rattle.er_end_laws.proofs.Ending.{gave, reception_only, unless_released, tak
 
 -- ---- what of an end is kept in view
 
-record Kept : Type 0 where
-  released : Option Release
-  given : List GivenTpdu
-  line : Station
+pub record Kept : Type 0 where
+  pub released : Option Release
+  pub given : List GivenTpdu
+  pub line : Station
+  pub phase : Phase
 
-abbrev kept : Core → Kept
-kept y = record { released = y.released; given = gave y; line = y.line }
+abbrev pub kept : Core → Kept
+kept y = record { released = y.released; given = gave y; line = y.line; phase = y.safe.safety.phase }
 
 -- in the midst of an event that began at x
-record Quiet (x : Core) (k : Kept) : Type 0 where
-  live : k.released ≡ None
-  tpdus : List GivenTpdu
-  given : k.given ≡ gave x ++ tpdus
-  none_last : All IsNoLast tpdus
-  none_disc : All IsNoDisc k.line.said
-  link : is_down k.line.phase ≡ is_down x.line.phase
-  low : k.line.sent ≤ length k.line.handed
+pub record Quiet (x : Core) (k : Kept) : Type 0 where
+  pub live : k.released ≡ None
+  pub tpdus : List GivenTpdu
+  pub given : k.given ≡ gave x ++ tpdus
+  pub none_last : All IsNoLast tpdus
+  pub none_disc : All IsNoDisc k.line.said
+  pub link : is_down k.line.phase ≡ is_down x.line.phase
+  pub low : k.line.sent ≤ length k.line.handed
+  pub open_side : IsOpen k.phase
 
-goes_on : (x y : Core) → Quiet x (kept y) → GoesOn x y
+pub goes_on : (x y : Core) → Quiet x (kept y) → GoesOn x y
 goes_on x y q = record { live = q.live; tpdus = q.tpdus; given = q.given; none_last = q.none_last; none_disc = q.none_disc; link = q.link }
+
+pub live_behind : (x y : Core) → Quiet x (kept y) → IsLive y
+live_behind x y q = record { released = q.live; open_side = q.open_side; handed = q.low }
 
 kept_if : (b : Bool) (y z : Core) (k : Kept) → kept y ≡ k → kept z ≡ k → kept (if b then y else z) ≡ k
 kept_if true y z k h g = h
@@ -92,6 +98,7 @@ next_handed x y q =
       none_disc = g.said;
       link = g.down ∙ q.link;
       low = g.sent;
+      open_side = q.open_side;
     }
 
 offered : (n : ℕ) (x y : Core) → Quiet x (kept y) → Quiet x (kept (hand_waiting_tpdus model n y))
@@ -103,7 +110,7 @@ offered (suc n) x y q =
 owed_sent : (x y : Core) → Quiet x (kept y) → Quiet x (kept (send_owed_answer model y))
 owed_sent x y q =
     let g = finished y.line q.low q.none_disc in
-    record { live = q.live; tpdus = q.tpdus; given = q.given; none_last = q.none_last; none_disc = g.said; link = g.down ∙ q.link; low = g.sent }
+    record { live = q.live; tpdus = q.tpdus; given = q.given; none_last = q.none_last; none_disc = g.said; link = g.down ∙ q.link; low = g.sent; open_side = q.open_side }
 
 concludes : (x y : Core) → Quiet x (kept y) → Quiet x (kept (conclude_event model y))
 concludes x y q =
@@ -113,7 +120,7 @@ concludes x y q =
 -- ---- how an event begins
 
 -- its station, which was settled, said no DISC, and is Down no more than it was
-begins : (x : Core) (line : Station) (y : Core) → IsLive x → kept y ≡ record { released = x.released; given = gave x; line = line }
+begins : (x : Core) (line : Station) (y : Core) → IsLive x → kept y ≡ record { released = x.released; given = gave x; line = line; phase = x.safe.safety.phase }
     → All IsNoDisc line.said → is_down line.phase ≡ is_down x.line.phase → line.sent ≤ length line.handed → Quiet x (kept y)
 begins x line y h e said down low =
     subst (Quiet x) (sym e) (record {
@@ -124,7 +131,40 @@ begins x line y h e said down low =
       none_disc = said;
       link = down;
       low = low;
+      open_side = h.open_side;
     })
+
+-- its safety side takes a step that leaves it unreleased
+steps_to : (x : Core) (y : Core) (event : SafetyEvent) (a : Safety × SafetyOutcome) → Quiet x (kept y) → IsOpen a.0.phase → Quiet x (kept (with_safety_step model event a y))
+steps_to x y event a q o = record {
+  live = q.live;
+  tpdus = q.tpdus;
+  given = q.given;
+  none_last = q.none_last;
+  none_disc = q.none_disc;
+  link = q.link;
+  low = q.low;
+  open_side = o;
+}
+
+sends_stay : (s : Safety) (p : Phase) (user : List ℕ) → (safety.sends s p user).0 ≡ s
+sends_stay s (Ready peer kmac rb) user = refl
+sends_stay s (WaitAu1 ra) user = refl
+sends_stay s (WaitAu2 peer kmac rb) user = refl
+sends_stay s (WaitAu3 connection) user = refl
+sends_stay s (WaitAr connection) user = refl
+sends_stay s (Connected peer session) user =
+    cond_both (not (is_message user)) (s, safety.Refused (safety.RefusedLength (length user))) (safety.sends_dt s peer session user) (λ (a : Safety × SafetyOutcome). a.0 ≡ s) (λ e. refl) (λ e. refl)
+sends_stay s (safety.Released release session) user = refl
+
+connects_open : (s : Safety) (p : Phase) → IsOpen s.phase → IsOpen (safety.connects s p).0.phase
+connects_open s (Ready peer kmac rb) o = tt
+connects_open s (WaitAu1 ra) o = o
+connects_open s (WaitAu2 peer kmac rb) o = o
+connects_open s (WaitAu3 connection) o = o
+connects_open s (WaitAr connection) o = o
+connects_open s (Connected peer session) o = o
+connects_open s (safety.Released release session) o = o
 
 -- ---- what changes nothing in view
 
@@ -156,31 +196,31 @@ down_as s t d e = d.down ∙ ap (λ (r : Option Release). is_down s.phase || is_
 module _ (told : ReleasesAreTold) where
   -- ---- the events at which no row can be met
 
-  pub start_goes_on : (now : ℕ) (x : Core) → IsLive x → GoesOn x (step_start model now x)
-  start_goes_on now x h =
+  pub start_quiet : (now : ℕ) (x : Core) → IsLive x → Quiet x (kept (step_start model now x))
+  start_quiet now x h =
       let b : Core = new_event_at model now x in
       let z : Core = record b { line = model.starts b.moment b.line } in
       let g = started b.moment (settled x.line) h.handed (All-nil IsNoDisc) in
-      subst (GoesOn x) (sym (unless_released x b (conclude_event model z) h.released))
-      (goes_on x (conclude_event model z) (concludes x z (begins x z.line z h refl g.said g.down g.sent)))
+      subst (λ (y : Core). Quiet x (kept y)) (sym (unless_released x b (conclude_event model z) h.released)) (concludes x z (begins x z.line z h refl g.said g.down g.sent))
 
-  pub send_goes_on : (now : ℕ) (user : List ℕ) (x : Core) → IsLive x → GoesOn x (on_send model user (new_event_at model now x))
-  send_goes_on now user x h =
+  pub send_quiet : (now : ℕ) (user : List ℕ) (x : Core) → IsLive x → Quiet x (kept (on_send model user (new_event_at model now x)))
+  send_quiet now user x h =
       let b : Core = new_event_at model now x in
       let a : Safety × SafetyOutcome = safety.step no_keys x.safe.safety (DataRequest user) in
       let y : Core = with_safety_step model (DataRequest user) a b in
       let z : Core = record y { upper = model.sends y.upper user } in
       let w : Core = hand_text model (octets_sent_in_outcome a.1) z in
-      goes_on x (conclude_event model w)
-      (concludes x w (same x z w (kept_says (octets_sent_in_outcome a.1) z) (begins x (settled x.line) z h refl (All-nil IsNoDisc) refl h.handed)))
+      let o : IsOpen a.0.phase = subst (λ (t : Safety). IsOpen t.phase) (sym (sends_stay x.safe.safety x.safe.safety.phase user)) h.open_side in
+      let q : Quiet x (kept y) = steps_to x b (DataRequest user) a (begins x (settled x.line) b h refl (All-nil IsNoDisc) refl h.handed) o in
+      concludes x w (same x y w (kept_says (octets_sent_in_outcome a.1) z) q)
 
-  pub take_goes_on : (now : ℕ) (x : Core) → IsLive x → GoesOn x (step_take model now x)
-  take_goes_on now x h =
+  pub take_quiet : (now : ℕ) (x : Core) → IsLive x → Quiet x (kept (step_take model now x))
+  take_quiet now x h =
       let b : Core = new_event_at model now x in
       let z : Core = record b { upper = model.uses b.upper } in
-      cond_both (length x.upper.accepted - x.upper.used == 0) b (conclude_event model z) (GoesOn x)
-      (λ none. goes_on x b (begins x (settled x.line) b h refl (All-nil IsNoDisc) refl h.handed))
-      (λ some. goes_on x (conclude_event model z) (concludes x z (begins x (settled x.line) z h refl (All-nil IsNoDisc) refl h.handed)))
+      cond_both (length x.upper.accepted - x.upper.used == 0) b (conclude_event model z) (λ y. Quiet x (kept y))
+      (λ none. begins x (settled x.line) b h refl (All-nil IsNoDisc) refl h.handed)
+      (λ some. concludes x z (begins x (settled x.line) z h refl (All-nil IsNoDisc) refl h.handed))
 
   -- ---- a tick
 
@@ -207,11 +247,11 @@ module _ (told : ReleasesAreTold) where
             inr (why, Leaves 128 (own_di why x), BySetUp e (not_true (is_connected x.safe.safety.phase) p.0) (leb-true x.limit (max x.moment now) p.1) refl refl)
         by_time false s = inl (timed e)
 
-    pub tick_goes_on : GoesOn x (step_tick model now x) ⊎ Time
-    tick_goes_on =
+    pub tick_quiet : Quiet x (kept (step_tick model now x)) ⊎ Time
+    tick_quiet =
         let y : Core = on_expiry model (station_at x now).deed.released (timed_at now x) in
         elim (expiry (station_at x now).deed.released refl) [
-          | inl q ↦ inl (subst (GoesOn x) (sym (unless_released x (new_event_at model now x) (conclude_event model y) h.released)) (goes_on x (conclude_event model y) (concludes x y q)))
+          | inl q ↦ inl (subst (λ (z : Core). Quiet x (kept z)) (sym (unless_released x (new_event_at model now x) (conclude_event model y) h.released)) (concludes x y q))
           | inr row ↦ inr row
         ]
 
@@ -240,47 +280,70 @@ module _ (told : ReleasesAreTold) where
 
       -- ---- a text
 
-      module _ (text : List ℕ) (is : IsTextOf x now verdict text) (q : Safety) (y : Core) (c : Quiet x (kept y)) where
+      module _ (text : List ℕ) (is : IsTextOf x now verdict text) (y : Core) (c : Quiet x (kept y)) where
+        abbrev side : Safety
+        side = x.safe.safety
+
+        abbrev next : Safety
+        next = (safety.step key_of side (Received text)).0
+
         abbrev after : SafetyOutcome → Core
-        after o = with_safety_step model (Received text) (q, o) y
+        after o = with_safety_step model (Received text) (next, o) y
 
         abbrev Comes : SafetyOutcome → Type 0
-        Comes o = (safety.step key_of x.safe.safety (Received text)).1 ≡ o
+        Comes o = (safety.step key_of side (Received text)).1 ≡ o
 
-        stays : (z : Core) → kept z ≡ kept y → Fate z
-        stays z e = inl (same x y z e c)
+        row : (o : SafetyOutcome) → Comes o → IsStep key_of side (Received text) next o
+        row o e = subst (λ (p : SafetyOutcome). IsStep key_of side (Received text) next p) e (steps_only key_of side (Received text))
 
-        row : (o : SafetyOutcome) → Comes o → IsStep key_of x.safe.safety (Received text) (safety.step key_of x.safe.safety (Received text)).0 o
-        row o e = subst (λ (p : SafetyOutcome). IsStep key_of x.safe.safety (Received text) (safety.step key_of x.safe.safety (Received text)).0 p) e (steps_only key_of x.safe.safety (Received text))
+        -- the side isn't released, and what else was done changes nothing in view
+        stays : (o : SafetyOutcome) (z : Core) → kept z ≡ kept (after o) → IsOpen next.phase → Fate z
+        stays o z e left_open = inl (same x (after o) z e (steps_to x y (Received text) (next, o) c left_open))
+
+        open_as : (t : Safety) → next ≡ t → IsOpen t.phase → IsOpen next.phase
+        open_as t e o = subst (λ (u : Safety). IsOpen u.phase) (sym e) o
 
         acts : (by : Carrier) (o : SafetyOutcome) → Comes o → Fate (on_safety_report model by (report_of o) (octets_sent_in_outcome o) (after o))
-        acts by (SentAu1 octets) e = stays (after (SentAu1 octets)) refl
-        acts by (SentAu2 session sealed octets) e = stays (hand_answer model by octets (after (SentAu2 session sealed octets))) (kept_answers by octets (after (SentAu2 session sealed octets)))
+        acts by (SentAu1 octets) e =
+            let o : SafetyOutcome = SentAu1 octets in
+            stays o (after o) refl (open_as _ (row o e).next_is tt)
+        acts by (SentAu2 session sealed octets) e =
+            let o : SafetyOutcome = SentAu2 session sealed octets in
+            stays o (hand_answer model by octets (after o)) (kept_answers by octets (after o)) (open_as _ (row o e).next_is tt)
         acts by (SentAu3 session verified sealed octets) e =
-            stays (hand_answer model by octets (after (SentAu3 session verified sealed octets))) (kept_answers by octets (after (SentAu3 session verified sealed octets)))
+            let o : SafetyOutcome = SentAu3 session verified sealed octets in
+            stays o (hand_answer model by octets (after o)) (kept_answers by octets (after o)) (open_as _ (row o e).next_is tt)
         acts by (SentAr connection verified sealed octets) e =
             let o : SafetyOutcome = SentAr connection verified sealed octets in
-            stays (record (hand_answer model by octets (after o)) { connected = Some connection.peer }) (kept_answers by octets (after o))
+            stays o (record (hand_answer model by octets (after o)) { connected = Some connection.peer }) (kept_answers by octets (after o)) (open_as _ (row o e).next_is tt)
         acts by (ReceivedAr connection verified) e =
             let o : SafetyOutcome = ReceivedAr connection verified in
-            stays (record (hand_answer model by [] (after o)) { connected = Some connection.peer }) (kept_answers by [] (after o))
+            stays o (record (hand_answer model by [] (after o)) { connected = Some connection.peer }) (kept_answers by [] (after o)) (open_as _ (row o e).next_is tt)
         acts by (AcceptedDt session user verified) e =
             let o : SafetyOutcome = AcceptedDt session user verified in
-            stays (keep_message model by user (after o)) (kept_keeps by user (after o))
-        acts by (SentDt session user sealed octets) e = stays (after (SentDt session user sealed octets)) refl
-        acts by (Refused refusal) e = stays (after (Refused refusal)) refl
+            stays o (keep_message model by user (after o)) (kept_keeps by user (after o)) (open_as side (row o e).next_is h.open_side)
+        acts by (SentDt session user sealed octets) e =
+            let o : SafetyOutcome = SentDt session user sealed octets in
+            stays o (after o) refl (open_as side (row o e).next_is h.open_side)
+        acts by (Refused refusal) e =
+            let o : SafetyOutcome = Refused refusal in
+            stays o (after o) refl (open_as side (row o e).next_is h.open_side)
         acts by (ReleasedLocally release octets) e =
             let r = row (ReleasedLocally release octets) e in
             inr (release, Leaves 128 (own_di release x), BySafety r.cause (text, is, r.met) r.releases.release_is refl)
         acts by (ReleasedByPeer release) e =
             let r = row (ReleasedByPeer release) e in
             inr (release, Disconnects, ByPeersDi r.reason r.sub text is r.unreleased r.received r.release_is refl)
-        acts by NothingDone e = stays (after NothingDone) refl
+        acts by NothingDone e = stays NothingDone (after NothingDone) refl (idle (row NothingDone e))
+          where
+            idle : StaysIdle side (Received text) next → IsOpen next.phase
+            idle (AtReceived octets release session is was n) = open_as side n h.open_side
+            idle (AtDisconnect sub release session is was n) = open_as side n h.open_side
+            idle (AtConnect is unready n) = open_as side n h.open_side
 
-      text_comes : (y : Core) → Quiet x (kept y) → y.safe.safety ≡ x.safe.safety → y.moment ≡ max x.moment now → (by : Carrier) (text : List ℕ) → IsTextOf x now verdict text → Fate (on_text model finds by text y)
-      text_comes y c same_side same_moment by text is =
-          let a : Safety × SafetyOutcome = safety.step (finds y.moment) y.safe.safety (Received text) in
-          acts text is a.0 y c by a.1 (sym (ap₂ (λ (m : ℕ) (t : Safety). (safety.step (finds m) t (Received text)).1) same_moment same_side))
+      text_comes : (payload tpdu : List ℕ) (c : Quiet x (kept (heard_at now verdict x payload tpdu))) (by : Carrier) (text : List ℕ) → IsTextOf x now verdict text
+          → Fate (on_text model finds by text (heard_at now verdict x payload tpdu))
+      text_comes payload tpdu c by text is = acts text is (heard_at now verdict x payload tpdu) c by (safety.step key_of x.safe.safety (Received text)).1 refl
 
       -- ---- a TPDU, a block, what the station tells
 
@@ -292,11 +355,11 @@ module _ (told : ReleasesAreTold) where
           → (d : ReceptionDeed) → (reception x.upper.transport tpdu).1 ≡ d → Fate (on_transport_deed model finds d (heard_at now verdict x payload tpdu))
       deed_comes payload tpdu c t j NothingCame e = inl c
       deed_comes payload tpdu c t j (Called user) e =
-          text_comes (heard_at now verdict x payload tpdu) c refl refl InCr user (record { payload = payload; taken = t; tpdu = tpdu; joined = j; brought = ap text_in_deed e })
+          text_comes payload tpdu c InCr user (record { payload = payload; taken = t; tpdu = tpdu; joined = j; brought = ap text_in_deed e })
       deed_comes payload tpdu c t j (Confirmed user) e =
-          text_comes (heard_at now verdict x payload tpdu) c refl refl InCc user (record { payload = payload; taken = t; tpdu = tpdu; joined = j; brought = ap text_in_deed e })
+          text_comes payload tpdu c InCc user (record { payload = payload; taken = t; tpdu = tpdu; joined = j; brought = ap text_in_deed e })
       deed_comes payload tpdu c t j (Message message) e =
-          text_comes (heard_at now verdict x payload tpdu) c refl refl InDt message (record { payload = payload; taken = t; tpdu = tpdu; joined = j; brought = ap text_in_deed e })
+          text_comes payload tpdu c InDt message (record { payload = payload; taken = t; tpdu = tpdu; joined = j; brought = ap text_in_deed e })
       deed_comes payload tpdu c t j (Disconnected user) e =
           dr_comes user (heard_at now verdict x payload tpdu) (tpdu, record { payload = payload; taken = t; joined = j }, e) (di_in user (peer_flag x.safe.safety)) refl
       deed_comes payload tpdu c t j (transport.Refused sub reason) e =
@@ -308,7 +371,7 @@ module _ (told : ReleasesAreTold) where
       block_comes payload c t (Ok (Some tpdu)) e =
           let y : Core = taken_at now verdict x in
           let z : Core = heard_at now verdict x payload tpdu in
-          let q : Quiet x (kept z) = same x y z (ap (λ (g : List GivenTpdu). record { released = x.released; given = g; line = s }) (reception_only x.upper.transport tpdu)) c in
+          let q : Quiet x (kept z) = same x y z (ap (λ (g : List GivenTpdu). record { released = x.released; given = g; line = s; phase = x.safe.safety.phase }) (reception_only x.upper.transport tpdu)) c in
           deed_comes payload tpdu q t e (reception x.upper.transport tpdu).1 refl
       block_comes payload c t (Err fault) e = inr (release_of cause.BlockRefused, Leaves 133 [], ByBlock (payload, fault, t, e) refl refl)
 
@@ -317,9 +380,9 @@ module _ (told : ReleasesAreTold) where
           let a : Safety × SafetyOutcome = safety.step no_keys x.safe.safety ConnectRequest in
           let y : Core = taken_at now verdict x in
           let z : Core = with_safety_step model ConnectRequest a y in
-          same x y (on_link_up model y)
-          (kept_if (model.may_connect y.upper && is_ready y.safe.safety.phase) (connect_with_text model (octets_sent_in_outcome a.1) z) y (kept y)
-          (kept_if (is_some_octets (octets_sent_in_outcome a.1)) _ z (kept y) refl refl) refl) c
+          let q : Quiet x (kept z) = steps_to x y ConnectRequest a c (connects_open x.safe.safety x.safe.safety.phase h.open_side) in
+          cond_both (model.may_connect y.upper && is_ready y.safe.safety.phase) (connect_with_text model (octets_sent_in_outcome a.1) z) y (λ w. Quiet x (kept w))
+          (λ may. same x z (connect_with_text model (octets_sent_in_outcome a.1) z) (kept_if (is_some_octets (octets_sent_in_outcome a.1)) _ z (kept z) refl refl) q) (λ cannot. c)
 
       -- the station tells one thing
       one_deed : (why : Release) (d : LinkDeed) → d.payload ≡ None → d.more ≡ [] → d.up ≡ false → d.released ≡ Some why → d ≡ record { up = false; payload = None; more = []; released = Some why }
@@ -346,10 +409,10 @@ module _ (told : ReleasesAreTold) where
           inr (why, Nothing, ByStation (one_deed why s.deed p given.single u r) refl)
       link_comes None false None p u r = inl (calm r)
 
-      pub frame_goes_on : GoesOn x (step_frame model finds now verdict x) ⊎ Row
-      frame_goes_on =
+      pub frame_quiet : Fate (step_frame model finds now verdict x)
+      frame_quiet =
           let y : Core = on_link_told model finds s.deed.payload s.deed.up s.deed.released (taken_at now verdict x) in
           elim (link_comes s.deed.payload s.deed.up s.deed.released refl refl refl) [
-            | inl q ↦ inl (subst (GoesOn x) (sym (unless_released x (new_event_at model now x) (conclude_event model y) h.released)) (goes_on x (conclude_event model y) (concludes x y q)))
+            | inl q ↦ inl (subst (λ (z : Core). Quiet x (kept z)) (sym (unless_released x (new_event_at model now x) (conclude_event model y) h.released)) (concludes x y q))
             | inr row ↦ inr row
           ]

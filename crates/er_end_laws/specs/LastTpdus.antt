@@ -19,7 +19,9 @@ use Rattle.safety_automaton.specs.Safety.{Received, flag_of, peer_flag}
 use Rattle.safety_automaton.specs.Rules.{IsOpen, IsReceived}
 use Rattle.er_end_model.specs.Steps.{Finds, new_event_at, is_connected, step_start, step_frame, on_send, step_take, step_release, step_tick, step_break}
 use Rattle.er_end_model.specs.Layers.{Core, model}
+use Rattle.er_end_model.specs.Ends.{Opening, Moment, opened, end_run}
 use Rattle.er_end_model.specs.Hearing.{station_behind, IsTextOf}
+use Rattle.er_end_model.specs.Origins.{core_behind_frames}
 use Rattle.er_end_model.specs.Releasing.{StationReleases, BlockIsFaulty, IsTpduOf, IsDr, DrHasNoDi, SafetyMet, station_at}
 
 -- ---- the table: what releases an end, and what it sends then
@@ -147,6 +149,16 @@ pub record IsLive (x : Core) : Type 0 where
   pub released : x.released ≡ None
   pub open_side : IsOpen x.safe.safety.phase
   pub handed : x.line.sent ≤ length x.line.handed
+
+-- an end that isn't released is so
+abbrev pub IsLiveUnlessReleased : Core → Type 0
+IsLiveUnlessReleased x = x.released ≡ None → IsLive x
+
+-- each end behind any events, and behind any of the frames that octets close
+pub record EndsAreLive : Type 0 where
+  pub events : (opening : Opening) (events : List Moment) → IsLiveUnlessReleased (end_run events (opened opening)).core
+  pub frames : (opening : Opening) (events : List Moment) (finds : Finds) (now : ℕ) (first : List Verdict)
+      → IsLiveUnlessReleased (core_behind_frames finds now first (end_run events (opened opening)))
 
 -- of each event at such an end: where a row is met it ends with what stands there, its user's release and a broken line are rows too, and else it goes on
 pub record LastTpdus : Type 0 where
