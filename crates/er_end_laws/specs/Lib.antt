@@ -1,1 +1,2 @@
 pub mod LastTpdus
+pub mod KnownAnswers
