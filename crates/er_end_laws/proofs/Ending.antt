@@ -1,7 +1,7 @@
 -- Where a row of the table is met, an end ends with what stands there.
-use Rattle.std.proofs.Common.{◌≡◌, ◌⊎◌, inl, inr, ◌∙◌, ◌≤◌, ◌+◌, ◌-◌, ◌%◌, ℕ, max, Bool, true, false, not, ◌&&◌, List, [], ◌∷◌, ◌++◌, length, Option, Some, None, Result, Ok, Err, refl, sym, ap, ap₂, subst, append_assoc, append-nil, true≢false, le-leb}
+use Rattle.std.proofs.Common.{◌≡◌, inl, inr, ◌∙◌, ◌≤◌, ◌+◌, ◌-◌, ℕ, max, Bool, true, false, not, ◌&&◌, List, [], ◌∷◌, ◌++◌, length, Option, Some, None, Result, Ok, Err, refl, sym, ap, ap₂, subst, append_assoc, append-nil, true≢false, le-leb}
 use Rattle.std.specs.Prelude.{◌==◌, nat_lt, nat_le, is_some, if◌then◌else◌}
-use Rattle.std.proofs.lemmas.Bool.{cond_both, cases_Bool, and_right}
+use Rattle.std.proofs.lemmas.Bool.{cases_Bool, and_right}
 use Rattle.std.proofs.lemmas.List.Elements.{All-nil}
 use Rattle.er_base.specs.declared.release.Release.{Release}
 use Rattle.er_base.specs.declared.cause.Cause.{Cause}
@@ -10,7 +10,6 @@ use Rattle.er_base.specs.Causes.{release_of, by_this_end, by_peer_di}
 use Rattle.des_block.specs.declared.triple_key.TripleKey.{TripleKey}
 use Rattle.hdlc_frames.specs.Framing.{Verdict}
 use Rattle.hdlc_station_model.specs.declared.phase.Phase.{Phase}
-use Rattle.hdlc_station_model.specs.declared.phase.Phase.TheVariants.{Up}
 use Rattle.hdlc_station_model.specs.Frames.{Frame, Rr, Disc}
 use Rattle.hdlc_station_model.specs.Stations.{Station, Deed as LinkDeed, settled, is_down}
 use Rattle.hdlc_station_model.specs.Calls.{hands, may_send}
@@ -28,7 +27,7 @@ use Rattle.safety_automaton.specs.Safety.{no_keys, Safety, Received, DisconnectR
 use Rattle.safety_automaton.specs.Safety as safety
 use Rattle.safety_automaton.specs.Reports.{report_of}
 use Rattle.safety_automaton.specs.Rules.{IsOpen, IsReceived, StepsEach, CauseReleases}
-use Rattle.er_end_model.specs.Steps.{Finds, new_event, new_event_at, with_release, hand_tpdu, hand_tpdu_if_may, send_dr, answer_dr, end_after_di, on_safety_release, why_of, with_safety_step, Carrier, InCr, InCc, InDt, on_safety_report, on_text, on_transport_deed, on_joined_block, on_link_told, on_link_deed, hand_waiting_tpdus, most_offers, send_owed_answer, conclude_event, step_frame, step_release, is_spent, is_connected, di_of, on_expiry, step_tick, step_break}
+use Rattle.er_end_model.specs.Steps.{Finds, new_event, new_event_at, with_release, hand_tpdu, hand_tpdu_if_may, send_dr, answer_dr, end_after_di, on_safety_release, why_of, with_safety_step, Carrier, InCr, InCc, InDt, on_safety_report, on_text, on_transport_deed, on_joined_block, on_link_told, on_link_deed, hand_waiting_tpdus, most_offers, send_owed_answer, conclude_event, step_frame, step_release, is_spent, on_expiry, step_tick, step_break}
 use Rattle.er_end_model.specs.Layers.{Core, model}
 use Rattle.er_end_model.specs.Hearing.{text_in_deed, station_behind, IsTextOf}
 use Rattle.er_end_model.specs.Releasing.{StationReleases, BlockIsFaulty, IsTpduOf, IsDr, SafetyMet, station_at}
@@ -102,13 +101,13 @@ module _ (why : Release) (x y : Core) (low : y.line.sent ≤ length y.line.hande
       let ends : Core → Core = λ z. record z { line = model.closes z.line; leaves = Some why; released = Some why } in
       by_sending (Adds y.line x (send_dr model why reason user y) (tpdu ∷ []) (frame_with tpdu y.line ∷ Disc ∷ [])) (Adds y.line x (send_dr model why reason user y) [] (disc_at y.line.phase))
       (λ may h.
-        let went = went_at_once y.moment (last_block (octets_given tpdu)) y.line h in
-        subst (λ (z : Core). Adds y.line x (ends z) (tpdu ∷ []) (frame_with tpdu y.line ∷ Disc ∷ [])) (sym (goes tpdu may)) (record {
-          given = one_given tpdu;
-          said = closed (handed_tpdu tpdu)
-              ∙ ap₂ (λ (l : List Frame) (p : Phase). l ++ disc_at p) went.said (went.phase ∙ h.up)
-              ∙ append_assoc y.line.said (frame_with tpdu y.line ∷ []) (Disc ∷ []);
-        }))
+      let went = went_at_once y.moment (last_block (octets_given tpdu)) y.line h in
+      subst (λ (z : Core). Adds y.line x (ends z) (tpdu ∷ []) (frame_with tpdu y.line ∷ Disc ∷ [])) (sym (goes tpdu may)) (record {
+        given = one_given tpdu;
+        said = closed (handed_tpdu tpdu)
+            ∙ ap₂ (λ (l : List Frame) (p : Phase). l ++ disc_at p) went.said (went.phase ∙ h.up)
+            ∙ append_assoc y.line.said (frame_with tpdu y.line ∷ []) (Disc ∷ []);
+      }))
       (λ cannot. subst (λ (z : Core). Adds y.line x (ends z) [] (disc_at y.line.phase)) (sym (stays tpdu cannot)) (record { given = none_given; said = closed y.line }))
 
   pub dc_says : Says Confirms y.line x (answer_dr model why y)
@@ -116,13 +115,13 @@ module _ (why : Release) (x y : Core) (low : y.line.sent ≤ length y.line.hande
       let ends : Core → Core = λ z. record z { line = model.finishes z.line; leaves = Some why; released = Some why } in
       by_sending (Adds y.line x (answer_dr model why y) (Dc ∷ []) (frame_with Dc y.line ∷ [])) (Adds y.line x (answer_dr model why y) [] (owed_answer y.line))
       (λ may h.
-        let went = went_at_once y.moment (last_block (octets_given Dc)) y.line h in
-        subst (λ (z : Core). Adds y.line x (ends z) (Dc ∷ []) (frame_with Dc y.line ∷ [])) (sym (goes Dc may)) (record {
-          given = one_given Dc;
-          said = finished_by (handed_tpdu Dc)
-              ∙ ap₂ (λ (l m : List Frame). l ++ m) went.said (none_owed (handed_tpdu Dc) went.owed)
-              ∙ append-nil (y.line.said ++ frame_with Dc y.line ∷ []);
-        }))
+      let went = went_at_once y.moment (last_block (octets_given Dc)) y.line h in
+      subst (λ (z : Core). Adds y.line x (ends z) (Dc ∷ []) (frame_with Dc y.line ∷ [])) (sym (goes Dc may)) (record {
+        given = one_given Dc;
+        said = finished_by (handed_tpdu Dc)
+            ∙ ap₂ (λ (l m : List Frame). l ++ m) went.said (none_owed (handed_tpdu Dc) went.owed)
+            ∙ append-nil (y.line.said ++ frame_with Dc y.line ∷ []);
+      }))
       (λ cannot. subst (λ (z : Core). Adds y.line x (ends z) [] (owed_answer y.line)) (sym (stays Dc cannot)) (record { given = none_given; said = finished_by y.line }))
 
   pub disc_says : Says Disconnects y.line x (end_after_di model why y)

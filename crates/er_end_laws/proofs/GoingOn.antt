@@ -1,10 +1,9 @@
 -- An end at which no row of the table is met goes on.
-use Rattle.std.proofs.Common.{◌≡◌, ◌⊎◌, inl, inr, ◌∙◌, ◌≤◌, ◌-◌, ℕ, zero, suc, max, Bool, true, false, not, ◌&&◌, ◌||◌, List, [], ◌∷◌, ◌++◌, length, Option, Some, None, Ok, Err, refl, sym, ap, subst, append_assoc, append-nil, leb-true, option_to_list, All}
-use Rattle.std.specs.Prelude.{◌==◌, nat_lt, nat_le, is_some, if◌then◌else◌}
+use Rattle.std.proofs.Common.{◌≡◌, ◌⊎◌, inl, inr, ◌∙◌, ◌≤◌, ◌-◌, ℕ, zero, suc, max, Bool, true, false, not, ◌&&◌, ◌||◌, List, [], ◌++◌, length, Option, Some, None, Ok, Err, refl, sym, ap, subst, append_assoc, append-nil, leb-true, option_to_list, All}
+use Rattle.std.specs.Prelude.{◌==◌, nat_le, is_some, if◌then◌else◌}
 use Rattle.std.proofs.lemmas.Bool.{cond_both, and_parts}
 use Rattle.std.proofs.lemmas.List.Elements.{All-nil, All-cons, All-append}
 use Rattle.er_base.specs.declared.release.Release.{Release}
-use Rattle.er_base.specs.declared.cause.Cause.{Cause}
 use Rattle.er_base.specs.declared.cause.Cause.TheVariants as cause
 use Rattle.er_base.specs.Causes.{release_of, by_this_end, by_peer_di}
 use Rattle.des_block.specs.declared.triple_key.TripleKey.{TripleKey}
@@ -23,11 +22,11 @@ use Rattle.sapdu.specs.Messages.{is_message}
 use Rattle.safety_automaton.specs.Safety.{no_keys, Safety, Phase, Ready, WaitAu1, WaitAu2, WaitAu3, WaitAr, Connected, SafetyEvent, ConnectRequest, Received, DataRequest, SafetyOutcome, SentAu1, SentAu2, SentAu3, SentAr, ReceivedAr, AcceptedDt, SentDt, Refused, ReleasedLocally, ReleasedByPeer, NothingDone, octets_sent_in_outcome, peer_flag}
 use Rattle.safety_automaton.specs.Safety as safety
 use Rattle.safety_automaton.specs.Reports.{report_of}
-use Rattle.safety_automaton.specs.Rules.{IsOpen, StepsOnly, StepsEach, CauseReleases, IsStep, StaysIdle, AtReceived, AtDisconnect, AtConnect}
-use Rattle.er_end_model.specs.Steps.{Finds, new_event_at, send_dr, answer_dr, on_safety_release, why_of, with_safety_step, hand_text, skip_message, Carrier, InCr, InCc, InDt, hand_answer, keep_message, on_safety_report, on_text, on_transport_deed, on_joined_block, is_ready, connect_with_text, on_link_up, on_link_told, on_link_deed, hand_next_tpdu, has_next_tpdu, hand_waiting_tpdus, most_offers, send_owed_answer, conclude_event, step_start, step_frame, on_send, step_take, is_spent, is_connected, di_of, on_expiry, step_tick}
+use Rattle.safety_automaton.specs.Rules.{IsOpen, StepsOnly, IsStep, StaysIdle, AtReceived, AtDisconnect, AtConnect}
+use Rattle.er_end_model.specs.Steps.{Finds, new_event_at, send_dr, answer_dr, why_of, with_safety_step, hand_text, skip_message, Carrier, InCr, InCc, InDt, hand_answer, keep_message, on_safety_report, on_text, on_transport_deed, on_joined_block, is_ready, connect_with_text, on_link_up, on_link_told, hand_next_tpdu, has_next_tpdu, hand_waiting_tpdus, most_offers, send_owed_answer, conclude_event, step_start, step_frame, on_send, step_take, is_spent, is_connected, di_of, on_expiry, step_tick}
 use Rattle.er_end_model.specs.Layers.{Core, model}
 use Rattle.er_end_model.specs.Hearing.{text_in_deed, station_behind, IsTextOf}
-use Rattle.er_end_model.specs.Releasing.{StationReleases, IsDr, station_at}
+use Rattle.er_end_model.specs.Releasing.{IsDr, station_at}
 use Rattle.er_end_laws.specs.LastTpdus.{Farewell, Nothing, Leaves, Confirms, Disconnects, own_di, FrameEnds, ByStation, ByBareDr, ByTpdu, ByBlock, BySafety, ByPeersDr, ByPeersDi, TimeEnds, ByT1, BySetUp, IsNoLast, IsNoDisc, GoesOn, IsLive}
 use Rattle.er_end_laws.proofs.Hearing.{Received as GotFrame, IsOneDeed, received, ticked, handed_down, finished, started}
 use Rattle.er_end_laws.proofs.Ending.{gave, reception_only, unless_released, taken_at, joined_at, heard_at, timed_at}

@@ -1,6 +1,6 @@
 -- What an end sends last, as one table; and that ends behind events are such as the table speaks of.
-use Rattle.std.proofs.Common.{◌≡◌, ◌⊎◌, inl, inr, ◌∙◌, ℕ, List, [], ◌∷◌, Option, Some, None, refl, sym, ap, subst, arith}
-use Rattle.std.specs.Prelude.{◌-◌, ◌==◌, Bool, true, false, length, is_some, if◌then◌else◌}
+use Rattle.std.proofs.Common.{◌≡◌, inl, inr, ◌∙◌, ℕ, List, [], ◌∷◌, Option, Some, None, refl, sym, ap, arith}
+use Rattle.std.specs.Prelude.{◌-◌, ◌==◌, length, is_some, if◌then◌else◌}
 use Rattle.std.proofs.lemmas.Bool.{cond_both}
 use Rattle.er_base.specs.declared.release.Release.{Release}
 use Rattle.er_base.specs.declared.cause.Cause.{Cause}
@@ -11,13 +11,12 @@ use Rattle.hdlc_station_model.specs.Reports.{ReleasesAreTold}
 use Rattle.hdlc_station_model.specs.Events.{news}
 use Rattle.safety_automaton.specs.Rules.{StepsOnly, StepsEach, CauseReleases}
 use Rattle.er_end_model.specs.Outcomes.{SendRefusal}
-use Rattle.er_end_model.specs.Steps.{Finds, new_event, new_event_at, refusal_at, refusal_of, is_connected, step_send_unless, on_send, step_start, step_frame, step_take, step_release, step_tick, step_break, hand_text, with_safety_step, conclude_event}
+use Rattle.er_end_model.specs.Steps.{Finds, new_event, new_event_at, refusal_at, refusal_of, is_connected, step_send_unless, step_start, step_frame, step_take, step_release, step_tick, step_break, conclude_event}
 use Rattle.er_end_model.specs.Layers.{Core, model}
 use Rattle.er_end_model.specs.Ends.{Opening, Call, Answer, Event, Start, Come, Send, Take, Leave, Tick, Ended, Fault, Stalled, End, Moment, opened, hears_each, step_event, end_run}
-use Rattle.er_end_model.specs.Origins.{core_behind_frames}
 use Rattle.er_end_laws.specs.LastTpdus.{LastTpdus, EndsAreLive, IsLiveUnlessReleased, IsLive}
 use Rattle.er_end_laws.proofs.Ending.{frame_ends, tick_ends, release_ends, break_ends}
-use Rattle.er_end_laws.proofs.GoingOn.{goes_on, live_behind, start_quiet, send_quiet, take_quiet, tick_quiet, frame_quiet, kept, Quiet}
+use Rattle.er_end_laws.proofs.GoingOn.{goes_on, live_behind, start_quiet, send_quiet, take_quiet, tick_quiet, frame_quiet}
 
 module _ (told : ReleasesAreTold) (receives : stations.ReceivesGive) (steps_only : StepsOnly) (steps_each : StepsEach) (causes : CauseReleases) where
   pub last_tpdus : LastTpdus

@@ -1,12 +1,12 @@
 -- What a station sends where a payload is handed to it and goes at once, where it is closed, and where it finishes.
-use Rattle.std.proofs.Common.{◌≡◌, ◌⊎◌, inl, inr, ◌∙◌, ◌≤◌, ◌<◌, ℕ, zero, suc, ◌+◌, ◌-◌, Bool, true, false, not, ◌&&◌, ◌||◌, List, [], ◌∷◌, ◌++◌, length, slice_index_or, refl, sym, ap, subst, append_assoc, append-nil, length-append, arith, true≢false, lt-ltb, ltb-true, eq-eqb, eqb-true}
+use Rattle.std.proofs.Common.{◌≡◌, inl, inr, ◌∙◌, ◌≤◌, ℕ, ◌+◌, ◌-◌, Bool, true, false, not, ◌&&◌, ◌||◌, List, [], ◌∷◌, ◌++◌, length, slice_index_or, refl, sym, ap, append-nil, length-append, arith, true≢false, lt-ltb, ltb-true, eq-eqb, eqb-true}
 use Rattle.std.specs.Prelude.{◌==◌, nat_lt, if◌then◌else◌, None}
-use Rattle.std.proofs.lemmas.Bool.{cond_both, cases_Bool, and_parts, and_from, or_cases, or_left, or_right}
+use Rattle.std.proofs.lemmas.Bool.{cond_both, and_parts, and_from, or_cases, or_left, or_right}
 use Rattle.hdlc_station_model.specs.declared.phase.Phase.{Phase}
 use Rattle.hdlc_station_model.specs.declared.phase.Phase.TheVariants.{Idle, Setting, Up, Down}
-use Rattle.hdlc_station_model.specs.Frames.{Frame, Info, Rr, Disc}
+use Rattle.hdlc_station_model.specs.Frames.{Frame, Info, Rr}
 use Rattle.hdlc_station_model.specs.Stations.{Station, is_up, is_down, sees, puts}
-use Rattle.hdlc_station_model.specs.Sending.{can_send, waiting, sends_next, sends_up_to, sends_waiting, settles}
+use Rattle.hdlc_station_model.specs.Sending.{can_send, waiting, sends_next, sends_up_to, sends_waiting}
 use Rattle.hdlc_station_model.specs.Calls.{hands, finishes, closes, closes_at, may_send}
 use Rattle.er_end_laws.specs.LastTpdus.{SendsAtOnce, disc_at, owed_answer}
 

@@ -1,7 +1,6 @@
 -- Known answers, worked out by hand: what an end gave and its station said, one a cause. A called end whose link is up took an I frame, and hears of the
 -- next one, N(S) 1, with a block; so what it sends itself is its I frame 0.
-use Rattle.std.specs.Prelude.{◌≡◌, ℕ, false, true, List, [], ◌∷◌, ◌++◌, replicate, None, Some, refl}
-use Rattle.er_base.specs.Octets.{eight}
+use Rattle.std.specs.Prelude.{◌≡◌, ℕ, false, true, List, [], ◌∷◌, replicate, None, Some, refl}
 use Rattle.er_base.specs.declared.release.Release.{Release}
 use Rattle.er_base.specs.declared.cause.Cause.TheVariants.{LineEnded}
 use Rattle.er_base.specs.Causes.{by_this_end, by_peer_di}
@@ -15,7 +14,7 @@ use Rattle.x224_tpdu.specs.Parameters.{parameters_in}
 use Rattle.x224_class2.specs.Tpdus.{GivenTpdu, Dr, Dc}
 use Rattle.x224_class2.specs.Segments.{Segment}
 use Rattle.x224_class2.specs.declared.stage.Stage.TheVariants.{Open}
-use Rattle.er_end_model.specs.Steps.{Finds, hand_waiting_tpdus, step_frame, step_release, step_tick, step_break}
+use Rattle.er_end_model.specs.Steps.{Finds, step_frame, step_release, step_tick, step_break}
 use Rattle.er_end_model.specs.Layers.{Core, model}
 use Rattle.er_end_model.specs.Ends.{Answer, opened}
 
