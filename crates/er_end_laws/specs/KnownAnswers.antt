@@ -85,7 +85,8 @@ by_line = (refl, refl, refl)
 
 -- ---- 2: a DR without a DI gets a DC; a TPDU that is refused, a message that is too long and a faulty block a DR without user data, then DISC
 
-by_bare_dr : IsLast (hears_tpdu connected (0x06 ∷ 0x80 ∷ 0 ∷ 1 ∷ 0 ∷ 1 ∷ 0x80 ∷ [])) (by_this_end 2 1) (Dc ∷ []) (sent_in 2 (0x05 ∷ 0xc0 ∷ 0 ∷ 1 ∷ 0 ∷ 1 ∷ []) ∷ [])
+by_bare_dr : IsLast (hears_tpdu connected (0x06 ∷ 0x80 ∷ 0 ∷ 1 ∷ 0 ∷ 1 ∷ 0x80 ∷ [])) (by_this_end 2 1) (Dc ∷ [])
+    (sent_in 2 (0x05 ∷ 0xc0 ∷ 0 ∷ 1 ∷ 0 ∷ 1 ∷ []) ∷ [])
 unfolding control_of reading parameters_in
 by_bare_dr = (refl, refl, refl)
 
@@ -95,7 +96,8 @@ unfolding control_of reading parameters_in
 by_bare_dr_without_room = (refl, refl, refl)
 
 -- a DC, which may not come
-by_tpdu : IsLast (hears_tpdu connected (0x05 ∷ 0xc0 ∷ 0 ∷ 1 ∷ 0 ∷ 1 ∷ [])) (by_this_end 2 2) (Dr 133 [] ∷ []) (sent_in 2 (0x06 ∷ 0x80 ∷ 0 ∷ 1 ∷ 0 ∷ 1 ∷ 0x85 ∷ []) ∷ Disc ∷ [])
+by_tpdu : IsLast (hears_tpdu connected (0x05 ∷ 0xc0 ∷ 0 ∷ 1 ∷ 0 ∷ 1 ∷ [])) (by_this_end 2 2) (Dr 133 [] ∷ [])
+    (sent_in 2 (0x06 ∷ 0x80 ∷ 0 ∷ 1 ∷ 0 ∷ 1 ∷ 0x85 ∷ []) ∷ Disc ∷ [])
 unfolding control_of reading parameters_in
 by_tpdu = (refl, refl, refl)
 
@@ -118,7 +120,8 @@ by_safety = (refl, refl, refl)
 
 -- ---- the peer's DI: in a DR it gets a DC, in a DT DISC
 
-by_peers_dr : IsLast (hears_tpdu connected (0x06 ∷ 0x80 ∷ 0 ∷ 1 ∷ 0 ∷ 1 ∷ 0x80 ∷ 0x10 ∷ 4 ∷ 1 ∷ [])) (by_peer_di 4 1) (Dc ∷ []) (sent_in 2 (0x05 ∷ 0xc0 ∷ 0 ∷ 1 ∷ 0 ∷ 1 ∷ []) ∷ [])
+by_peers_dr : IsLast (hears_tpdu connected (0x06 ∷ 0x80 ∷ 0 ∷ 1 ∷ 0 ∷ 1 ∷ 0x80 ∷ 0x10 ∷ 4 ∷ 1 ∷ [])) (by_peer_di 4 1) (Dc ∷ [])
+    (sent_in 2 (0x05 ∷ 0xc0 ∷ 0 ∷ 1 ∷ 0 ∷ 1 ∷ []) ∷ [])
 unfolding control_of reading parameters_in
 by_peers_dr = (refl, refl, refl)
 

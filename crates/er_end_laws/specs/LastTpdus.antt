@@ -57,8 +57,8 @@ pub data FrameEnds (finds : Finds) (now : ℕ) (x : Core) (verdict : Verdict) (w
   -- the peer's DI: in a DR, and in another TPDU
   ByPeersDr : (reason sub : ℕ) (user : List ℕ) → IsDr user finds now x verdict → di_in user (peer_flag x.safe.safety) ≡ Some (reason, sub)
       → why ≡ by_peer_di reason sub → last ≡ Confirms → FrameEnds finds now x verdict why last
-  ByPeersDi : (reason sub : ℕ) (text : List ℕ) → IsTextOf x now verdict text → IsOpen x.safe.safety.phase → IsReceived x.safe.safety (Received text) (Di reason sub)
-      → why ≡ by_peer_di reason sub → last ≡ Disconnects → FrameEnds finds now x verdict why last
+  ByPeersDi : (reason sub : ℕ) (text : List ℕ) → IsTextOf x now verdict text → IsOpen x.safe.safety.phase
+      → IsReceived x.safe.safety (Received text) (Di reason sub) → why ≡ by_peer_di reason sub → last ≡ Disconnects → FrameEnds finds now x verdict why last
 
 -- at a tick
 pub data TimeEnds (now : ℕ) (x : Core) (why : Release) (last : Farewell) : Type 0 where
@@ -164,7 +164,8 @@ pub record EndsAreLive : Type 0 where
 pub record LastTpdus : Type 0 where
   pub frame : (finds : Finds) (now : ℕ) (verdict : Verdict) (x : Core) (why : Release) (last : Farewell) → IsLive x → FrameEnds finds now x verdict why last
       → EndsWith why last (station_behind x now verdict) x (step_frame model finds now verdict x)
-  pub tick : (now : ℕ) (x : Core) (why : Release) (last : Farewell) → IsLive x → TimeEnds now x why last → EndsWith why last (station_at x now) x (step_tick model now x)
+  pub tick : (now : ℕ) (x : Core) (why : Release) (last : Farewell) → IsLive x → TimeEnds now x why last
+      → EndsWith why last (station_at x now) x (step_tick model now x)
   pub release : (now sub : ℕ) (x : Core) → IsLive x
       → EndsWith (release_of (cause.User sub)) (Leaves 128 (own_di (release_of (cause.User sub)) x)) (settled x.line) x (step_release model now sub x)
   pub breaks : (of : Cause) (x : Core) → IsLive x → EndsWith (release_of of) Nothing (settled x.line) x (step_break model of x)
