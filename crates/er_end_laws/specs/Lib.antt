@@ -1,0 +1,2 @@
+pub mod LastTpdus
+pub mod KnownAnswers
