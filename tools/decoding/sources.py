@@ -22,8 +22,8 @@ OTHER = {"e": "r", "r": "e"}
 
 DRILL, TRACE, TAP = "drill", "trace", "tap"
 LAST_MOMENT = 10 ** 15
-# How captures of the format pcapng begin.
-CAPTURE = "\n\r\r\n"
+# How captures of the formats pcapng and pcap begin.
+CAPTURES = ("\n\r\r\n", "\xd4\xc3\xb2\xa1", "\xa1\xb2\xc3\xd4", "\x4d\x3c\xb2\xa1", "\xa1\xb2\x3c\x4d")
 SETTINGS = ["window", "credit", "size", "t1", "n2", "setup"]
 
 # The arguments of each line: d a decimal, s a side, x octets in hexadecimal, h the same of 8 octets; a word stands for itself.
@@ -138,7 +138,7 @@ def read(data):
     if isinstance(data, bytes):
         data = data.decode("latin-1")
     reader, reading = None, Reading()
-    if data.startswith(CAPTURE):
+    if data.startswith(CAPTURES):
         reading.bad.append(BadLine(1, "a capture; a text is wanted, and tools/tap makes a tap of it"))
         return reading
     for number, line in enumerate(data.split("\n"), 1):
