@@ -1,5 +1,5 @@
-"""Captures of TCP connections, made packet by packet for the tests: packets.py TAP PORT [SIZE] prints one of the links of a tap, a segment of at most SIZE octets
-of each piece. The headers are those of RFC 791, 8200 and 9293; checksums are left 0, as hosts leave them to their cards."""
+"""Captures of TCP connections, made packet by packet for the tests: packets.py TAP PORT [SIZE] prints one of the links of a tap, segments of at most
+SIZE octets of each piece. The headers are those of RFC 791, 8200 and 9293; checksums are left 0, as hosts leave them to their cards."""
 import os
 import struct
 import sys

@@ -87,7 +87,7 @@ class Link:
     """One link of a drill or tap, or one connection of a trace, with all that happened on it in order.
 
     `role` is the side of a connection's own end; `engine` and `rbc` are ETCS numbers where they are told; `moment` is that of a tap's link. A
-    connection that is `away` was turned away: it got no end, and has no other line.
+    connection that is `away` was turned away: it got no end, and has no other line. A link that is `wired` is that of a real line, of level full.
     """
 
     kind: str
@@ -99,6 +99,7 @@ class Link:
     moment: Optional[int] = None
     up: bool = False
     away: bool = False
+    wired: bool = False
 
     @property
     def name(self):
@@ -116,7 +117,7 @@ class Link:
     def level(self):
         """'safe' where octets are SaPDUs, 'link' where the stations' payloads are the user's own, else 'full'."""
         first = next((item.octets for item in self.items if item.kind == OCTETS), b"")
-        if self.kind == "link" and first and first[0] != framing.FLAG and first[0] & 0xFE in (0x42, 0x24, 0x06, 0x12, 0x0A, 0x10):
+        if self.kind == "link" and not self.wired and first and first[0] != framing.FLAG and first[0] & 0xFE in (0x42, 0x24, 0x06, 0x12, 0x0A, 0x10):
             return "safe"
         return "link" if self.up else "full"
 
@@ -157,6 +158,8 @@ def read(data):
             reading.bad.append(BadLine(number, str(why)))
     if reader is not None:
         reader.end()
+    elif not reading.bad:
+        reading.bad.append(BadLine(1, "no line"))
     return reading
 
 

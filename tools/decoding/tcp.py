@@ -195,6 +195,7 @@ def _link(connection, number, told):
         lost.append(BadPacket(connection.number, f"the first of {name}, whose SYN isn't in the capture: what was sent before it is missing"))
     told += lost
     link = sources.Link("link", number, list(heapq.merge(*lists, key=operator.attrgetter("line"))))
+    link.wired = True
     link.engine, link.rbc = identities.of_texts(link)
     link.moment = identities.moment_of_au1(link)
     return link
