@@ -190,9 +190,9 @@ unseen=$(awk -F '\t' -v names="${fields[*]}" '{ for (n = 1; n <= NF; n++) if ($n
   END { count = split(names, name, " "); for (n = 1; n <= count; n++) if (!(n in seen)) print name[n] }' "$work/seen")
 judge "fields that are never seen" "${#fields[@]}: $unseen" "52: "
 
-# The lines of TCP connections from or to port 20000, a frame each, the sender left out; words follow.
+# The lines of TCP connections, a frame each, without the sender and the marks of TCP before it; words follow.
 wired() {
-  look "$@" -Y euroradio -o 'gui.column.format:"Line","%i"' | sed 's/^ *[A-Za-z]*: //; s/ | /\n/g' | sed 's/ *$//'
+  look "$@" -Y euroradio -o 'gui.column.format:"Line","%i"' | sed -E 's/^ *(\[TCP [^]]*\] *)*[A-Za-z]*: //; s/ \| /\n/g' | sed 's/ *$//'
 }
 
 # Joins octets of a side that follow one another in a tap; flags between frames are shared.
@@ -219,6 +219,9 @@ for name in whole-session lossy-session; do
     judge "$name over TCP, joined, in segments of $size octets" "$(wired "$name.cut" -o euroradio.tcp_ports:20000)" "$frames"
   done
 done
+python3 tests/packets.py "$work/whole-session.joined" 20000 7 exchanged > "$work/exchanged"
+judge "TCP in another order" "$(wired exchanged -o euroradio.tcp_ports:20000 -o tcp.reassemble_out_of_order:TRUE)" \
+  "$(sed -E 's/^link [0-9]+ (engine|RBC) //' "$texts/whole-session.lines")"
 judge "TCP, where no port is named" "$(look whole-session.wired -Y euroradio)" ""
 
 # What is no frame of a stream.

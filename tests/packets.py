@@ -1,5 +1,5 @@
-"""Captures of TCP connections, made packet by packet for the tests: packets.py TAP PORT [SIZE] prints one of the links of a tap, segments of at most
-SIZE octets of each piece. The headers are those of RFC 791, 8200 and 9293; checksums are left 0, as hosts leave them to their cards."""
+"""Captures of TCP connections, made packet by packet for the tests: packets.py TAP PORT [SIZE [exchanged]] prints one of the links of a tap, segments of at
+most SIZE octets of each piece, and with the fourth word pairs of a side's segments exchanged. The headers are those of RFC 791, 8200 and 9293; checksums are left 0, as hosts leave them to their cards."""
 import os
 import struct
 import sys
@@ -135,6 +135,22 @@ def shifted(sents, side, count):
             replace(sent, acknowledged=None if sent.acknowledged is None else (sent.acknowledged + count) % 2 ** 32) for sent in sents]
 
 
-if __name__ == "__main__":
+def exchanged(sents):
+    """The same segments, where each two neighbours with octets of one side are exchanged."""
+    made, at = list(sents), 0
+    while at + 1 < len(made):
+        first, second = made[at], made[at + 1]
+        if first.octets and second.octets and (first.ports, first.side) == (second.ports, second.side):
+            made[at], made[at + 1], at = second, first, at + 1
+        at += 1
+    return made
+
+
+def main():
     with open(sys.argv[1], "rb") as file:
-        sys.stdout.buffer.write(pcapng(whole(talks_of(file.read(), int(sys.argv[2]), *map(int, sys.argv[3:4])))))
+        sents = talks_of(file.read(), int(sys.argv[2]), *map(int, sys.argv[3:4]))
+    sys.stdout.buffer.write(pcapng(whole(exchanged(sents) if sys.argv[4:] else sents)))
+
+
+if __name__ == "__main__":
+    main()

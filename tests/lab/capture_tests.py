@@ -134,7 +134,7 @@ def bad_input(judge):
     capture, said, status = captured(b"\0\1\2\n\xff")
     judge.same("no text", (said, status, capture.interfaces), (
         ["line 1: no line of a drill's text, a trace or a tap: \\x00\\x01\\x02; nothing behind it is read"], 1, []))
-    judge.same("nothing", captured("")[1:], ([], 0))
+    judge.same("nothing", captured("")[1:], (["line 1: no line"], 1))
 
 
 def same_octets(judge, name, text):
