@@ -90,7 +90,7 @@ class Made:
         draw = random.Random(1)
         alike = [("plain", self.sents), ("each segment twice", [sent for sent in self.sents for _ in range(2)]),
                  ("overlaps", overlapped(draw, self.sents)), ("another order", reordered(draw, self.sents)),
-                 ("a probe of the octet before", [it for sent in self.sents for it in probed(sent)])]
+                 ("probes", probed(self.sents))]
         for name, sents in alike:
             self.same(name, packets.pcapng(packets.whole(sents)))
             for side in "er":
@@ -105,6 +105,15 @@ class Made:
         self.same("the same ports again", packets.pcapng(packets.whole(packets.shifted(one_pair[:half], "e", 500) + one_pair[half:])))
         other_ports = [replace(sent, ports=(sent.ports[0] + 9, PORT + 1)) for sent in self.sents]
         self.same("connections of another port between", packets.pcapng(packets.whole([it for pair in zip(self.sents, other_ports) for it in pair])))
+
+    def first_part_of_au1_late(self):
+        """AU1 came with the packet that has its first part, where that comes behind the second."""
+        pieces = [(side, part) for side, octets in packets.pieces_of(sources.read(self.tap).links[0]) for part in (octets[:9], octets[9:]) if part]
+        sents = Talk((40000, PORT), {"e": 1, "r": 1}).open().say(pieces).sent
+        at = next(number for number, sent in enumerate(sents) if len(sent.octets) == 9 and sents[number + 1].side == sent.side == "e")
+        late = sents[:at] + [sents[at + 1], replace(sents[at], moment=sents[at + 1].moment + 1)] + sents[at + 2:]
+        found = [tapped(packets.pcapng(packets.whole(it)))[0][0][0][3] for it in (sents, late)]
+        self.judge.same("the moment of AU1 in two parts", found, [sents[at + 1].moment, sents[at + 1].moment + 1])
 
     def first(self):
         """The segments of the first connection, and what each side sent."""
@@ -187,10 +196,16 @@ def frames_of(capture):
     return [(interface.name, packet.direction, packet.octets) for interface, packet in captures.in_order(captures.read(capture)[0])]
 
 
-def probed(sent):
-    """A segment, and before it a probe, which has the octet before it with another value, where that one was sent by this side."""
-    probe = replace(sent, sequence=(sent.sequence - 1) % 2 ** 32, octets=b"")
-    return [probe, sent] if sent.octets else [sent]
+def probed(sents):
+    """Segments, and before each with octets a probe that has the octet before it, as hosts send to see whether the other one is there; before the first
+    octet of a side the probe's octet is none of the stream."""
+    made, last = [], {}
+    for sent in sents:
+        if sent.octets:
+            made.append(replace(sent, sequence=(sent.sequence - 1) % 2 ** 32, octets=last.get((sent.ports, sent.side), b"\0")))
+            last[sent.ports, sent.side] = sent.octets[-1:]
+        made.append(sent)
+    return made
 
 
 def overlapped(draw, sents):
@@ -385,7 +400,7 @@ def main():
     os.chdir(TOP)
     judge = Judge()
     made = Made(judge)
-    for part in (made.formats, made.lines, made.missing, made.cut, made.others, made.frames):
+    for part in (made.formats, made.lines, made.first_part_of_au1_late, made.missing, made.cut, made.others, made.frames):
         part()
     fuzzed(judge, 200)
     with tempfile.TemporaryDirectory() as work:
