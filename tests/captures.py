@@ -176,6 +176,8 @@ class Made:
         capture = packets.pcapng(packets.whole(many))
         found, told, _ = tapped(capture, "--engine", "5", "--rbc", "9")
         judge.same("links above 64", (len(found[0]), told), (64, [f"link {number} is left out: a tap has links 1 to 64" for number in (65, 66)]))
+        found = tapped(packets.pcapng(packets.whole(self.sents)), "--engine", "6", "1")[0]
+        judge.same("an engine that is named", [link[:3] for link in found[0]], [(1, 6, 9)])
         judge.same("one of them alone", tapped(capture, "--engine", "5", "--rbc", "9", "66")[0], (
             [(1, 5, 9, packets.BEGIN + 3)], {(1, "e"): b"\x41", (1, "r"): b""}))
 

@@ -196,7 +196,6 @@ def _link(connection, number, told):
     told += lost
     link = sources.Link("link", number, list(heapq.merge(*lists, key=operator.attrgetter("line"))))
     link.wired = True
-    link.engine, link.rbc = identities.of_texts(link)
     link.moment = identities.moment_of_au1(link)
     return link
 
