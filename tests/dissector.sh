@@ -1,7 +1,8 @@
 #!/usr/bin/env bash
 # tools/euroradio.lua in tshark, on captures that tools/pcap makes: of examples, of a drill at modulo 128, and of faults of every layer. The lines
 # of the list, marks and some whole frames are compared with the texts in tests/dissector/; every frame must be read, every field seen, and no
-# octet may lead to an error of the script. The reasons of the faults are also held against what the ends of a drill of the same frames do. Takes
+# octet may lead to an error of the script. The reasons of the faults are also held against what the ends of a drill of the same frames do. Then the
+# same frames as octets of TCP connections, cut and joined, must have the same lines. Takes
 # the built program as it is, or the one that PROGRAM names. Installs tshark where it is missing and the system's packages can be had, and skips
 # all where they can't. Closes with 'N passed, M failed'.
 set -u
@@ -189,12 +190,75 @@ unseen=$(awk -F '\t' -v names="${fields[*]}" '{ for (n = 1; n <= NF; n++) if ($n
   END { count = split(names, name, " "); for (n = 1; n <= count; n++) if (!(n in seen)) print name[n] }' "$work/seen")
 judge "fields that are never seen" "${#fields[@]}: $unseen" "52: "
 
+# The lines of TCP connections, a frame each, without the sender and the marks of TCP before it; words follow.
+wired() {
+  look "$@" -Y euroradio -o 'gui.column.format:"Line","%i"' | sed -E 's/^ *(\[TCP [^]]*\] *)*[A-Za-z]*: //; s/ \| /\n/g' | sed 's/ *$//'
+}
+
+# Joins octets of a side that follow one another in a tap; flags between frames are shared.
+joined() {
+  awk '$1 != "octets" { print; next }
+    $2 " " $3 == key { octets = octets substr($4, octets ~ /7e$/ ? 3 : 1); next }
+    key { print "octets", key, octets }
+    { key = $2 " " $3; octets = $4 }
+    END { print "octets", key, octets }'
+}
+
+# A frame of a segment, frames cut into segments of seven octets, and frames that share flags, several of a segment or cut.
+for name in whole-session lossy-session; do
+  frames=$(sed -E 's/^link [0-9]+ (engine|RBC) //' "$texts/$name.lines")
+  tools/tap --engine 5 --rbc 9 < "$work/$name.printed" > "$work/$name.tap"
+  joined < "$work/$name.tap" > "$work/$name.joined"
+  python3 tests/packets.py "$work/$name.tap" 20000 > "$work/$name.wired"
+  judge "$name over TCP" "$(wired "$name.wired" -o euroradio.tcp_ports:20000)" "$frames"
+  judge "$name over TCP, of two passes, by decode as" "$(wired "$name.wired" -2 -d tcp.port==20000,euroradio_tcp)" "$frames"
+  judge "$name over TCP, senders" "$(look "$name.wired" -o euroradio.tcp_ports:19999-20001 -Y euroradio -T fields -e euroradio.sender)" \
+    "$(sed -E 's/^link [0-9]+ (engine|RBC) .*/\1/' "$texts/$name.lines")"
+  for size in 7 1400; do
+    python3 tests/packets.py "$work/$name.joined" 20000 $size > "$work/$name.cut"
+    judge "$name over TCP, joined, in segments of $size octets" "$(wired "$name.cut" -o euroradio.tcp_ports:20000)" "$frames"
+  done
+done
+python3 tests/packets.py "$work/whole-session.joined" 20000 7 exchanged > "$work/exchanged"
+judge "TCP in another order" "$(wired exchanged -o euroradio.tcp_ports:20000 -o tcp.reassemble_out_of_order:TRUE)" \
+  "$(sed -E 's/^link [0-9]+ (engine|RBC) //' "$texts/whole-session.lines")"
+judge "TCP, where no port is named" "$(look whole-session.wired -Y euroradio)" ""
+
+# What is no frame of a stream.
+cat > "$work/odd.tap" << 'TAP'
+tap 1
+link 1 5 9 0
+octets 1 e 00017e013febdf7e
+octets 1 r 7e7e017383577e0173
+octets 1 r 83587e017e
+octets 1 e 01007d7e0121157e7d
+TAP
+python3 tests/packets.py "$work/odd.tap" 20000 > "$work/odd"
+judge "octets that are no frames" "$(wired odd -o euroradio.tcp_ports:20000)" "no frame (before the first flag)
+SABM P
+UA F
+no frame (bad check sequence)
+no frame (too short)
+no frame (aborted)
+no frame (too short)"
+{
+  printf 'tap 1\nlink 1 5 9 0\noctets 1 e 7e'
+  printf '00%.0s' $(seq 3000)
+  printf '7e013febdf7e\n'
+} > "$work/long.tap"
+python3 tests/packets.py "$work/long.tap" 20000 > "$work/long"
+judge "a frame that is too long" "$(wired long -o euroradio.tcp_ports:20000 | sort | uniq -c | sed 's/^ *//')" "1 SABM P
+1 no frame (bad check sequence)
+1 no frame (too long)"
+
 # Octets that are none of the standards' lead to no error.
 python3 "$texts/faults.py" mutants > "$work/mutants.tap"
 tools/pcap < "$work/mutants.tap" > "$work/mutants" 2> /dev/null
+python3 tests/packets.py "$work/mutants.tap" 20000 33 > "$work/mutants.wired"
 for preference in modulo_128:FALSE modulo_128:TRUE link_only:TRUE; do
   judge "altered frames, $preference" "$(look mutants -o "euroradio.$preference" -V | grep 'Lua Error')" ""
   judge "altered frames, $preference, malformed" "$(look mutants -o "euroradio.$preference" -Y _ws.malformed)" ""
+  judge "altered frames over TCP, $preference" "$(look mutants.wired -o "euroradio.$preference" -o euroradio.tcp_ports:20000 -V | grep 'Lua Error')" ""
 done
 
 echo "$passed passed, $failed failed"

@@ -56,6 +56,13 @@ class Words(argparse.ArgumentParser):
         return call
 
 
+def port(word):
+    """The port that a word names; for argparse."""
+    if not (word.isascii() and word.isdigit() and len(word) <= 5 and 1 <= int(word) <= 65535):
+        raise argparse.ArgumentTypeError(f"no port, 1 to 65535: {printable(word[:40])}")
+    return int(word)
+
+
 def lines_of(name):
     """The lines of a file, or of the standard input where its name is `-` or None, one by one, as octets. Raises Fault."""
     is_input = name in (None, "-")

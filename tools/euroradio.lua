@@ -10,7 +10,11 @@ control and information, and records of link type 148 (USER1), each one SaPDU of
 blocks are joined to TPDUs over frames, and segments to messages over TPDUs. What the profile calls a fault bears an expert mark with the reason
 with which an end would release; what an end would ignore, and an I frame that comes again, bears a note.
 
-Each interface of a capture is a link. Which end sent a frame is told by the direction in the packet's flags, and where there is none by the
+It takes TCP too, of the ports that the preference `tcp_ports` names, or by "decode as" (`-d tcp.port==20000,euroradio_tcp`): each TCP stream is a
+link, whose frames are cut from the octets between flags, escapes undone, and whose check sequences are tried. A packet's line has all frames that
+end in it. Octets before the first flag of a direction, and frames that aren't intact, are shown and not followed.
+
+Each interface of a capture of frames is a link. Which end sent a frame is told by the direction in the packet's flags, and where there is none by the
 address: a command bears the receiver's, a response the sender's. I, SABM, SABME and DISC are commands; UA, DM and FRMR are responses, and so
 are the S frames that ends of this profile send. A link is followed from its set-up frame on; where a capture begins later it is read as if the
 link were up, and what isn't known isn't tested.
@@ -19,7 +23,7 @@ Followed is what the capture has. A frame that was lost on its way is in a captu
 got all that was sent before, and no more. No MAC is verified here, and no key is asked for: that is for the audit of recordings, which has the
 keys. So the reasons 3.1 to 3.5 and 4.1 are never marked.
 
-Preferences: `modulo_128`, where the link was set up by SABME, and `link_only`, where I frames carry octets of the users themselves. To have
+Preferences: `tcp_ports`; `modulo_128`, where the link was set up by SABME, and `link_only`, where I frames carry octets of the users themselves. To have
 Wireshark load it always, put this file and euroradio_link.lua, which it reads, side by side in the folder of personal Lua plugins.
 ]]
 
@@ -34,10 +38,13 @@ local CALLED, CALLING, counted = reader.CALLED, reader.CALLING, reader.counted
 
 local euroradio = Proto("euroradio", DESCRIPTION)
 local texts = Proto("euroradio_sapdu", "EuroRadio's SaPDUs alone (SUBSET-037)")
+local wires = Proto("euroradio_tcp", "EuroRadio over TCP")
 
 euroradio.prefs.modulo_128 = Pref.bool("Modulo 128", false, "Numbers of I and S frames are modulo 128, and SABME sets a link up")
 euroradio.prefs.link_only = Pref.bool("The link alone", false,
   "I frames carry octets of the users themselves, without network blocks, TPDUs and SaPDUs")
+
+euroradio.prefs.tcp_ports = Pref.range("TCP ports", "", "TCP connections from or to these ports carry frames", 65535)
 
 -- ---- words for values
 
@@ -389,10 +396,9 @@ local function show_mark(item, found, mark)
   end
 end
 
--- which end sent the packet, and what the other one would do
-local function show_ends(root, pinfo, found)
+-- which end sent the frame, and what the other one would do
+local function show_ends(root, found)
   if found.sender then
-    pinfo.cols.src, pinfo.cols.dst = found.sender, found.receiver
     generated(root:add(FIELDS.sender, found.sender))
     generated(root:add(FIELDS.receiver, found.receiver))
   end
@@ -403,8 +409,8 @@ local function show_ends(root, pinfo, found)
   end
 end
 
--- the packet's line, and the marks on its layers
-local function show_found(layers, root, pinfo, found, lines)
+-- the marks on the layers of a frame; answers its line
+local function show_found(layers, root, found, lines)
   if found.words then
     lines[1] = ("%s (%s)"):format(lines[1], found.words)
   end
@@ -413,13 +419,21 @@ local function show_found(layers, root, pinfo, found, lines)
   for _, mark in ipairs(found.marks or {}) do
     show_mark(layers[mark.layer] or root, found, mark)
   end
+  return line
+end
+
+-- the columns of a packet that is a frame
+local function show_columns(pinfo, found, line)
+  if found.sender then
+    pinfo.cols.src, pinfo.cols.dst = found.sender, found.receiver
+  end
   pinfo.cols.protocol, pinfo.cols.info = "EuroRadio", line
 end
 
 -- ---------------------------------------------------------------------------------------------------------------------------------------
--- Packets. What is found of one is kept by its number, so that it shows the same whenever it is dissected again.
+-- Packets. What is found of a frame is kept by its packet's number, and its place in that, so that it shows the same whenever it is dissected again.
 
-local interface_of, flags_of = Field.new("frame.interface_id"), Field.new("frame.packet_flags")
+local interface_of, flags_of, stream_of = Field.new("frame.interface_id"), Field.new("frame.packet_flags"), Field.new("tcp.stream")
 local links, findings = {}, {}
 
 function euroradio.init()
@@ -431,16 +445,26 @@ local function value_of(extractor)
   return info and info.value
 end
 
--- What is found of a packet where it is dissected first, and from then on the same. In the first of tshark's two passes (-2) the interface isn't
+-- where a packet stands that is a frame: its link, as far as it is told, its key, and its direction, 0 or 1, where it is known
+local function place_of_packet(pinfo)
+  local direction = (pinfo.p2p_dir == 0 or pinfo.p2p_dir == 1) and pinfo.p2p_dir or nil
+  return {number = pinfo.number, link = value_of(interface_of), key = pinfo.number, direction = direction}
+end
+
+local function link_of(place)
+  local name = place.link or "unknown"
+  links[name] = links[name] or reader.new_link()
+  return links[name]
+end
+
+-- What is found of a frame where it is dissected first, and from then on the same. In the first of tshark's two passes (-2) the link isn't
 -- told: the second pass then follows the links anew, in the same order.
-local function found_of(pinfo, look)
-  local interface, found = value_of(interface_of), findings[pinfo.number]
-  if not found or interface and found.interface ~= interface then
-    local name = interface or "unknown"
-    links[name] = links[name] or reader.new_link()
-    found = look(links[name], (pinfo.p2p_dir == 0 or pinfo.p2p_dir == 1) and pinfo.p2p_dir or nil)
-    found.interface = interface
-    findings[pinfo.number] = found
+local function found_of(place, look)
+  local found = findings[place.key]
+  if not found or place.link and found.link ~= place.link then
+    found = look(link_of(place), place.direction)
+    found.link = place.link
+    findings[place.key] = found
   end
   return found
 end
@@ -452,51 +476,150 @@ local function wrong_with(tvb)
     or errors >= 128 and "aborted" or tvb:len() < 2 and "too short" or tvb:len() > reader.LONGEST_FRAME and "too long"
 end
 
-local function show_no_frame(tvb, pinfo, root, wrong)
+-- Octets that are no frame. Answers what is found of them, and their line.
+local function show_no_frame(tvb, root, place, wrong)
   local layers = {}
-  local found = found_of(pinfo, function(link, direction)
-    return reader.not_followed(link, pinfo.number, direction, wrong)
+  local found = found_of(place, function(link, direction)
+    return reader.not_followed(link, place.number, direction, wrong)
   end)
-  show_ends(root, pinfo, found)
+  show_ends(root, found)
   add_unread(layers, root, "frame", tvb, "No frame (ISO/IEC 13239): " .. wrong)
-  show_found(layers, root, pinfo, found, {"no frame"})
+  return found, show_found(layers, root, found, {"no frame"})
 end
 
-function euroradio.dissector(tvb, pinfo, root)
-  local layers, lines, tree, wrong = {}, {}, root:add(euroradio, tvb()), wrong_with(tvb)
-  if wrong then
-    show_no_frame(tvb, pinfo, tree, wrong)
-    return
-  end
+-- A frame without its check sequence. Answers the same.
+local function show_whole_frame(tvb, root, place)
+  local layers, lines = {}, {}
   local settings = {modulo = euroradio.prefs.modulo_128 and 128 or 8, has_layers = not euroradio.prefs.link_only}
   local frame = reader.read_frame(tvb:raw(), settings.modulo == 128)
-  local found = found_of(pinfo, function(link, direction)
-    return reader.follow(link, frame, pinfo.number, direction, settings)
+  local found = found_of(place, function(link, direction)
+    return reader.follow(link, frame, place.number, direction, settings)
   end)
-  show_ends(tree, pinfo, found)
-  lines[1] = show_frame(layers, tree, tvb, frame, found)
+  show_ends(root, found)
+  lines[1] = show_frame(layers, root, tvb, frame, found)
   if found.first then
     generated(layers.frame:add(FIELDS.first, found.first))
   end
   if frame.kind == "I" and settings.has_layers and (found.first or not found.is_untaken) then
-    show_information(layers, tree, tvb, frame, found, lines)
+    show_information(layers, root, tvb, frame, found, lines)
   elseif frame.information and #frame.information > 0 then
     add_counted(layers.frame, FIELDS.information, tvb(frame.place))
     lines[#lines + 1] = counted(#frame.information)
   end
-  show_found(layers, tree, pinfo, found, lines)
+  return found, show_found(layers, root, found, lines)
+end
+
+function euroradio.dissector(tvb, pinfo, root)
+  local tree, wrong, place = root:add(euroradio, tvb()), wrong_with(tvb), place_of_packet(pinfo)
+  if wrong then
+    show_columns(pinfo, show_no_frame(tvb, tree, place, wrong))
+  else
+    show_columns(pinfo, show_whole_frame(tvb, tree, place))
+  end
 end
 
 function texts.dissector(tvb, pinfo, root)
-  local layers, tree = {}, root:add(euroradio, tvb())
+  local layers, tree, place = {}, root:add(euroradio, tvb()), place_of_packet(pinfo)
   local octets = tvb:len() > 0 and tvb:raw() or ""
-  local found = found_of(pinfo, function(link, direction)
-    return reader.follow_text(link, octets, pinfo.number, direction)
+  local found = found_of(place, function(link, direction)
+    return reader.follow_text(link, octets, place.number, direction)
   end)
-  show_ends(tree, pinfo, found)
-  show_found(layers, tree, pinfo, found, {show_sapdu(layers, tree, tvb, octets)})
+  show_ends(tree, found)
+  show_columns(pinfo, found, show_found(layers, tree, found, {show_sapdu(layers, tree, tvb, octets)}))
 end
 
-local encapsulations = DissectorTable.get("wtap_encap")
+-- ---------------------------------------------------------------------------------------------------------------------------------------
+-- TCP. Each call has the octets of a direction that were not taken before, as far as they came.
+
+-- Octets without a flag for which no more are waited: a frame of them would be too long, even if all were escaped.
+local MOST_OPEN = 2 * (reader.LONGEST_FRAME + 2)
+
+-- where the octets from here on stand in their stream; the directions of a stream differ by their ports, or else by their addresses
+local function place_in_stream(pinfo, tvb, at)
+  local stream = value_of(stream_of)
+  local from, to = pinfo.src_port, pinfo.dst_port
+  if from == to then
+    from, to = tostring(pinfo.src), tostring(pinfo.dst)
+  end
+  return {number = pinfo.number, link = stream and "stream " .. stream, key = ("%d %d %d"):format(pinfo.number, tvb:offset(), at),
+    direction = from < to and 0 or 1}
+end
+
+-- What stands between two flags, from `first` to before `last`; `has_flag` says that a flag stands before it in these octets. Answers its line.
+local function show_piece(tvb, pinfo, root, piece)
+  local place = place_in_stream(pinfo, tvb, piece.first)
+  local range = tvb(piece.first, piece.last - piece.first)
+  local content, wrong = reader.unframed(range:raw())
+  local found, line
+  local is_dropped = not piece.has_flag and not (findings[place.key] or link_of(place).has_flag and link_of(place).has_flag[place.direction])
+  local tree = root:add(euroradio, range)
+  wrong = (is_dropped or findings[place.key] and findings[place.key].is_dropped) and "before the first flag" or piece.wrong or wrong
+  if wrong then
+    found, line = show_no_frame(range:tvb(), tree, place, wrong)
+    found.is_dropped = is_dropped or found.is_dropped
+  else
+    found, line = show_whole_frame(joined(content, "Frame, escapes undone"), tree, place)
+  end
+  return found, line
+end
+
+-- a flag was seen in this direction
+local function has_flag(place)
+  local link = link_of(place)
+  link.has_flag = link.has_flag or {}
+  link.has_flag[place.direction] = true
+end
+
+-- Cuts these octets at their flags. Answers the pieces, and the place behind the last one.
+local function pieces_of(octets)
+  local pieces, at = {}, 0
+  while true do
+    local first = octets:find("[^\126]", at + 1)
+    local last = first and octets:find("\126", first, true)
+    if not first then
+      return pieces, #octets
+    elseif not last and #octets - at <= MOST_OPEN then
+      return pieces, at
+    end
+    pieces[#pieces + 1] = {first = first - 1, last = last and last - 1 or #octets, has_flag = first > at + 1 or #pieces > 0,
+      wrong = not last and "too long" or nil}
+    at = last or #octets
+  end
+end
+
+function wires.dissector(tvb, pinfo, root)
+  local octets, lines, sender = tvb:raw(), {}, nil
+  local pieces, rest = pieces_of(octets)
+  for _, piece in ipairs(pieces) do
+    local found, line = show_piece(tvb, pinfo, root, piece)
+    sender, lines[#lines + 1] = sender or found.sender, line
+    has_flag(place_in_stream(pinfo, tvb, 0))
+  end
+  if rest < #octets and pinfo.can_desegment > 0 then
+    pinfo.desegment_offset, pinfo.desegment_len = rest, DESEGMENT_ONE_MORE_SEGMENT
+  elseif octets:find("\126", 1, true) then
+    has_flag(place_in_stream(pinfo, tvb, 0))
+  end
+  if #lines > 0 then
+    pinfo.cols.protocol = "EuroRadio"
+    pinfo.cols.info = (sender and sender .. ": " or "") .. table.concat(lines, " | ") .. " "
+    pinfo.cols.info:fence()
+  end
+end
+
+local encapsulations, tcp_ports = DissectorTable.get("wtap_encap"), DissectorTable.get("tcp.port")
 encapsulations:add(wtap.USER0, euroradio)
 encapsulations:add(wtap.USER1, texts)
+tcp_ports:add_for_decode_as(wires)
+
+local added = ""
+function euroradio.prefs_changed()
+  local wanted = euroradio.prefs.tcp_ports
+  if added ~= "" and added ~= wanted then
+    tcp_ports:remove(added, wires)
+  end
+  if wanted ~= "" and added ~= wanted then
+    tcp_ports:add(wanted, wires)
+  end
+  added = wanted
+end

@@ -681,10 +681,64 @@ local function not_followed(link, number, direction, why)
   return found
 end
 
+-- ---------------------------------------------------------------------------------------------------------------------------------------
+-- Frames of an octet stream: what stood between two flags. The Lua of some Wiresharks has no library for bits, so XOR is a table of half octets.
+
+local XOR = {}
+for first = 0, 15 do
+  XOR[first] = {}
+  for second = 0, 15 do
+    local sum = 0
+    for place = 0, 3 do
+      sum = sum + (bits(first, place, 1) ~= bits(second, place, 1) and 2 ^ place or 0)
+    end
+    XOR[first][second] = math.floor(sum)
+  end
+end
+
+local function xor(first, second)
+  return XOR[bits(first, 4, 4)][bits(second, 4, 4)] * 16 + XOR[first % 16][second % 16]
+end
+
+-- the check sequence's register behind an octet, its low and its high octet
+local function shifted(low, high, octet)
+  low = xor(low, octet)
+  for _ = 1, 8 do
+    local is_odd = low % 2 == 1
+    low, high = math.floor(low / 2) + high % 2 * 128, math.floor(high / 2)
+    if is_odd then
+      low, high = xor(low, 0x08), xor(high, 0x84)
+    end
+  end
+  return low, high
+end
+
+-- whether the last two octets are the check sequence of those before: then the register ends at F0B8
+local function is_checked(octets)
+  local low, high = 0xFF, 0xFF
+  for place = 1, #octets do
+    low, high = shifted(low, high, octets:byte(place))
+  end
+  return low == 0xB8 and high == 0xF0
+end
+
+-- a frame of an octet stream, without flags: its octets with escapes undone, without the check sequence where it is right, and what is wrong with it
+local function unframed(octets)
+  local is_aborted = false
+  local content = octets:gsub("\125(.?)", function(octet)
+    is_aborted = is_aborted or octet == ""
+    return octet == "" and "" or string.char(xor(octet:byte(), 0x20))
+  end)
+  local wrong = is_aborted and "aborted" or #content > LONGEST_FRAME + 2 and "too long" or #content < 4 and "too short"
+    or not is_checked(content) and "bad check sequence" or nil
+  return wrong and content or content:sub(1, -3), wrong
+end
+
 return {
   CALLED = CALLED, CALLING = CALLING, SIZE_PARAMETER = SIZE_PARAMETER, IS_COMMAND = IS_COMMAND,
   TPDU_CODES = TPDU_CODES, TPDU_NAMES = TPDU_NAMES, TPDU_SIZES = TPDU_SIZES, SAPDU_KINDS = SAPDU_KINDS, SAPDU_NAMES = SAPDU_NAMES,
   LONGEST_FRAME = LONGEST_FRAME, bits = bits, counted = counted, cause_of = cause_of,
   read_frame = read_frame, read_block = read_block, read_tpdu = read_tpdu, read_sapdu = read_sapdu,
   new_link = new_link, follow = follow, follow_text = follow_text, not_followed = not_followed,
+  unframed = unframed,
 }

@@ -7,6 +7,7 @@ import struct
 import subprocess
 import sys
 import tempfile
+import zlib
 
 from decoding import framing, sources
 from drills import Drill, printed_by
@@ -43,6 +44,8 @@ class Capture:
             raise ValueError("octets that fill up aren't zero")
         found = options(body[end:])
         flags = struct.unpack("<I", found.pop(2))[0]
+        if found.pop(3) != struct.pack(">BI", 2, zlib.crc32(body[20:20 + kept])):
+            raise ValueError("a packet with another CRC-32")
         self.packets.append((interface, high << 32 | low, body[20:20 + kept], length, flags, found.pop(1, b"").decode()))
         if found or interface >= len(self.interfaces):
             raise ValueError("a packet with other options, or of no interface")
@@ -111,7 +114,7 @@ def recordings(judge):
         (1, moment + 2, b"\x01\x73", 2, 2, ""), (0, 10 ** 15, b"\x01\x73", 2, 1, "")], [], 0))
     capture, _, _ = captured(f"tap 1\nlink 1 5 9 1000\nlink 2 6 9 77\noctets 1 e {SABM}{SABM}\noctets 2 r {UA}\n")
     judge.same("a tap", (capture.interfaces, [(packet[0], packet[1], packet[4]) for packet in capture.packets]),
-               ([(147, "link 1", "engine 5, RBC 9"), (147, "link 2", "engine 6, RBC 9")], [(0, 1000, 2), (0, 1001, 2), (1, 79, 1)]))
+               ([(147, "link 1", "engine 5, RBC 9, moment 1000"), (147, "link 2", "engine 6, RBC 9, moment 77")], [(0, 1000, 2), (0, 1001, 2), (1, 79, 1)]))
     capture, _, _ = captured("1 e frame 42000005010102030405060708\n1 r frame 100307\n")
     judge.same("level safe", (capture.interfaces, [packet[2].hex() for packet in capture.packets]),
                ([(148, "link 1", "")], ["42000005010102030405060708", "100307"]))
@@ -131,7 +134,7 @@ def bad_input(judge):
     capture, said, status = captured(b"\0\1\2\n\xff")
     judge.same("no text", (said, status, capture.interfaces), (
         ["line 1: no line of a drill's text, a trace or a tap: \\x00\\x01\\x02; nothing behind it is read"], 1, []))
-    judge.same("nothing", captured("")[1:], ([], 0))
+    judge.same("nothing", captured("")[1:], (["line 1: no line"], 1))
 
 
 def same_octets(judge, name, text):

@@ -70,6 +70,8 @@ def texts(judge, tool, options):
     first = [line for line in lines if line.startswith("line 1: ")]
     judge.same(f"{tool}: a text that is none", (run.returncode, len(first), len(lines) - len(first) <= (tool == "tap"), all(map(str.isprintable, lines))),
                (1, 1, True, True))
+    status, _, told = run_of(tool, *options)
+    judge.same(f"{tool}: no text at all", (status, told.split("\n")[0]), (1, "line 1: no line"))
 
 
 def run(judge):

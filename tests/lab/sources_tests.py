@@ -95,7 +95,7 @@ def bad_lines(judge):
     judge.same("connections that were turned away", ([(link.name, link.away, len(link.items)) for link in away.links], [str(bad) for bad in away.bad]), (
         [("connection 3", True, 1), ("connection 4", True, 1)],
         ["line 3: connection 3 was turned away", "line 4: connection 3 was turned away", "line 6: connection 4 was turned away"]))
-    judge.same("nothing at all", (sources.read(b"").kind, sources.read(b"").bad), (None, []))
+    judge.same("nothing at all", (sources.read(b"").kind, [str(bad) for bad in sources.read(b"").bad]), (None, ["line 1: no line"]))
 
 
 def seen_of(talk, lines):

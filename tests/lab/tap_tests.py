@@ -62,7 +62,14 @@ def faulty_captures(judge):
     judge.same("a capture that is cut", run_of("tap", capture[:-9])[1:], (
         [f"a block that isn't whole, at octet {capture.rindex(bytes([6, 0, 0, 0]), 0, -20)}; what is behind it is left out"], 1))
     judge.same("an older one", run_of("tap", b"\xd4\xc3\xb2\xa1" + bytes(20)), (
-        b"tap 1\n", ["a capture of an older format; one of pcapng is wanted", "no link or connection"], 1))
+        b"tap 1\n", ["interface 1 has no frames of a link; --tcp PORT takes those of TCP", "no link or connection"], 1))
+    # A frame whose octets were altered in the capture, and one that was cut, aren't made whole again.
+    place = capture.index(bytes.fromhex("0100010009ef"))
+    altered = [capture[:at] + bytes([capture[at] ^ 1 << bit]) + capture[at + 1:] for at in (place, place + 9) for bit in range(8)]
+    judge.same("a packet that is altered", [run_of("tap", data)[1:] for data in altered], [
+        (["packet 5: altered, its octets aren't those of its CRC-32; it is left out"], 1)] * len(altered))
+    cut = capture[:place - 4] + (999).to_bytes(4, "little") + capture[place:]
+    judge.same("a packet that is cut", run_of("tap", cut)[1:], (["packet 5: cut, 27 of its 999 octets are there; it is left out"], 1))
     section = capture[:int.from_bytes(capture[4:8], "little")]
     twice = run_of("tap", capture + capture[len(section):])[2], run_of("tap", capture + capture, "1")[2]
     judge.same("a section behind another", twice, (0, 0))

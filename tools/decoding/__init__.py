@@ -11,7 +11,11 @@ It is written from the standards' tables, apart from the proved program, so that
 | safety | SaPDUs: UNISIG SUBSET-037, the safety layer |
 | conversation | all of these over the frames of a link, both directions |
 | sources | texts: what a drill prints, a trace or recording, a tap |
-| captures | reads and writes captures in the format pcapng |
+| bits | what `euroradio bits` prints of each direction of a synchronous line |
+| captures | reads captures in the formats pcapng and pcap, and writes those in pcapng |
+| datalinks | what stands below TCP in a captured packet: link types, VLAN tags, IPv4 and IPv6 |
+| tcp | TCP connections of a capture, put together: RFC 9293 |
+| identities | ETCS numbers and the moment of a link, by its AU1 and AU2 |
 
 Python's standard library is all that it needs.
 """

@@ -22,8 +22,8 @@ OTHER = {"e": "r", "r": "e"}
 
 DRILL, TRACE, TAP = "drill", "trace", "tap"
 LAST_MOMENT = 10 ** 15
-# How captures of the format pcapng begin.
-CAPTURE = "\n\r\r\n"
+# How captures of the formats pcapng and pcap begin.
+CAPTURES = ("\n\r\r\n", "\xd4\xc3\xb2\xa1", "\xa1\xb2\xc3\xd4", "\x4d\x3c\xb2\xa1", "\xa1\xb2\x3c\x4d")
 SETTINGS = ["window", "credit", "size", "t1", "n2", "setup"]
 
 # The arguments of each line: d a decimal, s a side, x octets in hexadecimal, h the same of 8 octets; a word stands for itself.
@@ -87,7 +87,7 @@ class Link:
     """One link of a drill or tap, or one connection of a trace, with all that happened on it in order.
 
     `role` is the side of a connection's own end; `engine` and `rbc` are ETCS numbers where they are told; `moment` is that of a tap's link. A
-    connection that is `away` was turned away: it got no end, and has no other line.
+    connection that is `away` was turned away: it got no end, and has no other line. A link that is `wired` is that of a real line, of level full.
     """
 
     kind: str
@@ -99,6 +99,7 @@ class Link:
     moment: Optional[int] = None
     up: bool = False
     away: bool = False
+    wired: bool = False
 
     @property
     def name(self):
@@ -116,7 +117,7 @@ class Link:
     def level(self):
         """'safe' where octets are SaPDUs, 'link' where the stations' payloads are the user's own, else 'full'."""
         first = next((item.octets for item in self.items if item.kind == OCTETS), b"")
-        if self.kind == "link" and first and first[0] != framing.FLAG and first[0] & 0xFE in (0x42, 0x24, 0x06, 0x12, 0x0A, 0x10):
+        if self.kind == "link" and not self.wired and first and first[0] != framing.FLAG and first[0] & 0xFE in (0x42, 0x24, 0x06, 0x12, 0x0A, 0x10):
             return "safe"
         return "link" if self.up else "full"
 
@@ -138,7 +139,7 @@ def read(data):
     if isinstance(data, bytes):
         data = data.decode("latin-1")
     reader, reading = None, Reading()
-    if data.startswith(CAPTURE):
+    if data.startswith(CAPTURES):
         reading.bad.append(BadLine(1, "a capture; a text is wanted, and tools/tap makes a tap of it"))
         return reading
     for number, line in enumerate(data.split("\n"), 1):
@@ -157,6 +158,8 @@ def read(data):
             reading.bad.append(BadLine(number, str(why)))
     if reader is not None:
         reader.end()
+    elif not reading.bad:
+        reading.bad.append(BadLine(1, "no line"))
     return reading
 
 
