@@ -6,5 +6,8 @@ pub mod Judging
 pub mod Living
 pub mod Finding
 pub mod Agreeing
+pub mod Alone
 pub mod Pairs
 pub mod Tapped
+pub mod Deciding
+pub mod Genuine
