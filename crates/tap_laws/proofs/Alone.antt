@@ -1,6 +1,6 @@
 -- An audit knows the session keys under which an end accepted messages, where it has the end's KMAC and a stream of its own side that tells its
 -- random number.
-use Rattle.std.proofs.Common.{◌≡◌, ◌∙◌, ℕ, false, List, [], Option, Some, Ok, sym, ap, ap₂}
+use Rattle.std.proofs.Common.{◌≡◌, ◌∙◌, ℕ, false, List, [], Option, Some, Ok, refl, sym, ap, ap₂}
 use Rattle.er_base.specs.declared.side.Side.{Side}
 use Rattle.er_base.specs.declared.side.Side.TheVariants.{E, R}
 use Rattle.des_block.specs.declared.triple_key.TripleKey.{TripleKey}
@@ -14,8 +14,9 @@ use Rattle.tap_model.specs.Hearing.{heard, items}
 use Rattle.tap_model.specs.Given.{received, octets_of_moments, sender_to, settings_of_opening, IsCallerStartedFirst, HasHeardStreamTexts, GivenIsHeard}
 use Rattle.tap_model.specs.Verdicts.{Read, Known, known_of, rb_in, ra_in, random_number_in_item, first_number, session_with, receiver_of}
 use Rattle.tap_laws.specs.Progress.{etcs_number_of_end, FirstAu1, FirstAu2, AllLookUp, SidesProgress, LiveSides}
-use Rattle.tap_laws.specs.OneEnd.{known_beside, FindsOwn, AcceptedIsGood}
+use Rattle.tap_laws.specs.OneEnd.{known_beside, Tells, FindsOwn, AcceptedIsGood}
 use Rattle.tap_laws.specs.OwnRecordings.{octets_sent, OwnRecordingIsGood}
+use Rattle.tap_laws.proofs.KeysTell.{same_keys}
 use Rattle.tap_laws.proofs.Finding.{Agreed, finds_end}
 use Rattle.tap_laws.proofs.Agreeing.{HasHead, front_head, items_front, head_number, all_head, given_head}
 
@@ -28,32 +29,34 @@ item_head wrapped side stream given z x h head =
 module _ (wrapped : WrappedIsJoined) (finds : Finds) (engine rbc : ℕ) (kmac : TripleKey) (came own : List ℕ) (given : List (List ℕ)) (z : End) where
   -- of an end that calls its peer told Ra, in the AU2 that it was given first
   pub agreed_calling : (settings : Settings) (me peer : ℕ) (key : TripleKey) (rb now : ℕ) → kmac ≡ key → HasHeardStreamTexts R came given z
-      → ((z.core.upper.accepted ≡ [] → ⊥) → first_number rb_in (items (heard E own)) ≡ Some rb)
+      → ((z.core.upper.accepted ≡ [] → ⊥) → Tells (first_number rb_in (items (heard E own))) rb)
       → Agreed (known_of engine rbc (Some kmac) (items (heard E own)) (items (heard R came))) finds (Call settings me peer key rb now) given z.core.upper.accepted
   agreed_calling settings me peer key rb now same h tells c front is got some =
       let au2 : FirstAu2 peer key rb c got.first = got.is_first in
       let head : HasHead got.first given = all_head finds (Call settings me peer key rb now) c front given z.core.upper.accepted got is in
+      let w : Tells (first_number rb_in (items (heard E own))) rb = tells some in
       let a : first_number ra_in (items (heard R came)) ≡ Some c.ra =
       head_number ra_in got.first (items (heard R came)) (item_head wrapped R came given z got.first h head) ∙ ap (λ (r : Read). random_number_in_item ra_in r) au2.read in (
-        record { ra = c.ra; rb = rb; keys = session_of kmac c.ra rb },
-        ap₂ (λ (x y : Option ℕ). session_with (Some kmac) x y) a (tells some),
-        ap₂ (λ (k : TripleKey) (n : ℕ). session_of k c.ra n) same (sym au2.own) ∙ sym au2.keys,
+        record { ra = c.ra; rb = w.told; keys = session_of kmac c.ra w.told },
+        ap₂ (λ (x y : Option ℕ). session_with (Some kmac) x y) a w.is,
+        same_keys kmac c.ra w.told c.ra rb refl w.same ∙ ap₂ (λ (k : TripleKey) (n : ℕ). session_of k c.ra n) same (sym au2.own) ∙ sym au2.keys,
       )
 
   -- of one that answers it told Rb, in the AU1
   pub agreed_answering : (settings : Settings) (me ra now : ℕ)
       → ((at id rb : ℕ) (first : List ℕ) (found : TripleKey) → HasHead first given → read_of first ≡ Ok (Au1 id 1 rb, false) → finds at id me ≡ Some found → found ≡ kmac)
-      → HasHeardStreamTexts E came given z → ((z.core.upper.accepted ≡ [] → ⊥) → first_number ra_in (items (heard R own)) ≡ Some ra)
+      → HasHeardStreamTexts E came given z → ((z.core.upper.accepted ≡ [] → ⊥) → Tells (first_number ra_in (items (heard R own))) ra)
       → Agreed (known_of engine rbc (Some kmac) (items (heard E came)) (items (heard R own))) finds (Answer settings me ra now) given z.core.upper.accepted
   agreed_answering settings me ra now same h tells c front is got some =
       let au1 : FirstAu1 finds me ra c got.first = got.is_first in
       let head : HasHead got.first given = all_head finds (Answer settings me ra now) c front given z.core.upper.accepted got is in
+      let w : Tells (first_number ra_in (items (heard R own))) ra = tells some in
       let b : first_number rb_in (items (heard E came)) ≡ Some c.rb =
       head_number rb_in got.first (items (heard E came)) (item_head wrapped E came given z got.first h head) ∙ ap (λ (r : Read). random_number_in_item rb_in r) au1.read in
       let k : au1.kmac ≡ kmac = same au1.found.0 c.peer c.rb got.first au1.kmac head au1.read au1.found.1 in (
-        record { ra = ra; rb = c.rb; keys = session_of kmac ra c.rb },
-        ap₂ (λ (x y : Option ℕ). session_with (Some kmac) x y) (tells some) b,
-        ap₂ (λ (x : TripleKey) (n : ℕ). session_of x n c.rb) (sym k) (sym au1.own) ∙ sym au1.keys,
+        record { ra = w.told; rb = c.rb; keys = session_of kmac w.told c.rb },
+        ap₂ (λ (x y : Option ℕ). session_with (Some kmac) x y) w.is b,
+        same_keys kmac w.told c.rb ra c.rb w.same refl ∙ ap₂ (λ (x : TripleKey) (n : ℕ). session_of x n c.rb) (sym k) (sym au1.own) ∙ sym au1.keys,
       )
 
 -- ---- over its events

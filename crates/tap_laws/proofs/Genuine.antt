@@ -124,7 +124,7 @@ all_of : (P : MarkedFact → Type 0) (xs : List MarkedFact) → ((before after :
 all_of P [] h = tt
 all_of P (x ∷ xs) h = (h [] xs x refl, all_of P xs (λ before after y e. h (x ∷ before) after y (ap (λ (zs : List MarkedFact). x ∷ zs) e)))
 
-all_at : (P : MarkedFact → Type 0) (xs : List MarkedFact) (k : ℕ) (x : MarkedFact) → k < length xs → slice_index_or xs k x ≡ x → AllByRecursion P xs → P x
+pub all_at : (P : MarkedFact → Type 0) (xs : List MarkedFact) (k : ℕ) (x : MarkedFact) → k < length xs → slice_index_or xs k x ≡ x → AllByRecursion P xs → P x
 all_at P [] k x inside is all = absurd (omega arith)
 all_at P (y ∷ xs) zero x inside is all = subst P is all.0
 all_at P (y ∷ xs) (suc k) x inside is all = all_at P xs k x (omega arith) is all.1

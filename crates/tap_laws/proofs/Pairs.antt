@@ -20,6 +20,7 @@ use Rattle.tap_model.specs.Given.{received, octets_of_moments, HasHeardStreamTex
 use Rattle.tap_model.specs.Verdicts.{Read, rb_in, ra_in, random_number_in_item, first_number}
 use Rattle.tap_laws.specs.Progress.{Progresses, SidesProgress, LiveSides}
 use Rattle.tap_laws.specs.Runs.{calling_of, called_of, started_at, AreRuns, EndsAreRuns}
+use Rattle.tap_laws.specs.OneEnd.{Tells}
 use Rattle.tap_laws.specs.Pairs.{known_to, FindsAccepted, PairsAudited}
 use Rattle.tap_laws.proofs.Finding.{Agreed, finds_end}
 use Rattle.tap_laws.proofs.Agreeing.{HasHead, prefix_front, head_number, got_all, all_head, call_is, answer_is}
@@ -59,14 +60,14 @@ own_kmac s agree now id kmac same found =
     let z : Some kmac ≡ Some s.kmac = sym found ∙ ap (λ (n : ℕ). s.finder now n s.rbc) same ∙ agree now in cc
 
 -- what is known of an end by itself: the texts that it was given
-record Known_end (s : EndLinkOpening) (o : end.Opening) (side : Side) (z : End) : Type 0 where
-  given : List (List ℕ)
-  hears : HasHeardStreamTexts side z.stream given z
-  progress : Progresses s.finder o given z.core
-  is_live : z.core.released ≡ None → IsOpen z.core.safe.safety.phase
+pub record Known_end (s : EndLinkOpening) (o : end.Opening) (side : Side) (z : End) : Type 0 where
+  pub given : List (List ℕ)
+  pub hears : HasHeardStreamTexts side z.stream given z
+  pub progress : Progresses s.finder o given z.core
+  pub is_live : z.core.released ≡ None → IsOpen z.core.safe.safety.phase
 
 module _ (low : Lower) (s : EndLinkOpening) (basic : s.settings.modulo ≡ 8) where
-  known_r : (e r : End) → AreRuns s e r → Known_end s (called_of s) E r
+  pub known_r : (e r : End) → AreRuns s e r → Known_end s (called_of s) E r
   known_r e r a =
       let m : End = end_run a.events_r (opened (called_of s)) in
       let g : List (List ℕ) = received a.events_r (opened (called_of s)) in
@@ -79,7 +80,7 @@ module _ (low : Lower) (s : EndLinkOpening) (basic : s.settings.modulo ≡ 8) wh
         is_live = low.live (called_of s) a.events_r;
       })
 
-  known_e : (e r : End) → AreRuns s e r → Known_end s (calling_of s) R e
+  pub known_e : (e r : End) → AreRuns s e r → Known_end s (calling_of s) R e
   known_e e r a =
       let events : List Moment = started_at s ∷ a.events_e in
       let m : End = end_run events (opened (calling_of s)) in
@@ -107,23 +108,31 @@ module _ (low : Lower) (s : EndLinkOpening) (basic : s.settings.modulo ≡ 8) wh
     kr = known_r e r (low.runs s steps)
 
     -- where an end accepted messages the other sent some, so it was given its first text: the greeting of that end
-    e_tells : (r.core.upper.accepted ≡ [] → ⊥) → first_number ra_in (items (heard R e.stream)) ≡ Some s.ra
+    e_tells : (r.core.upper.accepted ≡ [] → ⊥) → Tells (first_number ra_in (items (heard R e.stream))) s.ra
     e_tells some =
         let spoke : e.core.upper.sent ≡ [] → ⊥ = λ none. some (none_before r.core.upper.accepted e.core.upper.sent (low.prefix s steps fit kept).0 none) in
         let g = got_all s.finder (calling_of s) e.core.safe.safety.phase ke.given e.core.upper.accepted e.core.upper.sent ke.progress.stage spoke in
         let first : HasHead g.3.first ke.given = all_head s.finder (calling_of s) g.0 g.1 ke.given e.core.upper.accepted g.3 g.2 in
         let answer = answer_is low.wrapped s e.stream ke.given e g.3.first ke.hears (low.greets s steps fit agree kept).1 first in
-        head_number ra_in g.3.first (items (heard R e.stream)) (item_head low.wrapped R e.stream ke.given e g.3.first ke.hears first)
-        ∙ ap (λ (z : Read). random_number_in_item ra_in z) answer.1
+        record {
+          told = s.ra;
+          is = head_number ra_in g.3.first (items (heard R e.stream)) (item_head low.wrapped R e.stream ke.given e g.3.first ke.hears first)
+              ∙ ap (λ (z : Read). random_number_in_item ra_in z) answer.1;
+          same = refl;
+        }
 
-    r_tells : (e.core.upper.accepted ≡ [] → ⊥) → first_number rb_in (items (heard E r.stream)) ≡ Some s.rb
+    r_tells : (e.core.upper.accepted ≡ [] → ⊥) → Tells (first_number rb_in (items (heard E r.stream))) s.rb
     r_tells some =
         let spoke : r.core.upper.sent ≡ [] → ⊥ = λ none. some (none_before e.core.upper.accepted r.core.upper.sent (low.prefix s steps fit kept).1 none) in
         let g = got_all s.finder (called_of s) r.core.safe.safety.phase kr.given r.core.upper.accepted r.core.upper.sent kr.progress.stage spoke in
         let first : HasHead g.3.first kr.given = all_head s.finder (called_of s) g.0 g.1 kr.given r.core.upper.accepted g.3 g.2 in
         let call = call_is low.wrapped s r.stream kr.given r g.3.first kr.hears (low.greets s steps fit agree kept).0 first in
-        head_number rb_in g.3.first (items (heard E r.stream)) (item_head low.wrapped E r.stream kr.given r g.3.first kr.hears first)
-        ∙ ap (λ (z : Read). random_number_in_item rb_in z) call
+        record {
+          told = s.rb;
+          is = head_number rb_in g.3.first (items (heard E r.stream)) (item_head low.wrapped E r.stream kr.given r g.3.first kr.hears first)
+              ∙ ap (λ (z : Read). random_number_in_item rb_in z) call;
+          same = refl;
+        }
 
     -- the KMAC that is found for whom an AU1 named is the engine's, since the AU1 is
     found_is : (at id rb : ℕ) (x : List ℕ) (kmac : TripleKey) → HasHead x kr.given → read_of x ≡ Ok (Au1 id 1 rb, false) → s.finder at id s.rbc ≡ Some kmac → kmac ≡ s.kmac

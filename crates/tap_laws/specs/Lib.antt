@@ -4,5 +4,6 @@ pub mod OneEnd
 pub mod OwnRecordings
 pub mod Pairs
 pub mod Worlds
+pub mod AnyLine
 pub mod Macs
 pub mod Genuine

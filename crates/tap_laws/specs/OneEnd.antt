@@ -1,8 +1,9 @@
 -- An audit of the octets that came to one end, beside any stream of that end's own side: what it finds good of what the end accepted (UNISIG
 -- SUBSET-037; this profile).
 use Rattle.hdlc_station_model.specs.Lines.{IsPrefix}
-use Rattle.std.specs.Prelude.{ℕ, ◌≡◌, List, [], ◌∷◌, Some, None, Ok, false}
+use Rattle.std.specs.Prelude.{ℕ, ◌≡◌, List, [], ◌∷◌, Option, Some, None, Ok, false}
 use Rattle.er_base.specs.declared.side.Side.TheVariants.{E, R}
+use Rattle.bit_lists.specs.Bits.{bits}
 use Rattle.des_block.specs.declared.triple_key.TripleKey.{TripleKey}
 use Rattle.sapdu.specs.Spelling.{Au1, read_of}
 use Rattle.er_end_model.specs.Steps.{Finds}
@@ -37,10 +38,16 @@ IsKeyOf finds (Answer settings me ra now) came engine rbc kmac = IsAnswerers fin
 
 -- ---- its own side
 
+-- a number was told, in its 64 bits
+pub record Tells (found : Option ℕ) (number : ℕ) : Type 0 where
+  pub told : ℕ
+  pub is : found ≡ Some told
+  pub same : bits 64 told ≡ bits 64 number
+
 -- the first item that is heard of a stream of an end's own side tells the random number of its opening
 abbrev pub TellsOwn : Opening → (own : List ℕ) → Type 0
-TellsOwn (Call settings me peer key rb now) own = first_number rb_in (items (heard E own)) ≡ Some rb
-TellsOwn (Answer settings me ra now) own = first_number ra_in (items (heard R own)) ≡ Some ra
+TellsOwn (Call settings me peer key rb now) own = Tells (first_number rb_in (items (heard E own))) rb
+TellsOwn (Answer settings me ra now) own = Tells (first_number ra_in (items (heard R own))) ra
 
 -- ---- what is found
 

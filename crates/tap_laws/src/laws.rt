@@ -7,6 +7,7 @@ ghost use Rattle.tap_laws.specs.OneEnd.{AcceptedIsGood};
 ghost use Rattle.tap_laws.specs.OwnRecordings.{OwnRecordingIsGood};
 ghost use Rattle.tap_laws.specs.Pairs.{PairsAudited};
 ghost use Rattle.tap_laws.specs.Worlds.{AuditFindsAccepted};
+ghost use Rattle.tap_laws.specs.AnyLine.{AuditFindsTold, AuditFindsUnforged};
 ghost use Rattle.tap_laws.specs.Macs.{MacsDecide};
 ghost use Rattle.tap_laws.specs.Genuine.{GoodIsSent, GoodIsSentBefore};
 
@@ -66,6 +67,44 @@ pub fn audit_finds_accepted()
 {
     drill_laws::laws::stacks_run();
     pairs_audited();
+}
+
+/// Every list of steps of a world, each link of level full at modulo 8, whatever its line does, and every such tap of it: at an end beside which the tap
+/// tells the own random number, if the end accepted a message, what it accepted is a prefix of the texts of its peer's good DTs in the audit, and equal
+/// to it while that end isn't released.
+pub fn audit_finds_told()
+    ensures { AuditFindsTold }
+{
+    t70_header::laws::wrapping();
+    er_end_pair_laws::laws::prefix();
+    er_end_pair_laws::laws::greets();
+    er_end_model::laws::octets_are_heard();
+    tap_hearing::laws::given_is_heard();
+    sides_progress();
+    ends_are_runs();
+    drill_laws::laws::stacks_run();
+}
+
+/// So too at an end that, if it accepted a message, told a connection which isn't marked as forged: whatever its messages are marked, and the
+/// connection of the other end.
+pub fn audit_finds_unforged()
+    ensures { AuditFindsUnforged }
+{
+    t70_header::laws::wrapping();
+    er_end_pair_laws::laws::prefix();
+    er_end_pair_laws::laws::greets();
+    er_end_model::laws::octets_are_heard();
+    tap_hearing::laws::given_is_heard();
+    des_block::laws::decipher_undoes_encipher();
+    des_block::laws::encipher_undoes_decipher();
+    des_block::laws::gives_blocks();
+    safety_automaton::laws::session_keys();
+    sides_progress();
+    ends_are_runs();
+    drill_laws::laws::stacks_run();
+    drill_laws::laws::stacks_talk();
+    drill_laws::laws::lawful();
+    audit_finds_told();
 }
 
 /// With a session an AU2, AU3, AR or DT in its place is good exactly where its MAC is that of the text that its sender sealed, all 64 bits of it, and
