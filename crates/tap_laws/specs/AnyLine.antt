@@ -44,18 +44,20 @@ HasUnforgedConnection side history = Any (λ f. (f.side ≡ side) × (f.forged �
 -- ---- what is found
 
 -- what the end of this side accepted is a prefix of the texts of the other side's good DTs, and all of them while it isn't released
-pub record FindsAtSide (keys : List KmacEntry) (lines : List TapLine) (m : ℕ) (o : TapOpening) (l : Link) (history : List Occurrence) (side : Side) : Type 0 where
+pub record FindsAtSide (keys : List KmacEntry) (lines : List TapLine) (m : ℕ) (o : TapOpening) (l : Link) (history : List Occurrence)
+    (side : Side) : Type 0 where
   pub prefix : IsPrefix (accepted_by side history) (good_texts (judged_at (key_at keys) m o lines (other side)))
   pub all : IsUnreleased (end_of l side) → accepted_by side history ≡ good_texts (judged_at (key_at keys) m o lines (other side))
 
 -- for every list of steps whose numbers fit, of each link, and for every tap and key file of it: at each end of which, if it accepted a message, the
--- tap tells the own number. Whoever has the tap can see whether it does
+-- tap tells the own number. Whoever has the tap can see whether it does. It refuses an audit that looks KMACs up at moment 0 and not at the tap's
 abbrev pub AuditFindsTold : Type 0
 AuditFindsTold =
     (plan : DrillPlan) (steps : List Step) → AllFit steps → AllAllowed plan.settings → plan.settings.modulo ≡ 8
     → (n : ℕ) (l : Link) → link_at (world_run plan steps).0 n ≡ Some l
     → (keys : List KmacEntry) (lines : List TapLine) (m : ℕ) → (t : IsTapped keys lines m l (history_on n (world_run plan steps).1))
-    → (side : Side) → ((accepted_by side (history_on n (world_run plan steps).1) ≡ [] → ⊥) → TellsAtSide side t.ra t.rb (history_on n (world_run plan steps).1))
+    → (side : Side)
+    → ((accepted_by side (history_on n (world_run plan steps).1) ≡ [] → ⊥) → TellsAtSide side t.ra t.rb (history_on n (world_run plan steps).1))
     → FindsAtSide keys lines m (opened_as keys lines m l (history_on n (world_run plan steps).1) t) l (history_on n (world_run plan steps).1) side
 
 -- and at each end that, if it accepted a message, told a connection which isn't marked as forged, whatever its messages or the other end are marked
@@ -64,5 +66,6 @@ AuditFindsUnforged =
     (plan : DrillPlan) (steps : List Step) → AllFit steps → AllAllowed plan.settings → plan.settings.modulo ≡ 8
     → (n : ℕ) (l : Link) → link_at (world_run plan steps).0 n ≡ Some l
     → (keys : List KmacEntry) (lines : List TapLine) (m : ℕ) → (t : IsTapped keys lines m l (history_on n (world_run plan steps).1))
-    → (side : Side) → ((accepted_by side (history_on n (world_run plan steps).1) ≡ [] → ⊥) → HasUnforgedConnection side (history_on n (world_run plan steps).1))
+    → (side : Side)
+    → ((accepted_by side (history_on n (world_run plan steps).1) ≡ [] → ⊥) → HasUnforgedConnection side (history_on n (world_run plan steps).1))
     → FindsAtSide keys lines m (opened_as keys lines m l (history_on n (world_run plan steps).1) t) l (history_on n (world_run plan steps).1) side

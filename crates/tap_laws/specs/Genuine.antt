@@ -39,7 +39,9 @@ abbrev pub facts_at_link : ℕ → DrillPlan → List Step → List MarkedFact
 facts_at_link n plan steps = marked (facts_in (history_on n (world_run plan steps).1))
 
 -- for every list of steps, of each link of level full, whatever its line did, and of each item of whatever tap, with whatever keys: it was sent in the
--- steps that are done. So a message that is heard of a tap of some steps was sent in those: before it was passed
+-- steps that are done. So a message that is heard of a tap of some steps was sent in those: before it was passed. It says that the side sent such a
+-- message, not how often: a DT has no number of its own under its MAC, so a line can repeat it. It refuses an audit that compares seven of a MAC's eight
+-- octets
 abbrev pub GoodIsSentBefore : Type 0
 GoodIsSentBefore =
     (plan : DrillPlan) (steps : List Step) (n : ℕ) (l : Link) → link_at (world_run plan steps).0 n ≡ Some l

@@ -19,7 +19,8 @@ pub record MacDecides (engine rbc : ℕ) (s : SafetySession) (side : Side) (plac
   pub good : (mac : ℕ) → mac ≡ mac_of s.keys text → audit_verdict_on_item (known_with engine rbc s) side place (Ok (pdu mac, flag_from side)) ≡ Good
   pub wrong : (mac : ℕ) → (mac ≡ mac_of s.keys text → ⊥) → audit_verdict_on_item (known_with engine rbc s) side place (Ok (pdu mac, flag_from side)) ≡ Mac
 
--- of each SaPDU that has a MAC, by the text that its sender sealed: to the other side's number, AU2 and AU3 with both random numbers
+-- of each SaPDU that has a MAC, by the text that its sender sealed: to the other side's number, AU2 and AU3 with both random numbers. It refuses an
+-- audit that compares seven of a MAC's eight octets
 pub record MacsDecide : Type 0 where
   pub au2 : (engine rbc ra : ℕ) (s : SafetySession) → MacDecides engine rbc s R 0 (λ mac. Au2 rbc 1 ra mac) (au2_text (flag_from R) engine rbc 1 ra s.rb)
   pub au3 : (engine rbc : ℕ) (s : SafetySession) → MacDecides engine rbc s E 1 (λ mac. Au3 mac) (au3_text (flag_from E) rbc s.ra s.rb)

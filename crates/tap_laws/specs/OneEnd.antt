@@ -51,14 +51,17 @@ TellsOwn (Answer settings me ra now) own = Tells (first_number ra_in (items (hea
 
 -- ---- what is found
 
+-- the texts of the good DTs of what came to an end
+abbrev pub good_to : Opening → Known → List Moment → List (List ℕ)
+good_to o known events = good_texts (judged_from known (sender_to o) 0 (items (heard (sender_to o) (octets_of_moments events))))
+
 -- what an end accepted is a prefix of the texts of its peer's good DTs, and all of them while it isn't released
 pub record FindsOwn (o : Opening) (known : Known) (events : List Moment) : Type 0 where
-  pub prefix : IsPrefix (end_run events (opened o)).core.upper.accepted (good_texts (judged_from known (sender_to o) 0 (items (heard (sender_to o) (octets_of_moments events)))))
-  pub all : (end_run events (opened o)).core.released ≡ None
-      → (end_run events (opened o)).core.upper.accepted ≡ good_texts (judged_from known (sender_to o) 0 (items (heard (sender_to o) (octets_of_moments events))))
+  pub prefix : IsPrefix (end_run events (opened o)).core.upper.accepted (good_to o known events)
+  pub all : (end_run events (opened o)).core.released ≡ None → (end_run events (opened o)).core.upper.accepted ≡ good_to o known events
 
 -- of each end at modulo 8, behind all events, and beside each stream that tells its random number if it accepted a message: nothing is said of
--- the line or of the peer
+-- the line or of the peer. It refuses an audit that derives the keys of the session from Rb and Ra in place of Ra and Rb
 abbrev pub AcceptedIsGood : Type 0
 AcceptedIsGood =
     (o : Opening) (finds : Finds) (events : List Moment) → (settings_of_opening o).modulo ≡ 8 → IsCallerStartedFirst o events → AllLookUp finds events

@@ -35,6 +35,6 @@ pub record IsOfAllLinks (finds : Finds) (lines : List TapLine) (text : List ℕ)
   pub only : (n : ℕ) (o : TapOpening) → IsAmong (record { number = n; opening = o }) links → tap_opening_of_link n lines ≡ Some o
   pub text_is : text ≡ flat_map (text_of_link finds lines) links
 
--- of each tap that can be read
+-- of each tap that can be read. It refuses an audit that leaves out the links above a number
 abbrev pub AuditHasAllLinks : Type 0
 AuditHasAllLinks = (finds : Finds) (lines : List TapLine) → AreInRange lines → IsOfAllLinks finds lines (audit_text finds lines)

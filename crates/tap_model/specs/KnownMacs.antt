@@ -29,7 +29,9 @@ known = record {
 abbrev verdict_at : Side → (place : ℕ) → Read → AuditVerdict
 verdict_at side place read = audit_verdict_on_item known side place read
 
-pub au2_by_mac : (verdict_at R 0 (Ok (Au2 9 1 0x1122334455667788 0xbd1745640dd6c194, true)) ≡ Good) × (verdict_at R 0 (Ok (Au2 9 1 0x1122334455667788 0xbd1745640dd6c195, true)) ≡ Mac)
+pub au2_by_mac :
+    (verdict_at R 0 (Ok (Au2 9 1 0x1122334455667788 0xbd1745640dd6c194, true)) ≡ Good)
+    × (verdict_at R 0 (Ok (Au2 9 1 0x1122334455667788 0xbd1745640dd6c195, true)) ≡ Mac)
 unfolding audit_verdict_on_item mac_of mac_bits blocks chained triple_encipher cipher rounds cipher_function substituted box_output round_keys keys_from bits number pick xor eight
 au2_by_mac = (refl, refl)
 
