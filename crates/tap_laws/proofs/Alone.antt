@@ -13,7 +13,8 @@ use Rattle.er_end_model.specs.Ends.{Opening, Call, Answer, End, Moment, opened, 
 use Rattle.tap_model.specs.Hearing.{heard, items}
 use Rattle.tap_model.specs.Given.{received, octets_of_moments, sender_to, settings_of_opening, IsCallerStartedFirst, HasHeardStreamTexts, GivenIsHeard}
 use Rattle.tap_model.specs.Verdicts.{Read, Known, known_of, rb_in, ra_in, random_number_in_item, first_number, session_with, receiver_of}
-use Rattle.tap_laws.specs.Progress.{etcs_number_of_end, FirstAu1, FirstAu2, AllLookUp, SidesProgress, LiveSides}
+use Rattle.tap_laws.specs.LookingUp.{AllLookUp}
+use Rattle.tap_laws.specs.Progress.{etcs_number_of_end, FirstAu1, FirstAu2, SidesProgress, LiveSides}
 use Rattle.tap_laws.specs.OneEnd.{known_beside, Tells, FindsOwn, AcceptedIsGood}
 use Rattle.tap_laws.specs.OwnRecordings.{octets_sent, OwnRecordingIsGood}
 use Rattle.tap_laws.proofs.KeysTell.{same_keys}

@@ -1,3 +1,4 @@
+pub mod LookingUp
 pub mod Progress
 pub mod Runs
 pub mod OneEnd

@@ -11,7 +11,7 @@ use Rattle.er_end_model.specs.Ends.{Opening, Call, Answer, Moment, opened, end_r
 use Rattle.tap_model.specs.Hearing.{heard, items}
 use Rattle.tap_model.specs.Given.{octets_of_moments, sender_to, settings_of_opening, IsCallerStartedFirst}
 use Rattle.tap_model.specs.Verdicts.{Known, known_of, rb_in, ra_in, first_number, judged_from, good_texts}
-use Rattle.tap_laws.specs.Progress.{AllLookUp}
+use Rattle.tap_laws.specs.LookingUp.{AllLookUp}
 
 -- what is known of a link by the octets that came to an end, and by a stream of the end's own side
 abbrev pub known_beside : (engine rbc : ℕ) → TripleKey → Opening → (came own : List ℕ) → Known

@@ -6,7 +6,7 @@ use Rattle.er_end_model.specs.Outcomes.{Outcome, ConnectedTo, Accepted, Taken, N
 use Rattle.er_end_model.specs.Steps.{Finds}
 use Rattle.er_end_model.specs.Ends.{Opening, Moment, opened, end_run, outcomes}
 use Rattle.tap_model.specs.Given.{octets_of_moments, settings_of_opening, IsCallerStartedFirst}
-use Rattle.tap_laws.specs.Progress.{AllLookUp}
+use Rattle.tap_laws.specs.LookingUp.{AllLookUp}
 use Rattle.tap_laws.specs.OneEnd.{known_beside, IsKeyOf, TellsOwn, FindsOwn}
 
 -- what an outcome gives to the line

@@ -12,8 +12,9 @@ use Rattle.safety_automaton.specs.Safety.{Connection, Phase, Ready, WaitAu1, Wai
 use Rattle.safety_automaton.specs.Rules.{IsOpen}
 use Rattle.er_end_model.specs.Steps.{Finds}
 use Rattle.er_end_model.specs.Layers.{Core}
-use Rattle.er_end_model.specs.Ends.{Opening, Call, Answer, Event, Start, Come, Send, Take, Leave, Tick, Ended, Fault, Stalled, Moment, opened, end_run}
+use Rattle.er_end_model.specs.Ends.{Opening, Call, Answer, Moment, opened, end_run}
 use Rattle.tap_model.specs.Given.{received}
+use Rattle.tap_laws.specs.LookingUp.{AllLookUp}
 
 -- ---- an opening
 
@@ -32,22 +33,6 @@ flag_to o = flag_of (other_role (role_of_opened_end o))
 -- a KMAC is found, at some moment
 abbrev pub IsKmacFound : Finds → (engine rbc : ℕ) → TripleKey → Type 0
 IsKmacFound finds engine rbc kmac = (now : ℕ) × (finds now engine rbc ≡ Some kmac)
-
--- KMACs are looked up in this way alone
-abbrev pub LooksUp : Finds → Event → Type 0
-LooksUp finds Start = Unit {0}
-LooksUp finds (Come own octets) = own ≡ finds
-LooksUp finds (Send user) = Unit {0}
-LooksUp finds Take = Unit {0}
-LooksUp finds (Leave sub) = Unit {0}
-LooksUp finds Tick = Unit {0}
-LooksUp finds Ended = Unit {0}
-LooksUp finds Fault = Unit {0}
-LooksUp finds Stalled = Unit {0}
-
-abbrev pub AllLookUp : Finds → List Moment → Type 0
-AllLookUp finds [] = Unit {0}
-AllLookUp finds (e ∷ events) = LooksUp finds e.event × AllLookUp finds events
 
 -- ---- the texts that were given
 
