@@ -51,3 +51,4 @@ mod Answering
 pub mod StackRuns
 mod SettingsFit
 pub mod Holding
+pub mod StackFacts

@@ -1,17 +1,19 @@
--- Lemmas: a link of two stacks is two ends over two lines behind steps of their own, and the stream of each end is what was passed to it (this
--- profile).
+-- Lemmas: a link of two stacks is two ends over two lines behind steps of their own, and the stream of each end is what was passed to it; and its
+-- facts are those of a talk of both safety sides (this profile).
 use Rattle.std.specs.Prelude.{ℕ, ◌≡◌, not, List, Option, Some}
 use Rattle.er_base.specs.declared.side.Side.TheVariants.{E, R}
 use Rattle.des_block.specs.declared.triple_key.TripleKey.{TripleKey}
 use Rattle.er_settings.specs.Values.{Settings}
 use Rattle.er_settings.specs.Ranges.{AllAllowed}
 use Rattle.er_scenario.specs.declared.step.Step.{Step}
-use Rattle.safety_pair_laws.specs.Openings.{OfKeys, key_for}
+use Rattle.safety_pair_laws.specs.Openings.{PairOpening, OfKeys, key_for}
+use Rattle.safety_pair_laws.specs.Talks.{Talks}
 use Rattle.pair_model.specs.Steps.{PairStep}
 use Rattle.er_end_pair_laws.specs.Openings.{EndLinkOpening}
 use Rattle.er_end_pair_laws.specs.Steps as pair
 use Rattle.er_end_pair_laws.specs.Laws.{end_link_after}
-use Rattle.drill_model.specs.Outcomes.{Occurrence}
+use Rattle.er_end_model.specs.Ends.{End}
+use Rattle.drill_model.specs.Outcomes.{Occurrence, facts_in}
 use Rattle.drill_model.specs.Ends.{OfStack}
 use Rattle.drill_model.specs.Links.{Link, OfStacks}
 use Rattle.drill_model.specs.Steps.{AllFit}
@@ -43,3 +45,18 @@ StacksRun =
     (plan : DrillPlan) (steps : List Step) → AllFit steps → AllAllowed plan.settings → (n : ℕ) (l : Link) → link_at (world_run plan steps).0 n ≡ Some l
     → (engine rbc : ℕ) (ke : TripleKey) (kr : Option TripleKey) (ra rb : ℕ) → l.opening ≡ OfStacks engine rbc ke kr ra rb
     → IsPair plan.settings l (history_on n (world_run plan steps).1)
+
+-- the ends of a link of stacks, and that their safety sides are two that talked and did what came at the link
+pub record IsTalkOfStacks (opening : PairOpening) (l : Link) (history : List Occurrence) : Type 0 where
+  pub e : End
+  pub r : End
+  pub e_is : l.e ≡ OfStack e
+  pub r_is : l.r ≡ OfStack r
+  pub talks : Talks opening (facts_in history) (record { e = e.core.safe.safety; r = r.core.safe.safety })
+
+-- of each link of two stacks, whatever its line did
+abbrev pub StacksTalk : Type 0
+StacksTalk =
+    (plan : DrillPlan) (steps : List Step) (n : ℕ) (l : Link) → link_at (world_run plan steps).0 n ≡ Some l
+    → (engine rbc : ℕ) (ke : TripleKey) (kr : Option TripleKey) (ra rb : ℕ) → l.opening ≡ OfStacks engine rbc ke kr ra rb
+    → IsTalkOfStacks (OfKeys engine rbc ke kr ra rb) l (history_on n (world_run plan steps).1)

@@ -16,7 +16,7 @@ ghost use Rattle.drill_model.specs.Headline.{HoldsAlways};
 ghost use Rattle.drill_model.specs.Printing.{PrintedAsMarked, LinesInOrder};
 ghost use Rattle.drill_model.specs.PrintedCounts.{DrainsCount, OnlyDrainsAreTold, TotalsCount, LinksAreClosed};
 ghost use Rattle.drill_model.specs.PrintedWords.{TextReadsBack, DrillsAreTold, DrillTextReadsBack};
-ghost use Rattle.drill_laws.specs.Stacks.{StacksRun};
+ghost use Rattle.drill_laws.specs.Stacks.{StacksRun, StacksTalk};
 
 // What each call of a station of either kind does to its lists and its release.
 fn station_laws()
@@ -257,5 +257,13 @@ pub fn stacks_run()
 {
     stack_laws();
     er_end_model::laws::events_give();
+    drill_model::laws::histories();
+}
+
+/// The facts of a link of level full are those of a talk of the safety sides of its two ends, whatever its line did.
+pub fn stacks_talk()
+    ensures { StacksTalk }
+{
+    station_laws();
     drill_model::laws::histories();
 }

@@ -5,7 +5,8 @@ ghost use Rattle.er_base.specs.LineTexts.{line_text};
 ghost use Rattle.er_tap.specs.Ranges.{CanBeRead};
 ghost use Rattle.safety_automaton.specs.Keys.{key_at};
 ghost use Rattle.tap_model.specs.Verdicts.{judged, judged_from};
-ghost use Rattle.tap_model.specs.Texts.{item_words, side_text, link_text};
+ghost use Rattle.tap_model.specs.Texts.{item_words, side_text, link_text, audit_text};
+ghost use Rattle.tap_model.specs.AllLinks.{IsOfAllLinks};
 ghost use Rattle.tap_model.specs.Audits.{Audits};
 ghost use Rattle.link_audit.specs.Openings.{tap_opening_of_kept, opening_at, links_opened};
 ghost use Rattle.link_audit.specs.Writes.{Writes};
@@ -148,8 +149,11 @@ pub fn audit<K: KeyFinder, S: Sink>(
 ) -> Result<(), AuditFault>
     requires { CanBeRead tap.now }
     ensures audits { Audits (key_at (K.entries keys.now)) tap.now.lines (S.state sink.old).held (S.state sink.new).held (S.state sink.old).faults (S.state sink.new).faults result }
+    // That text is of all links that the tap opens, numbers rising, and of no other.
+    ensures links { IsOfAllLinks (key_at (K.entries keys.now)) tap.now.lines (audit_text (key_at (K.entries keys.now)) tap.now.lines) }
     ensures later { (S.state sink.old).faults ≤ (S.state sink.new).faults }
 {
+    tap_model::laws::audit_has_all_links();
     let lines = tap.lines.as_slice();
     let openings = openings_in(lines)?;
     let marks = Marks::of(alloc, lines)?;

@@ -56,9 +56,9 @@ pub got_all : (finds : Finds) (o : Opening) (phase : Phase) (g a t : List (List 
 got_all finds o phase g a t (Begins b n) some = absurd (some n.sent_is)
 got_all finds o phase g a t (Waits c w n) some = absurd (some n.sent_is)
 got_all finds o phase g a t (Speaks c e n) some = (c, g, ([], sym (append-nil g)), n)
-got_all finds o phase g a t (Gone release session e front rest is (GotsNone n)) some = absurd (some n.sent_is)
-got_all finds o phase g a t (Gone release session e front rest is (GotsOne c n)) some = absurd (some n.sent_is)
-got_all finds o phase g a t (Gone release session e front rest is (GotsAll c n)) some = (c, front, (rest, is), n)
+got_all finds o phase g a t (Gone release session e front rest is (GotsNone n) k) some = absurd (some n.sent_is)
+got_all finds o phase g a t (Gone release session e front rest is (GotsOne c n) k) some = absurd (some n.sent_is)
+got_all finds o phase g a t (Gone release session e front rest is (GotsAll c n) k) some = (c, front, (rest, is), n)
 
 pub all_head : (finds : Finds) (o : Opening) (c : Connection) (front g a : List (List ℕ)) → (n : GotAll finds o c front a) → IsFront front g → HasHead n.first g
 all_head finds o c front g a n is = front_head n.first front g (n.second ∷ n.texts, n.given_is) is

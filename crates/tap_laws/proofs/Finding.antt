@@ -98,7 +98,7 @@ module _ (known : Known) (finds : Finds) (o : Opening) (receiver : receiver_of k
   stage_front phase given accepted sent more agreed (Begins b n) = nothing_first accepted (good (given ++ more)) n.accepted_is
   stage_front phase given accepted sent more agreed (Waits c w n) = nothing_first accepted (good (given ++ more)) n.accepted_is
   stage_front phase given accepted sent more agreed (Speaks c e n) = all_front c given given accepted more ([], sym (append-nil given)) agreed n
-  stage_front phase given accepted sent more agreed (Gone release session e front rest is got) =
+  stage_front phase given accepted sent more agreed (Gone release session e front rest is got known_is) =
       subst (λ (z : List (List ℕ)). IsFront accepted (good z)) (sym (ap (λ (z : List (List ℕ)). z ++ more) is ∙ append_assoc front rest more))
       (got_front given front accepted sent (rest ++ more) (rest, is) agreed got)
 
@@ -109,7 +109,7 @@ module _ (known : Known) (finds : Finds) (o : Opening) (receiver : receiver_of k
   stage_good phase given accepted sent agreed live (Waits c w n) =
       ap (λ (z : List (List ℕ)). good (z ++ [])) n.given_is ∙ first_judged known side n.first [] ∙ none_judged known side 1 ∙ sym n.accepted_is
   stage_good phase given accepted sent agreed live (Speaks c e n) = all_good c given accepted agreed n
-  stage_good phase given accepted sent agreed live (Gone release session e front rest is got) =
+  stage_good phase given accepted sent agreed live (Gone release session e front rest is got known_is) =
       absurd (subst (λ (p : Phase). IsOpen p) e live)
 
   -- ---- an end

@@ -15,7 +15,7 @@ use Rattle.tap_laws.specs.Progress.{AreMessages}
 
 -- ---- the first two items are no good DTs
 
-no_user : (read : Read) (v : AuditVerdict) → user_read read ≡ [] → good_user read v ≡ []
+pub no_user : (read : Read) (v : AuditVerdict) → user_read read ≡ [] → good_user read v ≡ []
 no_user read Good e = e
 no_user read Malformed e = refl
 no_user read Flag e = refl
@@ -65,7 +65,7 @@ same_flags true = refl
 same_flags false = refl
 
 -- the sealed text of a DT has neither its MAC nor the random numbers
-sealed_is : (user : List ℕ) (mac : ℕ) (flag : Bool) (me ra rb : ℕ) → sealed_text (Dt user mac) flag me ra rb ≡ message_text flag me user
+pub sealed_is : (user : List ℕ) (mac : ℕ) (flag : Bool) (me ra rb : ℕ) → sealed_text (Dt user mac) flag me ra rb ≡ message_text flag me user
 unfolding message_text
 sealed_is user mac flag me ra rb = refl
 

@@ -6,5 +6,12 @@ pub mod Judging
 pub mod Living
 pub mod Finding
 pub mod Agreeing
+pub mod KeysTell
+pub mod Alone
 pub mod Pairs
 pub mod Tapped
+pub mod Told
+pub mod Deciding
+pub mod Genuine
+pub mod Talked
+pub mod Unforged

@@ -1,10 +1,9 @@
 -- An audit of a link that keeps its order finds good what its ends accepted.
-use Rattle.std.proofs.Common.{◌≡◌, ◌∙◌, ℕ, true, false, List, [], ◌∷◌, ◌++◌, Option, Some, None, Ok, Err, refl, sym, ap, ap₂, subst}
+use Rattle.std.proofs.Common.{◌≡◌, ◌∙◌, ℕ, true, false, List, [], ◌∷◌, ◌++◌, Some, None, Ok, Err, refl, sym, ap, subst}
 use Rattle.er_base.specs.declared.side.Side.{Side}
 use Rattle.er_base.specs.declared.side.Side.TheVariants.{E, R}
 use Rattle.des_block.specs.declared.triple_key.TripleKey.{TripleKey}
 use Rattle.hdlc_station_model.specs.Lines.{IsPrefix}
-use Rattle.session_keys.specs.Session.{session_of}
 use Rattle.t70_header.specs.JoiningLaws.{WrappedIsJoined}
 use Rattle.sapdu.specs.Spelling.{SafetyPdu, Au1, Au2, Au3, Ar, Dt, Di, read_of}
 use Rattle.safety_automaton.specs.Rules.{IsOpen}
@@ -18,12 +17,14 @@ use Rattle.er_end_pair_laws.specs.Laws.{end_link_after, Prefix}
 use Rattle.er_end_pair_laws.specs.Greetings.{Greets}
 use Rattle.tap_model.specs.Hearing.{heard, items}
 use Rattle.tap_model.specs.Given.{received, octets_of_moments, HasHeardStreamTexts, GivenIsHeard}
-use Rattle.tap_model.specs.Verdicts.{Read, rb_in, ra_in, random_number_in_item, first_number, session_with}
-use Rattle.tap_laws.specs.Progress.{FirstAu1, FirstAu2, Progresses, SidesProgress, LiveSides}
+use Rattle.tap_model.specs.Verdicts.{Read, rb_in, ra_in, random_number_in_item, first_number}
+use Rattle.tap_laws.specs.Progress.{Progresses, SidesProgress, LiveSides}
 use Rattle.tap_laws.specs.Runs.{calling_of, called_of, started_at, AreRuns, EndsAreRuns}
+use Rattle.tap_laws.specs.OneEnd.{Tells}
 use Rattle.tap_laws.specs.Pairs.{known_to, FindsAccepted, PairsAudited}
 use Rattle.tap_laws.proofs.Finding.{Agreed, finds_end}
-use Rattle.tap_laws.proofs.Agreeing.{HasHead, front_head, prefix_front, items_front, head_number, got_all, all_head, given_head, call_is, answer_is}
+use Rattle.tap_laws.proofs.Agreeing.{HasHead, prefix_front, head_number, got_all, all_head, call_is, answer_is}
+use Rattle.tap_laws.proofs.Alone.{item_head, agreed_calling, agreed_answering}
 
 -- what other crates say
 pub record Lower : Type 0 where
@@ -59,14 +60,14 @@ own_kmac s agree now id kmac same found =
     let z : Some kmac ≡ Some s.kmac = sym found ∙ ap (λ (n : ℕ). s.finder now n s.rbc) same ∙ agree now in cc
 
 -- what is known of an end by itself: the texts that it was given
-record Known_end (s : EndLinkOpening) (o : end.Opening) (side : Side) (z : End) : Type 0 where
-  given : List (List ℕ)
-  hears : HasHeardStreamTexts side z.stream given z
-  progress : Progresses s.finder o given z.core
-  is_live : z.core.released ≡ None → IsOpen z.core.safe.safety.phase
+pub record Known_end (s : EndLinkOpening) (o : end.Opening) (side : Side) (z : End) : Type 0 where
+  pub given : List (List ℕ)
+  pub hears : HasHeardStreamTexts side z.stream given z
+  pub progress : Progresses s.finder o given z.core
+  pub is_live : z.core.released ≡ None → IsOpen z.core.safe.safety.phase
 
 module _ (low : Lower) (s : EndLinkOpening) (basic : s.settings.modulo ≡ 8) where
-  known_r : (e r : End) → AreRuns s e r → Known_end s (called_of s) E r
+  pub known_r : (e r : End) → AreRuns s e r → Known_end s (called_of s) E r
   known_r e r a =
       let m : End = end_run a.events_r (opened (called_of s)) in
       let g : List (List ℕ) = received a.events_r (opened (called_of s)) in
@@ -79,7 +80,7 @@ module _ (low : Lower) (s : EndLinkOpening) (basic : s.settings.modulo ≡ 8) wh
         is_live = low.live (called_of s) a.events_r;
       })
 
-  known_e : (e r : End) → AreRuns s e r → Known_end s (calling_of s) R e
+  pub known_e : (e r : End) → AreRuns s e r → Known_end s (calling_of s) R e
   known_e e r a =
       let events : List Moment = started_at s ∷ a.events_e in
       let m : End = end_run events (opened (calling_of s)) in
@@ -106,52 +107,45 @@ module _ (low : Lower) (s : EndLinkOpening) (basic : s.settings.modulo ≡ 8) wh
     kr : Known_end s (called_of s) E r
     kr = known_r e r (low.runs s steps)
 
-    item_head : (side : Side) (z : End) (given : List (List ℕ)) (x : List ℕ) → HasHeardStreamTexts side z.stream given z → HasHead x given → HasHead x (items (heard side z.stream))
-    item_head side z given x h head =
-        front_head x (heard side z.stream).texts (items (heard side z.stream)) (given_head low.wrapped side z.stream given z x h head) (items_front (heard side z.stream))
-
-    -- the numbers that the audit takes
-    rb_is : (x : List ℕ) (id rb : ℕ) → HasHead x kr.given → read_of x ≡ Ok (Au1 id 1 rb, false) → first_number rb_in (items (heard E r.stream)) ≡ Some rb
-    rb_is x id rb head read = head_number rb_in x (items (heard E r.stream)) (item_head E r kr.given x kr.hears head) ∙ ap (λ (z : Read). random_number_in_item rb_in z) read
-
-    ra_is : (x : List ℕ) (id ra mac : ℕ) → HasHead x ke.given → read_of x ≡ Ok (Au2 id 1 ra mac, true) → first_number ra_in (items (heard R e.stream)) ≡ Some ra
-    ra_is x id ra mac head read = head_number ra_in x (items (heard R e.stream)) (item_head R e ke.given x ke.hears head) ∙ ap (λ (z : Read). random_number_in_item ra_in z) read
-
-    session_is : (ra rb : ℕ) → first_number ra_in (items (heard R e.stream)) ≡ Some ra → first_number rb_in (items (heard E r.stream)) ≡ Some rb
-        → (known_to s e r).session ≡ Some (record { ra = ra; rb = rb; keys = session_of s.kmac ra rb })
-    session_is ra rb a b = ap₂ (λ (x y : Option ℕ). session_with (Some s.kmac) x y) a b
-
-    agreed_r : Agreed (known_to s e r) s.finder (called_of s) kr.given r.core.upper.accepted
-    agreed_r c front is got some =
-        let au1 : FirstAu1 s.finder s.rbc s.ra c got.first = got.is_first in
+    -- where an end accepted messages the other sent some, so it was given its first text: the greeting of that end
+    e_tells : (r.core.upper.accepted ≡ [] → ⊥) → Tells (first_number ra_in (items (heard R e.stream))) s.ra
+    e_tells some =
         let spoke : e.core.upper.sent ≡ [] → ⊥ = λ none. some (none_before r.core.upper.accepted e.core.upper.sent (low.prefix s steps fit kept).0 none) in
         let g = got_all s.finder (calling_of s) e.core.safe.safety.phase ke.given e.core.upper.accepted e.core.upper.sent ke.progress.stage spoke in
         let first : HasHead g.3.first ke.given = all_head s.finder (calling_of s) g.0 g.1 ke.given e.core.upper.accepted g.3 g.2 in
         let answer = answer_is low.wrapped s e.stream ke.given e g.3.first ke.hears (low.greets s steps fit agree kept).1 first in
-        let a = ra_is g.3.first s.rbc s.ra answer.0 first answer.1 in
-        let b = rb_is got.first c.peer c.rb (all_head s.finder (called_of s) c front kr.given r.core.upper.accepted got is) au1.read in
-        let head : HasHead got.first kr.given = all_head s.finder (called_of s) c front kr.given r.core.upper.accepted got is in
-        let call = call_is low.wrapped s r.stream kr.given r got.first kr.hears (low.greets s steps fit agree kept).0 head in
-        let peer : c.peer ≡ s.engine = ap teller_in (sym au1.read ∙ call) in
-        let kmac : au1.kmac ≡ s.kmac = own_kmac s agree au1.found.0 c.peer au1.kmac peer au1.found.1 in (
-          record { ra = s.ra; rb = c.rb; keys = session_of s.kmac s.ra c.rb },
-          session_is s.ra c.rb a b,
-          ap₂ (λ (k : TripleKey) (n : ℕ). session_of k n c.rb) (sym kmac) (sym au1.own) ∙ sym au1.keys,
-        )
+        record {
+          told = s.ra;
+          is = head_number ra_in g.3.first (items (heard R e.stream)) (item_head low.wrapped R e.stream ke.given e g.3.first ke.hears first)
+              ∙ ap (λ (z : Read). random_number_in_item ra_in z) answer.1;
+          same = refl;
+        }
 
-    agreed_e : Agreed (known_to s e r) s.finder (calling_of s) ke.given e.core.upper.accepted
-    agreed_e c front is got some =
-        let au2 : FirstAu2 s.rbc s.kmac s.rb c got.first = got.is_first in
+    r_tells : (e.core.upper.accepted ≡ [] → ⊥) → Tells (first_number rb_in (items (heard E r.stream))) s.rb
+    r_tells some =
         let spoke : r.core.upper.sent ≡ [] → ⊥ = λ none. some (none_before e.core.upper.accepted r.core.upper.sent (low.prefix s steps fit kept).1 none) in
         let g = got_all s.finder (called_of s) r.core.safe.safety.phase kr.given r.core.upper.accepted r.core.upper.sent kr.progress.stage spoke in
         let first : HasHead g.3.first kr.given = all_head s.finder (called_of s) g.0 g.1 kr.given r.core.upper.accepted g.3 g.2 in
         let call = call_is low.wrapped s r.stream kr.given r g.3.first kr.hears (low.greets s steps fit agree kept).0 first in
-        let a = ra_is got.first c.peer c.ra au2.mac (all_head s.finder (calling_of s) c front ke.given e.core.upper.accepted got is) au2.read in
-        let b = rb_is g.3.first s.engine s.rb first call in (
-          record { ra = c.ra; rb = s.rb; keys = session_of s.kmac c.ra s.rb },
-          session_is c.ra s.rb a b,
-          ap (λ (n : ℕ). session_of s.kmac c.ra n) (sym au2.own) ∙ sym au2.keys,
-        )
+        record {
+          told = s.rb;
+          is = head_number rb_in g.3.first (items (heard E r.stream)) (item_head low.wrapped E r.stream kr.given r g.3.first kr.hears first)
+              ∙ ap (λ (z : Read). random_number_in_item rb_in z) call;
+          same = refl;
+        }
+
+    -- the KMAC that is found for whom an AU1 named is the engine's, since the AU1 is
+    found_is : (at id rb : ℕ) (x : List ℕ) (kmac : TripleKey) → HasHead x kr.given → read_of x ≡ Ok (Au1 id 1 rb, false) → s.finder at id s.rbc ≡ Some kmac → kmac ≡ s.kmac
+    found_is at id rb x kmac head read find =
+        let call = call_is low.wrapped s r.stream kr.given r x kr.hears (low.greets s steps fit agree kept).0 head in
+        own_kmac s agree at id kmac (ap teller_in (sym read ∙ call)) find
+
+    -- so each end is one by itself, beside what the other was passed
+    agreed_r : Agreed (known_to s e r) s.finder (called_of s) kr.given r.core.upper.accepted
+    agreed_r = agreed_answering low.wrapped s.finder s.engine s.rbc s.kmac r.stream e.stream kr.given r s.settings s.rbc s.ra s.moment found_is kr.hears e_tells
+
+    agreed_e : Agreed (known_to s e r) s.finder (calling_of s) ke.given e.core.upper.accepted
+    agreed_e = agreed_calling low.wrapped s.finder s.engine s.rbc s.kmac e.stream r.stream ke.given e s.settings s.engine s.rbc s.kmac s.rb s.moment refl ke.hears r_tells
 
     finds_accepted : FindsAccepted s e r
     finds_accepted =

@@ -20,7 +20,8 @@ use Rattle.er_end_model.specs.Layers.{Spoken, Core, model}
 use Rattle.er_end_model.specs.Laws.{ShowsSafetyStep, IsSane, SpeaksOnce, EventsSpeakOnce}
 use Rattle.er_end_model.specs.Ends.{Opening, Call, Answer, Event, Start, Come, Send, Take, Leave, Tick, Ended, Fault, Stalled, End, Moment, opened, hears_each, step_event, end_run}
 use Rattle.tap_model.specs.Given.{received_in, received_of, received_by, received_of_each, received_unless, received_at, received}
-use Rattle.tap_laws.specs.Progress.{etcs_number_of_end, role_of_opened_end, IsKmacFound, LooksUp, AllLookUp, GotNone, Stage, Begins, Speaks, Progresses, SidesProgress}
+use Rattle.tap_laws.specs.LookingUp.{LooksUp, AllLookUp}
+use Rattle.tap_laws.specs.Progress.{etcs_number_of_end, role_of_opened_end, IsKmacFound, GotNone, Stage, Begins, Speaks, Progresses, SidesProgress}
 use Rattle.tap_laws.proofs.Stages.{level, stays, speaks_of, step_stage}
 use Rattle.tap_laws.proofs.Growing.{lists, Grows, comes_grow, starts_grow, uses_grow, leaves_grow, ticks_grow, breaks_grow, sent_grows, sent_safe}
 

@@ -10,7 +10,7 @@ use Rattle.pair_model.specs.Steps.{pass, lose, repeat, tick}
 use Rattle.pair_model.specs.Walks.{all_send_any, runs_keep}
 use Rattle.er_end_pair_laws.specs.Openings.{EndLinkOpening}
 use Rattle.er_end_pair_laws.specs.Links.{EndLink, end_behind_event, is_end_expired_at, end_kind, opened_end_link}
-use Rattle.tap_laws.specs.Progress.{LooksUp, AllLookUp}
+use Rattle.tap_laws.specs.LookingUp.{LooksUp, AllLookUp}
 use Rattle.tap_laws.specs.Runs.{calling_of, called_of, started_at, AreRuns, EndsAreRuns}
 
 -- one more event

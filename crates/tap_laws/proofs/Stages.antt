@@ -1,5 +1,5 @@
 -- One step of a safety side, and how far it is then.
-use Rattle.std.proofs.Common.{◌≡◌, ◌∙◌, inl, inr, ℕ, Bool, List, [], ◌∷◌, ◌++◌, Option, Some, Ok, sym, ap, ap₂, subst, arith, append_assoc, append-nil}
+use Rattle.std.proofs.Common.{◌≡◌, ◌∙◌, inl, inr, ℕ, Bool, List, [], ◌∷◌, ◌++◌, Option, Some, None, Ok, refl, sym, ap, ap₂, subst, arith, append_assoc, append-nil}
 use Rattle.std.specs.Option.{option_to_list}
 use Rattle.er_base.specs.declared.release.Release.{Release}
 use Rattle.des_block.specs.declared.triple_key.TripleKey.{TripleKey}
@@ -7,13 +7,13 @@ use Rattle.cbc_mac.specs.Mac.{mac_of}
 use Rattle.session_keys.specs.Session.{session_of}
 use Rattle.sapdu.specs.Spelling.{SafetyPdu, Au1, Au2, Dt, read_of}
 use Rattle.safety_automaton.specs.declared.role.Role.{Role}
-use Rattle.safety_automaton.specs.Safety.{Safety, Connection, Phase, Ready, WaitAu1, WaitAu2, WaitAu3, WaitAr, Connected, Released, SafetyEvent, Received, SafetyOutcome, SentAu1, SentAu2, SentAu3, SentAr, ReceivedAr, AcceptedDt, SentDt, Refused, ReleasedLocally, ReleasedByPeer, NothingDone, flag_of, other_role, peer_flag, message_text}
+use Rattle.safety_automaton.specs.Safety.{Safety, Connection, Phase, Ready, WaitAu1, WaitAu2, WaitAu3, WaitAr, Connected, Released, SafetyEvent, Received, SafetyOutcome, SentAu1, SentAu2, SentAu3, SentAr, ReceivedAr, AcceptedDt, SentDt, Refused, ReleasedLocally, ReleasedByPeer, NothingDone, flag_of, other_role, peer_flag, session_in, message_text}
 use Rattle.safety_automaton.specs.Rules.{IsReceived, IsStep, AtReceived, AtDisconnect, AtConnect}
 use Rattle.er_end_model.specs.Laws.{accepted_safety_message}
 use Rattle.er_end_model.specs.Steps.{Finds}
 use Rattle.er_end_model.specs.Ends.{Opening, Call, Answer}
 use Rattle.tap_model.specs.Given.{received_in}
-use Rattle.tap_laws.specs.Progress.{etcs_number_of_end, role_of_opened_end, flag_to, IsKmacFound, IsFirstSetUpText, AreMessages, GotNone, GotOne, GotAll, Got, GotsNone, GotsOne, GotsAll, IsBeginningPhase, WaitsForSecondText, Stage, Begins, Waits, Speaks, Gone}
+use Rattle.tap_laws.specs.Progress.{etcs_number_of_end, role_of_opened_end, flag_to, IsKmacFound, IsFirstSetUpText, AreMessages, GotNone, GotOne, GotAll, Got, GotsNone, GotsOne, GotsAll, session_got, IsBeginningPhase, WaitsForSecondText, Stage, Begins, Waits, Speaks, Gone}
 
 -- one more message
 one_more : (session : TripleKey) (flag : Bool) (me : ℕ) (text user : List ℕ) (texts users : List (List ℕ))
@@ -24,21 +24,37 @@ one_more session flag me text user [] (u ∷ users) e h = absurd h
 one_more session flag me text user (t ∷ texts) [] e h = absurd h
 one_more session flag me text user (t ∷ texts) (u ∷ users) e h = (h.0, one_more session flag me text user texts users e h.1)
 
+pub begins_session : (o : Opening) (phase : Phase) → IsBeginningPhase o phase → session_in phase ≡ None
+begins_session (Call settings own peer kmac rb now) phase (inl e) = ap session_in e
+begins_session (Call settings own peer kmac rb now) phase (inr e) = ap session_in e
+begins_session (Answer settings own ra now) phase e = ap session_in e
+
+pub waits_session : (o : Opening) (c : Connection) (phase : Phase) → WaitsForSecondText o c phase → session_in phase ≡ Some c.session
+waits_session (Call settings own peer kmac rb now) c phase e = ap session_in e
+waits_session (Answer settings own ra now) c phase e = ap session_in e
+
 module _ (finds : Finds) (o : Opening) (g a t : List (List ℕ)) where
-  -- how far it was, at any stage
-  was : (phase : Phase) → Stage finds o phase g a t → (front : List (List ℕ)) × (rest : List (List ℕ)) × (g ≡ front ++ rest) × Got finds o front a t
-  was phase (Begins b n) = (g, [], sym (append-nil g), GotsNone n)
-  was phase (Waits c w n) = (g, [], sym (append-nil g), GotsOne c n)
-  was phase (Speaks c s n) = (g, [], sym (append-nil g), GotsAll c n)
-  was phase (Gone release session p front rest e got) = (front, rest, e, got)
+  -- how far it was, at any stage, and the session keys that it knows
+  record Was (phase : Phase) : Type 0 where
+    front : List (List ℕ)
+    rest : List (List ℕ)
+    is : g ≡ front ++ rest
+    got : Got finds o front a t
+    knows : session_in phase ≡ session_got finds o front a t got
+
+  was : (phase : Phase) → Stage finds o phase g a t → Was phase
+  was phase (Begins b n) = record { front = g; rest = []; is = sym (append-nil g); got = GotsNone n; knows = begins_session o phase b }
+  was phase (Waits c w n) = record { front = g; rest = []; is = sym (append-nil g); got = GotsOne c n; knows = waits_session o c phase w }
+  was phase (Speaks c s n) = record { front = g; rest = []; is = sym (append-nil g); got = GotsAll c n; knows = ap session_in s }
+  was phase (Gone release session p front rest e got k) = record { front = front; rest = rest; is = e; got = got; knows = ap session_in p ∙ k }
 
   -- a side that is released then
-  pub leaves : (phase next : Phase) (release : Release) (session : Option TripleKey) (more : List (List ℕ)) → next ≡ Released release session
+  pub leaves : (phase next : Phase) (release : Release) (session : Option TripleKey) (more : List (List ℕ)) → next ≡ Released release session → session ≡ session_in phase
       → Stage finds o phase g a t → Stage finds o next (g ++ more) (a ++ []) t
-  leaves phase next release session more e stage =
+  leaves phase next release session more e same stage =
       let w = was phase stage in
       subst (λ (b : List (List ℕ)). Stage finds o next (g ++ more) b t) (sym (append-nil a))
-      (Gone release session e w.0 (w.1 ++ more) (ap (λ (z : List (List ℕ)). z ++ more) w.2 ∙ append_assoc w.0 w.1 more) w.3)
+      (Gone release session e w.front (w.rest ++ more) (ap (λ (z : List (List ℕ)). z ++ more) w.is ∙ append_assoc w.front w.rest more) w.got (same ∙ w.knows))
 
   -- a side that stays as it is, and was given nothing
   pub stays : (phase next : Phase) → next ≡ phase → Stage finds o phase g a t → Stage finds o next (g ++ []) (a ++ []) t
@@ -79,19 +95,19 @@ module _ (finds : Finds) (o : Opening) (phase : Phase) (g a t : List (List ℕ))
   begins_of l (Begins b n) = (b, n)
   begins_of l (Waits c w n) = absurd (let z = sym l ∙ waits_level o c phase w in omega (arith, z))
   begins_of l (Speaks c e n) = absurd (let z = sym l ∙ ap level e in omega (arith, z))
-  begins_of l (Gone release session e front rest is got) = absurd (let z = sym l ∙ ap level e in omega (arith, z))
+  begins_of l (Gone release session e front rest is got k) = absurd (let z = sym l ∙ ap level e in omega (arith, z))
 
   waits_of : level phase ≡ 1 → Stage finds o phase g a t → (c : Connection) × WaitsForSecondText o c phase × GotOne finds o c g a t
   waits_of l (Begins b n) = absurd (let z = sym l ∙ begins_level o phase b in omega (arith, z))
   waits_of l (Waits c w n) = (c, w, n)
   waits_of l (Speaks c e n) = absurd (let z = sym l ∙ ap level e in omega (arith, z))
-  waits_of l (Gone release session e front rest is got) = absurd (let z = sym l ∙ ap level e in omega (arith, z))
+  waits_of l (Gone release session e front rest is got k) = absurd (let z = sym l ∙ ap level e in omega (arith, z))
 
   pub speaks_of : level phase ≡ 2 → Stage finds o phase g a t → (c : Connection) × (phase ≡ Connected c.peer c.session) × GotAll finds o c g a
   speaks_of l (Begins b n) = absurd (let z = sym l ∙ begins_level o phase b in omega (arith, z))
   speaks_of l (Waits c w n) = absurd (let z = sym l ∙ waits_level o c phase w in omega (arith, z))
   speaks_of l (Speaks c e n) = (c, e, n)
-  speaks_of l (Gone release session e front rest is got) = absurd (let z = sym l ∙ ap level e in omega (arith, z))
+  speaks_of l (Gone release session e front rest is got k) = absurd (let z = sym l ∙ ap level e in omega (arith, z))
 
 -- ---- what the texts say
 
@@ -257,10 +273,10 @@ module _ (key_of : ℕ → ℕ → Option TripleKey) (finds : Finds) (keyed : (e
   step_stage (SentDt session user sealed octets) row before = unmoved (ap received_in row.event_is) row.next_is before
   step_stage (Refused refusal) row before = unmoved (ap received_in row.event_is) row.next_is before
   step_stage (ReleasedLocally release octets) row before =
-      leaves finds o g a t s.phase next.phase release _ (received_in event) (ap (λ (n : Safety). n.phase) row.releases.next_is) before
+      leaves finds o g a t s.phase next.phase release _ (received_in event) (ap (λ (n : Safety). n.phase) row.releases.next_is) refl before
   step_stage (ReleasedByPeer release) row before =
-      leaves finds o g a t s.phase next.phase release _ (received_in event) (ap (λ (n : Safety). n.phase) row.next_is) before
+      leaves finds o g a t s.phase next.phase release _ (received_in event) (ap (λ (n : Safety). n.phase) row.next_is) refl before
   step_stage NothingDone (AtReceived octets release session e phase same) before =
-      leaves finds o g a t s.phase next.phase release session (received_in event) (ap (λ (n : Safety). n.phase) same ∙ phase) before
+      leaves finds o g a t s.phase next.phase release session (received_in event) (ap (λ (n : Safety). n.phase) same ∙ phase) (sym (ap session_in phase)) before
   step_stage NothingDone (AtDisconnect sub release session e phase same) before = unmoved (ap received_in e) same before
   step_stage NothingDone (AtConnect e ready same) before = unmoved (ap received_in e) same before

@@ -1,7 +1,7 @@
 -- An audit of a tapped link of a world that keeps its order finds good what its ends accepted.
-use Rattle.std.proofs.Common.{◌≡◌, ◌∙◌, ℕ, Bool, true, false, not, List, Option, Some, refl, sym, ap, subst}
+use Rattle.std.proofs.Common.{◌≡◌, ◌∙◌, ℕ, Bool, true, false, not, List, Option, Some, None, refl, sym, ap, subst}
 use Rattle.hdlc_station_model.specs.Lines.{IsPrefix}
-use Rattle.std.specs.Prelude.{◌==◌}
+use Rattle.std.specs.Prelude.{◌==◌, ◌&&◌, if◌then◌else◌}
 use Rattle.std.proofs.lemmas.Bool.{eq-eqb}
 use Rattle.er_base.specs.declared.side.Side.{Side}
 use Rattle.er_base.specs.declared.side.Side.TheVariants.{E, R}
@@ -54,8 +54,15 @@ not_false false e = absurd cc
 
 -- ---- a link
 
-module _ (audited : PairsAudited) (settings : Settings) (basic : settings.modulo ≡ 8) (l : Link) (history : List Occurrence) (p : IsPair settings l history)
-    (keeping : IsOrderKeeping l.opening history) (keys : List KmacEntry) (lines : List TapLine) (m : ℕ) (t : IsTapped keys lines m l history) where
+pub prefix_is : (xs xs' ys ys' : List (List ℕ)) → xs' ≡ xs → ys ≡ ys' → IsPrefix xs ys → IsPrefix xs' ys'
+prefix_is xs xs' ys ys' a b h = subst (λ (zs : List (List ℕ)). IsPrefix zs ys') (sym a) (subst (λ (zs : List (List ℕ)). IsPrefix xs zs) b h)
+
+found_key : (b : Bool) (kr : Option TripleKey) (own kmac : TripleKey) → kr ≡ Some own → (if b then kr else None) ≡ Some kmac → kmac ≡ own
+found_key true kr own kmac e f = let z : Some own ≡ Some kmac = sym e ∙ f in cc
+found_key false kr own kmac e f = absurd cc
+
+module _ (settings : Settings) (l : Link) (history : List Occurrence) (p : IsPair settings l history) (keys : List KmacEntry) (lines : List TapLine) (m : ℕ)
+    (t : IsTapped keys lines m l history) where
   abbrev s : EndLinkOpening
   s = p.s
 
@@ -74,17 +81,21 @@ module _ (audited : PairsAudited) (settings : Settings) (basic : settings.modulo
   kmac_is : s.kmac ≡ t.kmac
   kmac_is = let e = numbers in cc
 
+  pub ra_is : s.ra ≡ t.ra
+  ra_is = let e = numbers in cc
+
+  pub rb_is : s.rb ≡ t.rb
+  rb_is = let e = numbers in cc
+
   kr_is : p.kr ≡ Some s.kmac
   kr_is = let e = numbers in cc
 
-  agree : Agree s
+  pub agree : Agree s
   agree now = p.finds now s.engine s.rbc ∙ own_key s.engine s.rbc s.kmac p.kr s.ra s.rb ∙ kr_is
 
-  kept : ends.order_kept ≡ true
-  kept = not_false ends.order_kept (sym p.ordered ∙ keeping.ordered)
-
-  finds : FindsAccepted s ends.e ends.r
-  finds = audited s p.steps p.fit agree (ap (λ (x : Settings). x.modulo) p.settings_are ∙ basic) kept
+  -- the radio block centre finds no other KMAC for any engine
+  pub one_key : (at id : ℕ) (kmac : TripleKey) → s.finder at id s.rbc ≡ Some kmac → kmac ≡ s.kmac
+  one_key at id kmac find = found_key ((s.engine == id) && (s.rbc == s.rbc)) p.kr s.kmac kmac kr_is (sym (p.finds at id s.rbc) ∙ find)
 
   abbrev o : TapOpening
   o = opened_as keys lines m l history t
@@ -95,27 +106,31 @@ module _ (audited : PairsAudited) (settings : Settings) (basic : settings.modulo
       judged_same side s.engine t.engine s.rbc t.rbc (Some s.kmac) (key_at keys t.moment t.engine t.rbc) ends.r.stream (stream_of m E lines) ends.e.stream (stream_of m R lines)
       engine_is rbc_is (ap Some kmac_is ∙ sym t.found) (p.stream_r ∙ sym t.of_e) (p.stream_e ∙ sym t.of_r)
 
-  good_of_e : good_texts (judged_of E s.engine s.rbc (Some s.kmac) ends.r.stream ends.e.stream) ≡ good_texts (judged_at (key_at keys) m o lines E)
+  pub good_of_e : good_texts (judged_of E s.engine s.rbc (Some s.kmac) ends.r.stream ends.e.stream) ≡ good_texts (judged_at (key_at keys) m o lines E)
   good_of_e = ap good_texts (judged_is E)
 
-  good_of_r : good_texts (judged_of R s.engine s.rbc (Some s.kmac) ends.r.stream ends.e.stream) ≡ good_texts (judged_at (key_at keys) m o lines R)
+  pub good_of_r : good_texts (judged_of R s.engine s.rbc (Some s.kmac) ends.r.stream ends.e.stream) ≡ good_texts (judged_at (key_at keys) m o lines R)
   good_of_r = ap good_texts (judged_is R)
 
-  prefix_is : (xs xs' ys ys' : List (List ℕ)) → xs' ≡ xs → ys ≡ ys' → IsPrefix xs ys → IsPrefix xs' ys'
-  prefix_is xs xs' ys ys' a b h = subst (λ (zs : List (List ℕ)). IsPrefix zs ys') (sym a) (subst (λ (zs : List (List ℕ)). IsPrefix xs zs) b h)
+  module _ (audited : PairsAudited) (basic : settings.modulo ≡ 8) (keeping : IsOrderKeeping l.opening history) where
+    kept : ends.order_kept ≡ true
+    kept = not_false ends.order_kept (sym p.ordered ∙ keeping.ordered)
 
-  finds_good : FindsGood keys lines m o l history
-  finds_good =
-      let f = finds in
-      record {
-        at_r = prefix_is ends.r.core.upper.accepted (accepted_by R history) _ _ p.accepted_r good_of_e f.at_r;
-        at_e = prefix_is ends.e.core.upper.accepted (accepted_by E history) _ _ p.accepted_e good_of_r f.at_e;
-        all_at_r = λ live. p.accepted_r ∙ f.all_at_r (subst IsUnreleased p.r_is live) ∙ good_of_e;
-        all_at_e = λ live. p.accepted_e ∙ f.all_at_e (subst IsUnreleased p.e_is live) ∙ good_of_r;
-      }
+    finds : FindsAccepted s ends.e ends.r
+    finds = audited s p.steps p.fit agree (ap (λ (x : Settings). x.modulo) p.settings_are ∙ basic) kept
+
+    finds_good : FindsGood keys lines m o l history
+    finds_good =
+        let f = finds in
+        record {
+          at_r = prefix_is ends.r.core.upper.accepted (accepted_by R history) _ _ p.accepted_r good_of_e f.at_r;
+          at_e = prefix_is ends.e.core.upper.accepted (accepted_by E history) _ _ p.accepted_e good_of_r f.at_e;
+          all_at_r = λ live. p.accepted_r ∙ f.all_at_r (subst IsUnreleased p.r_is live) ∙ good_of_e;
+          all_at_e = λ live. p.accepted_e ∙ f.all_at_e (subst IsUnreleased p.e_is live) ∙ good_of_r;
+        }
 
 pub audit_finds_accepted : StacksRun → PairsAudited → AuditFindsAccepted
 audit_finds_accepted run audited plan steps fit allowed basic n l at keeping keys lines m t =
     let history : List Occurrence = history_on n (world_run plan steps).1 in
     let p : IsPair plan.settings l history = run plan steps fit allowed n l at t.engine t.rbc t.kmac (Some t.kmac) t.ra t.rb t.link_is in
-    finds_good audited plan.settings basic l history p keeping keys lines m t
+    finds_good plan.settings l history p keys lines m t audited basic keeping

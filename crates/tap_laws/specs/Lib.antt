@@ -1,4 +1,10 @@
+pub mod LookingUp
 pub mod Progress
 pub mod Runs
+pub mod OneEnd
+pub mod OwnRecordings
 pub mod Pairs
 pub mod Worlds
+pub mod AnyLine
+pub mod Macs
+pub mod Genuine

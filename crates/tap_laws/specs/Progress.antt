@@ -12,8 +12,9 @@ use Rattle.safety_automaton.specs.Safety.{Connection, Phase, Ready, WaitAu1, Wai
 use Rattle.safety_automaton.specs.Rules.{IsOpen}
 use Rattle.er_end_model.specs.Steps.{Finds}
 use Rattle.er_end_model.specs.Layers.{Core}
-use Rattle.er_end_model.specs.Ends.{Opening, Call, Answer, Event, Start, Come, Send, Take, Leave, Tick, Ended, Fault, Stalled, Moment, opened, end_run}
+use Rattle.er_end_model.specs.Ends.{Opening, Call, Answer, Moment, opened, end_run}
 use Rattle.tap_model.specs.Given.{received}
+use Rattle.tap_laws.specs.LookingUp.{AllLookUp}
 
 -- ---- an opening
 
@@ -32,22 +33,6 @@ flag_to o = flag_of (other_role (role_of_opened_end o))
 -- a KMAC is found, at some moment
 abbrev pub IsKmacFound : Finds → (engine rbc : ℕ) → TripleKey → Type 0
 IsKmacFound finds engine rbc kmac = (now : ℕ) × (finds now engine rbc ≡ Some kmac)
-
--- KMACs are looked up in this way alone
-abbrev pub LooksUp : Finds → Event → Type 0
-LooksUp finds Start = Unit {0}
-LooksUp finds (Come own octets) = own ≡ finds
-LooksUp finds (Send user) = Unit {0}
-LooksUp finds Take = Unit {0}
-LooksUp finds (Leave sub) = Unit {0}
-LooksUp finds Tick = Unit {0}
-LooksUp finds Ended = Unit {0}
-LooksUp finds Fault = Unit {0}
-LooksUp finds Stalled = Unit {0}
-
-abbrev pub AllLookUp : Finds → List Moment → Type 0
-AllLookUp finds [] = Unit {0}
-AllLookUp finds (e ∷ events) = LooksUp finds e.event × AllLookUp finds events
 
 -- ---- the texts that were given
 
@@ -109,6 +94,12 @@ pub data Got (finds : Finds) (o : Opening) (given accepted sent : List (List ℕ
   GotsOne : (c : Connection) → GotOne finds o c given accepted sent → Got finds o given accepted sent
   GotsAll : (c : Connection) → GotAll finds o c given accepted → Got finds o given accepted sent
 
+-- the session keys that a side knows by what it got
+abbrev pub session_got : (finds : Finds) (o : Opening) (given accepted sent : List (List ℕ)) → Got finds o given accepted sent → Option TripleKey
+session_got finds o given accepted sent (GotsNone n) = None
+session_got finds o given accepted sent (GotsOne c n) = Some c.session
+session_got finds o given accepted sent (GotsAll c n) = Some c.session
+
 -- a side that waits for its first text, or is yet to call
 abbrev pub IsBeginningPhase : Opening → Phase → Type 0
 IsBeginningPhase (Call settings me peer kmac rb now) phase = (phase ≡ Ready peer kmac rb) ⊎ (phase ≡ WaitAu2 peer kmac rb)
@@ -119,13 +110,13 @@ abbrev pub WaitsForSecondText : Opening → Connection → Phase → Type 0
 WaitsForSecondText (Call settings me peer kmac rb now) c phase = phase ≡ WaitAr c
 WaitsForSecondText (Answer settings me ra now) c phase = phase ≡ WaitAu3 c
 
--- by its phase; behind a release by how far it was
+-- by its phase; behind a release by how far it was, whose session keys it keeps
 pub data Stage (finds : Finds) (o : Opening) (phase : Phase) (given accepted sent : List (List ℕ)) : Type 0 where
   Begins : IsBeginningPhase o phase → GotNone given accepted sent → Stage finds o phase given accepted sent
   Waits : (c : Connection) → WaitsForSecondText o c phase → GotOne finds o c given accepted sent → Stage finds o phase given accepted sent
   Speaks : (c : Connection) → phase ≡ Connected c.peer c.session → GotAll finds o c given accepted → Stage finds o phase given accepted sent
   Gone : (release : Release) (session : Option TripleKey) → phase ≡ Released release session → (front rest : List (List ℕ)) → given ≡ front ++ rest
-      → Got finds o front accepted sent → Stage finds o phase given accepted sent
+      → (got : Got finds o front accepted sent) → session ≡ session_got finds o front accepted sent got → Stage finds o phase given accepted sent
 
 -- how far a side is, which was given these texts
 pub record Progresses (finds : Finds) (o : Opening) (given : List (List ℕ)) (x : Core) : Type 0 where

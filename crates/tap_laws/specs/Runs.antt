@@ -5,7 +5,7 @@ use Rattle.er_end_model.specs.Ends as end
 use Rattle.pair_model.specs.Steps.{PairStep}
 use Rattle.er_end_pair_laws.specs.Openings.{EndLinkOpening}
 use Rattle.er_end_pair_laws.specs.Laws.{end_link_after}
-use Rattle.tap_laws.specs.Progress.{AllLookUp}
+use Rattle.tap_laws.specs.LookingUp.{AllLookUp}
 
 -- how each end of a link is opened
 abbrev pub calling_of : EndLinkOpening → end.Opening

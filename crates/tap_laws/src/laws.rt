@@ -1,10 +1,15 @@
-//! What the safety side of an end accepted, by what it was given, and that the ends of a link are runs of events. The functions do nothing;
-//! their contracts are the laws.
+//! What an audit finds of what ends sent and accepted: of one end, of two, and of each link of a world; and what its verdicts rest on. The functions
+//! do nothing; their contracts are the laws.
 
 ghost use Rattle.tap_laws.specs.Progress.{LiveSides, SidesProgress};
 ghost use Rattle.tap_laws.specs.Runs.{EndsAreRuns};
+ghost use Rattle.tap_laws.specs.OneEnd.{AcceptedIsGood};
+ghost use Rattle.tap_laws.specs.OwnRecordings.{OwnRecordingIsGood};
 ghost use Rattle.tap_laws.specs.Pairs.{PairsAudited};
 ghost use Rattle.tap_laws.specs.Worlds.{AuditFindsAccepted};
+ghost use Rattle.tap_laws.specs.AnyLine.{AuditFindsTold, AuditFindsUnforged};
+ghost use Rattle.tap_laws.specs.Macs.{MacsDecide};
+ghost use Rattle.tap_laws.specs.Genuine.{GoodIsSent, GoodIsSentBefore};
 
 /// How far the safety side of an end is, over any events, by the octets that it was given: nothing accepted before the first text told the
 /// numbers of the session, and then each accepted message is a DT that was given, in their order, under its keys. The safety side of an end that isn't released isn't released either.
@@ -21,6 +26,24 @@ pub fn sides_progress()
 pub fn ends_are_runs()
     ensures { EndsAreRuns }
 {}
+
+/// One end alone, at modulo 8, over any events, with its KMAC, and beside any stream of its own side whose first item tells its random number: what
+/// it accepted is a prefix of the texts of its peer's good DTs in the audit, and equal to it while the end isn't released. Nothing is said of the
+/// line or of the peer.
+pub fn accepted_is_good()
+    ensures { AcceptedIsGood }
+{
+    t70_header::laws::wrapping();
+    tap_hearing::laws::given_is_heard();
+    sides_progress();
+}
+
+/// So too with the end's own recording: the octets that came to it, and beside them those that it sent, where these tell its random number.
+pub fn own_recording_is_good()
+    ensures { OwnRecordingIsGood }
+{
+    accepted_is_good();
+}
 
 /// Two ends over two lines that keep their order, at modulo 8, where both have one KMAC: an audit of the octets that were passed finds good what
 /// the ends accepted, and while an end isn't released nothing else of its peer's messages.
@@ -44,4 +67,64 @@ pub fn audit_finds_accepted()
 {
     drill_laws::laws::stacks_run();
     pairs_audited();
+}
+
+/// Every list of steps of a world, each link of level full at modulo 8, whatever its line does, and every such tap of it: at an end beside which the tap
+/// tells the own random number, if the end accepted a message, what it accepted is a prefix of the texts of its peer's good DTs in the audit, and equal
+/// to it while that end isn't released.
+pub fn audit_finds_told()
+    ensures { AuditFindsTold }
+{
+    t70_header::laws::wrapping();
+    er_end_pair_laws::laws::prefix();
+    er_end_pair_laws::laws::greets();
+    er_end_model::laws::octets_are_heard();
+    tap_hearing::laws::given_is_heard();
+    sides_progress();
+    ends_are_runs();
+    drill_laws::laws::stacks_run();
+}
+
+/// So too at an end that, if it accepted a message, told a connection which isn't marked as forged: whatever its messages are marked, and the
+/// connection of the other end.
+pub fn audit_finds_unforged()
+    ensures { AuditFindsUnforged }
+{
+    t70_header::laws::wrapping();
+    er_end_pair_laws::laws::prefix();
+    er_end_pair_laws::laws::greets();
+    er_end_model::laws::octets_are_heard();
+    tap_hearing::laws::given_is_heard();
+    des_block::laws::decipher_undoes_encipher();
+    des_block::laws::encipher_undoes_decipher();
+    des_block::laws::gives_blocks();
+    safety_automaton::laws::session_keys();
+    sides_progress();
+    ends_are_runs();
+    drill_laws::laws::stacks_run();
+    drill_laws::laws::stacks_talk();
+    drill_laws::laws::lawful();
+    audit_finds_told();
+}
+
+/// With a session an AU2, AU3, AR or DT in its place is good exactly where its MAC is that of the text that its sender sealed, all 64 bits of it, and
+/// else it has a wrong MAC.
+pub fn macs_decide()
+    ensures { MacsDecide }
+{}
+
+/// Every list of steps of a world, each link of level full, whatever its line does, and every item of a tap: a good DT of a side is a message that
+/// this side sent on that link in these steps, unless neither side had sealed its text under those session keys.
+pub fn good_is_sent_before()
+    ensures { GoodIsSentBefore }
+{
+    safety_automaton::laws::texts_tell();
+    drill_laws::laws::lawful();
+}
+
+/// Every tap whatever, with whatever keys, judged beside such a link: each good DT of a side is such a message.
+pub fn good_is_sent()
+    ensures { GoodIsSent }
+{
+    good_is_sent_before();
 }

@@ -4,6 +4,8 @@ pub mod VerdictWords
 pub mod Verdicts
 pub mod Lines
 pub mod Texts
+pub mod AllLinks
 pub mod Audits
 pub mod Ears
 pub mod KnownAnswers
+pub mod KnownMacs
