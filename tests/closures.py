@@ -36,6 +36,9 @@ CLAIMS = [
     ("What is heard of a tapped stream, and the verdicts", "tap_model/specs/Audits"),
     ("What an end was given is heard", "tap_model/specs/Given"),
     ("An audit finds what was accepted", "tap_laws/specs/Worlds"),
+    ("One end's audit", "tap_laws/specs/OneEnd"),
+    ("An audit on any line", "tap_laws/specs/AnyLine"),
+    ("What an audit calls good was sent", "tap_laws/specs/Genuine"),
     ("Calls on one handle in C", "er_end_c/specs/Runs"),
 ]
 # Files that are marked `-- Representation:` and named by an exported clause all the same: docs/CLAIMS.md tells them.
