@@ -4,6 +4,9 @@ pub mod VerdictWords
 pub mod Verdicts
 pub mod Lines
 pub mod Texts
+pub mod EndWords
+pub mod Ends
+pub mod EndTexts
 pub mod Audits
 pub mod Ears
 pub mod KnownAnswers

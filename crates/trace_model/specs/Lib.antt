@@ -2,3 +2,4 @@ pub mod Connections
 pub mod Printed
 pub mod Checks
 pub mod Replays
+pub mod Recordings
