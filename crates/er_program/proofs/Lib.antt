@@ -10,7 +10,9 @@ pub mod BitMeanings
 pub mod KeyRuns
 pub mod KeyMeanings
 pub mod TraceTexts
+pub mod KeyedRuns
 pub mod ReplayRuns
+pub mod CheckEnds
 pub mod Askings
 pub mod ReplayMeanings
 pub mod AuditRuns

@@ -25,7 +25,7 @@ pub use file_kind::FileKind;
 pub use held::{KeysHeld, keys_held};
 pub use key_faults::keys_refused;
 pub use last_line::LastLine;
-pub use refusals::{file_refused, overfull};
+pub use refusals::{file_refused, overfull, recording_differs};
 pub use shown::{put_octets, put_text};
 pub use tally::{Heard, Tally, Uncommon};
 pub use watch::{Watch, side};

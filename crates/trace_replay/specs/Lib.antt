@@ -1,3 +1,4 @@
 pub mod Places
 pub mod Takings
 pub mod Going
+pub mod Compared
