@@ -14,7 +14,9 @@ pub mod KeyedRuns
 pub mod ReplayRuns
 pub mod CheckEnds
 pub mod Askings
+pub mod KeyedMeanings
 pub mod ReplayMeanings
+pub mod CheckMeanings
 pub mod AuditRuns
 pub mod AuditMeanings
 pub mod BulkSteps

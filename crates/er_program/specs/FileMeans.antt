@@ -49,7 +49,7 @@ abbrev pub IsCompleteByFiles : Command → Files → (c d f g status : ℕ) → 
 IsCompleteByFiles command files c d f g status = statuses.IsComplete command (sight files None c None f) (sight files None d None g) status
 
 pub record FileMeans (command : Command) (files : Files) (asked asked_now : AskedNames) (c d f g : ℕ) (before now : Option (List ℕ)) (status : ℕ) : Type 0 where
-  pub known : statuses.IsStatusOf command status
+  pub known : statuses.IsFileStatus status
   pub done : status ≡ 0 → statuses.IsDone command nobody (sight files asked c before f) (sight files asked_now d now g)
   pub usage : status ≡ 1 → statuses.IsMisused command (sight files asked c before f) (sight files asked_now d now g)
   pub fetch : status ≡ 2 → IsUnfetched command asked asked_now c d before now

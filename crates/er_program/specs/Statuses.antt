@@ -15,9 +15,9 @@ use Rattle.er_serving.specs.LineRuns.{IsLineStatus, GivenToLoop, IsServed, IsPai
 
 -- ---- the closed list of statuses
 
--- of a command that needs no wires, a check aside
+-- of a command that needs no wires
 abbrev pub IsFileStatus : ℕ → Type 0
-IsFileStatus s = (s ≡ 0) ⊎ (s ≡ 1) ⊎ (s ≡ 2) ⊎ (s ≡ 3) ⊎ (s ≡ 4) ⊎ (s ≡ 5) ⊎ (s ≡ 7) ⊎ (s ≡ 8)
+IsFileStatus s = (s ≡ 0) ⊎ (s ≡ 1) ⊎ (s ≡ 2) ⊎ (s ≡ 3) ⊎ (s ≡ 4) ⊎ (s ≡ 5) ⊎ (s ≡ 7) ⊎ (s ≡ 8) ⊎ (s ≡ 9)
 
 -- of a command
 abbrev pub IsStatusOf : Command → ℕ → Type 0
@@ -26,7 +26,7 @@ IsStatusOf (Drill name) s = IsFileStatus s
 IsStatusOf (Bits name) s = IsFileStatus s
 IsStatusOf (Migrate keys) s = IsFileStatus s
 IsStatusOf (Replay keys trace) s = IsFileStatus s
-IsStatusOf (Check keys trace) s = IsFileStatus s ⊎ (s ≡ 9)
+IsStatusOf (Check keys trace) s = IsFileStatus s
 IsStatusOf (Audit keys tap ends) s = IsFileStatus s
 IsStatusOf (Bulk seed count) s = IsFileStatus s
 IsStatusOf (Serve keys address rbc turns) s = IsLineStatus s

@@ -5,6 +5,7 @@ use Rattle.er_base.specs.declared.side.Side.{Side}
 use Rattle.er_base.specs.Sides.{side_word}
 use Rattle.hdlc_frames.specs.Framing.{Verdict, frames_of}
 use Rattle.tap_model.specs.declared.end_cause.EndCause.{EndCause}
+use Rattle.tap_model.specs.declared.end_cause.EndCause.TheVariants.{Unopened, Open, Gap}
 use Rattle.tap_model.specs.EndWords.{end_word}
 use Rattle.tap_model.specs.Hearing.{ReadFrame, is_link_opening, sort_of, Sort, Carries, SetsUp, Agrees, Disconnects, Leaves, Passes}
 use Rattle.tap_model.specs.Ends as tap
@@ -75,6 +76,16 @@ abbrev pub end_of_rest : Option EndCause → (opened : Bool) → (left : ℕ) �
 end_of_rest (Some why) opened left side r verdicts = record { heard = 0; left = left + frames_among verdicts; why = why }
 end_of_rest None true left side r verdicts = end_from side r verdicts
 end_of_rest None false left side r verdicts = stream_end side verdicts
+
+-- of none that is left
+abbrev pub why_of : Option EndCause → (opened gap : Bool) → EndCause
+why_of (Some why) opened gap = why
+why_of None true gap = if gap then Gap else Open
+why_of None false gap = Unopened
+
+abbrev pub left_of : Option EndCause → ℕ → ℕ
+left_of (Some why) left = left
+left_of None left = 0
 
 abbrev pub end_behind : KExtent → List Verdict → StreamEnd
 end_behind k verdicts = counted_end k.heard (end_of_rest k.over k.opened k.left k.side k.reach verdicts)

@@ -8,7 +8,7 @@ ghost use Rattle.hdlc_frames.specs.Shown.{verdict_of_octets_found};
 ghost use Rattle.hdlc_frames.specs.Deframing.{IsKeptOfStream, stream_behind_kept};
 ghost use Rattle.tap_model.specs.Lines.{stream_of};
 ghost use Rattle.tap_model.specs.Ends.{first_reach};
-ghost use Rattle.link_audit.specs.Strides.{kept_count, counted_end, end_behind, end_at_frame, told_behind, told_of_stream};
+ghost use Rattle.link_audit.specs.Strides.{kept_count, counted_end, why_of, left_of, end_behind, end_at_frame, told_behind, told_of_stream};
 
 use crate::ear::opens;
 use crate::marked_lines::MarkedLines;
@@ -66,28 +66,41 @@ impl Extent {
 
     // Why no more is heard, where nothing more comes.
     fn why(&self) -> EndCause
-        ensures { result ≡ (end_behind self.now []).why }
+        ensures { result ≡ why_of self.now.over self.now.opened self.now.reach.gap }
     {
-        if let Some(why) = self.over {
-            return why;
+        match self.over {
+            Some(why) => why,
+            None => {
+                if !self.opened {
+                    EndCause::Unopened
+                } else if self.reach.gap() {
+                    EndCause::Gap
+                } else {
+                    EndCause::Open
+                }
+            }
         }
-        if !self.opened {
-            return EndCause::Unopened;
+    }
+
+    // How many frames are left.
+    fn left(&self) -> u64
+        ensures { result ≡ left_of self.now.over self.now.left }
+    {
+        match self.over {
+            Some(_) => self.left,
+            None => 0,
         }
-        if self.reach.gap() {
-            return EndCause::Gap;
-        }
-        EndCause::Open
     }
 
     // What is told where nothing more comes.
     fn told(&self) -> Told
         ensures { result ≡ told_behind self.now [] }
     {
+        let (frames, heard) = (self.frames, self.heard);
         Told {
-            frames: self.frames,
-            heard: self.heard,
-            left: if self.over.is_some() { self.left } else { 0 },
+            frames,
+            heard,
+            left: self.left(),
             why: self.why(),
         }
     }

@@ -1,6 +1,5 @@
 -- What a check says of a recorded trace (this profile): its lines are held octet by octet against those that a replay prints.
-use Rattle.std.specs.Prelude.{ℕ, ◌≡◌, ◌+◌, ◌==◌, nat_lt, Bool, true, false, not, if◌then◌else◌, List, [], ◌∷◌, length, filter, Option, Some, None, Result, Ok, Err}
-use Rattle.std.specs.List.{list_any}
+use Rattle.std.specs.Prelude.{ℕ, ◌≡◌, ◌+◌, ◌==◌, nat_lt, Bool, true, false, ◌||◌, if◌then◌else◌, List, [], ◌∷◌, length, filter, Option, Some, None, Result, Ok, Err}
 use Rattle.std.specs.Str.{bytes_eq}
 use Rattle.er_base.specs.Lines.{lines_of, is_skipped}
 use Rattle.er_settings.specs.Values.{Settings}
@@ -15,10 +14,14 @@ use Rattle.trace_model.specs.Replays.{AreTaken, HasFirstRefusedEvent}
 
 -- ---- the lines of a file
 
+unfoldable pub has_line_feed : List ℕ → Bool
+has_line_feed [] = false
+has_line_feed (x ∷ xs) = x == 10 || has_line_feed xs
+
 -- the part of a file that is read: up to its last LF, with it
 unfoldable pub ended_part : List ℕ → List ℕ
 ended_part [] = []
-ended_part (x ∷ xs) = if list_any (λ octet. octet == 10) (x ∷ xs) then x ∷ ended_part xs else []
+ended_part (x ∷ xs) = if has_line_feed (x ∷ xs) then x ∷ ended_part xs else []
 
 -- a line, with its number in the file, from 1
 pub record NumberedLine : Type 0 where
@@ -62,7 +65,7 @@ verdict_on_lines lines printed is_cut =
 
 abbrev pub check_verdict : (file printed : List ℕ) → CheckVerdict
 check_verdict file printed =
-    verdict_on_lines (lines_of (ended_part file)) (lines_of printed) (not (bytes_eq (ended_part file) file))
+    verdict_on_lines (lines_of (ended_part file)) (lines_of printed) (nat_lt (length (ended_part file)) (length file))
 
 -- ---- what a check answers
 

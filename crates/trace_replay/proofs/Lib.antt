@@ -8,3 +8,5 @@ pub mod Counts
 pub mod Holdings
 pub mod Taking
 pub mod Running
+pub mod TextLines
+pub mod Comparing

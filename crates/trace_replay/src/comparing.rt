@@ -1,14 +1,19 @@
 //! A recording held against what a replay prints.
 
 ghost use Rattle.std.specs.Prelude.{◌≡◌};
-ghost use Rattle.trace_model.specs.Recordings.{check_verdict};
+ghost use Rattle.trace_model.specs.Recordings.{is_outcome_line, check_verdict};
 
 use crate::text_lines::{ended_part, is_skipped, next_line};
 use trace_model::CheckVerdict;
 
 // Whether a line tells an outcome.
-fn is_outcome(line: &[u8]) -> bool {
-    line.first() == Some(&b'<')
+fn is_outcome(line: &[u8]) -> bool
+    ensures { result ≡ is_outcome_line line.now }
+{
+    match line.split_first() {
+        None => false,
+        Some((octet, _)) => *octet == b'<',
+    }
 }
 
 /// What is to be said of a file whose replay prints this.

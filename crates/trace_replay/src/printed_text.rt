@@ -1,6 +1,7 @@
 //! What a replay prints, kept in memory.
 
-ghost use Rattle.std.specs.Prelude.{◌≡◌, [], Some};
+ghost use Rattle.std.specs.Prelude.{◌≡◌, ◌++◌, [], Some, None, IsSome, OnOk, OnErr};
+ghost use Rattle.trace_replay.specs.Compared.{cause_by};
 
 use er_base::NoMemory;
 use link_trait::{Failed, Sink};
@@ -25,7 +26,9 @@ impl Model for PrintedText {
 
 impl PrintedText {
     /// Nothing was printed yet.
-    pub fn new(alloc: Global) -> PrintedText {
+    pub fn new(alloc: Global) -> PrintedText
+        ensures { result ≡ record { octets = []; want = None } }
+    {
         PrintedText {
             octets: Vec::new(alloc),
             want: None,
@@ -40,10 +43,15 @@ impl PrintedText {
     }
 
     /// Why a replay into it ended: a write fails for want of memory alone.
-    pub fn cause_of(&self, fault: ReplayFault) -> ReplayFault {
-        match (fault, self.want) {
-            (ReplayFault::Sink, Some(want)) => ReplayFault::NoMemory(want),
-            _ => fault,
+    pub fn cause_of(&self, fault: ReplayFault) -> ReplayFault
+        ensures { result ≡ cause_by fault self.now.want }
+    {
+        let ReplayFault::Sink = fault else {
+            return fault;
+        };
+        match self.want {
+            Some(want) => ReplayFault::NoMemory(want),
+            None => fault,
         }
     }
 }
@@ -53,7 +61,10 @@ impl Sink for PrintedText {
 
     ghost state = { λ p. record { held = Some p.octets; faults = faults_by p.want } };
 
-    fn write(&mut self, piece: &[u8]) -> Result<(), Failed> {
+    fn write(&mut self, piece: &[u8]) -> Result<(), Failed>
+        ensures kept { OnOk result (self.new ≡ record self.old { octets = self.old.octets ++ piece.now }) }
+        ensures wanted { OnErr result ((self.new.octets ≡ self.old.octets) × IsSome self.new.want) }
+    {
         match self.octets.extend_from_slice(piece) {
             Ok(()) => Ok(()),
             Err(want) => {

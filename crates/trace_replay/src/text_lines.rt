@@ -47,11 +47,20 @@ pub fn ended_part(text: &[u8]) -> &[u8]
 }
 
 /// Whether a line is a comment or blank.
+#[tactic(auto, unfolding(er_base::specs::Words::words_of))]
 pub fn is_skipped(line: &[u8]) -> bool
     ensures { result ≡ is_skipped line.now }
 {
     match line.split_first() {
         None => true,
-        Some((octet, _)) => *octet == b'#' || next_word(line).is_none(),
+        Some((octet, _)) => {
+            if *octet == b'#' {
+                return true;
+            }
+            match next_word(line) {
+                None => true,
+                Some(_) => false,
+            }
+        }
     }
 }
