@@ -5,16 +5,16 @@ use Rattle.std.specs.Option.{option_to_list}
 use Rattle.std.proofs.lemmas.List.{take-append-drop}
 use Rattle.er_base.specs.declared.side.Side.{Side}
 use Rattle.hdlc_frames.specs.declared.controls.Control.{Control}
-use Rattle.hdlc_frames.specs.Framing.{Verdict, Frame, frames_of}
+use Rattle.hdlc_frames.specs.Framing.{Verdict, Frame, BadFcs, TooShort, TooLong, Aborted, frames_of}
 use Rattle.hdlc_frames.specs.ControlOctets.{control_of}
 use Rattle.hdlc_frames.specs.Deframing.{KeptDeframer, kept_of, stream_behind_kept, IsKeptOfStream, AddsToFrames}
 use Rattle.hdlc_frames.specs.Laws.{KeptStandsForStream}
 use Rattle.t70_header.specs.Joining as joining
 use Rattle.x224_tpdu.specs.Function.{reading}
 use Rattle.tap_model.specs.declared.end_cause.EndCause.{EndCause}
-use Rattle.tap_model.specs.Ends.{Reach, first_reach, frames_among, stride_at_pdu, stride_at_piece, end_from, stream_end}
+use Rattle.tap_model.specs.Ends.{Reach, first_reach, StreamEnd, is_frame, frames_among, stride_at_pdu, stride_at_piece, end_from, stream_end}
 use Rattle.link_audit.specs.declared.stride.Stride.{Stride}
-use Rattle.link_audit.specs.Strides.{KMessage, with_message, strode, kept_count, counted_end, told_of_stream, KExtent, end_of_rest, why_of, left_of, end_behind, end_at_frame, told_behind}
+use Rattle.link_audit.specs.Strides.{KMessage, with_message, strode, kept_count, counted_end, told_of_stream, KExtent, end_of_rest, why_of, left_of, end_behind, end_at_frame, told_with, told_behind}
 use Rattle.link_audit.proofs.Feeding.{frames_split, no_frames, first_split}
 
 -- ---- counts
@@ -25,6 +25,9 @@ count_more a n = omega arith
 frames_more : (address : ℕ) (body : List ℕ) (verdicts : List Verdict) → frames_among (Frame address body ∷ verdicts) ≡ frames_among verdicts + 1
 unfolding frames_among
 frames_more address body verdicts = omega arith
+
+told_same : (a b : ℕ) (x y : StreamEnd) → kept_count a ≡ kept_count b → x ≡ y → told_with a x ≡ told_with b y
+told_same a b x y count same = rw (count, same) refl
 
 -- ---- a block that ends a TPDU
 
@@ -78,7 +81,30 @@ module _ (side : Side) (reach : Reach) (frames heard left : ℕ) (address : ℕ)
   unfolding told_behind
   read_more opened (Some why) control information new live is more goes = absurd cc
   read_more opened None control information new live is more goes =
-      rw (frames_more address body verdicts, more, end_read opened control information is, sym goes, count_more frames (frames_among verdicts)) refl
+      let same : counted_end heard (end_of_rest None opened left side reach (Frame address body ∷ verdicts)) ≡ end_behind new verdicts =
+      rw (end_read opened control information is) goes in
+      let count : kept_count (frames + frames_among (Frame address body ∷ verdicts)) ≡ kept_count (new.frames + frames_among verdicts) =
+      rw (frames_more address body verdicts, more) (count_more frames (frames_among verdicts)) in
+      told_same (frames + frames_among (Frame address body ∷ verdicts)) (new.frames + frames_among verdicts)
+      (counted_end heard (end_of_rest None opened left side reach (Frame address body ∷ verdicts))) (end_behind new verdicts) count same
+
+  -- of what is no frame
+  pub other_more : (opened : Bool) (over : Option EndCause) (verdict : Verdict) → is_frame verdict ≡ false
+      → told_behind (kept opened over) (verdict ∷ verdicts) ≡ told_behind (kept opened over) verdicts
+  unfolding told_behind end_from stream_end frames_among
+  other_more opened over (Frame a b) other = absurd cc
+  other_more opened (Some why) BadFcs other = refl
+  other_more true None BadFcs other = refl
+  other_more false None BadFcs other = refl
+  other_more opened (Some why) TooShort other = refl
+  other_more true None TooShort other = refl
+  other_more false None TooShort other = refl
+  other_more opened (Some why) TooLong other = refl
+  other_more true None TooLong other = refl
+  other_more false None TooLong other = refl
+  other_more opened (Some why) Aborted other = refl
+  other_more true None Aborted other = refl
+  other_more false None Aborted other = refl
 
 -- ---- the end
 
@@ -86,24 +112,22 @@ none_among : frames_among [] ≡ 0
 unfolding frames_among
 none_among = refl
 
-pub told_now : (side : Side) (opened : Bool) (over : Option EndCause) (reach : Reach) (frames heard left given : ℕ) (why : EndCause)
-    → frames ≤ 18446744073709551615 → heard ≤ 18446744073709551615 → given ≤ 18446744073709551615 → given ≡ left_of over left → why ≡ why_of over opened reach.gap
-    → record { frames = frames; heard = heard; left = given; why = why }
+pub told_now : (side : Side) (opened : Bool) (over : Option EndCause) (reach : Reach) (frames heard left : ℕ)
+    → record { frames = kept_count frames; heard = kept_count heard; left = kept_count (left_of over left); why = why_of over opened reach.gap }
     ≡ told_behind (record { side = side; opened = opened; over = over; reach = reach; frames = frames; heard = heard; left = left }) []
 unfolding told_behind end_from stream_end
-told_now side opened (Some cause) reach frames heard left given why most heard_most left_most is because =
-    let a : kept_count (frames + 0) ≡ frames = omega (arith, most) in
-    let b : kept_count (heard + 0) ≡ heard = omega (arith, heard_most) in
-    let l : kept_count (left + 0) ≡ given = omega (arith, left_most, is) in
-    rw (none_among, a, b, l, because) refl
-told_now side true None reach frames heard left given why most heard_most left_most is because =
-    let a : kept_count (frames + 0) ≡ frames = omega (arith, most) in
-    let b : kept_count (heard + 0) ≡ heard = omega (arith, heard_most) in
-    rw (none_among, a, b, is, because) refl
-told_now side false None reach frames heard left given why most heard_most left_most is because =
-    let a : kept_count (frames + 0) ≡ frames = omega (arith, most) in
-    let b : kept_count (heard + 0) ≡ heard = omega (arith, heard_most) in
-    rw (none_among, a, b, is, because) refl
+told_now side opened over reach frames heard left =
+    let none : frames + 0 ≡ frames = omega arith in
+    let same : heard + 0 ≡ heard = omega arith in
+    let rest : left + 0 ≡ left = omega arith in
+    by_end over opened none same rest
+  where
+    by_end : (over : Option EndCause) (opened : Bool) → frames + 0 ≡ frames → heard + 0 ≡ heard → left + 0 ≡ left
+        → record { frames = kept_count frames; heard = kept_count heard; left = kept_count (left_of over left); why = why_of over opened reach.gap }
+        ≡ told_with (frames + frames_among []) (counted_end heard (end_of_rest over opened left side reach []))
+    by_end (Some why) opened none same rest = rw (none_among, none, same, rest) refl
+    by_end None true none same rest = rw (none_among, none, same) refl
+    by_end None false none same rest = rw (none_among, none, same) refl
 
 -- ---- pieces
 
@@ -129,4 +153,5 @@ pub whole_told : (law : KeptStandsForStream) (side : Side) (stream : List ℕ)
 unfolding told_behind
 whole_told law side stream =
     let same : frames_of (stream_behind_kept (kept_of []) ++ stream) ≡ frames_of stream = sym (first_split law stream) in
-    rw same refl
+    let none : 0 + frames_among (frames_of stream) ≡ frames_among (frames_of stream) = omega arith in
+    rw (same, none) refl

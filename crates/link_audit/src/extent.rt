@@ -48,6 +48,13 @@ impl Model for Extent {
     } };
 }
 
+/// A count, which is at most 2^64 - 1.
+pub fn kept(count: u64) -> u64
+    ensures { result ≡ kept_count count }
+{
+    count
+}
+
 impl Extent {
     // Nothing came yet.
     fn new(side: Side) -> Extent
@@ -84,10 +91,10 @@ impl Extent {
 
     // How many frames are left.
     fn left(&self) -> u64
-        ensures { result ≡ left_of self.now.over self.now.left }
+        ensures { result ≡ kept_count (left_of self.now.over self.now.left) }
     {
         match self.over {
-            Some(_) => self.left,
+            Some(_) => kept(self.left),
             None => 0,
         }
     }
@@ -96,10 +103,9 @@ impl Extent {
     fn told(&self) -> Told
         ensures { result ≡ told_behind self.now [] }
     {
-        let (frames, heard) = (self.frames, self.heard);
         Told {
-            frames,
-            heard,
+            frames: kept(self.frames),
+            heard: kept(self.heard),
             left: self.left(),
             why: self.why(),
         }
@@ -186,8 +192,13 @@ impl Extent {
     fn take(&mut self, found: &Option<Found<'_>>)
         ensures { (verdicts : List Verdict) → told_behind self.old (option_to_list (option_map verdict_of_octets_found found.now) ++ verdicts) ≡ told_behind self.new verdicts }
     {
-        if let Some(Found::Frame(frame)) = found {
-            self.frame(frame);
+        match found {
+            Some(Found::Frame(frame)) => self.frame(frame),
+            Some(Found::BadFcs) => {}
+            Some(Found::TooShort) => {}
+            Some(Found::TooLong) => {}
+            Some(Found::Aborted) => {}
+            None => {}
         }
     }
 

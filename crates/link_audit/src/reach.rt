@@ -133,7 +133,13 @@ impl Reach {
     }
 
     // An I frame comes.
-    fn information(&mut self, side: Side, address: u8, control: Control, information: &[u8]) -> Stride
+    fn information(
+        &mut self,
+        side: Side,
+        address: u8,
+        control: Control,
+        information: &[u8],
+    ) -> Stride
         requires { IsInformation (sort_of control) }
         ensures { strode result self.new
             ≡ stride_at_sort side self.old (record { address = address; control = control; information = information.now }) (sort_of control) }

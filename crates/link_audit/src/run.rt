@@ -12,9 +12,9 @@ ghost use Rattle.tap_model.specs.EndTexts.{end_text, link_text_asked};
 ghost use Rattle.tap_model.specs.Audits.{Audits};
 ghost use Rattle.link_audit.specs.Openings.{tap_opening_of_kept, opening_at, links_opened};
 ghost use Rattle.link_audit.specs.Strides.{kept_count};
-ghost use Rattle.link_audit.specs.Writes.{Writes};
+ghost use Rattle.link_audit.specs.Writes.{Writes, side_with_end};
 
-use crate::extent::extent_of;
+use crate::extent::{extent_of, kept};
 use crate::items::Items;
 use crate::judging::judge;
 use crate::known::{Known, known_of};
@@ -87,11 +87,11 @@ fn count_items(lines: &MarkedLines<'_>, link: u8, side: Side) -> u64
 {
     let mut items = Items::new(lines, link, side);
     let mut count: u64 = 0;
-    while items.first().is_some() {
+    while let Some(_item) = items.first() {
         items.advance();
         count = count.saturating_add(1);
     }
-    count
+    kept(count)
 }
 
 // Writes the line of a side's end, where ends are asked for.
@@ -119,6 +119,25 @@ fn write_end<S: Sink>(
     }
 }
 
+// Writes the lines of a side, and that of its end where ends are asked for.
+fn write_side<S: Sink>(
+    ends: bool,
+    known: &Known,
+    lines: &MarkedLines<'_>,
+    link: u8,
+    side: Side,
+    line: &mut Vec<u8>,
+    sink: &mut S,
+) -> Result<(), AuditFault>
+    ensures writes { Writes (S.state sink.old).held (S.state sink.new).held (S.state sink.old).faults (S.state sink.new).faults
+        (side_with_end ends lines.now link side known.now) result }
+    ensures later { (S.state sink.old).faults ≤ (S.state sink.new).faults }
+{
+    let mut items = Items::new(lines, link, side);
+    write_items(known, link, side, &mut items, line, sink)?;
+    write_end(ends, lines, link, side, line, sink)
+}
+
 // Writes the lines of a link, those of the engine's side first.
 fn audit_link<K: KeyFinder, S: Sink>(
     ends: bool,
@@ -133,13 +152,11 @@ fn audit_link<K: KeyFinder, S: Sink>(
         (link_text_asked ends (key_at (K.entries keys.now)) lines.now link (Some (tap_opening_of_kept opening.now))) result }
     ensures later { (S.state sink.old).faults ≤ (S.state sink.new).faults }
 {
-    let mut of_e = Items::new(lines, link, Side::E);
-    let mut of_r = Items::new(lines, link, Side::R);
+    let of_e = Items::new(lines, link, Side::E);
+    let of_r = Items::new(lines, link, Side::R);
     let known = known_of(keys, opening, &of_e, &of_r);
-    write_items(&known, link, Side::E, &mut of_e, line, sink)?;
-    write_end(ends, lines, link, Side::E, line, sink)?;
-    write_items(&known, link, Side::R, &mut of_r, line, sink)?;
-    write_end(ends, lines, link, Side::R, line, sink)
+    write_side(ends, &known, lines, link, Side::E, line, sink)?;
+    write_side(ends, &known, lines, link, Side::R, line, sink)
 }
 
 // Writes the lines of a link, where it was opened.
@@ -203,5 +220,12 @@ pub fn audit<K: KeyFinder, S: Sink>(
     let lines = tap.lines.as_slice();
     let openings = openings_in(lines)?;
     let marks = Marks::of(alloc, lines)?;
-    audit_links(ends, keys, &marks.all(), &openings, &mut Vec::new(alloc), sink)
+    audit_links(
+        ends,
+        keys,
+        &marks.all(),
+        &openings,
+        &mut Vec::new(alloc),
+        sink,
+    )
 }

@@ -71,6 +71,7 @@ some_line x xs = some_by (x == 10) (lines_of xs)
     onto : (ls : List (List ℕ)) → 0 < length (onto_first_line x ls)
     onto [] = omega arith
     onto (l ∷ ls) = omega arith
+
     some_by : (feed : Bool) (ls : List (List ℕ)) → 0 < length (if feed then [] ∷ ls else onto_first_line x ls)
     some_by true ls = omega arith
     some_by false ls = onto ls

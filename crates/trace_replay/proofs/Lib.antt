@@ -10,3 +10,4 @@ pub mod Taking
 pub mod Running
 pub mod TextLines
 pub mod Comparing
+pub mod Printing

@@ -9,6 +9,7 @@ mod check;
 mod comparing;
 mod connections;
 mod gives;
+pub mod laws;
 mod printed_text;
 mod run;
 mod text_lines;

@@ -13,7 +13,7 @@ pub returns-in_default : goal.returns-in_default
 returns-in_default c =
     rw (sym c.self.view_is) (λ verdicts.
     unread_more _ _ _ _ _ _ _ verdicts _ c.self.inside.over _ (sym c.is_some.ensures ∙ c.if-is_some.false) c.saturating_add-self-inside.ensures
-    c.in_default.ensures.value)
+    (sym c.in_default.ensures.value))
 
 pub returns : goal.returns
 returns c =

@@ -1,0 +1,12 @@
+-- What was counted and what is left.
+use Rattle.std.proofs.Common.{◌≡◌, ◌+◌, length}
+use Rattle.tap_model.specs.Hearing.{heard, items}
+use Rattle.tap_model.specs.Lines.{stream_of}
+use Rattle.link_audit.specs.Strides.{kept_count}
+use Rattle.link_audit.proofs.run.count_items.Given as goal
+
+abbrev pub invariant-loop-_item : goal.invariant-loop-_item
+invariant-loop-_item l = record { counted : kept_count (l.count + length l.items) ≡ kept_count (length (items (heard l.side (stream_of l.link l.side l.lines)))) }
+
+abbrev pub decreases-loop-_item : goal.decreases-loop-_item
+decreases-loop-_item l = length l.items
