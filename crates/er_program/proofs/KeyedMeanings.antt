@@ -113,7 +113,7 @@ module _ (w : Work) (keys_name name : List ℕ) (files : Files) (p q : AskedName
   }
 
   -- memory ran out
-  pub means_forgot : status ≡ 7 → Grew before now memory_line → FileMeans (command w keys_name name) files p q c d f g before now status
+  means_forgot : status ≡ 7 → Grew before now memory_line → FileMeans (command w keys_name name) files p q c d f g before now status
   means_forgot is printed = record {
     known = inr (inr (inr (inr (inr (inr (inl is))))));
     done = λ h. absurd (omega arith);

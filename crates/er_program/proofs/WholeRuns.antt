@@ -225,11 +225,12 @@ no_line s (inr (inr (inr (inl x)))) a b c d e f = d x
 no_line s (inr (inr (inr (inr (inl x))))) a b c d e f = e x
 no_line s (inr (inr (inr (inr (inr x))))) a b c d e f = f x
 
--- status 1, 3 or 8 is none of these
-apart_line : (s : ℕ) → (s ≡ 1) ⊎ (s ≡ 3) ⊎ (s ≡ 8) → IsLineStatus s → ⊥
+-- status 1, 3, 8 or 9 is none of these
+apart_line : (s : ℕ) → (s ≡ 1) ⊎ (s ≡ 3) ⊎ (s ≡ 8) ⊎ (s ≡ 9) → IsLineStatus s → ⊥
 apart_line s (inl x) known = no_line s known (omega (arith, x)) (omega (arith, x)) (omega (arith, x)) (omega (arith, x)) (omega (arith, x)) (omega (arith, x))
 apart_line s (inr (inl x)) known = no_line s known (omega (arith, x)) (omega (arith, x)) (omega (arith, x)) (omega (arith, x)) (omega (arith, x)) (omega (arith, x))
-apart_line s (inr (inr x)) known = no_line s known (omega (arith, x)) (omega (arith, x)) (omega (arith, x)) (omega (arith, x)) (omega (arith, x)) (omega (arith, x))
+apart_line s (inr (inr (inl x))) known = no_line s known (omega (arith, x)) (omega (arith, x)) (omega (arith, x)) (omega (arith, x)) (omega (arith, x)) (omega (arith, x))
+apart_line s (inr (inr (inr x))) known = no_line s known (omega (arith, x)) (omega (arith, x)) (omega (arith, x)) (omega (arith, x)) (omega (arith, x)) (omega (arith, x))
 
 pub serve_run : (keys address : List ℕ) (rbc turns : ℕ) (g : GivenToLoop) (before now : Outside) (status : ℕ)
     → IsLineRun (line.Serve keys address rbc turns) g before now status → IsRun (Serve keys address rbc turns) g before now status
@@ -252,7 +253,8 @@ serve_run keys address rbc turns g before now status m = record {
     sunk = λ is. record { rose = (m.sunk is).rose; beginning = (m.sunk is).beginning };
     wires = m.wires;
     memory = m.memory;
-    overfull = λ is. apart_line status (inr (inr is)) m.known;
+    overfull = λ is. apart_line status (inr (inr (inl is))) m.known;
+    unlike = λ is. apart_line status (inr (inr (inr is))) m.known;
   };
   idle = m.idle;
   asked = record { part = m.part; all = λ two four five seven. m.asked five seven };
@@ -281,7 +283,8 @@ call_run keys address engine rbc turns g before now status m = record {
     sunk = λ is. record { rose = (m.sunk is).rose; beginning = (m.sunk is).beginning };
     wires = m.wires;
     memory = m.memory;
-    overfull = λ is. apart_line status (inr (inr is)) m.known;
+    overfull = λ is. apart_line status (inr (inr (inl is))) m.known;
+    unlike = λ is. apart_line status (inr (inr (inr is))) m.known;
   };
   idle = m.idle;
   asked = record { part = m.part; all = λ two four five seven. m.asked five seven };

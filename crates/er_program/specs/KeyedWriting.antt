@@ -24,14 +24,14 @@ command_of_work (work.Audit ends) keys name = Audit keys name ends
 
 -- the answer to the octets of a file
 abbrev pub IsOfWork : Work → List KmacEntry → (file : List ℕ) → Answer → Type 0
-IsOfWork work.Replay keys file a = IsReplayOfFile keys file a
-IsOfWork work.Check keys file a = IsCheckOfFile keys file a
-IsOfWork (work.Audit ends) keys file a = IsAuditOfFile ends keys file a
+IsOfWork work.Replay = IsReplayOfFile
+IsOfWork work.Check = IsCheckOfFile
+IsOfWork (work.Audit ends) = IsAuditOfFile ends
 
 abbrev pub HasStatusOfWork : Work → List KmacEntry → (name : List ℕ) → Files → ℕ → Type 0
-HasStatusOfWork work.Replay keys name files status = HasTraceStatus keys name files status
-HasStatusOfWork work.Check keys name files status = HasRecordingStatus keys name files status
-HasStatusOfWork (work.Audit ends) keys name files status = HasTapStatus ends keys name files status
+HasStatusOfWork work.Replay = HasTraceStatus
+HasStatusOfWork work.Check = HasRecordingStatus
+HasStatusOfWork (work.Audit ends) = HasTapStatus ends
 
 -- ---- what is written where memory runs out
 

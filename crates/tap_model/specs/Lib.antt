@@ -10,3 +10,4 @@ pub mod EndTexts
 pub mod Audits
 pub mod Ears
 pub mod KnownAnswers
+pub mod KnownEnds

@@ -9,5 +9,5 @@ pub mod Holdings
 pub mod Taking
 pub mod Running
 pub mod TextLines
-pub mod Comparing
+pub mod Compares
 pub mod Printing

@@ -5,7 +5,7 @@
 //! that is released and at which no message waits, why it was released is all that any later event can show.
 #![tactic(auto)]
 
-mod check;
+mod checking;
 mod comparing;
 mod connections;
 mod gives;
@@ -15,7 +15,7 @@ mod run;
 mod text_lines;
 mod timed;
 
-pub use check::check;
+pub use checking::check;
 pub use run::replay;
 pub use text_lines::ended_part;
 pub use trace_model::{CheckVerdict, ReplayFault};
