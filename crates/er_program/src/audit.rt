@@ -34,17 +34,17 @@ fn not_audited<K: Sink>(alloc: Global, fault: AuditFault, sink: &mut K) -> Resul
 // Audits a tap that was read.
 fn audit_lines<K: Sink>(
     alloc: Global,
-    ends: bool,
+    with_ends: bool,
     store: &KeyStore,
     tap: &Tap,
     sink: &mut K,
 ) -> Result<Status, Stop>
     requires { CanBeRead tap.now }
-    ensures ends { EndsOne (IsLinesAnswer ends (key_at store.now) tap.now.lines) (BeginsLines ends (key_at store.now) tap.now.lines)
+    ensures ends { EndsOne (IsLinesAnswer with_ends (key_at store.now) tap.now.lines) (BeginsLines with_ends (key_at store.now) tap.now.lines)
         (K.state sink.old).held (K.state sink.new).held (K.state sink.old).faults (K.state sink.new).faults result }
     ensures sink_count { (K.state sink.old).faults ≤ (K.state sink.new).faults }
 {
-    match audit(alloc, store, tap, ends, sink) {
+    match audit(alloc, store, tap, with_ends, sink) {
         Ok(()) => Ok(Status(0)),
         Err(fault) => not_audited(alloc, fault, sink),
     }
@@ -53,17 +53,17 @@ fn audit_lines<K: Sink>(
 /// The octets of the tap's file.
 pub fn audit_file<K: Sink>(
     alloc: Global,
-    ends: bool,
+    with_ends: bool,
     store: &KeyStore,
     octets: &[u8],
     sink: &mut K,
 ) -> Result<Status, Stop>
-    ensures ends { EndsOne (IsTapAnswer ends store.now (tap_of octets.now)) (BeginsTap ends store.now (tap_of octets.now))
+    ensures ends { EndsOne (IsTapAnswer with_ends store.now (tap_of octets.now)) (BeginsTap with_ends store.now (tap_of octets.now))
         (K.state sink.old).held (K.state sink.new).held (K.state sink.old).faults (K.state sink.new).faults result }
     ensures sink_count { (K.state sink.old).faults ≤ (K.state sink.new).faults }
 {
     match read(alloc, octets) {
-        Ok(tap) => audit_lines(alloc, ends, store, &tap, sink),
+        Ok(tap) => audit_lines(alloc, with_ends, store, &tap, sink),
         Err(TextFault::At { line, why }) => out_of_form(alloc, line, why, sink),
         Err(TextFault::NoMemory(want)) => Err(Stop::NoMemory(want)),
     }

@@ -2,7 +2,7 @@
 use Rattle.std.proofs.Common.{arith, ◌≡◌, ℕ, zero, suc, ◌+◌, ◌<◌, ◌≤◌, ◌==◌, ◌||◌, nat_lt, not, if◌then◌else◌, Bool, true, false, inl, inr, List, [], ◌∷◌, length, map, Option, Some, None, refl, sym, ap, ◌∙◌, subst, eqb-true}
 use Rattle.std.specs.Prelude.{filter}
 use Rattle.std.specs.Str.{bytes_eq}
-use Rattle.std.proofs.lemmas.Bool.{cases_Bool, cases_lt}
+use Rattle.std.proofs.lemmas.Bool.{cases_Bool, ltb-false, le-ltb}
 use Rattle.std.proofs.lemmas.List.{length-map}
 use Rattle.std.proofs.lemmas.Slice.Eq.{bytes_eq-Decides}
 use Rattle.er_base.specs.Lines.{lines_of, is_skipped}
@@ -104,16 +104,6 @@ same_lines lines printed is = rw (sym is) (to_itself lines, sym (length-map line
 
 -- ---- the verdict
 
-not_missing : (m n : ℕ) → nat_lt m n ≡ false → n ≤ m
-not_missing m n other =
-    elim (cases_lt m n) [
-      | inl below ↦ absurd (let yes = lt_true m n below in cc)
-      | inr above ↦ omega (arith, above)
-    ]
-  where
-    lt_true : (m n : ℕ) → m < n → nat_lt m n ≡ true
-    lt_true m n below = omega (arith, below)
-
 -- what it says where it says the same
 pub record IsSame (difference : Option ℕ) (cut missing : Bool) : Type 0 where
   pub none : difference ≡ None
@@ -132,18 +122,18 @@ same_is_printed = record {
       let lines = unskipped 0 (lines_of (ended_part file)) in
       let says = same_says (first_difference lines (lines_of printed)) (length (lines_of (ended_part file)) + 1) (nat_lt (length (ended_part file)) (length file))
       (nat_lt (length lines) (length (lines_of printed))) (length (filter is_outcome_line (lines_of printed))) outcomes is in
-      let whole = whole_ended file (not_missing (length (ended_part file)) (length file) says.whole) in
+      let whole = whole_ended file (ltb-false (length (ended_part file)) (length file) says.whole) in
       record {
         ended = whole.0;
         lines =
             subst (λ (f : List ℕ). filter (λ line. not (is_skipped line)) (lines_of f) ≡ lines_of printed) whole.1
             (sym (kept_octets 0 (lines_of (ended_part file)))
-            ∙ no_difference lines (lines_of printed) says.none (not_missing (length lines) (length (lines_of printed)) says.all));
+            ∙ no_difference lines (lines_of printed) says.none (ltb-false (length lines) (length (lines_of printed)) says.all));
       };
   same = λ file printed is.
       let whole = ended_whole file is.ended in
       let same = same_lines (unskipped 0 (lines_of file)) (lines_of printed) (kept_octets 0 (lines_of file) ∙ is.lines) in
-      let full : nat_lt (length file) (length file) ≡ false = omega arith in
-      let all : nat_lt (length (lines_of printed)) (length (lines_of printed)) ≡ false = omega arith in
+      let full = le-ltb (length file) (length file) (omega arith) in
+      let all = le-ltb (length (lines_of printed)) (length (lines_of printed)) (omega arith) in
       (length (filter is_outcome_line (lines_of printed)), rw (whole, same.0, same.1, full, all) refl);
 }

@@ -116,7 +116,8 @@ ended_at (x ∷ xs) zero below feed last =
     rw (has_one (x ∷ xs) zero below feed)
     (ap (λ (l : List ℕ). x ∷ l) (nothing_ended xs (feedless xs (λ j within. last (suc j) (omega arith) (omega (arith, within))))))
 ended_at (x ∷ xs) (suc k) below feed last =
-    rw (has_one (x ∷ xs) (suc k) below feed)
+    let more : suc k + 1 ≡ suc (k + 1) = omega arith in
+    rw (has_one (x ∷ xs) (suc k) below feed, more)
     (ap (λ (l : List ℕ). x ∷ l) (ended_at xs k (omega (arith, below)) feed (λ j past within. last (suc j) (omega (arith, past)) (omega (arith, within)))))
 
 pub ended_last : (text : List ℕ) (k : ℕ) → IsLastByte (is_byte 10) text (Some k) → ended_part text ≡ take (k + 1) text

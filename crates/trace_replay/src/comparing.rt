@@ -1,6 +1,7 @@
 //! A recording held against what a replay prints.
 
 ghost use Rattle.std.specs.Prelude.{◌≡◌};
+ghost use Rattle.std.specs.Str.{bytes_eq};
 ghost use Rattle.trace_model.specs.Recordings.{is_outcome_line, check_verdict};
 
 use crate::text_lines::{ended_part, is_skipped, next_line};
@@ -14,6 +15,13 @@ fn is_outcome(line: &[u8]) -> bool
         None => false,
         Some((octet, _)) => *octet == b'<',
     }
+}
+
+// Whether two lines are the same, octet by octet.
+fn is_same(line: &[u8], text: &[u8]) -> bool
+    ensures { result ≡ bytes_eq line.now text.now }
+{
+    *line == *text
 }
 
 /// What is to be said of a file whose replay prints this.
@@ -30,7 +38,7 @@ pub fn verdict_on(file: &[u8], printed: &[u8]) -> CheckVerdict
             let Some((text, more)) = next_line(left) else {
                 return CheckVerdict::Differs { line: number };
             };
-            if *line != *text {
+            if !is_same(line, text) {
                 return CheckVerdict::Differs { line: number };
             }
             if is_outcome(text) {
