@@ -1,6 +1,7 @@
 -- A recording held against what its replay prints: one line more, and the end.
-use Rattle.std.proofs.Common.{arith, ◌≡◌, ℕ, zero, suc, ◌+◌, ◌<◌, ◌==◌, Bool, true, false, if◌then◌else◌, List, [], ◌∷◌, ◌++◌, length, nat_lt, Option, Some, None, Result, Ok, Err, refl, sym, ap, ◌∙◌, subst}
+use Rattle.std.proofs.Common.{arith, ◌≡◌, ℕ, zero, suc, ◌+◌, ◌<◌, ◌==◌, Bool, true, false, if◌then◌else◌, List, [], ◌∷◌, ◌++◌, length, nat_lt, Option, Some, None, Result, Ok, Err, refl, sym, ap, ◌∙◌, subst, inl, inr, eqb-true}
 use Rattle.std.specs.Prelude.{filter}
+use Rattle.std.proofs.lemmas.Bool.{cases_lt, lt-ltb, le-ltb}
 use Rattle.std.specs.Str.{bytes_eq}
 use Rattle.er_base.specs.declared.no_memory.NoMemory.{NoMemory}
 use Rattle.er_base.specs.Lines.{lines_of, is_skipped, onto_first_line}
@@ -15,6 +16,13 @@ use Rattle.trace_model.specs.Printed.{text_of_trace}
 use Rattle.trace_model.specs.Recordings.{ended_part, unskipped, first_difference, is_outcome_line, verdict_on_rest, check_verdict, IsJudged, IsChecked}
 use Rattle.trace_model.specs.Replays.{WroteAll, Replays}
 use Rattle.trace_replay.specs.Compared.{faults_by, cause_by, verdict_left}
+
+lt_suc : (m n : ℕ) → nat_lt (suc m) (suc n) ≡ nat_lt m n
+lt_suc m n =
+    elim (cases_lt m n) [
+      | inl below ↦ lt-ltb (suc m) (suc n) (omega (arith, below)) ∙ sym (lt-ltb m n below)
+      | inr above ↦ le-ltb (suc m) (suc n) (omega (arith, above)) ∙ sym (le-ltb m n above)
+    ]
 
 -- ---- lines
 
@@ -43,7 +51,7 @@ module _ (number outcomes : ℕ) (line : List ℕ) (lines printed : List (List �
   unfolding verdict_left unskipped first_difference
   same_left text next kept same count =
       let lines_count : number + length (line ∷ lines) + 1 ≡ number + 1 + length lines + 1 = omega arith in
-      rw (kept, same, lines_count, sym count) refl
+      rw (kept, same, lines_count, sym count, lt_suc (length (unskipped (number + 1) lines)) (length printed)) refl
 
 pub outcome_counted : (outcomes : ℕ) (text : List ℕ) (printed : List (List ℕ)) → is_outcome_line text ≡ true
     → outcomes + 1 + length (filter is_outcome_line printed) ≡ outcomes + length (filter is_outcome_line (text ∷ printed))
@@ -62,7 +70,9 @@ cut_left number outcomes printed = let none : number + 0 + 1 ≡ number + 1 = om
 missing_line : (number outcomes : ℕ) (printed : List (List ℕ)) → 0 < length printed → verdict_left number outcomes [] printed false ≡ Missing (number + 1)
 unfolding verdict_left unskipped first_difference
 missing_line number outcomes [] some = absurd (omega (arith, some))
-missing_line number outcomes (text ∷ printed) some = let none : number + 0 + 1 ≡ number + 1 = omega arith in rw none refl
+missing_line number outcomes (text ∷ printed) some =
+    let none : number + 0 + 1 ≡ number + 1 = omega arith in
+    rw (none, lt-ltb 0 (length (text ∷ printed)) (omega arith)) refl
 
 some_line : (x : ℕ) (xs : List ℕ) → 0 < length (lines_of (x ∷ xs))
 unfolding lines_of
@@ -83,7 +93,7 @@ missing_left number outcomes (x ∷ xs) some = missing_line number outcomes (lin
 pub all_left : (number outcomes : ℕ) (text : List ℕ) → (length text == 0) ≡ true → verdict_left number outcomes [] (lines_of text) false ≡ Same outcomes
 unfolding verdict_left unskipped first_difference lines_of
 all_left number outcomes [] none = let same : outcomes + 0 ≡ outcomes = omega arith in rw same refl
-all_left number outcomes (x ∷ xs) none = absurd cc
+all_left number outcomes (x ∷ xs) none = absurd (let e = eqb-true (length (x ∷ xs)) 0 none in omega (arith, e))
 
 -- ---- all lines
 
