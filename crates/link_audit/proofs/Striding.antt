@@ -14,7 +14,7 @@ use Rattle.x224_tpdu.specs.Function.{reading}
 use Rattle.tap_model.specs.declared.end_cause.EndCause.{EndCause}
 use Rattle.tap_model.specs.Ends.{Reach, first_reach, StreamEnd, is_frame, frames_among, stride_at_pdu, stride_at_piece, end_from, stream_end}
 use Rattle.link_audit.specs.declared.stride.Stride.{Stride}
-use Rattle.link_audit.specs.Strides.{KMessage, with_message, strode, kept_count, counted_end, told_of_stream, KExtent, end_of_rest, why_of, left_of, end_behind, end_at_frame, told_with, told_behind}
+use Rattle.link_audit.specs.Strides.{KMessage, with_message, strode, kept_count, counted_end, told_of_stream, KExtent, end_of_rest, why_told, left_told, kept_end_of_rest, end_at_frame, told_with, told_behind}
 use Rattle.link_audit.proofs.Feeding.{frames_split, no_frames, first_split}
 
 -- ---- counts
@@ -76,17 +76,17 @@ module _ (side : Side) (reach : Reach) (frames heard left : ℕ) (address : ℕ)
 
   pub read_more : (opened : Bool) (over : Option EndCause) (control : Control) (information : List ℕ) (new : KExtent) → is_some over ≡ false
       → control_of 8 body ≡ Some (control, information) → new.frames ≡ kept_count (frames + 1)
-      → counted_end heard (end_at_frame opened side reach (record { address = address; control = control; information = information }) verdicts) ≡ end_behind new verdicts
+      → counted_end heard (end_at_frame opened side reach (record { address = address; control = control; information = information }) verdicts) ≡ kept_end_of_rest new verdicts
       → told_behind (kept opened over) (Frame address body ∷ verdicts) ≡ told_behind new verdicts
   unfolding told_behind
   read_more opened (Some why) control information new live is more goes = absurd cc
   read_more opened None control information new live is more goes =
-      let same : counted_end heard (end_of_rest None opened left side reach (Frame address body ∷ verdicts)) ≡ end_behind new verdicts =
+      let same : counted_end heard (end_of_rest None opened left side reach (Frame address body ∷ verdicts)) ≡ kept_end_of_rest new verdicts =
       rw (end_read opened control information is) goes in
       let count : kept_count (frames + frames_among (Frame address body ∷ verdicts)) ≡ kept_count (new.frames + frames_among verdicts) =
       rw (frames_more address body verdicts, more) (count_more frames (frames_among verdicts)) in
       told_same (frames + frames_among (Frame address body ∷ verdicts)) (new.frames + frames_among verdicts)
-      (counted_end heard (end_of_rest None opened left side reach (Frame address body ∷ verdicts))) (end_behind new verdicts) count same
+      (counted_end heard (end_of_rest None opened left side reach (Frame address body ∷ verdicts))) (kept_end_of_rest new verdicts) count same
 
   -- of what is no frame
   pub other_more : (opened : Bool) (over : Option EndCause) (verdict : Verdict) → is_frame verdict ≡ false
@@ -113,7 +113,7 @@ unfolding frames_among
 none_among = refl
 
 pub told_now : (side : Side) (opened : Bool) (over : Option EndCause) (reach : Reach) (frames heard left : ℕ)
-    → record { frames = kept_count frames; heard = kept_count heard; left = kept_count (left_of over left); why = why_of over opened reach.gap }
+    → record { frames = kept_count frames; heard = kept_count heard; left = kept_count (left_told over left); why = why_told over opened reach.gap }
     ≡ told_behind (record { side = side; opened = opened; over = over; reach = reach; frames = frames; heard = heard; left = left }) []
 unfolding told_behind end_from stream_end
 told_now side opened over reach frames heard left =
@@ -123,7 +123,7 @@ told_now side opened over reach frames heard left =
     by_end over opened none same rest
   where
     by_end : (over : Option EndCause) (opened : Bool) → frames + 0 ≡ frames → heard + 0 ≡ heard → left + 0 ≡ left
-        → record { frames = kept_count frames; heard = kept_count heard; left = kept_count (left_of over left); why = why_of over opened reach.gap }
+        → record { frames = kept_count frames; heard = kept_count heard; left = kept_count (left_told over left); why = why_told over opened reach.gap }
         ≡ told_with (frames + frames_among []) (counted_end heard (end_of_rest over opened left side reach []))
     by_end (Some why) opened none same rest = rw (none_among, none, same, rest) refl
     by_end None true none same rest = rw (none_among, none, same) refl

@@ -78,17 +78,17 @@ end_of_rest None true left side r verdicts = end_from side r verdicts
 end_of_rest None false left side r verdicts = stream_end side verdicts
 
 -- of none that is left
-abbrev pub why_of : Option EndCause → (opened gap : Bool) → EndCause
-why_of (Some why) opened gap = why
-why_of None true gap = if gap then Gap else Open
-why_of None false gap = Unopened
+abbrev pub why_told : Option EndCause → (opened gap : Bool) → EndCause
+why_told (Some why) opened gap = why
+why_told None true gap = if gap then Gap else Open
+why_told None false gap = Unopened
 
-abbrev pub left_of : Option EndCause → ℕ → ℕ
-left_of (Some why) left = left
-left_of None left = 0
+abbrev pub left_told : Option EndCause → ℕ → ℕ
+left_told (Some why) left = left
+left_told None left = 0
 
-abbrev pub end_behind : KExtent → List Verdict → StreamEnd
-end_behind k verdicts = counted_end k.heard (end_of_rest k.over k.opened k.left k.side k.reach verdicts)
+abbrev pub kept_end_of_rest : KExtent → List Verdict → StreamEnd
+kept_end_of_rest k verdicts = counted_end k.heard (end_of_rest k.over k.opened k.left k.side k.reach verdicts)
 
 -- at a frame that was read, where the list isn't ended
 abbrev pub end_at_frame : (opened : Bool) → Side → Reach → ReadFrame → List Verdict → StreamEnd
@@ -98,4 +98,4 @@ end_at_frame false side r f verdicts = if is_link_opening side f then end_from s
 
 -- what is told of a stream of which these verdicts are left
 unfoldable pub told_behind : KExtent → List Verdict → Told
-told_behind k verdicts = told_with (k.frames + frames_among verdicts) (end_behind k verdicts)
+told_behind k verdicts = told_with (k.frames + frames_among verdicts) (kept_end_of_rest k verdicts)

@@ -8,7 +8,7 @@ ghost use Rattle.hdlc_frames.specs.Shown.{verdict_of_octets_found};
 ghost use Rattle.hdlc_frames.specs.Deframing.{IsKeptOfStream, stream_behind_kept};
 ghost use Rattle.tap_model.specs.Lines.{stream_of};
 ghost use Rattle.tap_model.specs.Ends.{first_reach};
-ghost use Rattle.link_audit.specs.Strides.{kept_count, counted_end, why_of, left_of, end_behind, end_at_frame, told_behind, told_of_stream};
+ghost use Rattle.link_audit.specs.Strides.{kept_count, counted_end, why_told, left_told, kept_end_of_rest, end_at_frame, told_behind, told_of_stream};
 
 use crate::ear::opens;
 use crate::marked_lines::MarkedLines;
@@ -73,7 +73,7 @@ impl Extent {
 
     // Why no more is heard, where nothing more comes.
     fn why(&self) -> EndCause
-        ensures { result ≡ why_of self.now.over self.now.opened self.now.reach.gap }
+        ensures { result ≡ why_told self.now.over self.now.opened self.now.reach.gap }
     {
         match self.over {
             Some(why) => why,
@@ -91,7 +91,7 @@ impl Extent {
 
     // How many frames are left.
     fn left(&self) -> u64
-        ensures { result ≡ kept_count (left_of self.now.over self.now.left) }
+        ensures { result ≡ kept_count (left_told self.now.over self.now.left) }
     {
         match self.over {
             Some(_) => kept(self.left),
@@ -116,7 +116,7 @@ impl Extent {
         requires over { self.old.over ≡ None }
         requires opened { self.old.opened ≡ false }
         ensures goes { (verdicts : List Verdict) → counted_end self.old.heard (end_at_frame self.old.opened self.old.side self.old.reach
-            (record { address = address; control = control; information = information.now }) verdicts) ≡ end_behind self.new verdicts }
+            (record { address = address; control = control; information = information.now }) verdicts) ≡ kept_end_of_rest self.new verdicts }
         ensures frames { self.new.frames ≡ self.old.frames }
     {
         if opens(self.side, address, control, information) {
@@ -145,7 +145,7 @@ impl Extent {
         requires over { self.old.over ≡ None }
         requires opened { self.old.opened ≡ true }
         ensures goes { (verdicts : List Verdict) → counted_end self.old.heard (end_at_frame self.old.opened self.old.side self.old.reach
-            (record { address = address; control = control; information = information.now }) verdicts) ≡ end_behind self.new verdicts }
+            (record { address = address; control = control; information = information.now }) verdicts) ≡ kept_end_of_rest self.new verdicts }
         ensures frames { self.new.frames ≡ self.old.frames }
     {
         match self.reach.stride(self.side, address, control, information) {
@@ -163,7 +163,7 @@ impl Extent {
     fn read(&mut self, address: u8, control: Control, information: &[u8])
         requires { self.old.over ≡ None }
         ensures goes { (verdicts : List Verdict) → counted_end self.old.heard (end_at_frame self.old.opened self.old.side self.old.reach
-            (record { address = address; control = control; information = information.now }) verdicts) ≡ end_behind self.new verdicts }
+            (record { address = address; control = control; information = information.now }) verdicts) ≡ kept_end_of_rest self.new verdicts }
         ensures frames { self.new.frames ≡ self.old.frames }
     {
         if self.opened {

@@ -5,8 +5,8 @@ use Rattle.tap_model.specs.Lines.{stream_of}
 use Rattle.link_audit.specs.Strides.{kept_count}
 use Rattle.link_audit.proofs.run.count_items.Given as goal
 
-abbrev pub invariant-loop-_item : goal.invariant-loop-_item
-invariant-loop-_item l = record { counted : kept_count (l.count + length l.items) ≡ kept_count (length (items (heard l.side (stream_of l.link l.side l.lines)))) }
+abbrev pub invariant-loop-item : goal.invariant-loop-item
+invariant-loop-item l = record { counted : kept_count (l.count + length l.items) ≡ kept_count (length (items (heard l.side (stream_of l.link l.side l.lines)))) }
 
-abbrev pub decreases-loop-_item : goal.decreases-loop-_item
-decreases-loop-_item l = length l.items
+abbrev pub decreases-loop-item : goal.decreases-loop-item
+decreases-loop-item l = length l.items
