@@ -3,7 +3,7 @@ use Rattle.std.specs.Prelude.{ℕ, ◌+◌, min, Bool, true, false, if◌then◌
 use Rattle.std.specs.Fmt.{decimal}
 use Rattle.er_base.specs.declared.side.Side.{Side}
 use Rattle.er_base.specs.Sides.{side_word}
-use Rattle.hdlc_frames.specs.Framing.{Verdict, frames_of}
+use Rattle.hdlc_frames.specs.Framing.{Verdict, Frame, BadFcs, TooShort, TooLong, Aborted, frames_of}
 use Rattle.tap_model.specs.declared.end_cause.EndCause.{EndCause}
 use Rattle.tap_model.specs.declared.end_cause.EndCause.TheVariants.{Unopened, Open, Gap}
 use Rattle.tap_model.specs.EndWords.{end_word}
@@ -99,3 +99,12 @@ end_at_frame false side r f verdicts = if is_link_opening side f then end_from s
 -- what is told of a stream of which these verdicts are left
 unfoldable pub told_behind : KExtent → List Verdict → Told
 told_behind k verdicts = told_with (k.frames + frames_among verdicts) (kept_end_of_rest k verdicts)
+
+-- and where a deframer found this: what is no frame passes
+abbrev pub told_at : KExtent → Option Verdict → List Verdict → Told
+told_at k None verdicts = told_behind k verdicts
+told_at k (Some (Frame address body)) verdicts = told_behind k (Frame address body ∷ verdicts)
+told_at k (Some BadFcs) verdicts = told_behind k verdicts
+told_at k (Some TooShort) verdicts = told_behind k verdicts
+told_at k (Some TooLong) verdicts = told_behind k verdicts
+told_at k (Some Aborted) verdicts = told_behind k verdicts

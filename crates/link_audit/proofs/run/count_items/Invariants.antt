@@ -6,7 +6,7 @@ use Rattle.link_audit.specs.Strides.{kept_count}
 use Rattle.link_audit.proofs.run.count_items.Given as goal
 
 abbrev pub invariant-loop-item : goal.invariant-loop-item
-invariant-loop-item l = record { counted : kept_count (l.count + length l.items) ≡ kept_count (length (items (heard l.side (stream_of l.link l.side l.lines)))) }
+invariant-loop-item l = record { counted : kept_count (l.count + length l.items) ≡ kept_count (length (items (heard l.fn.side (stream_of l.link l.fn.side l.lines)))) }
 
 abbrev pub decreases-loop-item : goal.decreases-loop-item
 decreases-loop-item l = length l.items
