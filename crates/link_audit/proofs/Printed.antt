@@ -77,6 +77,10 @@ module _ (n : ℕ) (known : Known) (side : Side) where
 pub side_by : (ends : Bool) (lines : List TapLine) (n : ℕ) (side : Side) (known k : Known) → known ≡ k → side_with_end ends lines n side known ≡ side_with_end ends lines n side k
 side_by ends lines n side known k same = rw same refl
 
+-- and by what is heard
+pub side_heard : (n : ℕ) (side : Side) (known : Known) (all heard : List (List ℕ)) → all ≡ heard → side_text n side (judged_from known side 0 all) ≡ side_text n side (judged_from known side 0 heard)
+side_heard n side known all heard same = rw same refl
+
 -- ---- the end of a side
 
 -- the words of what is told
