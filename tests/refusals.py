@@ -275,7 +275,7 @@ def key_files(folder):
         path = os.path.join(folder, f"keys-{number}")
         with open(path, "wb") as file:
             file.write(text if isinstance(text, bytes) else text.encode())
-        for words in (["migrate", path], ["audit", path, good], ["replay", path, good], ["serve", path, "127.0.0.1:0", "9", "0"], ["call", path, "127.0.0.1:1", "5", "9", "0"]):
+        for words in (["migrate", path], ["audit", path, good], ["audit", path, good, "ends"], ["replay", path, good], ["check", path, good], ["serve", path, "127.0.0.1:0", "9", "0"], ["call", path, "127.0.0.1:1", "5", "9", "0"]):
             run(words, 4, f"! keys {fault}\n", [f"{path}: ", *told], f" of {text[:60]!r}")
     hints(folder, good)
     unfetched(folder, ["migrate", "FILE"])
@@ -345,7 +345,7 @@ def words(folder):
         ([], ["a command is missing"]), (["dril", "x"], ["'dril' is no command"]), (["drill"], ["drill wants SCENARIO", "0 words"]), (["drill", "a", "b"], ["2 words"]),
         (["\x1b[31m"], ["'\\u{1b}[31m'"]), (["help"], ["'help' is no command"]), (["--hlep"], ["'--hlep' is no command"]), (["drill", "--help", "x"], ["2 words"]),
         (["bulk", "x", "1"], ["bulk wants SEED COUNT", "'x'"]), (["bulk", "7", "10001"], ["'10001'"]), (["bulk", "18446744073709551616", "1"], ["'18446744073709551616'"]),
-        (["bulk", "7"], ["1 words"]), (["replay", "a"], ["KEYS TRACE"]), (["audit", "a"], ["KEYS TAP"]), (["bits"], ["FILE"]), (["migrate"], ["KEYS"]),
+        (["bulk", "7"], ["1 words"]), (["replay", "a"], ["KEYS TRACE"]), (["check", "a"], ["KEYS TRACE"]), (["audit", "a"], ["KEYS TAP"]), (["audit", "a", "b", "end"], ["KEYS TAP, and ends or nothing", "3 words"]), (["bits"], ["FILE"]), (["migrate"], ["KEYS"]),
         (["serve", keys, "127.0.0.1:0", "9"], ["KEYS ADDRESS RBC TURNS"]), (["serve", keys, "127.0.0.1:0", "16777216", "0"], ["'16777216'"]), (["serve", keys, "127.0.0.1:0", "nine", "0"], ["'nine'"]),
         (["serve", keys, "127.0.0.1:0", "9", "1000000001"], ["'1000000001'"]), (["serve", keys, "127.0.0.1:0", "9", "-1"], ["'-1'"]), (["serve", keys, "127.0.0.1:0", "09", "0"], ["'09'"]),
         (["call", keys, "127.0.0.1:1", "5", "9"], ["KEYS ADDRESS ENGINE RBC TURNS"]), (["call", keys, "127.0.0.1:1", "x", "9", "0"], ["'x'"]), (["call", keys, "127.0.0.1:1", "5", "9", ""], ["''"]),

@@ -1,9 +1,15 @@
 -- Which names were asked for, by how the parts of a run end.
-use Rattle.std.proofs.Common.{◌≡◌, ◌⊎◌, inl, inr, ℕ, List, [], ◌∷◌, Option, Some, None, Result, Ok, Err, IfOk, refl, ap, ◌∙◌, arith}
+use Rattle.std.proofs.Common.{◌≡◌, ◌⊎◌, inl, inr, ℕ, Bool, List, [], ◌∷◌, length, Option, Some, None, Result, Ok, Err, IfOk, refl, sym, subst, ap, ◌∙◌, arith}
 use Rattle.er_base.specs.declared.no_memory.NoMemory.{NoMemory as Want}
 use Rattle.er_base.specs.declared.text_fault.TextFault.{TextFault}
 use Rattle.er_base.specs.declared.text_fault.TextFault.TheVariants as text
 use Rattle.er_trace.specs.declared.trace.Trace.{Trace}
+use Rattle.er_trace.specs.Files.{trace_of}
+use Rattle.trace_model.specs.declared.check_verdict.CheckVerdict.{CheckVerdict}
+use Rattle.trace_model.specs.declared.check_verdict.CheckVerdict.TheVariants as verdict
+use Rattle.trace_model.specs.Printed.{text_of_trace}
+use Rattle.trace_model.specs.Recordings.{ended_part, check_verdict}
+use Rattle.er_tap.specs.Files.{tap_of}
 use Rattle.er_tap.specs.declared.tap.Tap.{Tap}
 use Rattle.er_tap.specs.declared.tap_line.TapLine.{TapLine}
 use Rattle.tap_model.specs.Lines.{TapFault, NoLinkAt, TwiceAt, fault_of_tap_lines}
@@ -12,28 +18,60 @@ use Rattle.key_store.specs.declared.key_file_fault.KeyFileFault.{KeyFileFault}
 use Rattle.key_store.specs.declared.key_file_fault.KeyFileFault.TheVariants as keys
 use Rattle.link_trait.specs.Outside.{Grew}
 use Rattle.link_trait.specs.Growth.{grew_then, grew_nothing}
-use Rattle.er_program.specs.Asking.{AskedNames, AsksLast, AsksBehindKeys, Asks}
-use Rattle.er_program.specs.Commands.{Replay}
+use Rattle.er_program.specs.Asking.{AskedNames, AsksLast, AsksKeys, AsksBoth, AsksBehindKeys, Asks}
 use Rattle.er_statuses.specs.Answers.{Answer, keys_answer}
-use Rattle.er_program.specs.Answers.{AllAreTaken, OneIsRefused, IsTraceAnswer, lines_answer, tap_answer}
-use Rattle.er_program.specs.AuditWriting.{IsTapAnswer}
+use Rattle.er_program.specs.Answers.{AllAreTaken, OneIsRefused, IsTraceAnswer, AllAreJudged, OneIsTold, verdict_answer, IsRecordingAnswer, lines_answer, tap_answer}
+use Rattle.er_program.specs.declared.work.Work.{Work}
+use Rattle.er_program.specs.declared.work.Work.TheVariants as work
+use Rattle.er_program.specs.KeyedWriting.{command_of_work, IsOfWork}
 use Rattle.er_program.specs.ReplayWriting.{EndsOne}
 use Rattle.er_statuses.specs.Writing.{GivesAnswer, EndsUnfetched}
 use Rattle.er_statuses.specs.declared.status.Status.{Status}
 use Rattle.er_statuses.specs.declared.stop.Stop.{Stop}
 use Rattle.er_statuses.specs.declared.stop.Stop.TheVariants as stop
 
--- ---- the trace
+-- ---- the file behind the key file
 
 -- a status that tells neither a file that wasn't fetched nor a key file that is refused
 abbrev IsBehind : ℕ → Type 0
-IsBehind status = (status ≡ 0) ⊎ (status ≡ 3) ⊎ (status ≡ 7)
+IsBehind status = (status ≡ 0) ⊎ (status ≡ 3) ⊎ (status ≡ 7) ⊎ (status ≡ 9)
 
-status_behind : (known : List KmacEntry) (read : Result Trace TextFault) (a : Answer) → IsTraceAnswer known read a → IsBehind a.status
-status_behind known (Err (text.At line why)) a is = inr (inl (ap (λ (x : Answer). x.status) is))
-status_behind known (Err (text.NoMemory want)) a is = inr (inr (ap (λ (x : Answer). x.status) is))
-status_behind known (Ok trace) a (AllAreTaken taken is) = inl (ap (λ (x : Answer). x.status) is)
-status_behind known (Ok trace) a (OneIsRefused why first is) = inr (inl (ap (λ (x : Answer). x.status) is))
+trace_behind : (known : List KmacEntry) (read : Result Trace TextFault) (a : Answer) → IsTraceAnswer known read a → IsBehind a.status
+trace_behind known (Err (text.At line why)) a is = inr (inl (ap (λ (x : Answer). x.status) is))
+trace_behind known (Err (text.NoMemory want)) a is = inr (inr (inl (ap (λ (x : Answer). x.status) is)))
+trace_behind known (Ok trace) a (AllAreTaken taken is) = inl (ap (λ (x : Answer). x.status) is)
+trace_behind known (Ok trace) a (OneIsRefused why first is) = inr (inl (ap (λ (x : Answer). x.status) is))
+
+verdict_behind : (events : ℕ) (v : CheckVerdict) → IsBehind (verdict_answer events v).status
+verdict_behind events (verdict.Same outcomes) = inl refl
+verdict_behind events (verdict.Differs line) = inr (inr (inr refl))
+verdict_behind events (verdict.Cut line) = inr (inr (inr refl))
+verdict_behind events (verdict.Missing line) = inr (inr (inr refl))
+
+judged_behind : (events : ℕ) (v : CheckVerdict) (a : Answer) → a ≡ verdict_answer events v → IsBehind a.status
+judged_behind events v a is = subst (λ (x : Answer). IsBehind x.status) (sym is) (verdict_behind events v)
+
+recording_behind : (known : List KmacEntry) (file : List ℕ) (read : Result Trace TextFault) (a : Answer) → IsRecordingAnswer known file read a → IsBehind a.status
+recording_behind known file (Err (text.At line why)) a is = inr (inl (ap (λ (x : Answer). x.status) is))
+recording_behind known file (Err (text.NoMemory want)) a is = inr (inr (inl (ap (λ (x : Answer). x.status) is)))
+recording_behind known file (Ok trace) a (AllAreJudged taken is) =
+    judged_behind (length trace.entries) (check_verdict file (text_of_trace trace.settings (key_at known) trace.entries)) a is
+recording_behind known file (Ok trace) a (OneIsTold why first is) = inr (inl (ap (λ (x : Answer). x.status) is))
+
+lines_behind : (ends : Bool) (known : List KmacEntry) (lines : List TapLine) (first : Option TapFault) → IsBehind (lines_answer ends (key_at known) lines first).status
+lines_behind ends known lines None = inl refl
+lines_behind ends known lines (Some (NoLinkAt line n)) = inr (inl refl)
+lines_behind ends known lines (Some (TwiceAt line n)) = inr (inl refl)
+
+tap_behind : (ends : Bool) (known : List KmacEntry) (read : Result Tap TextFault) → IsBehind (tap_answer ends known read).status
+tap_behind ends known (Err (text.At line why)) = inr (inl refl)
+tap_behind ends known (Err (text.NoMemory want)) = inr (inr (inl refl))
+tap_behind ends known (Ok tap) = lines_behind ends known tap.lines (fault_of_tap_lines tap.lines)
+
+status_behind : (w : Work) (known : List KmacEntry) (file : List ℕ) (a : Answer) → IsOfWork w known file a → IsBehind a.status
+status_behind work.Replay known file a is = trace_behind known (trace_of file) a is
+status_behind work.Check known file a is = recording_behind known file (trace_of (ended_part file)) a is
+status_behind (work.Audit ends) known file a is = subst (λ (x : Answer). IsBehind x.status) (sym is) (tap_behind ends known (tap_of file))
 
 last_behind : (name : List ℕ) (status answered : ℕ) (before now : Option (List ℕ)) → status ≡ answered → IsBehind answered → AsksLast name status before now
 last_behind name status answered before now is behind =
@@ -42,33 +80,20 @@ last_behind name status answered before now is behind =
       | inr other ↦
           elim other [
             | inl refused ↦ (λ h. omega (arith), λ h. absurd (omega arith))
-            | inr forgot ↦ (λ h. omega (arith), λ h. absurd (omega arith))
+            | inr last ↦
+                elim last [
+                  | inl forgot ↦ (λ h. omega (arith), λ h. absurd (omega arith))
+                  | inr unlike ↦ (λ h. omega (arith), λ h. absurd (omega arith))
+                ]
           ]
     ]
 
--- its file was read
-pub asks_read : (known : List KmacEntry) (read : Result Trace TextFault) (IsBegun : List ℕ → Type 0) (name : List ℕ) (before now : Option (List ℕ)) (f g : ℕ) (r : Result Status Stop)
-    → EndsOne (IsTraceAnswer known read) IsBegun before now f g r → IfOk r (λ s. AsksLast name s.0 before now)
-asks_read known read IsBegun name before now f g (Ok s) ends =
-    last_behind name s.0 ends.answer.status before now ends.stated (status_behind known read ends.answer ends.is)
-asks_read known read IsBegun name before now f g (Err why) ends = tt
-
--- the file of a tap was read
-lines_behind : (known : List KmacEntry) (lines : List TapLine) (first : Option TapFault) → IsBehind (lines_answer (key_at known) lines first).status
-lines_behind known lines None = inl refl
-lines_behind known lines (Some (NoLinkAt line n)) = inr (inl refl)
-lines_behind known lines (Some (TwiceAt line n)) = inr (inl refl)
-
-tap_behind : (known : List KmacEntry) (read : Result Tap TextFault) → IsBehind (tap_answer known read).status
-tap_behind known (Err (text.At line why)) = inr (inl refl)
-tap_behind known (Err (text.NoMemory want)) = inr (inr refl)
-tap_behind known (Ok tap) = lines_behind known tap.lines (fault_of_tap_lines tap.lines)
-
-pub asks_tapped : (known : List KmacEntry) (read : Result Tap TextFault) (IsBegun : List ℕ → Type 0) (name : List ℕ) (before now : Option (List ℕ)) (f g : ℕ) (r : Result Status Stop)
-    → EndsOne (IsTapAnswer known read) IsBegun before now f g r → IfOk r (λ s. AsksLast name s.0 before now)
-asks_tapped known read IsBegun name before now f g (Ok s) ends =
-    last_behind name s.0 (tap_answer known read).status before now (ends.stated ∙ ap (λ (x : Answer). x.status) ends.is) (tap_behind known read)
-asks_tapped known read IsBegun name before now f g (Err why) ends = tt
+-- it was read
+pub asks_read : (w : Work) (known : List KmacEntry) (file : List ℕ) (IsBegun : List ℕ → Type 0) (name : List ℕ) (before now : Option (List ℕ)) (f g : ℕ) (r : Result Status Stop)
+    → EndsOne (IsOfWork w known file) IsBegun before now f g r → IfOk r (λ s. AsksLast name s.0 before now)
+asks_read w known file IsBegun name before now f g (Ok s) ends =
+    last_behind name s.0 ends.answer.status before now ends.stated (status_behind w known file ends.answer ends.is)
+asks_read w known file IsBegun name before now f g (Err why) ends = tt
 
 -- its name wasn't fetched
 pub asks_lost : (name : List ℕ) (c d : ℕ) (before now : Option (List ℕ)) (f g : ℕ) (r : Result Status Stop)
@@ -106,7 +131,7 @@ asks_bad (keys.NoMemory want) name asked before now f g (Ok s) passed gives =
 -- ---- the words
 
 behind_words : (keys_name name : List ℕ) (status : ℕ) (a b c : AskedNames) (before now : Option (List ℕ))
-    → Grew a b (keys_name ∷ []) → AsksBehindKeys name status b c before now → Asks (Replay keys_name name) status a c before now
+    → Grew a b (keys_name ∷ []) → AsksBehindKeys name status b c before now → AsksKeys keys_name status a c before now ⊎ AsksBoth keys_name name status a c before now
 behind_words keys_name name status a b c before now first further =
     elim further [
       | inl bad ↦ inl (record {
@@ -117,16 +142,24 @@ behind_words keys_name name status a b c before now first further =
       | inr good ↦ inr (record { asked_for = grew_then a b c (keys_name ∷ []) (name ∷ []) first good.0; last = good.1 })
     ]
 
+asks_of : (w : Work) (keys_name name : List ℕ) (status : ℕ) (a c : AskedNames) (before now : Option (List ℕ))
+    → AsksKeys keys_name status a c before now ⊎ AsksBoth keys_name name status a c before now → Asks (command_of_work w keys_name name) status a c before now
+asks_of work.Replay keys_name name status a c before now asks = asks
+asks_of work.Check keys_name name status a c before now asks = asks
+asks_of (work.Audit ends) keys_name name status a c before now asks = asks
+
 -- the key file was fetched
-pub asks_words : (keys_name name : List ℕ) (a b c : AskedNames) (before now : Option (List ℕ)) (r : Result Status Stop)
+pub asks_words : (w : Work) (keys_name name : List ℕ) (a b c : AskedNames) (before now : Option (List ℕ)) (r : Result Status Stop)
     → Grew a b (keys_name ∷ []) → IfOk r (λ s. AsksBehindKeys name s.0 b c before now)
-    → IfOk r (λ s. Asks (Replay keys_name name) s.0 a c before now)
-asks_words keys_name name a b c before now (Ok s) first further = behind_words keys_name name s.0 a b c before now first further
-asks_words keys_name name a b c before now (Err why) first further = tt
+    → IfOk r (λ s. Asks (command_of_work w keys_name name) s.0 a c before now)
+asks_words w keys_name name a b c before now (Ok s) first further =
+    asks_of w keys_name name s.0 a c before now (behind_words keys_name name s.0 a b c before now first further)
+asks_words w keys_name name a b c before now (Err why) first further = tt
 
 -- or not
-pub asks_words_lost : (keys_name name : List ℕ) (a b : AskedNames) (c d : ℕ) (before now : Option (List ℕ)) (f g : ℕ) (r : Result Status Stop)
+pub asks_words_lost : (w : Work) (keys_name name : List ℕ) (a b : AskedNames) (c d : ℕ) (before now : Option (List ℕ)) (f g : ℕ) (r : Result Status Stop)
     → IfOk r (λ s. Grew a b (keys_name ∷ [])) → EndsUnfetched keys_name c d before now f g r
-    → IfOk r (λ s. Asks (Replay keys_name name) s.0 a b before now)
-asks_words_lost keys_name name a b c d before now f g (Ok s) first ends = inl (record { asked_for = first; ends = inl ends.1; written = λ h. ends.2 })
-asks_words_lost keys_name name a b c d before now f g (Err why) first ends = tt
+    → IfOk r (λ s. Asks (command_of_work w keys_name name) s.0 a b before now)
+asks_words_lost w keys_name name a b c d before now f g (Ok s) first ends =
+    asks_of w keys_name name s.0 a b before now (inl (record { asked_for = first; ends = inl ends.1; written = λ h. ends.2 }))
+asks_words_lost w keys_name name a b c d before now f g (Err why) first ends = tt

@@ -25,6 +25,7 @@ means_read name file files p q c d f g before now status stands short has is pri
   sink = λ h. absurd (omega arith);
   memory = λ h. absurd (omega arith);
   overfull = λ h. absurd (omega arith);
+  unlike = λ h. absurd (omega arith);
   complete = λ good fine. inl (file, stands, has);
 }
 
@@ -40,6 +41,7 @@ means_long name file files p q c d f g before now status stands long has is prin
   sink = λ h. absurd (omega arith);
   memory = λ h. absurd (omega arith);
   overfull = λ h. absurd (omega arith);
+  unlike = λ h. absurd (omega arith);
   complete = λ good fine. inl (file, stands, has);
 }
 
@@ -72,6 +74,7 @@ means_bits name None a files p q c d f g before now status asked rose answers st
       sink = λ h. absurd (omega arith);
       memory = λ h. absurd (omega arith);
       overfull = λ h. absurd (omega arith);
+      unlike = λ h. absurd (omega arith);
       complete = λ good fine. absurd (good rose);
     }
 means_bits name (Some file) a files p q c d f g before now status asked stands answers stated printed =

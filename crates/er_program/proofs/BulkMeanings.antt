@@ -37,6 +37,7 @@ means_counted law seed count files p q c d f g before now status done has is pri
   sink = λ h. absurd (omega arith);
   memory = λ h. absurd (omega arith);
   overfull = λ h. absurd (omega arith);
+  unlike = λ h. absurd (omega arith);
   complete = λ fine. inl has;
 }
 
@@ -44,7 +45,7 @@ means_overfull : BulkHolds → (seed count : ℕ) (files : Files) (p q : AskedNa
     → (first : FirstOverfull bulk_plan (steps_of_bulk seed count)) → HasBulkStatus seed count status → status ≡ 8
     → Grew before now (overfull_line first.link first.side first.most) → FileMeans (Bulk seed count) files p q c d f g before now status
 means_overfull law seed count files p q c d f g before now status first has is printed = record {
-  known = inr (inr (inr (inr (inr (inr (inr is))))));
+  known = inr (inr (inr (inr (inr (inr (inr (inl is)))))));
   done = λ h. absurd (omega arith);
   usage = λ h. absurd (omega arith);
   fetch = λ h. absurd (omega arith);
@@ -53,6 +54,7 @@ means_overfull law seed count files p q c d f g before now status first has is p
   sink = λ h. absurd (omega arith);
   memory = λ h. absurd (omega arith);
   overfull = λ h. record { first = first; written = printed; holds = law seed count first.count first.are_done };
+  unlike = λ h. absurd (omega arith);
   complete = λ fine. inl has;
 }
 

@@ -30,6 +30,7 @@ means_migrated name file entries a files p q c d f g before now status stands sp
   sink = λ h. absurd (omega arith);
   memory = λ h. absurd (omega arith);
   overfull = λ h. absurd (omega arith);
+  unlike = λ h. absurd (omega arith);
   complete = λ good fine. inl (file, stands, has);
 }
 
@@ -47,6 +48,7 @@ means_keyless name file fault files p q c d f g before now status asked stands u
   sink = λ h. absurd (omega arith);
   memory = λ h. absurd (omega arith);
   overfull = λ h. absurd (omega arith);
+  unlike = λ h. absurd (omega arith);
   complete = λ good fine. inl (file, stands, has);
 }
 
@@ -63,6 +65,7 @@ means_forgot name file files p q c d f g before now status is printed = record {
   sink = λ h. absurd (omega arith);
   memory = λ h. record { text = []; first = refl; printed = printed };
   overfull = λ h. absurd (omega arith);
+  unlike = λ h. absurd (omega arith);
   complete = λ good fine. inr is;
 }
 
@@ -113,6 +116,7 @@ means_migrate name None a files p q c d f g before now status asked rose answers
       sink = λ h. absurd (omega arith);
       memory = λ h. absurd (omega arith);
       overfull = λ h. absurd (omega arith);
+      unlike = λ h. absurd (omega arith);
       complete = λ good fine. absurd (good rose);
     }
 means_migrate name (Some file) a files p q c d f g before now status asked stands answers stated printed =

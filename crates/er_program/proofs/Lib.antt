@@ -10,9 +10,13 @@ pub mod BitMeanings
 pub mod KeyRuns
 pub mod KeyMeanings
 pub mod TraceTexts
+pub mod KeyedRuns
 pub mod ReplayRuns
+pub mod CheckEnds
 pub mod Askings
+pub mod KeyedMeanings
 pub mod ReplayMeanings
+pub mod CheckMeanings
 pub mod AuditRuns
 pub mod AuditMeanings
 pub mod BulkSteps

@@ -13,7 +13,7 @@ use Rattle.drill_model.specs.Texts.{drill_text}
 use Rattle.link_trait.specs.Outside.{Grew, GrewPart, Rose, HasFile}
 use Rattle.link_trait.specs.Growth.{grew_then}
 use Rattle.er_program.specs.Asking.{Asks}
-use Rattle.er_program.specs.Commands.{Command, Misused, Drill, Bits, Migrate, Replay, Audit, Bulk, Serve, Call}
+use Rattle.er_program.specs.Commands.{Command, Misused, Drill, Bits, Migrate, Replay, Check, Audit, Bulk, Serve, Call}
 use Rattle.er_statuses.specs.LastLines.{fault_line, why_word, fetch_line, usage_line, memory_line}
 use Rattle.er_statuses.specs.Answers.{Answer, HasFetched, Files}
 use Rattle.er_program.specs.Answers.{IsAnswer, IsFetchedAnswer, FirstFault, AreDone, IsDrillAnswer, IsWhole, BreaksOff, IsScenarioAnswer, lines_of_first, fault_answer}
@@ -24,8 +24,8 @@ use Rattle.er_statuses.specs.Writing.{Exhausts}
 use Rattle.er_statuses.specs.declared.status.Status.{Status}
 use Rattle.er_program.proofs.BitMeanings.{means_bits}
 use Rattle.er_program.proofs.KeyMeanings.{means_migrate}
-use Rattle.er_program.proofs.AuditMeanings.{means_audit}
-use Rattle.er_program.proofs.ReplayMeanings.{means_replay}
+use Rattle.er_program.specs.declared.work.Work.TheVariants as work
+use Rattle.er_program.proofs.KeyedMeanings.{means_keyed}
 use Rattle.er_program.proofs.BulkMeanings.{BulkHolds, means_bulk}
 
 -- what is claimed of the world holds at every moment of the steps that are done
@@ -50,6 +50,7 @@ means_usage files p q c d f g before now status is printed = record {
   sink = λ h. absurd (omega arith);
   memory = λ h. absurd (omega arith);
   overfull = λ h. absurd (omega arith);
+  unlike = λ h. absurd (omega arith);
   complete = λ fine. inl is;
 }
 
@@ -65,6 +66,7 @@ means_unfetched name files p q c d f g before now status asked is rose printed =
   sink = λ h. absurd (omega arith);
   memory = λ h. absurd (omega arith);
   overfull = λ h. absurd (omega arith);
+  unlike = λ h. absurd (omega arith);
   complete = λ good fine. absurd (good rose);
 }
 
@@ -75,7 +77,8 @@ memory_complete (Drill name) files c d f g status is = λ good fine. inr is
 memory_complete (Bits name) files c d f g status is = λ good fine. inr is
 memory_complete (Migrate keys) files c d f g status is = λ good fine. inr is
 memory_complete (Replay keys trace) files c d f g status is = λ good fine. inr is
-memory_complete (Audit keys tap) files c d f g status is = λ good fine. inr is
+memory_complete (Check keys trace) files c d f g status is = λ good fine. inr is
+memory_complete (Audit keys tap ends) files c d f g status is = λ good fine. inr is
 memory_complete (Bulk seed count) files c d f g status is = λ fine. inr is
 memory_complete (Serve keys address rbc turns) files c d f g status is = λ good fine well. inr is
 memory_complete (Call keys address engine rbc turns) files c d f g status is = λ good fine well. inr is
@@ -92,6 +95,7 @@ means_memory command files p q c d f g before now status is out = record {
   sink = λ h. absurd (omega arith);
   memory = λ h. out;
   overfull = λ h. absurd (omega arith);
+  unlike = λ h. absurd (omega arith);
   complete = memory_complete command files c d f g status is;
 }
 
@@ -102,7 +106,8 @@ not_complete (Drill name) files c d f g status rose = λ good fine. absurd (fine
 not_complete (Bits name) files c d f g status rose = λ good fine. absurd (fine rose)
 not_complete (Migrate keys) files c d f g status rose = λ good fine. absurd (fine rose)
 not_complete (Replay keys trace) files c d f g status rose = λ good fine. absurd (fine rose)
-not_complete (Audit keys tap) files c d f g status rose = λ good fine. absurd (fine rose)
+not_complete (Check keys trace) files c d f g status rose = λ good fine. absurd (fine rose)
+not_complete (Audit keys tap ends) files c d f g status rose = λ good fine. absurd (fine rose)
 not_complete (Bulk seed count) files c d f g status rose = λ fine. absurd (fine rose)
 not_complete (Serve keys address rbc turns) files c d f g status rose = λ good fine well. absurd (fine rose)
 not_complete (Call keys address engine rbc turns) files c d f g status rose = λ good fine well. absurd (fine rose)
@@ -119,6 +124,7 @@ means_sink command files p q c d f g before now status is failed = record {
   sink = λ h. failed;
   memory = λ h. absurd (omega arith);
   overfull = λ h. absurd (omega arith);
+  unlike = λ h. absurd (omega arith);
   complete = not_complete command files c d f g status failed.rose;
 }
 
@@ -135,6 +141,7 @@ means_out_of_form name file line why files p q c d f g before now status stands 
   sink = λ h. absurd (omega arith);
   memory = λ h. absurd (omega arith);
   overfull = λ h. absurd (omega arith);
+  unlike = λ h. absurd (omega arith);
   complete = λ good fine. inl (
     file,
     stands,
@@ -169,6 +176,7 @@ means_done name file s files p q c d f g before now status law stands spelled re
   sink = λ h. absurd (omega arith);
   memory = λ h. absurd (omega arith);
   overfull = λ h. absurd (omega arith);
+  unlike = λ h. absurd (omega arith);
   complete = λ good fine. inl (file, stands, has);
 }
 
@@ -185,13 +193,14 @@ means_refused name file files p q c d f g before now status is broke stands has 
   sink = λ h. absurd (omega arith);
   memory = λ h. absurd (omega arith);
   overfull = λ h. absurd (omega arith);
+  unlike = λ h. absurd (omega arith);
   complete = λ good fine. inl (file, stands, has);
 }
 
 means_overfull : (name file : List ℕ) (files : Files) (p q : Names) (c d f g : ℕ) (before now : Option (List ℕ)) (status : ℕ)
     → status ≡ 8 → IsDrillBrokenOff name files 8 before now → HasFile files name file → HasStatus file status → FileMeans (Drill name) files p q c d f g before now status
 means_overfull name file files p q c d f g before now status is broke stands has = record {
-  known = inr (inr (inr (inr (inr (inr (inr is))))));
+  known = inr (inr (inr (inr (inr (inr (inr (inl is)))))));
   done = λ h. absurd (omega arith);
   usage = λ h. absurd (omega arith);
   fetch = λ h. absurd (omega arith);
@@ -200,6 +209,7 @@ means_overfull name file files p q c d f g before now status is broke stands has
   sink = λ h. absurd (omega arith);
   memory = λ h. absurd (omega arith);
   overfull = λ h. broke;
+  unlike = λ h. absurd (omega arith);
   complete = λ good fine. inl (file, stands, has);
 }
 
@@ -312,9 +322,11 @@ means_finished law bulk (Bits name) files p q c d before now f g status asked en
 means_finished law bulk (Migrate keys) files p q c d before now f g status asked ends =
     means_migrate keys ends.is.fetched ends.answer files p q c d f g before now status asked ends.is.stands ends.is.is ends.stated ends.printed
 means_finished law bulk (Replay keys trace) files p q c d before now f g status asked ends =
-    means_replay keys trace ends.is.fetched ends.answer files p q c d f g before now status asked ends.is.stands ends.is.is ends.stated ends.printed
-means_finished law bulk (Audit keys tap) files p q c d before now f g status asked ends =
-    means_audit keys tap ends.is.fetched ends.answer files p q c d f g before now status asked ends.is.stands ends.is.is ends.stated ends.printed
+    means_keyed work.Replay keys trace ends.is.fetched ends.answer files p q c d f g before now status asked ends.is.stands ends.is.is ends.stated ends.printed
+means_finished law bulk (Check keys trace) files p q c d before now f g status asked ends =
+    means_keyed work.Check keys trace ends.is.fetched ends.answer files p q c d f g before now status asked ends.is.stands ends.is.is ends.stated ends.printed
+means_finished law bulk (Audit keys tap asked_ends) files p q c d before now f g status asked ends =
+    means_keyed (work.Audit asked_ends) keys tap ends.is.fetched ends.answer files p q c d f g before now status asked ends.is.stands ends.is.is ends.stated ends.printed
 means_finished law bulk (Bulk seed count) files p q c d before now f g status asked ends =
     means_bulk bulk seed count ends.answer files p q c d f g before now status ends.is ends.stated ends.printed
 means_finished law bulk (Serve keys address rbc turns) files p q c d before now f g status asked ends = absurd asked
@@ -327,7 +339,8 @@ answer_given (Drill name) files c d a given = given.answer
 answer_given (Bits name) files c d a given = given
 answer_given (Migrate keys) files c d a given = given
 answer_given (Replay keys trace) files c d a given = given
-answer_given (Audit keys tap) files c d a given = given
+answer_given (Check keys trace) files c d a given = given
+answer_given (Audit keys tap ends) files c d a given = given
 answer_given (Bulk seed count) files c d a given = given
 answer_given (Serve keys address rbc turns) files c d a given = absurd given
 answer_given (Call keys address engine rbc turns) files c d a given = absurd given
@@ -349,7 +362,8 @@ worlds_hold law bulk (Drill name) files c d a given = record {
 worlds_hold law bulk (Bits name) files c d a given = tt
 worlds_hold law bulk (Migrate keys) files c d a given = tt
 worlds_hold law bulk (Replay keys trace) files c d a given = tt
-worlds_hold law bulk (Audit keys tap) files c d a given = tt
+worlds_hold law bulk (Check keys trace) files c d a given = tt
+worlds_hold law bulk (Audit keys tap ends) files c d a given = tt
 worlds_hold law bulk (Bulk seed count) files c d a given = bulk seed count
 worlds_hold law bulk (Serve keys address rbc turns) files c d a given = tt
 worlds_hold law bulk (Call keys address engine rbc turns) files c d a given = tt
@@ -387,7 +401,8 @@ first_lines_hold law bulk (Drill name) files text begun =
 first_lines_hold law bulk (Bits name) files text begun = begun
 first_lines_hold law bulk (Migrate keys) files text begun = begun
 first_lines_hold law bulk (Replay keys trace) files text begun = begun
-first_lines_hold law bulk (Audit keys tap) files text begun = begun
+first_lines_hold law bulk (Check keys trace) files text begun = begun
+first_lines_hold law bulk (Audit keys tap ends) files text begun = begun
 first_lines_hold law bulk (Bulk seed count) files text begun = (begun, bulk seed count)
 first_lines_hold law bulk (Serve keys address rbc turns) files text begun = absurd begun
 first_lines_hold law bulk (Call keys address engine rbc turns) files text begun = absurd begun

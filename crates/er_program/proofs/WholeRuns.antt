@@ -5,7 +5,7 @@ use Rattle.er_serving.specs.LineCommands as line
 use Rattle.er_serving.specs.LineRuns.{GivenToLoop, IsLineStatus}
 use Rattle.er_serving.specs.LineStatuses.{IsLineRun}
 use Rattle.er_serving.specs.Outsides.{Outside, Traffic, IsSteady}
-use Rattle.er_program.specs.Commands.{Command, Misused, Drill, Bits, Migrate, Replay, Audit, Bulk, Serve, Call, needs_wires}
+use Rattle.er_program.specs.Commands.{Command, Misused, Drill, Bits, Migrate, Replay, Check, Audit, Bulk, Serve, Call, needs_wires}
 use Rattle.er_program.specs.FileMeans.{FileMeans, AskedNames}
 use Rattle.er_program.specs.Statuses.{IsFileStatus, AreAsked, IsRun}
 
@@ -35,7 +35,8 @@ no_six s is (inr (inr (inr (inl x)))) = omega (arith)
 no_six s is (inr (inr (inr (inr (inl x))))) = omega (arith)
 no_six s is (inr (inr (inr (inr (inr (inl x)))))) = omega (arith)
 no_six s is (inr (inr (inr (inr (inr (inr (inl x))))))) = omega (arith)
-no_six s is (inr (inr (inr (inr (inr (inr (inr x))))))) = omega (arith)
+no_six s is (inr (inr (inr (inr (inr (inr (inr (inl x)))))))) = omega (arith)
+no_six s is (inr (inr (inr (inr (inr (inr (inr (inr x)))))))) = omega (arith)
 
 pub off_run : (command : Command) (g : GivenToLoop) (rest : Traffic) (files before_files : Files) (p q : AskedNames) (c d f h : ℕ) (before now : Option (List ℕ)) (status : ℕ)
     → needs_wires command ≡ false → FileMeans command files p q c d f h before now status
@@ -56,6 +57,7 @@ off_run Misused g rest files before_files p q c d f h before now status off m as
     wires = λ is. no_six status is m.known;
     memory = m.memory;
     overfull = m.overfull;
+    unlike = m.unlike;
   };
   idle = record { calls = refl; failed = refl; turns_failed = refl; listening = refl; clock = refl };
   asked = asked;
@@ -76,6 +78,7 @@ off_run (Drill name) g rest files before_files p q c d f h before now status off
     wires = λ is. no_six status is m.known;
     memory = m.memory;
     overfull = m.overfull;
+    unlike = m.unlike;
   };
   idle = record { calls = refl; failed = refl; turns_failed = refl; listening = refl; clock = refl };
   asked = asked;
@@ -96,6 +99,7 @@ off_run (Bits name) g rest files before_files p q c d f h before now status off 
     wires = λ is. no_six status is m.known;
     memory = m.memory;
     overfull = m.overfull;
+    unlike = m.unlike;
   };
   idle = record { calls = refl; failed = refl; turns_failed = refl; listening = refl; clock = refl };
   asked = asked;
@@ -116,6 +120,7 @@ off_run (Migrate keys) g rest files before_files p q c d f h before now status o
     wires = λ is. no_six status is m.known;
     memory = m.memory;
     overfull = m.overfull;
+    unlike = m.unlike;
   };
   idle = record { calls = refl; failed = refl; turns_failed = refl; listening = refl; clock = refl };
   asked = asked;
@@ -136,13 +141,14 @@ off_run (Replay keys trace) g rest files before_files p q c d f h before now sta
     wires = λ is. no_six status is m.known;
     memory = m.memory;
     overfull = m.overfull;
+    unlike = m.unlike;
   };
   idle = record { calls = refl; failed = refl; turns_failed = refl; listening = refl; clock = refl };
   asked = asked;
   complete = m.complete;
   steady = steady;
 }
-off_run (Audit keys tap) g rest files before_files p q c d f h before now status off m asked steady = record {
+off_run (Check keys trace) g rest files before_files p q c d f h before now status off m asked steady = record {
   known = m.known;
   means = record {
     done = m.done;
@@ -156,6 +162,28 @@ off_run (Audit keys tap) g rest files before_files p q c d f h before now status
     wires = λ is. no_six status is m.known;
     memory = m.memory;
     overfull = m.overfull;
+    unlike = m.unlike;
+  };
+  idle = record { calls = refl; failed = refl; turns_failed = refl; listening = refl; clock = refl };
+  asked = asked;
+  complete = m.complete;
+  steady = steady;
+}
+off_run (Audit keys tap ends) g rest files before_files p q c d f h before now status off m asked steady = record {
+  known = m.known;
+  means = record {
+    done = m.done;
+    misused = m.usage;
+    unfetched = λ is.
+        let u = m.fetch is in
+        record { first = u.first; name = u.name; rest = u.rest; is = u.is; asked_for = u.asked_for; rose = u.rose; printed = u.printed };
+    refused = m.refused;
+    keyless = m.keys;
+    sunk = λ is. record { rose = (m.sink is).rose; beginning = (m.sink is).beginning };
+    wires = λ is. no_six status is m.known;
+    memory = m.memory;
+    overfull = m.overfull;
+    unlike = m.unlike;
   };
   idle = record { calls = refl; failed = refl; turns_failed = refl; listening = refl; clock = refl };
   asked = asked;
@@ -176,6 +204,7 @@ off_run (Bulk seed count) g rest files before_files p q c d f h before now statu
     wires = λ is. no_six status is m.known;
     memory = m.memory;
     overfull = m.overfull;
+    unlike = m.unlike;
   };
   idle = record { calls = refl; failed = refl; turns_failed = refl; listening = refl; clock = refl };
   asked = asked;
@@ -196,11 +225,12 @@ no_line s (inr (inr (inr (inl x)))) a b c d e f = d x
 no_line s (inr (inr (inr (inr (inl x))))) a b c d e f = e x
 no_line s (inr (inr (inr (inr (inr x))))) a b c d e f = f x
 
--- status 1, 3 or 8 is none of these
-apart_line : (s : ℕ) → (s ≡ 1) ⊎ (s ≡ 3) ⊎ (s ≡ 8) → IsLineStatus s → ⊥
+-- status 1, 3, 8 or 9 is none of these
+apart_line : (s : ℕ) → (s ≡ 1) ⊎ (s ≡ 3) ⊎ (s ≡ 8) ⊎ (s ≡ 9) → IsLineStatus s → ⊥
 apart_line s (inl x) known = no_line s known (omega (arith, x)) (omega (arith, x)) (omega (arith, x)) (omega (arith, x)) (omega (arith, x)) (omega (arith, x))
 apart_line s (inr (inl x)) known = no_line s known (omega (arith, x)) (omega (arith, x)) (omega (arith, x)) (omega (arith, x)) (omega (arith, x)) (omega (arith, x))
-apart_line s (inr (inr x)) known = no_line s known (omega (arith, x)) (omega (arith, x)) (omega (arith, x)) (omega (arith, x)) (omega (arith, x)) (omega (arith, x))
+apart_line s (inr (inr (inl x))) known = no_line s known (omega (arith, x)) (omega (arith, x)) (omega (arith, x)) (omega (arith, x)) (omega (arith, x)) (omega (arith, x))
+apart_line s (inr (inr (inr x))) known = no_line s known (omega (arith, x)) (omega (arith, x)) (omega (arith, x)) (omega (arith, x)) (omega (arith, x)) (omega (arith, x))
 
 pub serve_run : (keys address : List ℕ) (rbc turns : ℕ) (g : GivenToLoop) (before now : Outside) (status : ℕ)
     → IsLineRun (line.Serve keys address rbc turns) g before now status → IsRun (Serve keys address rbc turns) g before now status
@@ -223,7 +253,8 @@ serve_run keys address rbc turns g before now status m = record {
     sunk = λ is. record { rose = (m.sunk is).rose; beginning = (m.sunk is).beginning };
     wires = m.wires;
     memory = m.memory;
-    overfull = λ is. apart_line status (inr (inr is)) m.known;
+    overfull = λ is. apart_line status (inr (inr (inl is))) m.known;
+    unlike = λ is. apart_line status (inr (inr (inr is))) m.known;
   };
   idle = m.idle;
   asked = record { part = m.part; all = λ two four five seven. m.asked five seven };
@@ -252,7 +283,8 @@ call_run keys address engine rbc turns g before now status m = record {
     sunk = λ is. record { rose = (m.sunk is).rose; beginning = (m.sunk is).beginning };
     wires = m.wires;
     memory = m.memory;
-    overfull = λ is. apart_line status (inr (inr is)) m.known;
+    overfull = λ is. apart_line status (inr (inr (inl is))) m.known;
+    unlike = λ is. apart_line status (inr (inr (inr is))) m.known;
   };
   idle = m.idle;
   asked = record { part = m.part; all = λ two four five seven. m.asked five seven };

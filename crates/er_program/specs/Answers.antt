@@ -1,5 +1,7 @@
 -- What a run of the program answers where no write fails and memory suffices: a status and a text (this profile).
-use Rattle.std.specs.Prelude.{◌≡◌, ◌<◌, ℕ, List, [], ◌++◌, take, length, slice_get, nat_lt, if◌then◌else◌, Option, Some, None, Result, Ok, Err, codes}
+use Rattle.std.specs.Prelude.{◌≡◌, ◌<◌, ℕ, List, [], ◌∷◌, ◌++◌, take, length, slice_get, nat_lt, Bool, if◌then◌else◌, Option, Some, None, Result, Ok, Err, codes}
+use Rattle.std.specs.Fmt.{decimal}
+use Rattle.er_base.specs.LineTexts.{line_text}
 use Rattle.er_base.specs.declared.text_fault.TextFault.{TextFault}
 use Rattle.er_base.specs.declared.text_fault.TextFault.TheVariants as text
 use Rattle.er_scenario.specs.declared.step.Step.{Step}
@@ -11,7 +13,7 @@ use Rattle.drill_model.specs.declared.world_fault.WorldFault.TheVariants.{NoLink
 use Rattle.drill_model.specs.Worlds.{plan_of, steps_of}
 use Rattle.drill_model.specs.Faults.{fault_behind, AllDone}
 use Rattle.drill_model.specs.Texts.{first_lines, drill_text}
-use Rattle.er_program.specs.Commands.{Command, Misused, Drill, Bits, Migrate, Replay, Audit, Bulk, Serve, Call}
+use Rattle.er_program.specs.Commands.{Command, Misused, Drill, Bits, Migrate, Replay, Check, Audit, Bulk, Serve, Call}
 use Rattle.er_program.specs.BitTexts.{most_line_octets, bits_text}
 use Rattle.er_program.specs.BulkTexts.{bulk_plan, steps_of_bulk, totals_of_bulk, totals_line, FirstOverfull}
 use Rattle.safety_automaton.specs.Keys.{KmacEntry, key_at}
@@ -24,9 +26,12 @@ use Rattle.er_tap.specs.declared.tap.Tap.{Tap}
 use Rattle.er_tap.specs.declared.tap_line.TapLine.{TapLine}
 use Rattle.er_tap.specs.Files.{tap_of}
 use Rattle.tap_model.specs.Lines.{TapFault, NoLinkAt, TwiceAt, fault_of_tap_lines}
-use Rattle.tap_model.specs.Texts.{audit_text}
+use Rattle.tap_model.specs.EndTexts.{text_of_audit}
 use Rattle.trace_model.specs.declared.replay_fault.ReplayFault.{ReplayFault}
 use Rattle.trace_model.specs.declared.replay_fault.ReplayFault.TheVariants as refused
+use Rattle.trace_model.specs.declared.check_verdict.CheckVerdict.{CheckVerdict}
+use Rattle.trace_model.specs.declared.check_verdict.CheckVerdict.TheVariants as verdict
+use Rattle.trace_model.specs.Recordings.{ended_part, check_verdict}
 use Rattle.trace_model.specs.Printed.{text_of_trace}
 use Rattle.trace_model.specs.Replays.{AreTaken, HasFirstRefusedEvent}
 use Rattle.key_store.specs.declared.key_file_fault.KeyFileFault.{KeyFileFault}
@@ -162,69 +167,84 @@ IsTraceAnswer keys (Err (text.At line why)) a = a ≡ record { status = 3; text 
 IsTraceAnswer keys (Err (text.NoMemory want)) a = a ≡ record { status = 7; text = memory_line }
 IsTraceAnswer keys (Ok trace) a = IsReplayAnswer trace.settings (key_at keys) trace.entries a
 
-abbrev pub IsFetchedTrace : List KmacEntry → List ℕ → Option (List ℕ) → Answer → Type 0
-IsFetchedTrace keys name None a = a ≡ record { status = 2; text = fetch_line name }
-IsFetchedTrace keys name (Some file) a = IsTraceAnswer keys (trace_of file) a
+-- the answer to the octets of such a file
+abbrev pub IsReplayOfFile : List KmacEntry → (file : List ℕ) → Answer → Type 0
+IsReplayOfFile keys file a = IsTraceAnswer keys (trace_of file) a
 
--- the answer to the file word of a trace, where the key file has these entries
-pub record IsTraceFileAnswer (keys : List KmacEntry) (name : List ℕ) (files : Files) (c d : ℕ) (a : Answer) : Type 0 where
-  pub fetched : Option (List ℕ)
-  pub stands : HasFetched name fetched files c d
-  pub is : IsFetchedTrace keys name fetched a
+-- ---- a key file and a recording
 
--- the trace is asked for where the key file is good
-abbrev pub IsAnswerBehindKeys : Result (List KmacEntry) KeyFileFault → (name : List ℕ) → Files → ℕ → ℕ → Answer → Type 0
-IsAnswerBehindKeys (Err fault) name files c d a = a ≡ keys_answer fault
-IsAnswerBehindKeys (Ok keys) name files c d a = IsTraceFileAnswer keys name files c d a
+-- the line of a recording that is what its replay prints
+abbrev pub checked_line : (events outcomes : ℕ) → List ℕ
+checked_line events outcomes = line_text (codes "checked" ∷ decimal events ∷ codes "events" ∷ decimal outcomes ∷ codes "outcomes" ∷ [])
 
-abbrev pub IsFetchedReplay : (keys name : List ℕ) → Option (List ℕ) → Files → ℕ → ℕ → Answer → Type 0
-IsFetchedReplay keys name None files c d a = a ≡ record { status = 2; text = fetch_line keys }
-IsFetchedReplay keys name (Some file) files c d a = IsAnswerBehindKeys (keys_of file) name files c d a
+-- what is told of a recording of so many events
+abbrev pub verdict_answer : (events : ℕ) → CheckVerdict → Answer
+verdict_answer events (verdict.Same outcomes) = record { status = 0; text = checked_line events outcomes }
+verdict_answer events (verdict.Differs line) = record { status = 9; text = fault_line line (codes "differs") }
+verdict_answer events (verdict.Cut line) = record { status = 9; text = fault_line line (codes "cut") }
+verdict_answer events (verdict.Missing line) = record { status = 9; text = fault_line line (codes "missing") }
 
--- the answer to the file words of a key file and of a trace
-pub record IsReplayWordsAnswer (keys name : List ℕ) (files : Files) (c d : ℕ) (a : Answer) : Type 0 where
-  pub fetched : Option (List ℕ)
-  pub stands : HasFetched keys fetched files c d
-  pub is : IsFetchedReplay keys name fetched files c d a
+-- events that are all taken have the verdict told; where one is refused, its line is printed alone
+pub data IsCheckAnswer (settings : Settings) (finds : Finds) (entries : List TraceEntry) (file : List ℕ) (a : Answer) : Type 0 where
+  AllAreJudged : AreTaken settings finds entries
+      → a ≡ verdict_answer (length entries) (check_verdict file (text_of_trace settings finds entries)) → IsCheckAnswer settings finds entries file a
+  OneIsTold : (fault : ReplayFault) (first : HasFirstRefusedEvent settings finds entries fault)
+      → a ≡ record { status = 3; text = replay_fault_line fault } → IsCheckAnswer settings finds entries file a
+
+-- what its ended lines are read as
+abbrev pub IsRecordingAnswer : List KmacEntry → (file : List ℕ) → Result Trace TextFault → Answer → Type 0
+IsRecordingAnswer keys file (Err (text.At line why)) a = a ≡ record { status = 3; text = fault_line line (why_word why) }
+IsRecordingAnswer keys file (Err (text.NoMemory want)) a = a ≡ record { status = 7; text = memory_line }
+IsRecordingAnswer keys file (Ok trace) a = IsCheckAnswer trace.settings (key_at keys) trace.entries file a
+
+-- the answer to the octets of such a file, whose last line isn't read where no LF ends it
+abbrev pub IsCheckOfFile : List KmacEntry → (file : List ℕ) → Answer → Type 0
+IsCheckOfFile keys file a = IsRecordingAnswer keys file (trace_of (ended_part file)) a
 
 -- ---- a key file and a tap
 
 -- a tap whose lines stand in order is audited; the first line that doesn't prints its line alone
-abbrev pub lines_answer : Finds → List TapLine → Option TapFault → Answer
-lines_answer finds lines None = record { status = 0; text = audit_text finds lines }
-lines_answer finds lines (Some (NoLinkAt line n)) = record { status = 3; text = fault_line line (codes "nolink") }
-lines_answer finds lines (Some (TwiceAt line n)) = record { status = 3; text = fault_line line (codes "twice") }
+abbrev pub lines_answer : (ends : Bool) → Finds → List TapLine → Option TapFault → Answer
+lines_answer ends finds lines None = record { status = 0; text = text_of_audit ends finds lines }
+lines_answer ends finds lines (Some (NoLinkAt line n)) = record { status = 3; text = fault_line line (codes "nolink") }
+lines_answer ends finds lines (Some (TwiceAt line n)) = record { status = 3; text = fault_line line (codes "twice") }
 
 -- a file that spells a tap is audited with these entries of a key file; a fault of its grammar prints its line alone
-abbrev pub tap_answer : List KmacEntry → Result Tap TextFault → Answer
-tap_answer keys (Err (text.At line why)) = record { status = 3; text = fault_line line (why_word why) }
-tap_answer keys (Err (text.NoMemory want)) = record { status = 7; text = memory_line }
-tap_answer keys (Ok tap) = lines_answer (key_at keys) tap.lines (fault_of_tap_lines tap.lines)
+abbrev pub tap_answer : (ends : Bool) → List KmacEntry → Result Tap TextFault → Answer
+tap_answer ends keys (Err (text.At line why)) = record { status = 3; text = fault_line line (why_word why) }
+tap_answer ends keys (Err (text.NoMemory want)) = record { status = 7; text = memory_line }
+tap_answer ends keys (Ok tap) = lines_answer ends (key_at keys) tap.lines (fault_of_tap_lines tap.lines)
 
-abbrev pub IsFetchedTap : List KmacEntry → List ℕ → Option (List ℕ) → Answer → Type 0
-IsFetchedTap keys name None a = a ≡ record { status = 2; text = fetch_line name }
-IsFetchedTap keys name (Some file) a = a ≡ tap_answer keys (tap_of file)
+-- the answer to the octets of such a file
+abbrev pub IsAuditOfFile : (ends : Bool) → List KmacEntry → (file : List ℕ) → Answer → Type 0
+IsAuditOfFile ends keys file a = a ≡ tap_answer ends keys (tap_of file)
 
--- the answer to the file word of a tap, where the key file has these entries
-pub record IsTapFileAnswer (keys : List KmacEntry) (name : List ℕ) (files : Files) (c d : ℕ) (a : Answer) : Type 0 where
+-- ---- a key file and another file, to whose octets a command answers by the entries of the key file
+
+abbrev pub IsFetchedSecond : (List KmacEntry → List ℕ → Answer → Type 0) → List KmacEntry → (name : List ℕ) → Option (List ℕ) → Answer → Type 0
+IsFetchedSecond Is keys name None a = a ≡ record { status = 2; text = fetch_line name }
+IsFetchedSecond Is keys name (Some file) a = Is keys file a
+
+-- the answer to the second file word, where the key file has these entries
+pub record IsSecondFileAnswer (Is : List KmacEntry → List ℕ → Answer → Type 0) (keys : List KmacEntry) (name : List ℕ) (files : Files) (c d : ℕ) (a : Answer) : Type 0 where
   pub fetched : Option (List ℕ)
   pub stands : HasFetched name fetched files c d
-  pub is : IsFetchedTap keys name fetched a
+  pub is : IsFetchedSecond Is keys name fetched a
 
--- the tap is asked for where the key file is good
-abbrev pub IsTapAnswerBehindKeys : Result (List KmacEntry) KeyFileFault → (name : List ℕ) → Files → ℕ → ℕ → Answer → Type 0
-IsTapAnswerBehindKeys (Err fault) name files c d a = a ≡ keys_answer fault
-IsTapAnswerBehindKeys (Ok keys) name files c d a = IsTapFileAnswer keys name files c d a
+-- the second file is asked for where the key file is good
+abbrev pub IsAnswerBehindKeys : (List KmacEntry → List ℕ → Answer → Type 0) → Result (List KmacEntry) KeyFileFault → (name : List ℕ) → Files → ℕ → ℕ → Answer → Type 0
+IsAnswerBehindKeys Is (Err fault) name files c d a = a ≡ keys_answer fault
+IsAnswerBehindKeys Is (Ok keys) name files c d a = IsSecondFileAnswer Is keys name files c d a
 
-abbrev pub IsFetchedAudit : (keys name : List ℕ) → Option (List ℕ) → Files → ℕ → ℕ → Answer → Type 0
-IsFetchedAudit keys name None files c d a = a ≡ record { status = 2; text = fetch_line keys }
-IsFetchedAudit keys name (Some file) files c d a = IsTapAnswerBehindKeys (keys_of file) name files c d a
+abbrev pub IsFetchedKeyed : (List KmacEntry → List ℕ → Answer → Type 0) → (keys name : List ℕ) → Option (List ℕ) → Files → ℕ → ℕ → Answer → Type 0
+IsFetchedKeyed Is keys name None files c d a = a ≡ record { status = 2; text = fetch_line keys }
+IsFetchedKeyed Is keys name (Some file) files c d a = IsAnswerBehindKeys Is (keys_of file) name files c d a
 
--- the answer to the file words of a key file and of a tap
-pub record IsAuditWordsAnswer (keys name : List ℕ) (files : Files) (c d : ℕ) (a : Answer) : Type 0 where
+-- the answer to both file words
+pub record IsKeyedAnswer (Is : List KmacEntry → List ℕ → Answer → Type 0) (keys name : List ℕ) (files : Files) (c d : ℕ) (a : Answer) : Type 0 where
   pub fetched : Option (List ℕ)
   pub stands : HasFetched keys fetched files c d
-  pub is : IsFetchedAudit keys name fetched files c d a
+  pub is : IsFetchedKeyed Is keys name fetched files c d a
 
 -- ---- a bulk run
 
@@ -244,8 +264,9 @@ IsAnswer Misused files c d a = a ≡ record { status = 1; text = usage_line }
 IsAnswer (Drill name) files c d a = IsFileAnswer name files c d a
 IsAnswer (Bits name) files c d a = IsBitsAnswer name files c d a
 IsAnswer (Migrate keys) files c d a = IsMigrateAnswer keys files c d a
-IsAnswer (Replay keys trace) files c d a = IsReplayWordsAnswer keys trace files c d a
-IsAnswer (Audit keys tap) files c d a = IsAuditWordsAnswer keys tap files c d a
+IsAnswer (Replay keys trace) files c d a = IsKeyedAnswer IsReplayOfFile keys trace files c d a
+IsAnswer (Check keys trace) files c d a = IsKeyedAnswer IsCheckOfFile keys trace files c d a
+IsAnswer (Audit keys tap ends) files c d a = IsKeyedAnswer (IsAuditOfFile ends) keys tap files c d a
 IsAnswer (Bulk seed count) files c d a = IsBulkAnswer seed count a
 IsAnswer (Serve keys address rbc turns) files c d a = ⊥
 IsAnswer (Call keys address engine rbc turns) files c d a = ⊥

@@ -1,7 +1,7 @@
 -- Representation: which names a run asked for, by its status; no claim rests on it.
 use Rattle.std.specs.Prelude.{◌≡◌, ◌≢◌, ◌⊎◌, ℕ, List, [], ◌∷◌, Option}
 use Rattle.link_trait.specs.Outside.{Grew}
-use Rattle.er_program.specs.Commands.{Command, Misused, Drill, Bits, Migrate, Replay, Audit, Bulk, Serve, Call}
+use Rattle.er_program.specs.Commands.{Command, Misused, Drill, Bits, Migrate, Replay, Check, Audit, Bulk, Serve, Call}
 use Rattle.er_statuses.specs.LastLines.{fetch_line}
 
 -- names that were asked for
@@ -36,7 +36,9 @@ Asks (Bits name) status asked asked_now before now = Grew asked asked_now (name 
 Asks (Migrate keys) status asked asked_now before now = Grew asked asked_now (keys ∷ [])
 Asks (Replay keys trace) status asked asked_now before now =
     AsksKeys keys status asked asked_now before now ⊎ AsksBoth keys trace status asked asked_now before now
-Asks (Audit keys tap) status asked asked_now before now =
+Asks (Check keys trace) status asked asked_now before now =
+    AsksKeys keys status asked asked_now before now ⊎ AsksBoth keys trace status asked asked_now before now
+Asks (Audit keys tap ends) status asked asked_now before now =
     AsksKeys keys status asked asked_now before now ⊎ AsksBoth keys tap status asked asked_now before now
 Asks (Bulk seed count) status asked asked_now before now = Grew asked asked_now []
 Asks (Serve keys address rbc turns) status asked asked_now before now = ⊥

@@ -1,19 +1,17 @@
 -- Representation: what the audit of a tap writes to the sink, and how it ends; no claim rests on it.
-use Rattle.std.specs.Prelude.{◌≡◌, ◌⊎◌, ℕ, ◌≤◌, List, [], ◌++◌, Option, None, Result, Ok, Err, codes}
+use Rattle.std.specs.Prelude.{◌≡◌, ◌⊎◌, ℕ, Bool, ◌≤◌, List, [], ◌++◌, Option, None, Result, Ok, Err, codes}
 use Rattle.er_base.specs.declared.text_fault.TextFault.{TextFault}
 use Rattle.er_tap.specs.declared.tap.Tap.{Tap}
 use Rattle.er_tap.specs.declared.tap_line.TapLine.{TapLine}
-use Rattle.er_tap.specs.Files.{tap_of}
 use Rattle.er_end_model.specs.Steps.{Finds}
 use Rattle.safety_automaton.specs.Keys.{KmacEntry, key_at}
-use Rattle.key_store.specs.declared.key_file_fault.KeyFileFault.{KeyFileFault}
-use Rattle.link_trait.specs.Outside.{Grew, HasFile}
+use Rattle.link_trait.specs.Outside.{Grew}
 use Rattle.tap_model.specs.declared.audit_fault.AuditFault.{AuditFault}
 use Rattle.tap_model.specs.declared.audit_fault.AuditFault.TheVariants.{NoLink, LinkTwice, Sink, NoMemory}
 use Rattle.tap_model.specs.Lines.{fault_of_tap_lines}
-use Rattle.tap_model.specs.Texts.{audit_text}
+use Rattle.tap_model.specs.EndTexts.{text_of_audit}
 use Rattle.er_statuses.specs.LastLines.{fault_line}
-use Rattle.er_statuses.specs.Answers.{Answer, Files}
+use Rattle.er_statuses.specs.Answers.{Answer}
 use Rattle.er_program.specs.Answers.{lines_answer, tap_answer}
 use Rattle.er_statuses.specs.Writing.{GivesAnswer}
 use Rattle.er_statuses.specs.declared.status.Status.{Status}
@@ -22,47 +20,30 @@ use Rattle.er_statuses.specs.declared.stop.Stop.TheVariants as stop
 
 -- ---- the answers, as kinds of one
 
-abbrev pub IsLinesAnswer : Finds → List TapLine → Answer → Type 0
-IsLinesAnswer finds lines a = a ≡ lines_answer finds lines (fault_of_tap_lines lines)
+abbrev pub IsLinesAnswer : (ends : Bool) → Finds → List TapLine → Answer → Type 0
+IsLinesAnswer ends finds lines a = a ≡ lines_answer ends finds lines (fault_of_tap_lines lines)
 
-abbrev pub IsTapAnswer : List KmacEntry → Result Tap TextFault → Answer → Type 0
-IsTapAnswer keys read a = a ≡ tap_answer keys read
+abbrev pub IsTapAnswer : (ends : Bool) → List KmacEntry → Result Tap TextFault → Answer → Type 0
+IsTapAnswer ends keys read a = a ≡ tap_answer ends keys read
 
 -- ---- what is written where memory runs out
 
 -- a beginning of the lines of an audit
-pub record BeginsAudit (finds : Finds) (lines : List TapLine) (text : List ℕ) : Type 0 where
+pub record BeginsAudit (ends : Bool) (finds : Finds) (lines : List TapLine) (text : List ℕ) : Type 0 where
   pub in_order : fault_of_tap_lines lines ≡ None
   pub rest : List ℕ
-  pub is : text ++ rest ≡ audit_text finds lines
+  pub is : text ++ rest ≡ text_of_audit ends finds lines
 
-abbrev pub BeginsLines : Finds → List TapLine → List ℕ → Type 0
-BeginsLines finds lines text = (text ≡ []) ⊎ BeginsAudit finds lines text
+abbrev pub BeginsLines : (ends : Bool) → Finds → List TapLine → List ℕ → Type 0
+BeginsLines ends finds lines text = (text ≡ []) ⊎ BeginsAudit ends finds lines text
 
 -- where the file spells a tap
-abbrev pub BeginsSpelledTap : List KmacEntry → Result Tap TextFault → List ℕ → Type 0
-BeginsSpelledTap keys (Err fault) text = ⊥
-BeginsSpelledTap keys (Ok tap) text = BeginsAudit (key_at keys) tap.lines text
+abbrev pub BeginsSpelledTap : (ends : Bool) → List KmacEntry → Result Tap TextFault → List ℕ → Type 0
+BeginsSpelledTap ends keys (Err fault) text = ⊥
+BeginsSpelledTap ends keys (Ok tap) text = BeginsAudit ends (key_at keys) tap.lines text
 
-abbrev pub BeginsTap : List KmacEntry → Result Tap TextFault → List ℕ → Type 0
-BeginsTap keys read text = (text ≡ []) ⊎ BeginsSpelledTap keys read text
-
--- of the file of that name
-pub record BeginsFileOfTap (keys : List KmacEntry) (name : List ℕ) (files : Files) (text : List ℕ) : Type 0 where
-  pub file : List ℕ
-  pub stands : HasFile files name file
-  pub begins : BeginsSpelledTap keys (tap_of file) text
-
-abbrev pub BeginsTapFile : List KmacEntry → (name : List ℕ) → Files → List ℕ → Type 0
-BeginsTapFile keys name files text = (text ≡ []) ⊎ BeginsFileOfTap keys name files text
-
--- behind a key file
-abbrev pub BeginsTapOfGood : Result (List KmacEntry) KeyFileFault → (name : List ℕ) → Files → List ℕ → Type 0
-BeginsTapOfGood (Err fault) name files text = ⊥
-BeginsTapOfGood (Ok keys) name files text = BeginsFileOfTap keys name files text
-
-abbrev pub BeginsTapBehindKeys : Result (List KmacEntry) KeyFileFault → (name : List ℕ) → Files → List ℕ → Type 0
-BeginsTapBehindKeys read name files text = (text ≡ []) ⊎ BeginsTapOfGood read name files text
+abbrev pub BeginsTap : (ends : Bool) → List KmacEntry → Result Tap TextFault → List ℕ → Type 0
+BeginsTap ends keys read text = (text ≡ []) ⊎ BeginsSpelledTap ends keys read text
 
 -- ---- the fault of an audit
 

@@ -1,5 +1,5 @@
 -- The words of the program and the commands that they fit (this profile).
-use Rattle.std.specs.Prelude.{ℕ, Bool, true, false, nat_le, if◌then◌else◌, List, [], ◌∷◌, Option, Some, None, map, String, string_bytes, codes}
+use Rattle.std.specs.Prelude.{ℕ, Bool, true, false, nat_le, ◌&&◌, if◌then◌else◌, List, [], ◌∷◌, Option, Some, None, map, String, string_bytes, codes}
 use Rattle.std.specs.Global.{Global}
 use Rattle.std.specs.Str.{bytes_eq}
 use Rattle.er_base.specs.Numbers.{decimal_of}
@@ -16,8 +16,10 @@ pub data Command : Type 0 where
   Migrate : (keys : List ℕ) → Command
   -- `replay KEYS TRACE`: the file words
   Replay : (keys trace : List ℕ) → Command
-  -- `audit KEYS TAP`: the file words
-  Audit : (keys tap : List ℕ) → Command
+  -- `check KEYS TRACE`: the file words
+  Check : (keys trace : List ℕ) → Command
+  -- `audit KEYS TAP`, or with `ends` behind it: the file words, and whether ends are asked for
+  Audit : (keys tap : List ℕ) (ends : Bool) → Command
   -- `bulk SEED COUNT`: the numbers
   Bulk : (seed count : ℕ) → Command
   -- `serve KEYS ADDRESS RBC TURNS`
@@ -70,8 +72,14 @@ bulk_of (Some seed) (Some count) = if nat_le count most_messages then Bulk seed 
 abbrev pub command_of_three : List ℕ → List ℕ → List ℕ → Command
 command_of_three command first second =
     if bytes_eq command (codes "replay") then Replay first second else
-    if bytes_eq command (codes "audit") then Audit first second else
+    if bytes_eq command (codes "check") then Check first second else
+    if bytes_eq command (codes "audit") then Audit first second false else
     if bytes_eq command (codes "bulk") then bulk_of (decimal_of first) (decimal_of second) else Misused
+
+-- four words
+abbrev pub command_of_four : (command keys tap asked : List ℕ) → Command
+command_of_four command keys tap asked =
+    if bytes_eq command (codes "audit") && bytes_eq asked (codes "ends") then Audit keys tap true else Misused
 
 abbrev pub serve_of : (keys address : List ℕ) → (rbc turns : Option ℕ) → Command
 serve_of keys address None turns = Misused
@@ -99,7 +107,7 @@ command_of [] = Misused
 command_of (command ∷ []) = Misused
 command_of (command ∷ name ∷ []) = command_of_two command name
 command_of (command ∷ first ∷ second ∷ []) = command_of_three command first second
-command_of (command ∷ first ∷ second ∷ third ∷ []) = Misused
+command_of (command ∷ keys ∷ tap ∷ asked ∷ []) = command_of_four command keys tap asked
 command_of (command ∷ keys ∷ address ∷ rbc ∷ turns ∷ []) = command_of_five command keys address rbc turns
 command_of (command ∷ keys ∷ address ∷ engine ∷ rbc ∷ turns ∷ []) = command_of_six command keys address engine rbc turns
 command_of (command ∷ first ∷ second ∷ third ∷ fourth ∷ fifth ∷ more ∷ rest) = Misused
@@ -113,7 +121,8 @@ names_of (Drill name) = name ∷ []
 names_of (Bits name) = name ∷ []
 names_of (Migrate keys) = keys ∷ []
 names_of (Replay keys trace) = keys ∷ trace ∷ []
-names_of (Audit keys tap) = keys ∷ tap ∷ []
+names_of (Check keys trace) = keys ∷ trace ∷ []
+names_of (Audit keys tap ends) = keys ∷ tap ∷ []
 names_of (Bulk seed count) = []
 names_of (Serve keys address rbc turns) = keys ∷ []
 names_of (Call keys address engine rbc turns) = keys ∷ []
@@ -125,7 +134,8 @@ needs_wires (Drill name) = false
 needs_wires (Bits name) = false
 needs_wires (Migrate keys) = false
 needs_wires (Replay keys trace) = false
-needs_wires (Audit keys tap) = false
+needs_wires (Check keys trace) = false
+needs_wires (Audit keys tap ends) = false
 needs_wires (Bulk seed count) = false
 needs_wires (Serve keys address rbc turns) = true
 needs_wires (Call keys address engine rbc turns) = true

@@ -58,4 +58,5 @@ pub record FileMeans (command : Command) (files : Files) (asked asked_now : Aske
   pub sink : status ≡ 5 → IsSinkFailed command files c d f g before now
   pub memory : status ≡ 7 → IsSpent command files before now
   pub overfull : status ≡ 8 → statuses.IsOverfull command (sight files asked c before f) (sight files asked_now d now g)
+  pub unlike : status ≡ 9 → statuses.IsUnlikeReplay command (sight files asked c before f) (sight files asked_now d now g)
   pub complete : IsCompleteByFiles command files c d f g status

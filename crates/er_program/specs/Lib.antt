@@ -2,6 +2,7 @@ pub mod Commands
 pub mod CommandViews
 pub mod Answers
 pub mod AuditRuns
+pub mod CheckRuns
 pub mod Runs
 pub mod Writing
 pub mod WriterSinks
@@ -13,6 +14,8 @@ pub mod BulkRuns
 pub mod KeyWriting
 pub mod ReplayWriting
 pub mod AuditWriting
+pub mod CheckWriting
+pub mod KeyedWriting
 pub mod Asking
 pub mod Statuses
 pub mod FileMeans

@@ -4,17 +4,15 @@ use Rattle.er_base.specs.declared.text_fault.TextFault.{TextFault}
 use Rattle.er_settings.specs.Values.{Settings}
 use Rattle.er_trace.specs.declared.entry.Entry.{Entry as TraceEntry}
 use Rattle.er_trace.specs.declared.trace.Trace.{Trace}
-use Rattle.er_trace.specs.Files.{trace_of}
 use Rattle.er_end_model.specs.Steps.{Finds}
 use Rattle.trace_model.specs.declared.replay_fault.ReplayFault.{ReplayFault}
 use Rattle.trace_model.specs.declared.replay_fault.ReplayFault.TheVariants.{NoConn, ConnTwice, MomentBack, NoKey, Many, Sink, NoMemory}
 use Rattle.trace_model.specs.Printed.{text_of_trace}
 use Rattle.trace_model.specs.Replays.{AreTaken}
 use Rattle.safety_automaton.specs.Keys.{KmacEntry, key_at}
-use Rattle.key_store.specs.declared.key_file_fault.KeyFileFault.{KeyFileFault}
-use Rattle.link_trait.specs.Outside.{Grew, HasFile}
+use Rattle.link_trait.specs.Outside.{Grew}
 use Rattle.er_program.specs.Answers.{replay_fault_line}
-use Rattle.er_statuses.specs.Answers.{Answer, Files}
+use Rattle.er_statuses.specs.Answers.{Answer}
 use Rattle.er_program.specs.KeyWriting.{GaveOne, BrokeOne}
 use Rattle.er_statuses.specs.Writing.{GivesAnswer}
 use Rattle.er_statuses.specs.declared.status.Status.{Status}
@@ -54,23 +52,6 @@ BeginsSpelled keys (Ok trace) text = BeginsEvents trace.settings (key_at keys) t
 
 abbrev pub BeginsTrace : List KmacEntry → Result Trace TextFault → List ℕ → Type 0
 BeginsTrace keys read text = (text ≡ []) ⊎ BeginsSpelled keys read text
-
--- of the file of that name
-pub record BeginsFile (keys : List KmacEntry) (name : List ℕ) (files : Files) (text : List ℕ) : Type 0 where
-  pub file : List ℕ
-  pub stands : HasFile files name file
-  pub begins : BeginsSpelled keys (trace_of file) text
-
-abbrev pub BeginsTraceFile : List KmacEntry → (name : List ℕ) → Files → List ℕ → Type 0
-BeginsTraceFile keys name files text = (text ≡ []) ⊎ BeginsFile keys name files text
-
--- behind a key file
-abbrev pub BeginsGood : Result (List KmacEntry) KeyFileFault → (name : List ℕ) → Files → List ℕ → Type 0
-BeginsGood (Err fault) name files text = ⊥
-BeginsGood (Ok keys) name files text = BeginsFile keys name files text
-
-abbrev pub BeginsBehindKeys : Result (List KmacEntry) KeyFileFault → (name : List ℕ) → Files → List ℕ → Type 0
-BeginsBehindKeys read name files text = (text ≡ []) ⊎ BeginsGood read name files text
 
 -- ---- the fault of a replay
 

@@ -8,7 +8,7 @@ use Rattle.drill_model.specs.Worlds.{plan_of}
 use Rattle.drill_model.specs.Texts.{drill_text}
 use Rattle.drill_model.specs.Headline.{Holds}
 use Rattle.link_trait.specs.Outside.{Grew, GrewPart, HasFile}
-use Rattle.er_program.specs.Commands.{Command, Misused, Drill, Bits, Migrate, Replay, Audit, Bulk, Serve, Call}
+use Rattle.er_program.specs.Commands.{Command, Misused, Drill, Bits, Migrate, Replay, Check, Audit, Bulk, Serve, Call}
 use Rattle.er_statuses.specs.LastLines.{memory_line, fault_line, overfull_line, why_word}
 use Rattle.er_program.specs.Answers.{replay_fault_line, IsAnswer, IsScenarioAnswer, FirstFault, AreDone, first_steps, lines_of_first, fault_answer, IsKeysAnswer, IsTraceAnswer, IsBulkAnswer}
 use Rattle.er_statuses.specs.Answers.{Answer, HasFetched, Files, keys_answer}
@@ -189,7 +189,8 @@ AreFirstLines (Drill name) files text = (text ≡ []) ⊎ FirstLines name files 
 AreFirstLines (Bits name) files text = (text ≡ []) ⊎ FirstVerdictLines name files text
 AreFirstLines (Migrate keys) files text = text ≡ []
 AreFirstLines (Replay keys trace) files text = (text ≡ []) ⊎ FirstEventLines keys trace files text
-AreFirstLines (Audit keys tap) files text = (text ≡ []) ⊎ FirstAuditText keys tap files text
+AreFirstLines (Check keys trace) files text = text ≡ []
+AreFirstLines (Audit keys tap ends) files text = (text ≡ []) ⊎ FirstAuditText ends keys tap files text
 AreFirstLines (Bulk seed count) files text = (text ≡ []) × HoldsWhereDone seed count
 AreFirstLines (Serve keys address rbc turns) files text = ⊥
 AreFirstLines (Call keys address engine rbc turns) files text = ⊥
@@ -215,7 +216,8 @@ WorldsHold (Drill name) files c d = HoldsInFile name files c d
 WorldsHold (Bits name) files c d = Unit {0}
 WorldsHold (Migrate keys) files c d = Unit {0}
 WorldsHold (Replay keys trace) files c d = Unit {0}
-WorldsHold (Audit keys tap) files c d = Unit {0}
+WorldsHold (Check keys trace) files c d = Unit {0}
+WorldsHold (Audit keys tap ends) files c d = Unit {0}
 WorldsHold (Bulk seed count) files c d = HoldsWhereDone seed count
 WorldsHold (Serve keys address rbc turns) files c d = Unit {0}
 WorldsHold (Call keys address engine rbc turns) files c d = Unit {0}
@@ -265,15 +267,15 @@ pub record HasTraceStatus (entries : List KmacEntry) (name : List ℕ) (files : 
   pub is : status ≡ answer.status
   pub all_taken : (trace : Trace) → trace_of file ≡ Ok trace → AreTaken trace.settings (key_at entries) trace.entries → status ≡ 0
 
--- a key file that is refused has its status, and one that is good leaves it to the trace
-abbrev pub IsStatusBehindKeys : Result (List KmacEntry) KeyFileFault → (name : List ℕ) → Files → ℕ → Type 0
-IsStatusBehindKeys (Err fault) name files status = status ≡ (keys_answer fault).status
-IsStatusBehindKeys (Ok entries) name files status = HasTraceStatus entries name files status
+-- a key file that is refused has its status, and one that is good leaves it to the file behind it
+abbrev pub IsStatusBehindKeys : (List KmacEntry → List ℕ → Files → ℕ → Type 0) → Result (List KmacEntry) KeyFileFault → (name : List ℕ) → Files → ℕ → Type 0
+IsStatusBehindKeys Has (Err fault) name files status = status ≡ (keys_answer fault).status
+IsStatusBehindKeys Has (Ok entries) name files status = Has entries name files status
 
-pub record HasReplayStatus (keys name : List ℕ) (files : Files) (status : ℕ) : Type 0 where
+pub record HasKeyedStatus (Has : List KmacEntry → List ℕ → Files → ℕ → Type 0) (keys name : List ℕ) (files : Files) (status : ℕ) : Type 0 where
   pub key_file : List ℕ
   pub keys_stand : HasFile files keys key_file
-  pub is : IsStatusBehindKeys (keys_of key_file) name files status
+  pub is : IsStatusBehindKeys Has (keys_of key_file) name files status
 
 -- a bulk run's status is that of its answer; in particular 0 where its steps are all done
 pub record HasBulkStatus (seed count : ℕ) (status : ℕ) : Type 0 where

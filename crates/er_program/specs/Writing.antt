@@ -12,11 +12,11 @@ use Rattle.drill_model.specs.Texts.{step_lines}
 use Rattle.er_world.specs.Standing.{KeptWorld, Ran, IsFaultBehind}
 use Rattle.drill_model.specs.Faults.{fault_behind}
 use Rattle.link_trait.specs.Outside.{Grew, GrewPart, Rose}
-use Rattle.er_program.specs.Commands.{Command, Misused, Drill, Bits, Migrate, Replay, Audit, Bulk, Serve, Call}
+use Rattle.er_program.specs.Commands.{Command, Misused, Drill, Bits, Migrate, Replay, Check, Audit, Bulk, Serve, Call}
 use Rattle.er_statuses.specs.LastLines.{usage_line}
 use Rattle.er_statuses.specs.Answers.{Answer, Files}
 use Rattle.er_statuses.specs.Writing.{GivesAnswer}
-use Rattle.er_program.specs.Answers.{IsDrillAnswer, IsScenarioAnswer, IsFileAnswer, IsBitsAnswer, AreDone, first_steps, lines_of_first, fault_answer, IsMigrateAnswer, IsReplayWordsAnswer, IsAuditWordsAnswer, IsBulkAnswer}
+use Rattle.er_program.specs.Answers.{IsDrillAnswer, IsScenarioAnswer, IsFileAnswer, IsBitsAnswer, AreDone, first_steps, lines_of_first, fault_answer, IsMigrateAnswer, IsKeyedAnswer, IsReplayOfFile, IsCheckOfFile, IsAuditOfFile, IsBulkAnswer}
 use Rattle.er_program.specs.AuditRuns.{FirstAuditText}
 use Rattle.er_program.specs.Runs.{SpellsScenario, FirstVerdictLines, FirstEventLines}
 use Rattle.er_statuses.specs.declared.status.Status.{Status}
@@ -152,8 +152,9 @@ IsGivenAnswer Misused files c d a = a ≡ record { status = 1; text = usage_line
 IsGivenAnswer (Drill name) files c d a = IsReadAnswer name files c d a
 IsGivenAnswer (Bits name) files c d a = IsBitsAnswer name files c d a
 IsGivenAnswer (Migrate keys) files c d a = IsMigrateAnswer keys files c d a
-IsGivenAnswer (Replay keys trace) files c d a = IsReplayWordsAnswer keys trace files c d a
-IsGivenAnswer (Audit keys tap) files c d a = IsAuditWordsAnswer keys tap files c d a
+IsGivenAnswer (Replay keys trace) files c d a = IsKeyedAnswer IsReplayOfFile keys trace files c d a
+IsGivenAnswer (Check keys trace) files c d a = IsKeyedAnswer IsCheckOfFile keys trace files c d a
+IsGivenAnswer (Audit keys tap ends) files c d a = IsKeyedAnswer (IsAuditOfFile ends) keys tap files c d a
 IsGivenAnswer (Bulk seed count) files c d a = IsBulkAnswer seed count a
 IsGivenAnswer (Serve keys address rbc turns) files c d a = ⊥
 IsGivenAnswer (Call keys address engine rbc turns) files c d a = ⊥
@@ -188,7 +189,8 @@ IsOutputBeginning (Drill name) files text = (text ≡ []) ⊎ StepsBegun name fi
 IsOutputBeginning (Bits name) files text = (text ≡ []) ⊎ FirstVerdictLines name files text
 IsOutputBeginning (Migrate keys) files text = text ≡ []
 IsOutputBeginning (Replay keys trace) files text = (text ≡ []) ⊎ FirstEventLines keys trace files text
-IsOutputBeginning (Audit keys tap) files text = (text ≡ []) ⊎ FirstAuditText keys tap files text
+IsOutputBeginning (Check keys trace) files text = text ≡ []
+IsOutputBeginning (Audit keys tap ends) files text = (text ≡ []) ⊎ FirstAuditText ends keys tap files text
 IsOutputBeginning (Bulk seed count) files text = text ≡ []
 IsOutputBeginning (Serve keys address rbc turns) files text = ⊥
 IsOutputBeginning (Call keys address engine rbc turns) files text = ⊥

@@ -1,7 +1,7 @@
 //! The commands of the program, and the words that fit them.
 
 ghost use Rattle.std.specs.Prelude.{◌≡◌, ◌≤◌, IfSome};
-ghost use Rattle.er_program.specs.Commands.{command_of, command_of_two, bulk_of, command_of_three, at_most, etcs_number, turns_number, serve_of, command_of_five, call_command_of, command_of_six, needs_wires, octets_of_words};
+ghost use Rattle.er_program.specs.Commands.{command_of, command_of_two, bulk_of, command_of_three, command_of_four, at_most, etcs_number, turns_number, serve_of, command_of_five, call_command_of, command_of_six, needs_wires, octets_of_words};
 ghost use Rattle.er_program.specs.CommandViews.{command_view};
 
 use crate::message_count::MessageCount;
@@ -41,12 +41,21 @@ pub enum Command<'a> {
         /// The name of the trace.
         trace: &'a str,
     },
-    /// `audit KEYS TAP`.
+    /// `check KEYS TRACE`.
+    Check {
+        /// The name of the key file.
+        keys: &'a str,
+        /// The name of the trace.
+        trace: &'a str,
+    },
+    /// `audit KEYS TAP`, or `audit KEYS TAP ends`.
     Audit {
         /// The name of the key file.
         keys: &'a str,
         /// The name of the tap.
         tap: &'a str,
+        /// Whether the ends of streams are asked for.
+        ends: bool,
     },
     /// `bulk SEED COUNT`.
     Bulk {
@@ -92,6 +101,7 @@ impl Command<'_> {
             | Command::Bits { .. }
             | Command::Migrate { .. }
             | Command::Replay { .. }
+            | Command::Check { .. }
             | Command::Audit { .. }
             | Command::Bulk { .. } => false,
             Command::Serve { .. } | Command::Call { .. } => true,
@@ -139,13 +149,33 @@ fn command_of_three<'a>(command: &str, first: &'a str, second: &'a str) -> Comma
             keys: first,
             trace: second,
         }
+    } else if command == "check" {
+        Command::Check {
+            keys: first,
+            trace: second,
+        }
     } else if command == "audit" {
         Command::Audit {
             keys: first,
             tap: second,
+            ends: false,
         }
     } else if command == "bulk" {
         bulk_of(decimal(first.as_bytes()), decimal(second.as_bytes()))
+    } else {
+        Command::Misused
+    }
+}
+
+fn command_of_four<'a>(command: &str, keys: &'a str, tap: &'a str, asked: &str) -> Command<'a>
+    ensures { command_view result ≡ command_of_four command.now keys.now tap.now asked.now }
+{
+    if command == "audit" && asked == "ends" {
+        Command::Audit {
+            keys,
+            tap,
+            ends: true,
+        }
     } else {
         Command::Misused
     }
@@ -274,6 +304,12 @@ pub fn command_from(words: &[String]) -> Command<'_>
         [command, first, second] => {
             command_of_three(command.as_str(), first.as_str(), second.as_str())
         }
+        [command, keys, tap, asked] => command_of_four(
+            command.as_str(),
+            keys.as_str(),
+            tap.as_str(),
+            asked.as_str(),
+        ),
         [command, keys, address, rbc, turns] => command_of_five(
             command.as_str(),
             keys.as_str(),

@@ -7,16 +7,19 @@
 mod audit;
 mod bits;
 mod bulk;
+mod check;
 mod command;
 mod drill;
 mod endings;
 mod file_cabinet;
 mod halt;
+mod keyed;
 mod message_count;
 mod migrate;
 mod replay;
 mod stdout_sink;
 mod top;
+mod work;
 
 pub use command::{Command, command_from};
 pub use er_serving::MachineClock;

@@ -12,13 +12,13 @@ ghost use Rattle.er_serving.specs.Outsides.{Traffic, outside_of, beside, IsStead
 ghost use Rattle.er_program.specs.Statuses.{IsStatusOf, Means, IsIdle, AreAsked, IsComplete, IsRun};
 ghost use Rattle.er_program.specs.Writing.{EndsFile, EndsCommand};
 
-use crate::audit::audit_run;
 use crate::bits::bits_run;
 use crate::bulk::bulk_run;
 use crate::command::{Command, command_from};
 use crate::drill::drill;
+use crate::keyed::keyed_run;
 use crate::migrate::migrate_run;
-use crate::replay::replay_run;
+use crate::work::Work;
 use er_base::TextFault;
 use er_scenario::read;
 use er_serving::{LineCommand, Outside, run_on_line};
@@ -83,8 +83,15 @@ fn answered<F: Cabinet, K: Sink>(
         Command::Drill { name } => drill_run(alloc, name, cabinet, sink),
         Command::Bits { name } => bits_run(alloc, name, cabinet, sink),
         Command::Migrate { keys } => migrate_run(alloc, keys, cabinet, sink),
-        Command::Replay { keys, trace } => replay_run(alloc, keys, trace, cabinet, sink),
-        Command::Audit { keys, tap } => audit_run(alloc, keys, tap, cabinet, sink),
+        Command::Replay { keys, trace } => {
+            keyed_run(alloc, Work::Replay, keys, trace, cabinet, sink)
+        }
+        Command::Check { keys, trace } => {
+            keyed_run(alloc, Work::Check, keys, trace, cabinet, sink)
+        }
+        Command::Audit { keys, tap, ends } => {
+            keyed_run(alloc, Work::Audit { ends }, keys, tap, cabinet, sink)
+        }
         Command::Bulk { seed, count } => bulk_run(alloc, seed, count, sink),
         Command::Serve { .. } | Command::Call { .. } => unreachable!(),
     }
@@ -178,6 +185,7 @@ fn ran_on_line<F: Cabinet, K: Sink, W: Wires, C: Clock, R: Rng>(
         | Command::Bits { .. }
         | Command::Migrate { .. }
         | Command::Replay { .. }
+        | Command::Check { .. }
         | Command::Audit { .. }
         | Command::Bulk { .. } => unreachable!(),
     }
@@ -209,9 +217,11 @@ fn dispatched<F: Cabinet, K: Sink, W: Wires, C: Clock, R: Rng>(
 /// and prints a line for each verdict as soon as it comes, and then how many bits and frames there are. `migrate KEYS`
 /// fetches the key file KEYS and prints one of version 2 that has its entries, one by one in order. `replay KEYS TRACE`
 /// fetches the key file KEYS and, where it is good, the trace TRACE, gives its events to ends of their own again, and
-/// prints its text anew: each event with what came of it, as soon as it is done. `audit KEYS TAP` fetches the key file
-/// KEYS and, where it is good, the tap TAP, and prints a line for each text that is heard of its links: what it is, and
-/// whether it is good. `bulk SEED COUNT` does the steps that are drawn from SEED for COUNT messages, at most 10,000, and
+/// prints its text anew: each event with what came of it, as soon as it is done. `check KEYS TRACE` fetches both alike,
+/// holds each line of the trace against the one that the replay prints there, and prints how many events and outcomes
+/// there are. `audit KEYS TAP` fetches the key file KEYS and, where it is good, the tap TAP, and prints a line for each
+/// text that is heard of its links: what it is, and whether it is good; with the word `ends` behind it, a line more for
+/// each side of a link: how far it was heard, and why no further. `bulk SEED COUNT` does the steps that are drawn from SEED for COUNT messages, at most 10,000, and
 /// prints their totals in one line.
 ///
 /// `serve KEYS ADDRESS RBC TURNS` fetches the key file KEYS, listens at ADDRESS as the radio block centre RBC, and serves
@@ -225,7 +235,7 @@ fn dispatched<F: Cabinet, K: Sink, W: Wires, C: Clock, R: Rng>(
 /// - 3: the file is out of its grammar; `! line LINE WHY` is printed alone. A recorded line is too long: `! line 0 long`.
 ///   Or a step is refused; behind the lines of the steps before it, `! line LINE nolink`, `! line LINE twice` or
 ///   `! line LINE back` is printed. Or an event of a trace is refused; behind the text of the events before it,
-///   `! line LINE` is printed with `noconn`, `twice`, `back`, `nokey` or `many`. Or a line of a tap names a link that no
+///   `! line LINE` is printed with `noconn`, `twice`, `back`, `nokey` or `many`; of a check alone. Or a line of a tap names a link that no
 ///   line before it opened, or opens one twice; `! line LINE nolink` or `! line LINE twice` is printed alone.
 /// - 4: the key file is refused; `! keys` is printed with its first fault, as `! keys twice 1 2`. Or the pair of a call
 ///   has no key that holds; `! keys none E R` is printed.
@@ -234,6 +244,8 @@ fn dispatched<F: Cabinet, K: Sink, W: Wires, C: Clock, R: Rng>(
 /// - 7: memory ran out; what was printed stays, and `! memory` is printed. It may come in place of any other.
 /// - 8: a frame would be one more than may wait in one direction; behind the lines of the steps before it, or in a bulk
 ///   run alone, `! overfull LINK S MOST` is printed.
+/// - 9: a line of a checked trace isn't what the replay prints there, or isn't ended, or is missing: `! line LINE` is
+///   printed with `differs`, `cut` or `missing`, alone.
 pub fn run<F: Cabinet, K: Sink, W: Wires, C: Clock, R: Rng>(
     alloc: Global,
     words: &[String],

@@ -14,7 +14,7 @@ usage_line = codes "! usage\n"
 abbrev pub fetch_line : List ℕ → List ℕ
 fetch_line name = codes "! fetch " ++ (name ++ codes "\n")
 
--- status 3: a fault of a line of the file, by its number and a word
+-- statuses 3 and 9: what is to be told of a line of the file, by its number and a word
 unfoldable pub fault_line : ℕ → List ℕ → List ℕ
 fault_line line word = codes "! line " ++ (decimal line ++ (codes " " ++ (word ++ codes "\n")))
 

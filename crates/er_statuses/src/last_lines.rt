@@ -33,7 +33,7 @@ pub fn fetch_line(alloc: Global, name: &str) -> Result<Vec<u8>, NoMemory>
     Ok(line)
 }
 
-/// The line of a fault at a line of the file: `! line NUMBER WORD`.
+/// The line of what is to be told of a line of the file: `! line NUMBER WORD`.
 #[tactic(auto, unfolding(crate::specs::LastLines::fault_line))]
 pub fn fault_line(alloc: Global, number: usize, word: &[u8]) -> Result<Vec<u8>, NoMemory>
     ensures { IfOk result (λ line. line.items ≡ fault_line number word.now) }

@@ -10,14 +10,16 @@ use std::io::Read;
 use std::os::unix::fs::PermissionsExt;
 use telling::{
     Ears, FileKind, KeysHeld, Tally, Watch, file_refused, key_hints, keys_refused, overfull,
-    put_octets, put_text, side,
+    put_octets, put_text, recording_differs, side,
 };
 
 /// The commands.
 pub(crate) const USAGE: &str = "usage: euroradio COMMAND, one of
   drill SCENARIO                        runs the steps of a scenario
   replay KEYS TRACE                     replays a trace or a recording
+  check KEYS TRACE                      tells whether a recording is what its replay prints
   audit KEYS TAP                        tells of each SaPDU of tapped links what it is, and whether it is good
+  audit KEYS TAP ends                   tells of each side too how far it was heard, and why no further
   bits FILE                             reads a recorded synchronous line
   bulk SEED COUNT                       sends COUNT messages, 0 to 10000, over a line that loses and repeats
   migrate KEYS                          prints a key file as one of version 2
@@ -77,6 +79,11 @@ pub(crate) fn ended(rt: HostRuntime, words: &[String], ended: &Ended, last: &[u8
             };
             tell(rt, overfull(rt.alloc(), name, last));
         }
+        9 => {
+            if let Some((_, name)) = file_of(&command) {
+                tell(rt, recording_differs(rt.alloc(), name, last));
+            }
+        }
         _ => {}
     }
 }
@@ -86,7 +93,9 @@ fn file_of<'a>(command: &Command<'a>) -> Option<(FileKind, &'a str)> {
     match *command {
         Command::Drill { name } => Some((FileKind::Drill, name)),
         Command::Bits { name } => Some((FileKind::Bits, name)),
-        Command::Replay { trace, .. } => Some((FileKind::Trace, trace)),
+        Command::Replay { trace, .. } | Command::Check { trace, .. } => {
+            Some((FileKind::Trace, trace))
+        }
         Command::Audit { tap, .. } => Some((FileKind::Tap, tap)),
         Command::Misused
         | Command::Migrate { .. }
@@ -101,6 +110,7 @@ fn keys_of<'a>(command: &Command<'a>) -> Option<&'a str> {
     match *command {
         Command::Migrate { keys }
         | Command::Replay { keys, .. }
+        | Command::Check { keys, .. }
         | Command::Audit { keys, .. }
         | Command::Serve { keys, .. }
         | Command::Call { keys, .. } => Some(keys),
@@ -197,7 +207,8 @@ fn wanted_by(command: &str) -> Option<(&'static str, usize)> {
         "bits" => Some(("FILE", 1)),
         "migrate" => Some(("KEYS", 1)),
         "replay" => Some(("KEYS TRACE", 2)),
-        "audit" => Some(("KEYS TAP", 2)),
+        "check" => Some(("KEYS TRACE", 2)),
+        "audit" => Some(("KEYS TAP, and ends or nothing", 2)),
         "bulk" => Some(("SEED COUNT", 2)),
         "serve" => Some(("KEYS ADDRESS RBC TURNS", 4)),
         "call" => Some(("KEYS ADDRESS ENGINE RBC TURNS", 5)),

@@ -31,10 +31,10 @@ module _ (law : KeptStandsForStream) where
   pub kept_more : (k new : KeptDeframer) (octets : List ℕ) → new ≡ kept_of (stream_behind_kept k ++ octets) → IsKeptOfStream new
   kept_more k new octets is = subst IsKeptOfStream (sym is) (law (stream_behind_kept k ++ octets) []).0.0
 
-  no_frames : (k : KeptDeframer) → IsKeptOfStream k → frames_of (stream_behind_kept k) ≡ []
+  pub no_frames : (k : KeptDeframer) → IsKeptOfStream k → frames_of (stream_behind_kept k) ≡ []
   no_frames k is = subst (λ (s : KeptDeframer). frames_of (stream_behind_kept s) ≡ []) is (law (stream_behind_kept k) []).0.1
 
-  frames_split : (k new : KeptDeframer) (piece used more : List ℕ) (found : Option Verdict) → IsKeptOfStream k
+  pub frames_split : (k new : KeptDeframer) (piece used more : List ℕ) (found : Option Verdict) → IsKeptOfStream k
       → new ≡ kept_of (stream_behind_kept k ++ used) → frames_of (stream_behind_kept k ++ used) ≡ frames_of (stream_behind_kept k) ++ option_to_list found
       → frames_of (stream_behind_kept k ++ (used ++ more)) ≡ option_to_list found ++ frames_of (stream_behind_kept new ++ more)
   frames_split k new piece used more found is kept adds =
@@ -121,6 +121,10 @@ first_frames : frames_of [] ≡ []
 unfolding frames_of between_flags all_but_last cut
 first_frames = refl
 
+-- and so of a stream behind nothing that is kept
+pub first_split : KeptStandsForStream → (stream : List ℕ) → frames_of stream ≡ frames_of (stream_behind_kept (kept_of []) ++ stream)
+first_split law stream = (law [] stream).1.0 ∙ ap (λ (vs : List Verdict). vs ++ frames_of (stream_behind_kept (kept_of []) ++ stream)) first_frames
+
 -- of a side of which nothing was heard, all is left
 pub whole_left : KeptStandsForStream → HearingTurns → (s : KStream) (link : ℕ) (side : Side) (all : List TapLine) → s.lines ≡ all → s.piece ≡ [] → s.link ≡ link
     → s.over ≡ false → s.kept ≡ kept_of [] → s.ear.side ≡ side → s.ear.ear ≡ new_ear → items_left s ≡ items (heard side (lines.stream_of link side all))
@@ -128,7 +132,7 @@ unfolding items_left
 whole_left law turns s link side all same_lines same_piece same_link same_over same_kept same_side same_ear =
     rw (same_lines, same_piece, same_link, same_over, same_kept, same_side, same_ear)
     (ap (λ (vs : List Verdict). items (hearing_of_frames side new_ear (frames_read vs)))
-    (sym ((law [] (lines.stream_of link side all)).1.0 ∙ ap (λ (vs : List Verdict). vs ++ frames_of (stream_behind_kept (kept_of []) ++ lines.stream_of link side all)) first_frames))
+    (sym (first_split law (lines.stream_of link side all)))
     ∙ ap items (turns.begins side (lines.stream_of link side all)))
 
 -- what is pending behind the first step

@@ -6,3 +6,4 @@ mod Written
 mod Places
 mod Printed
 mod Marking
+mod Striding

@@ -1,7 +1,8 @@
 -- The texts of items, sides and links, one part more.
-use Rattle.std.proofs.Common.{arith, ◌≡◌, ◌≤◌, ◌<◌, ◌+◌, ◌-◌, ℕ, zero, suc, List, [], ◌∷◌, ◌++◌, length, drop, slice_get, Option, Some, None, Result, Ok, Err, refl, ◌∙◌, ap, subst}
+use Rattle.std.proofs.Common.{arith, ◌≡◌, ◌≤◌, ◌<◌, ◌+◌, ◌-◌, ℕ, zero, suc, Bool, true, false, List, [], ◌∷◌, ◌++◌, length, drop, slice_get, Option, Some, None, Result, Ok, Err, refl, ◌∙◌, ap, subst, append-nil}
 use Rattle.std.proofs.lemmas.List.{length-append}
 use Rattle.er_base.specs.declared.side.Side.{Side}
+use Rattle.er_base.specs.declared.side.Side.TheVariants.{E, R}
 use Rattle.er_base.specs.LineTexts.{line_end, line_text}
 use Rattle.er_tap.specs.declared.tap_line.TapLine.{TapLine}
 use Rattle.er_end_model.specs.Steps.{Finds}
@@ -10,11 +11,16 @@ use Rattle.tap_model.specs.Audits.{Audits}
 use Rattle.tap_model.specs.declared.audit_fault.AuditFault.{AuditFault}
 use Rattle.tap_model.specs.declared.audit_fault.AuditFault.TheVariants.{NoLink, LinkTwice, Sink, NoMemory}
 use Rattle.link_trait.specs.Outside.{Grew, GrewPart}
-use Rattle.tap_model.specs.Lines.{fault_of_tap_lines, tap_opening_of_link}
-use Rattle.tap_model.specs.Texts.{item_words, side_text, link_text, links_text, audit_text}
+use Rattle.tap_model.specs.Lines.{TapOpening, fault_of_tap_lines, tap_opening_of_link}
+use Rattle.tap_model.specs.Ends.{stream_end}
+use Rattle.tap_model.specs.EndTexts.{words_of_stream, link_text_asked, links_text_asked, text_of_audit}
+use Rattle.tap_model.specs.Hearing.{heard, items}
+use Rattle.tap_model.specs.Texts.{item_words, side_text, judged_at, link_text, links_text}
 use Rattle.link_audit.specs.declared.openings.Openings.{Openings}
 use Rattle.link_audit.specs.Openings.{opening_at, links_opened}
-use Rattle.link_audit.specs.Writes.{Writes}
+use Rattle.hdlc_frames.specs.Framing.{frames_of}
+use Rattle.link_audit.specs.Strides.{kept_count, told_of_stream, told_words}
+use Rattle.link_audit.specs.Writes.{Writes, side_with_end}
 use Rattle.link_audit.proofs.Places.{judged_late}
 
 -- ---- a line
@@ -67,41 +73,78 @@ module _ (n : ℕ) (known : Known) (side : Side) where
   side_none place [] is = refl
   side_none place (first ∷ items) is = absurd cc
 
--- by what is known, and by what is heard
-pub side_known : (n : ℕ) (side : Side) (known k : Known) (items heard : List (List ℕ)) → known ≡ k → items ≡ heard
-    → side_text n side (judged_from known side 0 items) ≡ side_text n side (judged_from k side 0 heard)
-side_known n side known k items heard e f = rw (e, f) refl
+-- by what is known
+pub side_by : (ends : Bool) (lines : List TapLine) (n : ℕ) (side : Side) (known k : Known) → known ≡ k → side_with_end ends lines n side known ≡ side_with_end ends lines n side k
+side_by ends lines n side known k same = rw same refl
+
+-- and by what is heard
+pub side_heard : (n : ℕ) (side : Side) (known : Known) (all heard : List (List ℕ)) → all ≡ heard → side_text n side (judged_from known side 0 all) ≡ side_text n side (judged_from known side 0 heard)
+side_heard n side known all heard same = rw same refl
+
+-- ---- the end of a side
+
+-- the words of what is told
+pub words_told : (n : ℕ) (side : Side) (stream : List ℕ)
+    → told_words n side (told_of_stream side stream) (kept_count (length (items (heard side stream)))) ≡ words_of_stream n side stream
+words_told n side stream =
+    let none : 0 + (stream_end side (frames_of stream)).heard ≡ (stream_end side (frames_of stream)).heard = omega arith in
+    rw none refl
+
+-- how many items there are, one by one
+pub counted_more : (count : ℕ) (items : List (List ℕ)) (item : List ℕ) → slice_get items 0 ≡ Some item
+    → kept_count (kept_count (count + 1) + length (drop 1 items)) ≡ kept_count (count + length items)
+counted_more count [] item is = absurd cc
+counted_more count (first ∷ items) item is = omega arith
+
+pub counted_all : (count all : ℕ) (items : List (List ℕ)) → slice_get items 0 ≡ None → kept_count (count + length items) ≡ kept_count all → kept_count count ≡ kept_count all
+counted_all count all [] is same = let none : count + 0 ≡ count = omega arith in rw none at same
+counted_all count all (first ∷ items) is same = absurd cc
 
 -- ---- all links
 
-pub links_more : (finds : Finds) (lines : List TapLine) (o : Openings) (n : ℕ) → n ≤ 64
-    → links_opened finds lines o n (65 - n) ≡ link_text finds lines n (opening_at o n) ++ links_opened finds lines o (n + 1) (65 - (n + 1))
+pub links_more : (ends : Bool) (finds : Finds) (lines : List TapLine) (o : Openings) (n : ℕ) → n ≤ 64
+    → links_opened ends finds lines o n (65 - n) ≡ link_text_asked ends finds lines n (opening_at o n) ++ links_opened ends finds lines o (n + 1) (65 - (n + 1))
 unfolding links_opened
-links_more finds lines o n most =
+links_more ends finds lines o n most =
     let here : 65 - n ≡ suc (64 - n) = omega (arith, most) in
     let next : 65 - (n + 1) ≡ 64 - n = omega arith in
     rw (here, next) refl
 
-pub links_none : (finds : Finds) (lines : List TapLine) (o : Openings) (n : ℕ) → 64 < n → links_opened finds lines o n (65 - n) ≡ []
+pub links_none : (ends : Bool) (finds : Finds) (lines : List TapLine) (o : Openings) (n : ℕ) → 64 < n → links_opened ends finds lines o n (65 - n) ≡ []
 unfolding links_opened
-links_none finds lines o n past =
+links_none ends finds lines o n past =
     let none : 65 - n ≡ zero = omega (arith, past) in
     rw none refl
 
 -- by the lines, where the links were opened as those say
-pub opened_by_lines : (finds : Finds) (lines : List TapLine) (o : Openings) → ((n : ℕ) → 1 ≤ n → n ≤ 64 → opening_at o n ≡ tap_opening_of_link n lines)
-    → (n count : ℕ) → 1 ≤ n → n + count ≤ 65 → links_opened finds lines o n count ≡ links_text finds lines n count
-unfolding links_opened links_text
-opened_by_lines finds lines o same n zero least most = refl
-opened_by_lines finds lines o same n (suc count) least most =
+pub opened_by_lines : (ends : Bool) (finds : Finds) (lines : List TapLine) (o : Openings) → ((n : ℕ) → 1 ≤ n → n ≤ 64 → opening_at o n ≡ tap_opening_of_link n lines)
+    → (n count : ℕ) → 1 ≤ n → n + count ≤ 65 → links_opened ends finds lines o n count ≡ links_text_asked ends finds lines n count
+unfolding links_opened links_text_asked
+opened_by_lines ends finds lines o same n zero least most = refl
+opened_by_lines ends finds lines o same n (suc count) least most =
     rw (same n least (omega arith))
-    (ap (λ (t : List ℕ). link_text finds lines n (tap_opening_of_link n lines) ++ t) (opened_by_lines finds lines o same (n + 1) count (omega arith) (omega arith)))
+    (ap (λ (t : List ℕ). link_text_asked ends finds lines n (tap_opening_of_link n lines) ++ t) (opened_by_lines ends finds lines o same (n + 1) count (omega arith) (omega arith)))
+
+-- without ends
+plain_link : (finds : Finds) (lines : List TapLine) (n : ℕ) (o : Option TapOpening) → link_text_asked false finds lines n o ≡ link_text finds lines n o
+plain_link finds lines n None = refl
+plain_link finds lines n (Some o) =
+    rw (append-nil (side_text n E (judged_at finds n o lines E)), append-nil (side_text n R (judged_at finds n o lines R))) refl
+
+plain_links : (finds : Finds) (lines : List TapLine) (n count : ℕ) → links_text_asked false finds lines n count ≡ links_text finds lines n count
+unfolding links_text_asked links_text
+plain_links finds lines n zero = refl
+plain_links finds lines n (suc count) = rw (plain_link finds lines n (tap_opening_of_link n lines), plain_links finds lines (n + 1) count) refl
+
+pub all_asked : (ends : Bool) (finds : Finds) (lines : List TapLine) → links_text_asked ends finds lines 1 64 ≡ text_of_audit ends finds lines
+all_asked true finds lines = refl
+all_asked false finds lines = plain_links finds lines 1 64
 
 -- what was written of all links is what an audit writes
-pub audited : (finds : Finds) (lines : List TapLine) (text : List ℕ) (before now : Option (List ℕ)) (f g : ℕ) (result : Result (Unit {0}) AuditFault)
-    → text ≡ audit_text finds lines → fault_of_tap_lines lines ≡ None → Writes before now f g text result → Audits finds lines before now f g result
-audited finds lines text before now f g (Ok done) is none w = (none, subst (λ (t : List ℕ). Grew before now t) is w)
-audited finds lines text before now f g (Err (NoLink line n)) is none w = absurd w
-audited finds lines text before now f g (Err (LinkTwice line n)) is none w = absurd w
-audited finds lines text before now f g (Err Sink) is none w = (none, (subst (λ (t : List ℕ). GrewPart before now t) is w.0, w.1))
-audited finds lines text before now f g (Err (NoMemory want)) is none w = (none, subst (λ (t : List ℕ). GrewPart before now t) is w)
+pub audited : (ends : Bool) (finds : Finds) (lines : List TapLine) (text : List ℕ) (before now : Option (List ℕ)) (f g : ℕ) (result : Result (Unit {0}) AuditFault)
+    → text ≡ text_of_audit ends finds lines → fault_of_tap_lines lines ≡ None → Writes before now f g text result → Audits ends finds lines before now f g result
+audited ends finds lines text before now f g (Ok done) is none w = (none, subst (λ (t : List ℕ). Grew before now t) is w)
+audited ends finds lines text before now f g (Err (NoLink line n)) is none w = absurd w
+audited ends finds lines text before now f g (Err (LinkTwice line n)) is none w = absurd w
+audited ends finds lines text before now f g (Err Sink) is none w = (none, (subst (λ (t : List ℕ). GrewPart before now t) is w.0, w.1))
+audited ends finds lines text before now f g (Err (NoMemory want)) is none w = (none, subst (λ (t : List ℕ). GrewPart before now t) is w)

@@ -44,8 +44,8 @@ impl Model for Ear {
     ghost invariant = { λ e. (e.count < 8) × (e.texts.dts < 128) × IsFresh e.opened e.count e.joiner e.texts.dts e.texts.begun };
 }
 
-// The address of a side.
-fn address_of(side: Side) -> u8
+/// The address of a side.
+pub fn address_of(side: Side) -> u8
     ensures { result ≡ address_of_side side }
 {
     match side {
@@ -54,8 +54,8 @@ fn address_of(side: Side) -> u8
     }
 }
 
-// Whether a frame opens the link: the set-up frame of the engine's side, which has no information, or the agreement of the other.
-fn opens(side: Side, address: u8, control: Control, information: &[u8]) -> bool
+/// Whether a frame opens the link: the set-up frame of the engine's side, which has no information, or the agreement of the other.
+pub fn opens(side: Side, address: u8, control: Control, information: &[u8]) -> bool
     ensures { result ≡ is_link_opening side (record { address = address; control = control; information = information.now }) }
 {
     if address != CALLED {
@@ -79,8 +79,8 @@ fn ends(side: Side, address: u8, control: Control, information: &[u8]) -> bool
     }
 }
 
-// Whether this is an I frame with this number.
-fn has_number(count: u8, control: Control) -> bool
+/// Whether this is an I frame with this number.
+pub fn has_number(count: u8, control: Control) -> bool
     ensures { result ≡ has_number count (sort_of control) }
 {
     match control {

@@ -1,11 +1,12 @@
 //! The audit of tapped links: what each side's safety layer said, and which of it was good.
 //!
-//! Each stream is gone through once, with the deframer, the joiner and the readers that the stack has, and what is kept of it doesn't grow with
+//! Each stream is gone through once, and anew where its end is asked for, with the deframer, the joiner and the readers that the stack has, and what is kept of it doesn't grow with
 //! it. What is heard of a stream, the verdicts and the text are defined in `tap_model`; nothing here decides more than they do.
 #![tactic(auto)]
 
 mod digits;
 mod ear;
+mod extent;
 mod items;
 mod judging;
 mod known;
@@ -14,10 +15,13 @@ mod marked_lines;
 mod opening;
 mod openings;
 mod printing;
+mod reach;
 mod read_pdu;
 mod run;
 mod stream;
+mod stride;
 mod texts;
+mod told;
 mod turned;
 
 pub use run::audit;

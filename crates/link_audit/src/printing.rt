@@ -8,9 +8,11 @@ ghost use Rattle.er_base.specs.Sides.{side_word};
 ghost use Rattle.sapdu.specs.Reading.{view};
 ghost use Rattle.tap_model.specs.VerdictWords.{verdict_word};
 ghost use Rattle.tap_model.specs.Texts.{sapdu_kind_word, item_words};
+ghost use Rattle.link_audit.specs.Strides.{told_words};
 
 use crate::digits::put_digits;
 use crate::read_pdu::ReadPdu;
+use crate::told::Told;
 use er_base::PrintedWord::{Decimal, Plain};
 use er_base::{NoMemory, Side, decimal_word, put_line};
 use sapdu::{SaFault, SaPdu};
@@ -108,4 +110,26 @@ pub fn put_item(
         Err(_) => put_short(link, side, b"-", verdict, out),
         Ok(read) => put_pdu(link, side, &read.pdu, verdict, out),
     }
+}
+
+/// Appends the line of a side's end.
+pub fn put_end(
+    link: u8,
+    side: Side,
+    told: &Told,
+    items: u64,
+    out: &mut Vec<u8>,
+) -> Result<(), NoMemory>
+    ensures { OnOk result (out.new.items ≡ out.old.items ++ line_text (told_words link side told.now items)) }
+{
+    let words = [
+        Plain(side.word()),
+        Plain(b"end"),
+        Decimal(told.frames),
+        Decimal(told.heard),
+        Decimal(items),
+        Decimal(told.left),
+        Plain(told.why.word()),
+    ];
+    put_line(&Decimal(link as u64), &words, out)
 }

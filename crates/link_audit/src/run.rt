@@ -1,23 +1,28 @@
 //! The audit of all links.
 
-ghost use Rattle.std.specs.Prelude.{◌≤◌, Some};
+ghost use Rattle.std.specs.Prelude.{◌≡◌, ◌≤◌, Some, length};
 ghost use Rattle.er_base.specs.LineTexts.{line_text};
 ghost use Rattle.er_tap.specs.Ranges.{CanBeRead};
 ghost use Rattle.safety_automaton.specs.Keys.{key_at};
 ghost use Rattle.tap_model.specs.Verdicts.{judged, judged_from};
-ghost use Rattle.tap_model.specs.Texts.{item_words, side_text, link_text, audit_text};
+ghost use Rattle.tap_model.specs.Hearing.{heard, items};
+ghost use Rattle.tap_model.specs.Lines.{stream_of};
+ghost use Rattle.tap_model.specs.Texts.{item_words, side_text, audit_text};
 ghost use Rattle.tap_model.specs.AllLinks.{IsOfAllLinks};
+ghost use Rattle.tap_model.specs.EndTexts.{end_text, link_text_asked};
 ghost use Rattle.tap_model.specs.Audits.{Audits};
 ghost use Rattle.link_audit.specs.Openings.{tap_opening_of_kept, opening_at, links_opened};
-ghost use Rattle.link_audit.specs.Writes.{Writes};
+ghost use Rattle.link_audit.specs.Strides.{kept_count};
+ghost use Rattle.link_audit.specs.Writes.{Writes, side_with_end};
 
+use crate::extent::{extent_of, kept};
 use crate::items::Items;
 use crate::judging::judge;
 use crate::known::{Known, known_of};
 use crate::marked_lines::{MarkedLines, Marks};
 use crate::opening::Opening;
 use crate::openings::{Openings, openings_in};
-use crate::printing::put_item;
+use crate::printing::{put_end, put_item};
 use crate::read_pdu::ReadPdu;
 use er_base::Side;
 use er_tap::Tap;
@@ -77,8 +82,66 @@ fn write_items<S: Sink>(
     Ok(())
 }
 
+// How many items are heard of a side.
+fn count_items(lines: &MarkedLines<'_>, link: u8, side: Side) -> u64
+    ensures { result ≡ kept_count (length (items (heard side (stream_of link side lines.now)))) }
+{
+    let mut items = Items::new(lines, link, side);
+    let mut count: u64 = 0;
+    while let Some(_item) = items.first() {
+        items.advance();
+        count = count.saturating_add(1);
+    }
+    kept(count)
+}
+
+// Writes the line of a side's end, where ends are asked for.
+fn write_end<S: Sink>(
+    ends: bool,
+    lines: &MarkedLines<'_>,
+    link: u8,
+    side: Side,
+    line: &mut Vec<u8>,
+    sink: &mut S,
+) -> Result<(), AuditFault>
+    ensures writes { Writes (S.state sink.old).held (S.state sink.new).held (S.state sink.old).faults (S.state sink.new).faults
+        (end_text ends lines.now link side) result }
+    ensures later { (S.state sink.old).faults ≤ (S.state sink.new).faults }
+{
+    if !ends {
+        return Ok(());
+    }
+    let items = count_items(lines, link, side);
+    line.clear();
+    put_end(link, side, &extent_of(lines, link, side), items, line)?;
+    match sink.write(line.as_slice()) {
+        Ok(()) => Ok(()),
+        Err(_failed) => Err(AuditFault::Sink),
+    }
+}
+
+// Writes the lines of a side, and that of its end where ends are asked for.
+fn write_side<S: Sink>(
+    ends: bool,
+    known: &Known,
+    lines: &MarkedLines<'_>,
+    link: u8,
+    side: Side,
+    line: &mut Vec<u8>,
+    sink: &mut S,
+) -> Result<(), AuditFault>
+    ensures writes { Writes (S.state sink.old).held (S.state sink.new).held (S.state sink.old).faults (S.state sink.new).faults
+        (side_with_end ends lines.now link side known.now) result }
+    ensures later { (S.state sink.old).faults ≤ (S.state sink.new).faults }
+{
+    let mut items = Items::new(lines, link, side);
+    write_items(known, link, side, &mut items, line, sink)?;
+    write_end(ends, lines, link, side, line, sink)
+}
+
 // Writes the lines of a link, those of the engine's side first.
 fn audit_link<K: KeyFinder, S: Sink>(
+    ends: bool,
     keys: &K,
     lines: &MarkedLines<'_>,
     link: u8,
@@ -87,18 +150,19 @@ fn audit_link<K: KeyFinder, S: Sink>(
     sink: &mut S,
 ) -> Result<(), AuditFault>
     ensures writes { Writes (S.state sink.old).held (S.state sink.new).held (S.state sink.old).faults (S.state sink.new).faults
-        (link_text (key_at (K.entries keys.now)) lines.now link (Some (tap_opening_of_kept opening.now))) result }
+        (link_text_asked ends (key_at (K.entries keys.now)) lines.now link (Some (tap_opening_of_kept opening.now))) result }
     ensures later { (S.state sink.old).faults ≤ (S.state sink.new).faults }
 {
-    let mut of_e = Items::new(lines, link, Side::E);
-    let mut of_r = Items::new(lines, link, Side::R);
+    let of_e = Items::new(lines, link, Side::E);
+    let of_r = Items::new(lines, link, Side::R);
     let known = known_of(keys, opening, &of_e, &of_r);
-    write_items(&known, link, Side::E, &mut of_e, line, sink)?;
-    write_items(&known, link, Side::R, &mut of_r, line, sink)
+    write_side(ends, &known, lines, link, Side::E, line, sink)?;
+    write_side(ends, &known, lines, link, Side::R, line, sink)
 }
 
 // Writes the lines of a link, where it was opened.
 fn audit_number<K: KeyFinder, S: Sink>(
+    ends: bool,
     keys: &K,
     lines: &MarkedLines<'_>,
     openings: &Openings,
@@ -107,17 +171,18 @@ fn audit_number<K: KeyFinder, S: Sink>(
     sink: &mut S,
 ) -> Result<(), AuditFault>
     ensures writes { Writes (S.state sink.old).held (S.state sink.new).held (S.state sink.old).faults (S.state sink.new).faults
-        (link_text (key_at (K.entries keys.now)) lines.now link (opening_at openings.now link)) result }
+        (link_text_asked ends (key_at (K.entries keys.now)) lines.now link (opening_at openings.now link)) result }
     ensures later { (S.state sink.old).faults ≤ (S.state sink.new).faults }
 {
     match openings.of(link) {
-        Some(opening) => audit_link(keys, lines, link, &opening, line, sink),
+        Some(opening) => audit_link(ends, keys, lines, link, &opening, line, sink),
         None => Ok(()),
     }
 }
 
 // Writes the lines of all links that were opened.
 fn audit_links<K: KeyFinder, S: Sink>(
+    ends: bool,
     keys: &K,
     lines: &MarkedLines<'_>,
     openings: &Openings,
@@ -125,19 +190,20 @@ fn audit_links<K: KeyFinder, S: Sink>(
     sink: &mut S,
 ) -> Result<(), AuditFault>
     ensures writes { Writes (S.state sink.old).held (S.state sink.new).held (S.state sink.old).faults (S.state sink.new).faults
-        (links_opened (key_at (K.entries keys.now)) lines.now openings.now 1 64) result }
+        (links_opened ends (key_at (K.entries keys.now)) lines.now openings.now 1 64) result }
     ensures later { (S.state sink.old).faults ≤ (S.state sink.new).faults }
 {
     let mut link = 1;
     while link <= MOST_LINKS {
-        audit_number(keys, lines, openings, link, line, sink)?;
+        audit_number(ends, keys, lines, openings, link, line, sink)?;
         link += 1;
     }
     Ok(())
 }
 
 /// Prints the verdict on each item that is heard of the tapped links: links rising, the engine's side first, a line for each item, one write for
-/// each line.
+/// each line. Where ends are asked for, a line behind the items of each side tells how many frames it sent, how many of them counted, how many items
+/// there are, how many frames are left, and why no more was heard.
 ///
 /// KMACs are looked up among the keys, each at the moment of its link. The first line that names a link which no line before it opened, or
 /// opens one twice, is refused before anything is written.
@@ -145,11 +211,12 @@ pub fn audit<K: KeyFinder, S: Sink>(
     alloc: Global,
     keys: &K,
     tap: &Tap,
+    ends: bool,
     sink: &mut S,
 ) -> Result<(), AuditFault>
     requires { CanBeRead tap.now }
-    ensures audits { Audits (key_at (K.entries keys.now)) tap.now.lines (S.state sink.old).held (S.state sink.new).held (S.state sink.old).faults (S.state sink.new).faults result }
-    // That text is of all links that the tap opens, numbers rising, and of no other.
+    ensures audits { Audits ends (key_at (K.entries keys.now)) tap.now.lines (S.state sink.old).held (S.state sink.new).held (S.state sink.old).faults (S.state sink.new).faults result }
+    // Without the lines of ends, that text is of all links that the tap opens, numbers rising, and of no other.
     ensures links { IsOfAllLinks (key_at (K.entries keys.now)) tap.now.lines (audit_text (key_at (K.entries keys.now)) tap.now.lines) }
     ensures later { (S.state sink.old).faults ≤ (S.state sink.new).faults }
 {
@@ -157,5 +224,12 @@ pub fn audit<K: KeyFinder, S: Sink>(
     let lines = tap.lines.as_slice();
     let openings = openings_in(lines)?;
     let marks = Marks::of(alloc, lines)?;
-    audit_links(keys, &marks.all(), &openings, &mut Vec::new(alloc), sink)
+    audit_links(
+        ends,
+        keys,
+        &marks.all(),
+        &openings,
+        &mut Vec::new(alloc),
+        sink,
+    )
 }

@@ -10,7 +10,7 @@ use std::marker::Model;
 use x224_tpdu::{Tpdu, read};
 
 /// The most octets of a text.
-const MOST_OCTETS: usize = 1_032;
+pub const MOST_OCTETS: usize = 1_032;
 
 /// The number of the next DT, the octets of a message that was begun, and the newest text.
 #[derive(Drop)]

@@ -5,7 +5,11 @@ pub mod Verdicts
 pub mod Lines
 pub mod Texts
 pub mod AllLinks
+pub mod EndWords
+pub mod Ends
+pub mod EndTexts
 pub mod Audits
 pub mod Ears
 pub mod KnownAnswers
+pub mod KnownEnds
 pub mod KnownMacs

@@ -27,7 +27,7 @@ pub use held::{KeysHeld, keys_held};
 pub use key_faults::keys_refused;
 pub use key_hints::key_hints;
 pub use last_line::LastLine;
-pub use refusals::{file_refused, overfull};
+pub use refusals::{file_refused, overfull, recording_differs};
 pub use shown::{put_octets, put_text};
 pub use tally::{Heard, Tally, Uncommon};
 pub use watch::{Watch, side};

@@ -58,6 +58,26 @@ pub fn overfull(alloc: Global, name: &str, last: &[u8]) -> Result<String, NoMemo
     Ok(line)
 }
 
+/// In what a recording isn't what its replay prints: `last` is `! line LINE WHY`.
+pub fn recording_differs(alloc: Global, name: &str, last: &[u8]) -> Result<String, NoMemory> {
+    let mut line = String::new(alloc);
+    put_text(&mut line, name)?;
+    let told = LineWords::of(last);
+    let sentence = [
+        Piece::Text(": line "),
+        Piece::Plain(told.at(2)),
+        Piece::Text(": "),
+        Piece::Text(match told.at(3) {
+            b"differs" => "a replay prints another line there, or none",
+            b"cut" => "no LF ends it, and it wasn't read: the recording is cut",
+            _ => "it isn't there, and a replay prints one",
+        }),
+        NOTHING,
+    ];
+    put_sentence(&mut line, &sentence)?;
+    Ok(line)
+}
+
 // The line of a file with this number, from 1.
 fn line_at(text: &[u8], number: u64) -> &[u8] {
     let place = usize::try_from(number).unwrap_or(0).saturating_sub(1);

@@ -2,4 +2,5 @@ pub mod Connections
 pub mod Printed
 pub mod Checks
 pub mod Replays
+pub mod Recordings
 pub mod KnownAnswers

@@ -8,3 +8,6 @@ pub mod Counts
 pub mod Holdings
 pub mod Taking
 pub mod Running
+pub mod TextLines
+pub mod Compares
+pub mod Printing

@@ -10,7 +10,7 @@ loop-link-preserved g c =
     let most = c.loop-link-test.true in
     record {
       leads =
-          leads_then _ _ _ _ _ _ _ _ (links_more _ c.args.lines.now c.args.openings.now c.loop-link.link most) c.loop-link.invariant.leads _ _ c.in_ok-audit_number.ensures.later c.in_ok-audit_number.ensures.writes;
+          leads_then _ _ _ _ _ _ _ _ (links_more c.args.ends _ c.args.lines.now c.args.openings.now c.loop-link.link most) c.loop-link.invariant.leads _ _ c.in_ok-audit_number.ensures.later c.in_ok-audit_number.ensures.writes;
       least = omega arith;
       most = omega (arith, most);
     }
@@ -19,9 +19,9 @@ pub returns-in_err-audit_number-clause-writes : goal.returns-in_err-audit_number
 returns-in_err-audit_number-clause-writes g c =
     let p = err_from_is_err_and c.from_residual.result c.from_residual.ensures.1 in
     rw (p.1, p.2)
-    (leads_fault _ _ _ _ _ _ _ _ (links_more _ c.args.lines.now c.args.openings.now c.loop-link.link c.loop-link-test.true) c.loop-link.invariant.leads _ _ c.in_err-audit_number.field-0.0 c.in_err-audit_number.ensures.writes)
+    (leads_fault _ _ _ _ _ _ _ _ (links_more c.args.ends _ c.args.lines.now c.args.openings.now c.loop-link.link c.loop-link-test.true) c.loop-link.invariant.leads _ _ c.in_err-audit_number.field-0.0 c.in_err-audit_number.ensures.writes)
 
 pub returns-clause-writes : goal.returns-clause-writes
 returns-clause-writes g c =
     let past = c.loop-link-test.false in
-    leads_end _ _ _ _ _ _ (links_none _ c.args.lines.now c.args.openings.now c.loop-link.link (omega (arith, past))) c.loop-link.invariant.leads
+    leads_end _ _ _ _ _ _ (links_none c.args.ends _ c.args.lines.now c.args.openings.now c.loop-link.link (omega (arith, past))) c.loop-link.invariant.leads

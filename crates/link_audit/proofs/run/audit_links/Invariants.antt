@@ -7,8 +7,8 @@ use Rattle.link_audit.proofs.run.audit_links.Given as goal
 
 abbrev pub invariant-loop-link : goal.invariant-loop-link
 invariant-loop-link g l = record {
-  leads : LeadsToSameWriting (g.S.Sink.state l.fn.sink).held (g.S.Sink.state l.fn.sink).faults (links_opened (key_at (g.K.KeyFinder.entries l.keys)) l.lines l.openings 1 64) (g.S.Sink.state l.sink).held (g.S.Sink.state l.sink).faults
-      (links_opened (key_at (g.K.KeyFinder.entries l.keys)) l.lines l.openings l.link (65 - l.link));
+  leads : LeadsToSameWriting (g.S.Sink.state l.fn.sink).held (g.S.Sink.state l.fn.sink).faults (links_opened l.ends (key_at (g.K.KeyFinder.entries l.keys)) l.lines l.openings 1 64) (g.S.Sink.state l.sink).held (g.S.Sink.state l.sink).faults
+      (links_opened l.ends (key_at (g.K.KeyFinder.entries l.keys)) l.lines l.openings l.link (65 - l.link));
   least : 1 ≤ l.link;
   most : l.link ≤ 65;
 }
