@@ -156,13 +156,16 @@ one_at steps keeps false entries a next m h e tied there s d t =
     let p = steps now ev k m tied in
     let told : told_at a.call h ≡ (stepped (key_at entries) a m).1 = p.1 ∙ ap (λ (x : Event). (step_event now x m).1) same in
     let unrefused : is_send_refused (stepped (key_at entries) a m).1 ≡ false → is_send_refused (told_at a.call h) ≡ false = λ n. ap is_send_refused told ∙ n in (
-      (record {
-        answer = s ∙ ap status_told told;
-        tells = d ∙ ap (λ (x : List Outcome). record (deeds_told x) { used = octet_count_of_call a.call k }) told ∙ ap (λ n. record (deeds_told (stepped (key_at entries) a m).1) { used = n }) (sym u);
-        sent = λ n. t.out_there ∙ ap (text_of_held_end out_of) there ∙ sym (octets_at a.call h (unrefused n)) ∙ ap octets_told told;
-        came = λ n. t.accepted_there ∙ ap (text_of_held_end newest_accepted_message) there ∙ sym (accepted_at a.call h (unrefused n)) ∙ ap accepted_told told;
-        took = λ n. t.taken_there ∙ ap (text_of_held_end message_last_taken) there ∙ sym (taken_at a.call h n) ∙ ap taken_told told;
-      }, subst (λ (n : ℕ). UsesOctets a.call m n) (sym u) (uses_octets keeps a.call k m tied)),
+      (
+        record {
+          answer = s ∙ ap status_told told;
+          tells = d ∙ ap (λ (x : List Outcome). record (deeds_told x) { used = octet_count_of_call a.call k }) told ∙ ap (λ n. record (deeds_told (stepped (key_at entries) a m).1) { used = n }) (sym u);
+          sent = λ n. t.out_there ∙ ap (text_of_held_end out_of) there ∙ sym (octets_at a.call h (unrefused n)) ∙ ap octets_told told;
+          came = λ n. t.accepted_there ∙ ap (text_of_held_end newest_accepted_message) there ∙ sym (accepted_at a.call h (unrefused n)) ∙ ap accepted_told told;
+          took = λ n. t.taken_there ∙ ap (text_of_held_end message_last_taken) there ∙ sym (taken_at a.call h n) ∙ ap taken_told told;
+        },
+        subst (λ (n : ℕ). UsesOctets a.call m n) (sym u) (uses_octets keeps a.call k m tied),
+      ),
       record {
         found = held_with_end h (handle_end_behind_call a.call h);
         there = there;

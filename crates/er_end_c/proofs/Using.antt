@@ -37,10 +37,10 @@ fewer [] before n e l = absurd (omega (arith, l))
 fewer (x ∷ xs) before zero e l = ap frames_of (append-nil before) ∙ e
 fewer (x ∷ xs) before (suc n) e l =
     elim (cases_Bool (has_verdicts (frames_of (before ++ x ∷ [])))) [
-      inl p ↦ absurd (omega (arith, subst (λ b. suc n < (if b then 1 else used_behind (before ++ x ∷ []) xs + 1)) p l))
-    | inr p ↦
-        let less : n < used_behind (before ++ x ∷ []) xs = omega (arith, subst (λ b. suc n < (if b then 1 else used_behind (before ++ x ∷ []) xs + 1)) p l) in
-        ap frames_of (sym (append_assoc before (x ∷ []) (take n xs))) ∙ fewer xs (before ++ x ∷ []) n (none (frames_of (before ++ x ∷ [])) p) less
+      | inl p ↦ absurd (omega (arith, subst (λ b. suc n < (if b then 1 else used_behind (before ++ x ∷ []) xs + 1)) p l))
+      | inr p ↦
+          let less : n < used_behind (before ++ x ∷ []) xs = omega (arith, subst (λ b. suc n < (if b then 1 else used_behind (before ++ x ∷ []) xs + 1)) p l) in
+          ap frames_of (sym (append_assoc before (x ∷ []) (take n xs))) ∙ fewer xs (before ++ x ∷ []) n (none (frames_of (before ++ x ∷ [])) p) less
     ]
 
 left : (piece before : List ℕ) → used_behind before piece < length piece → frames_of (before ++ take (used_behind before piece) piece) ≡ [] → ⊥
@@ -48,12 +48,12 @@ unfolding used_behind
 left [] before l e = absurd (omega (arith, l))
 left (x ∷ xs) before l e =
     elim (cases_Bool (has_verdicts (frames_of (before ++ x ∷ [])))) [
-      inl p ↦ some (frames_of (before ++ x ∷ [])) p (subst (λ b. frames_of (before ++ take (if b then 1 else used_behind (before ++ x ∷ []) xs + 1) (x ∷ xs)) ≡ []) p e)
-    | inr p ↦
-        let less : used_behind (before ++ x ∷ []) xs < length xs = omega (arith, subst (λ b. (if b then 1 else used_behind (before ++ x ∷ []) xs + 1) < suc (length xs)) p l) in
-        left xs (before ++ x ∷ []) less
-        (ap frames_of (append_assoc before (x ∷ []) (take (used_behind (before ++ x ∷ []) xs) xs))
-        ∙ subst (λ n. frames_of (before ++ take n (x ∷ xs)) ≡ []) (add-one (used_behind (before ++ x ∷ []) xs))
+      | inl p ↦ some (frames_of (before ++ x ∷ [])) p (subst (λ b. frames_of (before ++ take (if b then 1 else used_behind (before ++ x ∷ []) xs + 1) (x ∷ xs)) ≡ []) p e)
+      | inr p ↦
+          let less : used_behind (before ++ x ∷ []) xs < length xs = omega (arith, subst (λ b. (if b then 1 else used_behind (before ++ x ∷ []) xs + 1) < suc (length xs)) p l) in
+          left xs (before ++ x ∷ []) less
+          (ap frames_of (append_assoc before (x ∷ []) (take (used_behind (before ++ x ∷ []) xs) xs))
+          ∙ subst (λ n. frames_of (before ++ take n (x ∷ xs)) ≡ []) (add-one (used_behind (before ++ x ∷ []) xs))
           (subst (λ b. frames_of (before ++ take (if b then 1 else used_behind (before ++ x ∷ []) xs + 1) (x ∷ xs)) ≡ []) p e))
     ]
 

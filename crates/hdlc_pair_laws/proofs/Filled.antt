@@ -267,8 +267,7 @@ emptied selective wd side l some g empty =
     let r : Station = l.r.station in
     let ee = none_on_line e g.fe (sym empty.0 ∙ g.stands.lined_x) in
     let er = none_on_line r g.fr (sym empty.1 ∙ g.stands.lined_y) in
-    let m = mended selective g.k wd g.fe e g.fr r some ee er g.stands.pair g.own_e g.own_r g.rests_e g.rests_r (inr (inr (side_mends side selective g.fe e g.fr r ee er g.claim))) in
-    (
+    let m = mended selective g.k wd g.fe e g.fr r some ee er g.stands.pair g.own_e g.own_r g.rests_e g.rests_r (inr (inr (side_mends side selective g.fe e g.fr r ee er g.claim))) in (
       record { e_up = m.x_up; r_up = m.y_up; at_r = m.at_y; at_e = m.at_x },
       record { e_stopped = m.x_stopped.0; r_stopped = m.y_stopped.0; e_none = m.x_stopped.1; r_none = m.y_stopped.1 },
     )

@@ -90,11 +90,7 @@ fn of_document(hints: &mut Hints<'_>, document: &Table) -> Result<(), NoMemory> 
         match field.as_str() {
             "version" | "key" => {}
             "keys" | "Key" | "KEY" => {
-                hints.put_ignored(
-                    0,
-                    field.as_str(),
-                    ": each entry begins with a line [[key]]",
-                )?;
+                hints.put_ignored(0, field.as_str(), ": each entry begins with a line [[key]]")?;
             }
             other => hints.put_ignored(0, other, "")?,
         }
