@@ -1,5 +1,6 @@
 //! What holds of a station of either kind, as facts that a caller can cite.
 
+ghost use Rattle.hdlc_station_laws.specs.Asking.{AsksOnce};
 ghost use Rattle.hdlc_station_laws.specs.Busy.{BusyWaits, MarksBusy};
 ghost use Rattle.hdlc_station_laws.specs.Expiries.{ExpiriesCount};
 ghost use Rattle.hdlc_station_laws.specs.FrameCauses.{FrameCausesRelease, FramesReleaseOnly};
@@ -109,3 +110,14 @@ pub fn gaps_of_calls()
 pub fn windows_are_used()
     ensures { WindowsAreUsed }
 {}
+
+/// A station with selective reject asks for a number by SREJ at most once, for none whose frame came, and for each that is missing before a held frame
+/// exactly once, over any list of events at which it isn't set up anew.
+pub fn asks_once()
+    ensures { AsksOnce }
+{
+    control_is_table();
+    gaps_of_calls();
+    frames_have_causes();
+    settings_stay();
+}
