@@ -1,7 +1,7 @@
 -- A station with selective reject asks once for each number that is missing before a frame that it holds.
 use Rattle.std.proofs.Common.{if◌then◌else◌, ◌≡◌, ◌⊎◌, inl, inr, ℕ, ◌+◌, ◌<◌, ◌≤◌, Bool, true, false, ◌||◌, List, [], ◌∷◌, ◌++◌, length, map, Some, refl, sym, ap, subst, ◌∙◌, arith, true≢false}
 use Rattle.std.specs.Prelude.{◌==◌}
-use Rattle.std.proofs.lemmas.Bool.{cond_both, cases_Bool, cases_lt, or_cases, or_left, or_right, or_parts, eqb-true, eq-eqb, false_from_ne_true}
+use Rattle.std.proofs.lemmas.Bool.{cond_both, cases_Bool, cases_lt, or_cases, or_left, or_right, or_parts, or_from, eqb-true, eq-eqb, false_from_ne_true}
 use Rattle.std.proofs.lemmas.List.Folds.{list_any-append}
 use Rattle.er_base.specs.declared.cause.Cause.TheVariants.{FrameError}
 use Rattle.er_base.specs.Octets.{AreOctets}
@@ -92,6 +92,7 @@ record Turned (s t : Station) (m : ℕ) : Type 0 where
   only : lists_number t.asked m ≡ true → (lists_number s.asked m ≡ true) ⊎ (1 ≤ times_asked m t.said)
   holds : is_held s m ≡ true → length t.taken ≤ m → is_held t m ≡ true
   before : IsBeforeHeld t m → IsBeforeHeld s m ⊎ (lists_number t.asked m ≡ true)
+  why : 1 ≤ times_asked m t.said → IsBeforeHeld t m
 
 rests : (s t : Station) (m : ℕ) → KeepsGaps s t → times_asked m t.said ≡ 0 → Turned s t m
 rests s t m k none =
@@ -107,6 +108,7 @@ rests s t m k none =
       before = λ b.
           let low = b.low in
           inl (record { low = omega (arith, low, same); absent = sym (ap (holds_number m) k.held) ∙ b.absent; behind = b.behind; later = b.later; held = sym (ap (holds_number b.behind) k.held) ∙ b.held });
+      why = λ some. absurd (let u : ⊥ = omega (arith, some, none) in u);
     }
 
 grows : (xs ys : List (List ℕ)) → length xs ≤ length (xs ++ ys)
@@ -136,6 +138,7 @@ hears s t ns payload m none (IsNext run may taken run_is ends asked_is asked_sta
             later = b.later;
             held = (held_is b.behind b.held).0;
           });
+      why = λ some. absurd (let u : ⊥ = omega (arith, some, zero_times) in u);
     }
 hears s t ns payload m none (IsAhead n missing may ahead held are h k taken a) =
     let times = answered_times m s t (map Srej missing) none a in
@@ -175,6 +178,19 @@ hears s t ns payload m none (IsAhead n missing may ahead held are h k taken a) =
                   ])
             ]
           ];
+      why = λ some.
+          let is = (are.each m).0 (times_listed m missing (omega (arith, some, times))) in
+          let low = is.0 in
+          let later = is.1 in
+          record {
+            low = omega (arith, low, same);
+            absent = holding m
+                ∙ or_from (is_held s m) (holds_number m ((n, payload) ∷ [])) is.2
+                (or_from (n == m) false (false_from_ne_true (n == m) (λ at. let e = eqb-true n m at in let u : ⊥ = omega (arith, e, later) in u)) refl);
+            behind = n;
+            later = later;
+            held = holding n ∙ or_right (is_held s n) (holds_number n ((n, payload) ∷ [])) (or_left (n == n) false (eq-eqb n n refl));
+          };
     }
 
 -- what a call left said and told is forgotten before
@@ -190,6 +206,7 @@ forgot s t m h = record {
     | inl was ↦ inl (record { low = was.low; absent = was.absent; behind = was.behind; later = was.later; held = was.held })
     | inr is ↦ inr is
   ];
+  why = h.why;
 }
 
 -- ---- a frame that comes
@@ -439,12 +456,54 @@ said_each turns (event ∷ events) s m before wide never told asked missing =
     (λ b. elim (u.before b) [ inl was ↦ u.stays (asked was) b.low | inr is ↦ is ]) missing in
     omega (arith, rest)
 
+-- what was missing before a held frame is so still, or came
+still_missing : Turns → (s : Station) (event : StationEvent) (m : ℕ) → 1 ≤ s.window → IsEventOfOctets event → (IsSetUpAnew s event → ⊥)
+    → IsBeforeHeld s m ⊎ HasCome s m → IsBeforeHeld (station_step true event s) m ⊎ HasCome (station_step true event s) m
+still_missing turns s event m wide octets anew was =
+    let t : Station = station_step true event s in
+    let u = (turns s event m wide octets anew).0 in
+    elim (cases_lt m (length t.taken)) [
+      | inl below ↦ inr (inl below)
+      | inr low ↦ elim was [
+        | inl b ↦
+            let later = b.later in
+            let behind = (turns s event b.behind wide octets anew).0.holds b.held (omega (arith, low, later)) in
+            elim (cases_Bool (is_held t m)) [
+              | inl held ↦ inr (inr held)
+              | inr absent ↦ inl (record { low = omega (arith, low); absent = absent; behind = b.behind; later = b.later; held = behind })
+            ]
+        | inr (inl below) ↦ let rise = u.rise in absurd (let v : ⊥ = omega (arith, rise, below, low) in v)
+        | inr (inr held) ↦ inr (inr (u.holds held low))
+      ]
+    ]
+
+missing_on : Turns → (events : List StationEvent) (s : Station) (m : ℕ) → 1 ≤ s.window → NeverSetUpAnew s events → IsBeforeHeld s m ⊎ HasCome s m
+    → IsBeforeHeld (station_run true s events) m ⊎ HasCome (station_run true s events) m
+missing_on turns [] s m wide never was = was
+missing_on turns (event ∷ events) s m wide never was =
+    let t : Station = station_step true event s in
+    let same = (turns s event m wide never.0 never.1).1 in
+    missing_on turns events t m (omega (arith, wide, same)) never.2 (still_missing turns s event m wide never.0 never.1 was)
+
+only_missing : Turns → (events : List StationEvent) (s : Station) (m : ℕ) → 1 ≤ s.window → NeverSetUpAnew s events → 1 ≤ times_asked_over m s events
+    → IsBeforeHeld (station_run true s events) m ⊎ HasCome (station_run true s events) m
+only_missing turns [] s m wide never some = absurd (let u : ⊥ = omega (arith, some) in u)
+only_missing turns (event ∷ events) s m wide never some =
+    let t : Station = station_step true event s in
+    let h = turns s event m wide never.0 never.1 in
+    let same = h.1 in
+    elim (cases_lt 0 (times_asked m t.said)) [
+      | inl here ↦ missing_on turns events t m (omega (arith, wide, same)) never.2 (inl (h.0.why (omega (arith, here))))
+      | inr later ↦ only_missing turns events t m (omega (arith, wide, same)) never.2 (omega (arith, some, later))
+    ]
+
 pub asks_once : ControlIsTable → GapsOfCalls → FrameCausesRelease → SettingsStay → AsksOnce
 asks_once law gaps causes stay =
     let turns : Turns = λ s event m wide octets anew. (turned law gaps causes s event m wide octets anew, window_stays stay s event) in
     record {
       once = λ s events wide never n. once_at_most turns events s n wide never;
       came = λ s events wide never n come. closed_none turns events s n wide never (inl come);
+      only = λ s events wide never n some. only_missing turns events s n wide never some;
       each = λ s events wide held asked never n missing.
           let most = once_at_most turns events s n wide never in
           let least = said_each turns events s n 0 wide never

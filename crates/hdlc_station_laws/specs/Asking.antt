@@ -72,6 +72,9 @@ pub record AsksOnce : Type 0 where
   pub once : (s : Station) (events : List StationEvent) → 1 ≤ s.window → NeverSetUpAnew s events → (n : ℕ) → times_asked_over n s events ≤ 1
   -- none whose frame came
   pub came : (s : Station) (events : List StationEvent) → 1 ≤ s.window → NeverSetUpAnew s events → (n : ℕ) → HasCome s n → times_asked_over n s events ≡ 0
+  -- none but for those that are missing before a held frame, until they come
+  pub only : (s : Station) (events : List StationEvent) → 1 ≤ s.window → NeverSetUpAnew s events → (n : ℕ) → 1 ≤ times_asked_over n s events
+      → IsBeforeHeld (station_run true s events) n ⊎ HasCome (station_run true s events) n
   -- and where it held nothing and asked for nothing at first, each that is missing before a held frame exactly once
   pub each : (s : Station) (events : List StationEvent) → 1 ≤ s.window → s.held ≡ [] → s.asked ≡ [] → NeverSetUpAnew s events → (n : ℕ)
       → IsBeforeHeld (station_run true s events) n → times_asked_over n s events ≡ 1
