@@ -149,10 +149,11 @@ pub old_frame_leaves_nothing :
 unfolding control_of
 old_frame_leaves_nothing = (refl, refl, refl)
 
--- 0 is taken and 1 is lost; 2, 3 and 4 come, then 2 once more and a tick: SREJ asks for 1 once. It comes, and 6 behind 5: then for 5 once, and for none that came
+-- 0 is taken and 1 is lost; 2, 3 and 4 come, then 2 once more and a tick: SREJ asks for 1 once; then 1 comes, and 6 twice behind 5: SREJ asks for 5 once
 abbrev lost_one : List StationEvent
 lost_one =
-    hears_command (0x00 ∷ 0x40 ∷ []) ∷ hears_command (0x04 ∷ 0x42 ∷ []) ∷ hears_command (0x06 ∷ 0x43 ∷ []) ∷ hears_command (0x08 ∷ 0x44 ∷ []) ∷ hears_command (0x04 ∷ 0x42 ∷ []) ∷ Tick 1000 ∷ []
+    hears_command (0x00 ∷ 0x40 ∷ []) ∷ hears_command (0x04 ∷ 0x42 ∷ []) ∷ hears_command (0x06 ∷ 0x43 ∷ []) ∷ hears_command (0x08 ∷ 0x44 ∷ [])
+    ∷ hears_command (0x04 ∷ 0x42 ∷ []) ∷ Tick 1000 ∷ []
 
 abbrev lost_two : List StationEvent
 lost_two = lost_one ++ hears_command (0x02 ∷ 0x41 ∷ []) ∷ hears_command (0x0c ∷ 0x46 ∷ []) ∷ hears_command (0x0c ∷ 0x46 ∷ []) ∷ []
