@@ -1,8 +1,8 @@
 -- How often a station with selective reject asks for one frame, over any list of events (ISO/IEC 13239, SREJ; that it asks once for a number is this
 -- profile's). Numbers are absolute, so none comes round.
-use Rattle.std.specs.Prelude.{◌≡◌, ◌⊎◌, ℕ, ◌+◌, ◌<◌, ◌≤◌, ◌==◌, Bool, true, false, if◌then◌else◌, List, [], ◌∷◌, length}
+use Rattle.std.specs.Prelude.{◌≡◌, ◌⊎◌, ℕ, ◌+◌, ◌<◌, ◌≤◌, ◌==◌, true, false, if◌then◌else◌, List, [], ◌∷◌, length}
 use Rattle.hdlc_frames.specs.declared.controls.Control.{Control}
-use Rattle.hdlc_frames.specs.Framing.{Verdict, Frame as Found}
+use Rattle.hdlc_frames.specs.Framing.{Frame as Found}
 use Rattle.hdlc_station_model.specs.declared.phase.Phase.TheVariants.{Up}
 use Rattle.hdlc_station_model.specs.Frames.{Frame, Info, Rr, Rej, Srej, SetUp, Disc, Dm, Ua}
 use Rattle.hdlc_station_model.specs.Stations.{Station}

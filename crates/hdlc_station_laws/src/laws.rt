@@ -111,8 +111,12 @@ pub fn windows_are_used()
     ensures { WindowsAreUsed }
 {}
 
-/// A station with selective reject asks for a number by SREJ at most once, for none whose frame came, and for each that is missing before a held frame
-/// exactly once, over any list of events at which it isn't set up anew.
+/// A station with selective reject asks for a number by SREJ at most once and for none whose frame came; of those that didn't come it asked exactly once
+/// for each that is missing before a held frame, and for no other. So it is over any list of events at which it isn't set up anew, by numbers that don't
+/// come round. That SREJ is answered by the one I frame stands in `sent_again`, that nothing else is said to it of gaps in `gaps_of_calls`.
+/// The law is shown to be false where each held frame asks for all that is missing before it, or where what was asked for is forgotten when a payload is
+/// taken (both by `once`), where what is held is asked for (`came`), where the number behind the held frame is asked for too (`only`), and where no frame
+/// asks while 20 are held (`each`).
 pub fn asks_once()
     ensures { AsksOnce }
 {
