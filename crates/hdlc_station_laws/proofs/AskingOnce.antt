@@ -22,7 +22,7 @@ use Rattle.hdlc_station_laws.specs.Busy.{IsForStation}
 use Rattle.hdlc_station_laws.specs.FrameCauses.{IsError, SetsUpAgain, FrameCausesRelease}
 use Rattle.hdlc_station_laws.specs.Settings.{SettingsStay}
 use Rattle.hdlc_station_laws.specs.StationEvents.{StationEvent, Start, Receive, Hand, Finish, Tick, Close, station_step, station_run}
-use Rattle.hdlc_station_laws.specs.Gaps.{supervisory, Answers, KeepsGaps, is_held, lists_number, AreRising, HearsInfo, IsOld, IsHeldAlready, IsNext, IsAhead, GapsOfCalls}
+use Rattle.hdlc_station_laws.specs.Gaps.{supervisory, Answers, KeepsGaps, is_held, lists_number, AreRising, AreMissing, HearsInfo, IsOld, IsHeldAlready, IsNext, IsAhead, GapsOfCalls}
 use Rattle.hdlc_station_laws.specs.Asking.{times_asked, times_asked_over, IsSetUpAnew, IsEventOfOctets, NeverSetUpAnew, HasCome, IsBeforeHeld, AsksOnce}
 use Rattle.hdlc_station_laws.proofs.Hearing.{on_frame}
 use Rattle.hdlc_station_laws.proofs.Saying.{keeps}
@@ -115,33 +115,10 @@ grows : (xs ys : List (List ℕ)) → length xs ≤ length (xs ++ ys)
 grows [] ys = omega arith
 grows (x ∷ xs) ys = let r = grows xs ys in omega (arith, r)
 
-hears : (s t : Station) (ns : ℕ) (payload : List ℕ) (m : ℕ) → s.said ≡ [] → HearsInfo s ns payload t → Turned s t m
-hears s t ns payload m none (IsOld never k a) = rests s t m k (answered_times m s t (Rr (length s.taken) ∷ []) none a)
-hears s t ns payload m none (IsHeldAlready n may ahead held k a) = rests s t m k (answered_times m s t (Rr (length s.taken) ∷ []) none a)
-hears s t ns payload m none (IsNext run may taken run_is ends asked_is asked_stays held_is held_stays a) =
-    let zero_times = answered_times m s t [] none a in
-    let longer = ap length taken in
-    let least = grows s.taken (payload ∷ run) in
-    record {
-      rise = omega (arith, longer, least);
-      few = omega (arith, zero_times);
-      new = λ some. absurd (let u : ⊥ = omega (arith, some, zero_times) in u);
-      stays = asked_stays m;
-      only = λ has. inl (asked_is m has).0;
-      holds = held_stays m;
-      before = λ b.
-          let low = b.low in
-          inl (record {
-            low = omega (arith, low, longer, least);
-            absent = false_from_ne_true (is_held s m) (λ has. true≢false (sym (held_stays m has b.low) ∙ b.absent));
-            behind = b.behind;
-            later = b.later;
-            held = (held_is b.behind b.held).0;
-          });
-      why = λ some. absurd (let u : ⊥ = omega (arith, some, zero_times) in u);
-    }
-hears s t ns payload m none (IsAhead n missing may ahead held are h k taken a) =
-    let times = answered_times m s t (map Srej missing) none a in
+-- a frame behind a gap: it is held, and what is missing before it is asked for
+hears_ahead : (s t : Station) (n : ℕ) (payload : List ℕ) (missing : List ℕ) (m : ℕ) → AreMissing s n missing → t.held ≡ s.held ++ (n, payload) ∷ []
+    → t.asked ≡ s.asked ++ missing → t.taken ≡ s.taken → times_asked m t.said ≡ times_asked m (map Srej missing) → Turned s t m
+hears_ahead s t n payload missing m are h k taken times =
     let once = rising_once m (length s.taken) missing are.rising in
     let same = ap length taken in
     let asked : lists_number t.asked m ≡ (lists_number s.asked m || lists_number missing m) =
@@ -192,6 +169,34 @@ hears s t ns payload m none (IsAhead n missing may ahead held are h k taken a) =
             held = holding n ∙ or_right (is_held s n) (holds_number n ((n, payload) ∷ [])) (or_left (n == n) false (eq-eqb n n refl));
           };
     }
+
+hears : (s t : Station) (ns : ℕ) (payload : List ℕ) (m : ℕ) → s.said ≡ [] → HearsInfo s ns payload t → Turned s t m
+hears s t ns payload m none (IsOld never k a) = rests s t m k (answered_times m s t (Rr (length s.taken) ∷ []) none a)
+hears s t ns payload m none (IsHeldAlready n may ahead held k a) = rests s t m k (answered_times m s t (Rr (length s.taken) ∷ []) none a)
+hears s t ns payload m none (IsNext run may taken run_is ends asked_is asked_stays held_is held_stays a) =
+    let zero_times = answered_times m s t [] none a in
+    let longer = ap length taken in
+    let least = grows s.taken (payload ∷ run) in
+    record {
+      rise = omega (arith, longer, least);
+      few = omega (arith, zero_times);
+      new = λ some. absurd (let u : ⊥ = omega (arith, some, zero_times) in u);
+      stays = asked_stays m;
+      only = λ has. inl (asked_is m has).0;
+      holds = held_stays m;
+      before = λ b.
+          let low = b.low in
+          inl (record {
+            low = omega (arith, low, longer, least);
+            absent = false_from_ne_true (is_held s m) (λ has. true≢false (sym (held_stays m has b.low) ∙ b.absent));
+            behind = b.behind;
+            later = b.later;
+            held = (held_is b.behind b.held).0;
+          });
+      why = λ some. absurd (let u : ⊥ = omega (arith, some, zero_times) in u);
+    }
+hears s t ns payload m none (IsAhead n missing may ahead held are h k taken a) =
+    hears_ahead s t n payload missing m are h k taken (answered_times m s t (map Srej missing) none a)
 
 -- what a call left said and told is forgotten before
 forgot : (s t : Station) (m : ℕ) → Turned (settled s) t m → Turned s t m
