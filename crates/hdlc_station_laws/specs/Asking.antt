@@ -49,7 +49,7 @@ IsEventOfOctets Finish = Unit {0}
 IsEventOfOctets (Tick now) = Unit {0}
 IsEventOfOctets Close = Unit {0}
 
--- at none of these events a station is set up anew
+-- what comes at these events is of octets, and at none of them the station is set up anew
 abbrev pub NeverSetUpAnew : Station → List StationEvent → Type 0
 NeverSetUpAnew s [] = Unit {0}
 NeverSetUpAnew s (event ∷ events) = IsEventOfOctets event × (IsSetUpAnew s event → ⊥) × NeverSetUpAnew (station_step true event s) events
