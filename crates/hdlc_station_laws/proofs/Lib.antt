@@ -16,4 +16,5 @@ pub mod SendingAgain
 pub mod Missing
 pub mod Runs
 pub mod Filing
+pub mod AskingOnce
 pub mod UsingWindows

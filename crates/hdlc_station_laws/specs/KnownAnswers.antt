@@ -10,6 +10,7 @@ use Rattle.hdlc_station_laws.specs.Settings.{station_settings}
 use Rattle.hdlc_station_laws.specs.StationEvents.{StationEvent, Start, Receive, Hand, Tick, station_run, expired_ticks}
 use Rattle.hdlc_station_laws.specs.SentAgain.{sent_before}
 use Rattle.hdlc_station_laws.specs.Gaps.{supervisory}
+use Rattle.hdlc_station_laws.specs.Asking.{times_asked_over}
 
 -- a response comes from the called station, a command from it
 abbrev answers : ℕ → List ℕ → StationEvent
@@ -147,3 +148,21 @@ pub old_frame_leaves_nothing :
     × (supervisory (called true 4 (hears_command (0x00 ∷ 0x40 ∷ []) ∷ hears_command (0x04 ∷ 0x42 ∷ []) ∷ hears_command (0x06 ∷ 0x43 ∷ []) ∷ [])).said ≡ [])
 unfolding control_of
 old_frame_leaves_nothing = (refl, refl, refl)
+
+-- 0 is taken and 1 is lost; 2, 3 and 4 come, then 2 once more and a tick: SREJ asks for 1 once; then 1 comes, and 6 twice behind 5: SREJ asks for 5 once
+abbrev lost_one : List StationEvent
+lost_one =
+    hears_command (0x00 ∷ 0x40 ∷ []) ∷ hears_command (0x04 ∷ 0x42 ∷ []) ∷ hears_command (0x06 ∷ 0x43 ∷ []) ∷ hears_command (0x08 ∷ 0x44 ∷ [])
+    ∷ hears_command (0x04 ∷ 0x42 ∷ []) ∷ Tick 1000 ∷ []
+
+abbrev lost_two : List StationEvent
+lost_two = lost_one ++ hears_command (0x02 ∷ 0x41 ∷ []) ∷ hears_command (0x0c ∷ 0x46 ∷ []) ∷ hears_command (0x0c ∷ 0x46 ∷ []) ∷ []
+
+pub asked_for_once :
+    (times_asked_over 1 (called true 4 []) lost_one ≡ 1)
+    × (times_asked_over 0 (called true 4 []) lost_one ≡ 0)
+    × (times_asked_over 1 (called true 4 []) lost_two ≡ 1)
+    × (times_asked_over 5 (called true 4 []) lost_two ≡ 1)
+    × (times_asked_over 2 (called true 4 []) lost_two ≡ 0)
+unfolding control_of
+asked_for_once = (refl, refl, refl, refl, refl)

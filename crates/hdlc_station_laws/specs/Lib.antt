@@ -8,5 +8,6 @@ pub mod GivingUp
 pub mod Busy
 pub mod SentAgain
 pub mod Gaps
+pub mod Asking
 pub mod Windows
 pub mod KnownAnswers

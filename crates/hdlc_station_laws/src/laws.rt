@@ -1,5 +1,6 @@
 //! What holds of a station of either kind, as facts that a caller can cite.
 
+ghost use Rattle.hdlc_station_laws.specs.Asking.{AsksOnce};
 ghost use Rattle.hdlc_station_laws.specs.Busy.{BusyWaits, MarksBusy};
 ghost use Rattle.hdlc_station_laws.specs.Expiries.{ExpiriesCount};
 ghost use Rattle.hdlc_station_laws.specs.FrameCauses.{FrameCausesRelease, FramesReleaseOnly};
@@ -109,3 +110,18 @@ pub fn gaps_of_calls()
 pub fn windows_are_used()
     ensures { WindowsAreUsed }
 {}
+
+/// A station with selective reject asks for a number by SREJ at most once and for none whose frame came; of those that didn't come it asked exactly once
+/// for each that is missing before a held frame, and for no other. So it is over any list of events at which it isn't set up anew, by numbers that don't
+/// come round. That SREJ is answered by the one I frame stands in `sent_again`, that nothing else is said to it of gaps in `gaps_of_calls`.
+/// The law is shown to be false where each held frame asks for all that is missing before it, or where what was asked for is forgotten when a payload is
+/// taken (both by `once`), where what is held is asked for (`came`), where the number behind the held frame is asked for too (`only`), and where no frame
+/// asks while 20 are held (`each`).
+pub fn asks_once()
+    ensures { AsksOnce }
+{
+    control_is_table();
+    gaps_of_calls();
+    frames_have_causes();
+    settings_stay();
+}
