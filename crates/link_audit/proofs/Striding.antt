@@ -14,7 +14,7 @@ use Rattle.x224_tpdu.specs.Function.{reading}
 use Rattle.tap_model.specs.declared.end_cause.EndCause.{EndCause}
 use Rattle.tap_model.specs.Ends.{Reach, first_reach, StreamEnd, is_frame, frames_among, stride_at_pdu, stride_at_piece, end_from, stream_end}
 use Rattle.link_audit.specs.declared.stride.Stride.{Stride}
-use Rattle.link_audit.specs.Strides.{KMessage, with_message, strode, kept_count, counted_end, told_of_stream, KExtent, end_of_rest, why_told, left_told, kept_end_of_rest, end_at_frame, told_with, told_behind, told_at}
+use Rattle.link_audit.specs.Strides.{KMessage, with_message, strode, kept_count, counted_end, told_of_stream, KExtent, end_of_rest, why_told, left_told, kept_end_of_rest, end_at_frame, told_with, told_behind, told_where_found}
 use Rattle.link_audit.proofs.Feeding.{frames_split, no_frames, first_split}
 
 -- ---- counts
@@ -132,7 +132,7 @@ told_now side opened over reach frames heard left =
 -- ---- pieces
 
 -- what a deframer found
-pub found_told : (k : KExtent) (found : Option Verdict) (verdicts : List Verdict) → told_behind k (option_to_list found ++ verdicts) ≡ told_at k found verdicts
+pub found_told : (k : KExtent) (found : Option Verdict) (verdicts : List Verdict) → told_behind k (option_to_list found ++ verdicts) ≡ told_where_found k found verdicts
 found_told k None verdicts = refl
 found_told k (Some (Frame address body)) verdicts = refl
 found_told k (Some BadFcs) verdicts = other_more k.side k.reach k.frames k.heard k.left 0 [] verdicts k.opened k.over BadFcs refl

@@ -101,10 +101,10 @@ unfoldable pub told_behind : KExtent → List Verdict → Told
 told_behind k verdicts = told_with (k.frames + frames_among verdicts) (kept_end_of_rest k verdicts)
 
 -- and where a deframer found this: what is no frame passes
-abbrev pub told_at : KExtent → Option Verdict → List Verdict → Told
-told_at k None verdicts = told_behind k verdicts
-told_at k (Some (Frame address body)) verdicts = told_behind k (Frame address body ∷ verdicts)
-told_at k (Some BadFcs) verdicts = told_behind k verdicts
-told_at k (Some TooShort) verdicts = told_behind k verdicts
-told_at k (Some TooLong) verdicts = told_behind k verdicts
-told_at k (Some Aborted) verdicts = told_behind k verdicts
+abbrev pub told_where_found : KExtent → Option Verdict → List Verdict → Told
+told_where_found k None verdicts = told_behind k verdicts
+told_where_found k (Some (Frame address body)) verdicts = told_behind k (Frame address body ∷ verdicts)
+told_where_found k (Some BadFcs) verdicts = told_behind k verdicts
+told_where_found k (Some TooShort) verdicts = told_behind k verdicts
+told_where_found k (Some TooLong) verdicts = told_behind k verdicts
+told_where_found k (Some Aborted) verdicts = told_behind k verdicts

@@ -7,7 +7,7 @@ ghost use Rattle.hdlc_frames.specs.Shown.{verdict_of_octets_found};
 ghost use Rattle.hdlc_frames.specs.Deframing.{IsKeptOfStream, stream_behind_kept};
 ghost use Rattle.tap_model.specs.Lines.{stream_of};
 ghost use Rattle.tap_model.specs.Ends.{first_reach};
-ghost use Rattle.link_audit.specs.Strides.{kept_count, counted_end, why_told, left_told, kept_end_of_rest, end_at_frame, told_behind, told_at, told_of_stream};
+ghost use Rattle.link_audit.specs.Strides.{kept_count, counted_end, why_told, left_told, kept_end_of_rest, end_at_frame, told_behind, told_where_found, told_of_stream};
 
 use crate::ear::opens;
 use crate::marked_lines::MarkedLines;
@@ -189,7 +189,7 @@ impl Extent {
 
     // What a deframer found comes.
     fn take(&mut self, found: &Option<Found<'_>>)
-        ensures { (verdicts : List Verdict) → told_at self.old (option_map verdict_of_octets_found found.now) verdicts ≡ told_behind self.new verdicts }
+        ensures { (verdicts : List Verdict) → told_where_found self.old (option_map verdict_of_octets_found found.now) verdicts ≡ told_behind self.new verdicts }
     {
         match found {
             Some(Found::Frame(frame)) => self.frame(frame),

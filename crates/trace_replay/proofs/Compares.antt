@@ -15,7 +15,7 @@ use Rattle.trace_model.specs.declared.replay_fault.ReplayFault.TheVariants as fa
 use Rattle.trace_model.specs.Printed.{text_of_trace}
 use Rattle.trace_model.specs.Recordings.{ended_part, unskipped, first_difference, is_outcome_line, verdict_on_rest, check_verdict, IsJudged, IsChecked}
 use Rattle.trace_model.specs.Replays.{WroteAll, Replays}
-use Rattle.trace_replay.specs.Compared.{faults_by, cause_by, verdict_left}
+use Rattle.trace_replay.specs.Compared.{KPrinted, faults_by, cause_by, verdict_left}
 
 lt_suc : (m n : ℕ) → nat_lt (suc m) (suc n) ≡ nat_lt m n
 lt_suc m n =
@@ -113,7 +113,7 @@ checked_all s f entries file octets verdict wrote is = record {
   is = is ∙ ap (check_verdict file) wrote.written;
 }
 
-pub checked_part : (s : Settings) (f : Finds) (entries : List Entry) (file octets : List ℕ) (why : ReplayFault) (want : Option NoMemory)
+checked_part : (s : Settings) (f : Finds) (entries : List Entry) (file octets : List ℕ) (why : ReplayFault) (want : Option NoMemory)
     → Replays s f entries (Some []) (Some octets) 0 (faults_by want) (Err why) → IsChecked s f entries file (Err (cause_by why want))
 checked_part s f entries file octets (fault.NoConn line conn) want wrote = wrote.first
 checked_part s f entries file octets (fault.ConnTwice line conn) want wrote = wrote.first
@@ -123,3 +123,10 @@ checked_part s f entries file octets (fault.Many line live) want wrote = wrote.f
 checked_part s f entries file octets fault.Sink None wrote = absurd (let rose = wrote.1 in omega (arith, rose))
 checked_part s f entries file octets fault.Sink (Some want) wrote = tt
 checked_part s f entries file octets (fault.NoMemory other) want wrote = tt
+
+-- from nothing that was printed
+pub checked_from : (s : Settings) (f : Finds) (entries : List Entry) (file : List ℕ) (why : ReplayFault) (start now : KPrinted) → start ≡ record { octets = []; want = None }
+    → Replays s f entries (Some start.octets) (Some now.octets) (faults_by start.want) (faults_by now.want) (Err why) → IsChecked s f entries file (Err (cause_by why now.want))
+checked_from s f entries file why start now is wrote =
+    checked_part s f entries file now.octets why now.want
+    (subst (λ (p : KPrinted). Replays s f entries (Some p.octets) (Some now.octets) (faults_by p.want) (faults_by now.want) (Err why)) is wrote)
