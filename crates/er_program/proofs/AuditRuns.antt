@@ -21,11 +21,11 @@ use Rattle.tap_model.specs.Audits.{Audits}
 use Rattle.tap_model.specs.Lines.{TapFault, NoLinkAt, TwiceAt, fault_of_tap_lines}
 use Rattle.tap_model.specs.EndTexts.{text_of_audit}
 use Rattle.er_program.specs.AuditRuns.{FirstAuditText}
-use Rattle.er_program.specs.AuditWriting.{IsLinesAnswer, IsTapAnswer, BeginsLines, BeginsSpelledTap, BeginsTap, BeginsTapFile, BeginsTapOfGood, BeginsTapBehindKeys, TellsTapFault}
+use Rattle.er_program.specs.AuditWriting.{IsLinesAnswer, IsTapAnswer, BeginsLines, BeginsSpelledTap, BeginsTap, TellsTapFault}
 use Rattle.er_program.specs.Commands.{Audit}
 use Rattle.er_statuses.specs.LastLines.{fetch_line, fault_line, why_word}
 use Rattle.er_statuses.specs.Answers.{Answer, Files, HasFetched, keys_answer}
-use Rattle.er_program.specs.Answers.{lines_answer, IsTapFileAnswer, IsTapAnswerBehindKeys}
+use Rattle.er_program.specs.Answers.{lines_answer}
 use Rattle.er_program.specs.KeyWriting.{GaveOne, BrokeOne}
 use Rattle.er_program.specs.ReplayWriting.{BeganOne, EndsOne}
 use Rattle.er_statuses.specs.Writing.{GivesAnswer, EndsUnfetched}

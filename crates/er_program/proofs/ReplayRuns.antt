@@ -22,10 +22,10 @@ use Rattle.trace_model.specs.Printed.{text_of_trace}
 use Rattle.trace_model.specs.Replays.{WroteAll, WroteBefore, WrotePart, Replays}
 use Rattle.er_program.specs.Commands.{Replay}
 use Rattle.er_statuses.specs.LastLines.{fetch_line, fault_line, why_word}
-use Rattle.er_program.specs.Answers.{replay_fault_line, IsReplayAnswer, AllAreTaken, OneIsRefused, IsTraceAnswer, IsTraceFileAnswer, IsAnswerBehindKeys}
+use Rattle.er_program.specs.Answers.{replay_fault_line, IsReplayAnswer, AllAreTaken, OneIsRefused, IsTraceAnswer, IsAnswerBehindKeys}
 use Rattle.er_statuses.specs.Answers.{Answer, Files, HasFetched, keys_answer}
 use Rattle.er_program.specs.KeyWriting.{GaveOne, BrokeOne}
-use Rattle.er_program.specs.ReplayWriting.{BeganOne, EndsOne, BeginsEvents, BeginsSpelled, BeginsTrace, BeginsTraceFile, BeginsGood, BeginsBehindKeys, TellsRefusal}
+use Rattle.er_program.specs.ReplayWriting.{BeganOne, EndsOne, BeginsEvents, BeginsSpelled, BeginsTrace, TellsRefusal}
 use Rattle.er_program.specs.Runs.{FirstEventLines}
 use Rattle.er_statuses.specs.Writing.{GivesAnswer, EndsUnfetched}
 use Rattle.er_program.specs.Writing.{EndsCommand}
