@@ -2,4 +2,4 @@
 
 /// The version of the program, the kit by which it is proved, and the sum of the sources of which it is built.
 pub(crate) const VERSION: &str =
-    "euroradio 1.1\nkit rattle-kit-13f logic dac8208d650f15bf\nsources 0ed34b49ec4e0fc2cebec143d8e79608ed5f94e1b194fde541d018d7ca1a1ff2\n";
+    "euroradio 1.1\nkit rattle-kit-13f logic dac8208d650f15bf\nsources 901a3fe6154222b5f61bd12dc89dbc88c9e5f54a54932e8e96ba3dee335665ae\n";
