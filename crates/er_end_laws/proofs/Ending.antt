@@ -31,7 +31,7 @@ use Rattle.er_end_model.specs.Steps.{Finds, new_event, new_event_at, with_releas
 use Rattle.er_end_model.specs.Layers.{Core, model}
 use Rattle.er_end_model.specs.Hearing.{text_in_deed, station_behind, IsTextOf}
 use Rattle.er_end_model.specs.Releasing.{StationReleases, BlockIsFaulty, IsTpduOf, IsDr, SafetyMet, station_at}
-use Rattle.er_end_laws.specs.LastTpdus.{Farewell, Nothing, Leaves, Confirms, Disconnects, own_di, FrameEnds, ByStation, ByBareDr, ByTpdu, ByBlock, BySafety, ByPeersDr, ByPeersDi, TimeEnds, ByT1, BySetUp, SendsAtOnce, frame_with, disc_at, owed_answer, Adds, Says, EndsWith, IsLive}
+use Rattle.er_end_laws.specs.LastTpdus.{LastSent, Nothing, Leaves, Confirms, Disconnects, own_di, FrameEnds, ByStation, ByBareDr, ByTpdu, ByBlock, BySafety, ByPeersDr, ByPeersDi, TimeEnds, ByT1, BySetUp, SendsAtOnce, frame_with, disc_at, owed_answer, Adds, Says, EndsWith, IsLive}
 use Rattle.er_end_laws.proofs.Hearing.{received, ticked}
 use Rattle.er_end_laws.proofs.Sending.{at_once, may_at_once, went_at_once, closed, finished_by}
 
@@ -189,23 +189,23 @@ module _ (steps_each : StepsEach) (causes : CauseReleases) where
     abbrev s : Station
     s = station_behind x now verdict
 
-    abbrev Ends : Release → Farewell → Core → Type 0
+    abbrev Ends : Release → LastSent → Core → Type 0
     Ends why last y = EndsWith why last s x y
 
     low : s.sent ≤ length s.handed
     low = low_behind now verdict x h
 
-    link_ends : (why : Release) (last : Farewell) → Ends why last (on_link_deed model finds s.deed (taken_at now verdict x)) → Ends why last (step_frame model finds now verdict x)
+    link_ends : (why : Release) (last : LastSent) → Ends why last (on_link_deed model finds s.deed (taken_at now verdict x)) → Ends why last (step_frame model finds now verdict x)
     link_ends why last e =
         let y : Core = on_link_deed model finds s.deed (taken_at now verdict x) in
         subst (Ends why last) (sym (unless_released x (new_event_at model now x) (conclude_event model y) h.released ∙ concluded y why e.0)) e
 
-    payload_ends : (why : Release) (last : Farewell) (payload : List ℕ) → s.deed.payload ≡ Some payload
+    payload_ends : (why : Release) (last : LastSent) (payload : List ℕ) → s.deed.payload ≡ Some payload
         → Ends why last (on_joined_block model finds (joining.block_step x.joined payload).1 (joined_at now verdict x payload)) → Ends why last (step_frame model finds now verdict x)
     payload_ends why last payload t e =
         link_ends why last (subst (λ (p : Option (List ℕ)). Ends why last (on_link_told model finds p s.deed.up s.deed.released (taken_at now verdict x))) (sym t) e)
 
-    tpdu_ends : (why : Release) (last : Farewell) (tpdu : List ℕ) (is : IsTpduOf x now verdict tpdu)
+    tpdu_ends : (why : Release) (last : LastSent) (tpdu : List ℕ) (is : IsTpduOf x now verdict tpdu)
         → Ends why last (on_transport_deed model finds (reception x.upper.transport tpdu).1 (heard_at now verdict x is.payload tpdu)) → Ends why last (step_frame model finds now verdict x)
     tpdu_ends why last tpdu is e =
         payload_ends why last is.payload is.taken
@@ -245,7 +245,7 @@ module _ (steps_each : StepsEach) (causes : CauseReleases) where
         (refl, nothing_says why x (taken_at now verdict x) low refl))
 
     -- a text at which the safety side is released
-    text_ends : (why : Release) (last : Farewell) (text : List ℕ) → IsTextOf x now verdict text
+    text_ends : (why : Release) (last : LastSent) (text : List ℕ) → IsTextOf x now verdict text
         → ((by : Carrier) (y : Core) → IsHeard y → Ends why last (on_safety_report model by (report_of (safety.step key_of x.safe.safety (Received text)).1) (octets_sent_in_outcome (safety.step key_of x.safe.safety (Received text)).1) y))
         → Ends why last (step_frame model finds now verdict x)
     text_ends why last text is g =
@@ -274,7 +274,7 @@ module _ (steps_each : StepsEach) (causes : CauseReleases) where
     safety_ends : (of : Cause) → SafetyMet of finds now x verdict → Ends (release_of of) (Leaves 128 (own_di (release_of of) x)) (step_frame model finds now verdict x)
     safety_ends of (text, is, met) =
         let why : Release = release_of of in
-        let last : Farewell = Leaves 128 (own_di why x) in
+        let last : LastSent = Leaves 128 (own_di why x) in
         let r = causes key_of x.safe.safety (Received text) of met in
         let octets_are : r.2 ≡ own_di why x = r.4.octets_is ∙ ap (λ (w : Release). own_di w x) r.4.release_is in
         text_ends why last text is
@@ -302,11 +302,11 @@ module _ (steps_each : StepsEach) (causes : CauseReleases) where
         (refl, disc_says why x y (subst (λ (t : Station). t.sent ≤ length t.handed) (sym f.0) low) f.1)))
 
     -- a row, under its own names
-    named : (why w : Release) (last l : Farewell) → why ≡ w → last ≡ l → Ends w l (step_frame model finds now verdict x) → Ends why last (step_frame model finds now verdict x)
+    named : (why w : Release) (last l : LastSent) → why ≡ w → last ≡ l → Ends w l (step_frame model finds now verdict x) → Ends why last (step_frame model finds now verdict x)
     named why w last l e f g =
-        subst (λ (r : Release). Ends r last (step_frame model finds now verdict x)) (sym e) (subst (λ (k : Farewell). Ends w k (step_frame model finds now verdict x)) (sym f) g)
+        subst (λ (r : Release). Ends r last (step_frame model finds now verdict x)) (sym e) (subst (λ (k : LastSent). Ends w k (step_frame model finds now verdict x)) (sym f) g)
 
-    pub frame_ends : (why : Release) (last : Farewell) → FrameEnds finds now x verdict why last → Ends why last (step_frame model finds now verdict x)
+    pub frame_ends : (why : Release) (last : LastSent) → FrameEnds finds now x verdict why last → Ends why last (step_frame model finds now verdict x)
     frame_ends why last (ByStation met l) = named why why last Nothing refl l (station_ends why met)
     frame_ends why last (ByBareDr met w l) = named why why last Confirms refl l (dr_ends why met.0 None met.1 met.2 w)
     frame_ends why last (ByTpdu tpdu sub reason is e w l) = named why (by_this_end 2 sub) last (Leaves reason []) w l (tpdu_refused_ends tpdu sub reason is e)
@@ -322,16 +322,16 @@ module _ (steps_each : StepsEach) (causes : CauseReleases) where
     tick_low : (station_at x now).sent ≤ length (station_at x now).handed
     tick_low = (ticked (max x.moment now) (settled x.line) h.handed (All-nil _)).sent
 
-    tick_ends_by : (why : Release) (last : Farewell) → EndsWith why last (station_at x now) x (on_expiry model (station_at x now).deed.released (timed_at now x))
+    tick_ends_by : (why : Release) (last : LastSent) → EndsWith why last (station_at x now) x (on_expiry model (station_at x now).deed.released (timed_at now x))
         → EndsWith why last (station_at x now) x (step_tick model now x)
     tick_ends_by why last e =
         let y : Core = on_expiry model (station_at x now).deed.released (timed_at now x) in
         subst (EndsWith why last (station_at x now) x) (sym (unless_released x (new_event_at model now x) (conclude_event model y) h.released ∙ concluded y why e.0)) e
 
-    pub tick_ends : (why : Release) (last : Farewell) → TimeEnds now x why last → EndsWith why last (station_at x now) x (step_tick model now x)
+    pub tick_ends : (why : Release) (last : LastSent) → TimeEnds now x why last → EndsWith why last (station_at x now) x (step_tick model now x)
     tick_ends why last (ByT1 e l) =
         tick_ends_by why last
-        (subst (λ (k : Farewell). EndsWith why k (station_at x now) x (on_expiry model (station_at x now).deed.released (timed_at now x))) (sym l)
+        (subst (λ (k : LastSent). EndsWith why k (station_at x now) x (on_expiry model (station_at x now).deed.released (timed_at now x))) (sym l)
         (subst (λ (o : Option Release). EndsWith why Nothing (station_at x now) x (on_expiry model o (timed_at now x))) (sym e)
         (refl, nothing_says why x (timed_at now x) tick_low refl)))
     tick_ends why last (BySetUp e closed' late w l) =
@@ -344,7 +344,7 @@ module _ (steps_each : StepsEach) (causes : CauseReleases) where
         (subst (λ (o : Option Release). EndsWith why last (station_at x now) x (on_expiry model o y)) (sym e)
         (subst (λ (b : Bool). EndsWith why last (station_at x now) x (if b then send_dr model r 128 (own_di r x) y else y)) (sym spent)
         (subst (λ (v : Release). EndsWith v last (station_at x now) x (send_dr model r 128 (own_di r x) y)) (sym w)
-        (subst (λ (k : Farewell). EndsWith r k (station_at x now) x (send_dr model r 128 (own_di r x) y)) (sym same) gone))))
+        (subst (λ (k : LastSent). EndsWith r k (station_at x now) x (send_dr model r 128 (own_di r x) y)) (sym same) gone))))
 
   -- ---- the user's release, and a line that broke
 

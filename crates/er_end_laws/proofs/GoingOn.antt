@@ -27,7 +27,7 @@ use Rattle.er_end_model.specs.Steps.{Finds, new_event_at, send_dr, answer_dr, wh
 use Rattle.er_end_model.specs.Layers.{Core, model}
 use Rattle.er_end_model.specs.Hearing.{text_in_deed, station_behind, IsTextOf}
 use Rattle.er_end_model.specs.Releasing.{IsDr, station_at}
-use Rattle.er_end_laws.specs.LastTpdus.{Farewell, Nothing, Leaves, Confirms, Disconnects, own_di, FrameEnds, ByStation, ByBareDr, ByTpdu, ByBlock, BySafety, ByPeersDr, ByPeersDi, TimeEnds, ByT1, BySetUp, IsNoLast, IsNoDisc, GoesOn, IsLive}
+use Rattle.er_end_laws.specs.LastTpdus.{LastSent, Nothing, Leaves, Confirms, Disconnects, own_di, FrameEnds, ByStation, ByBareDr, ByTpdu, ByBlock, BySafety, ByPeersDr, ByPeersDi, TimeEnds, ByT1, BySetUp, IsNoLast, IsNoDisc, GoesOn, IsLive}
 use Rattle.er_end_laws.proofs.Hearing.{Received as GotFrame, IsOneDeed, received, ticked, handed_down, finished, started}
 use Rattle.er_end_laws.proofs.Ending.{gave, reception_only, unless_released, taken_at, joined_at, heard_at, timed_at}
 
@@ -225,7 +225,7 @@ module _ (told : ReleasesAreTold) where
 
   module _ (now : ℕ) (x : Core) (h : IsLive x) where
     abbrev Time : Type 0
-    Time = (why : Release) × (last : Farewell) × TimeEnds now x why last
+    Time = (why : Release) × (last : LastSent) × TimeEnds now x why last
 
     -- T1 didn't expire, or the station goes on
     timed : (station_at x now).deed.released ≡ None → Quiet x (kept (timed_at now x))
@@ -265,7 +265,7 @@ module _ (told : ReleasesAreTold) where
       s = station_behind x now verdict
 
       abbrev Row : Type 0
-      Row = (why : Release) × (last : Farewell) × FrameEnds finds now x verdict why last
+      Row = (why : Release) × (last : LastSent) × FrameEnds finds now x verdict why last
 
       abbrev Fate : Core → Type 0
       Fate y = Quiet x (kept y) ⊎ Row

@@ -27,22 +27,22 @@ use Rattle.er_end_model.specs.Releasing.{StationReleases, BlockIsFaulty, IsTpduO
 -- ---- the table: what releases an end, and what it sends then
 
 -- what joins what the station said by itself
-pub data Farewell : Type 0 where
+pub data LastSent : Type 0 where
   -- nothing
-  Nothing : Farewell
+  Nothing : LastSent
   -- a DR with this reason and this user data, then DISC
-  Leaves : (reason : ℕ) (user : List ℕ) → Farewell
+  Leaves : (reason : ℕ) (user : List ℕ) → LastSent
   -- a DC; the link is the peer's to end
-  Confirms : Farewell
+  Confirms : LastSent
   -- DISC alone
-  Disconnects : Farewell
+  Disconnects : LastSent
 
 -- the DI of an end that releases: the reason and the sub-reason, with the own direction flag
 abbrev pub own_di : Release → Core → List ℕ
 own_di why x = spelling (Di why.reason why.sub) (flag_of x.safe.safety.role)
 
 -- at a frame. A DR's reason is 128, normal disconnect, with a DI; 133, protocol error, at a faulty block; at a TPDU that is refused what the transport names
-pub data FrameEnds (finds : Finds) (now : ℕ) (x : Core) (verdict : Verdict) (why : Release) (last : Farewell) : Type 0 where
+pub data FrameEnds (finds : Finds) (now : ℕ) (x : Core) (verdict : Verdict) (why : Release) (last : LastSent) : Type 0 where
   -- 1.3 and 1.4: the station sent its last frame itself
   ByStation : StationReleases why finds now x verdict → last ≡ Nothing → FrameEnds finds now x verdict why last
   -- 2.1: a DR without a DI
@@ -61,7 +61,7 @@ pub data FrameEnds (finds : Finds) (now : ℕ) (x : Core) (verdict : Verdict) (w
       → IsReceived x.safe.safety (Received text) (Di reason sub) → why ≡ by_peer_di reason sub → last ≡ Disconnects → FrameEnds finds now x verdict why last
 
 -- at a tick
-pub data TimeEnds (now : ℕ) (x : Core) (why : Release) (last : Farewell) : Type 0 where
+pub data TimeEnds (now : ℕ) (x : Core) (why : Release) (last : LastSent) : Type 0 where
   -- 1.1 and 1.2: the station gave up and sent DISC itself
   ByT1 : (station_at x now).deed.released ≡ Some why → last ≡ Nothing → TimeEnds now x why last
   -- 6.1: the time for the set-up is spent
@@ -100,7 +100,7 @@ pub record Adds (s : Station) (x y : Core) (tpdus : List GivenTpdu) (frames : Li
   pub said : y.line.said ≡ s.said ++ frames
 
 -- what stands in a row of the table, where the station was s; a TPDU goes at once or not at all
-abbrev pub Says : Farewell → Station → Core → Core → Type 0
+abbrev pub Says : LastSent → Station → Core → Core → Type 0
 Says Nothing s x y = Adds s x y [] []
 Says (Leaves reason user) s x y =
     (SendsAtOnce s → Adds s x y (Dr reason user ∷ []) (frame_with (Dr reason user) s ∷ Disc ∷ [])) × ((SendsAtOnce s → ⊥) → Adds s x y [] (disc_at s.phase))
@@ -108,7 +108,7 @@ Says Confirms s x y = (SendsAtOnce s → Adds s x y (Dc ∷ []) (frame_with Dc s
 Says Disconnects s x y = Adds s x y [] (disc_at s.phase)
 
 -- the end is released so, and its last is this
-abbrev pub EndsWith : Release → Farewell → Station → Core → Core → Type 0
+abbrev pub EndsWith : Release → LastSent → Station → Core → Core → Type 0
 EndsWith why last s x y = (y.released ≡ Some why) × Says last s x y
 
 -- ---- and what is said else
@@ -162,16 +162,16 @@ pub record EndsAreLive : Type 0 where
 
 -- of each event at such an end: where a row is met it ends with what stands there, its user's release and a broken line are rows too, and else it goes on
 pub record LastTpdus : Type 0 where
-  pub frame : (finds : Finds) (now : ℕ) (verdict : Verdict) (x : Core) (why : Release) (last : Farewell) → IsLive x → FrameEnds finds now x verdict why last
+  pub frame : (finds : Finds) (now : ℕ) (verdict : Verdict) (x : Core) (why : Release) (last : LastSent) → IsLive x → FrameEnds finds now x verdict why last
       → EndsWith why last (station_behind x now verdict) x (step_frame model finds now verdict x)
-  pub tick : (now : ℕ) (x : Core) (why : Release) (last : Farewell) → IsLive x → TimeEnds now x why last
+  pub tick : (now : ℕ) (x : Core) (why : Release) (last : LastSent) → IsLive x → TimeEnds now x why last
       → EndsWith why last (station_at x now) x (step_tick model now x)
   pub release : (now sub : ℕ) (x : Core) → IsLive x
       → EndsWith (release_of (cause.User sub)) (Leaves 128 (own_di (release_of (cause.User sub)) x)) (settled x.line) x (step_release model now sub x)
   pub breaks : (of : Cause) (x : Core) → IsLive x → EndsWith (release_of of) Nothing (settled x.line) x (step_break model of x)
   pub frame_only : (finds : Finds) (now : ℕ) (verdict : Verdict) (x : Core) → IsLive x
-      → GoesOn x (step_frame model finds now verdict x) ⊎ ((why : Release) × (last : Farewell) × FrameEnds finds now x verdict why last)
-  pub tick_only : (now : ℕ) (x : Core) → IsLive x → GoesOn x (step_tick model now x) ⊎ ((why : Release) × (last : Farewell) × TimeEnds now x why last)
+      → GoesOn x (step_frame model finds now verdict x) ⊎ ((why : Release) × (last : LastSent) × FrameEnds finds now x verdict why last)
+  pub tick_only : (now : ℕ) (x : Core) → IsLive x → GoesOn x (step_tick model now x) ⊎ ((why : Release) × (last : LastSent) × TimeEnds now x why last)
   pub start : (now : ℕ) (x : Core) → IsLive x → GoesOn x (step_start model now x)
   pub send : (now : ℕ) (user : List ℕ) (x : Core) → IsLive x → GoesOn x (on_send model user (new_event_at model now x))
   pub take : (now : ℕ) (x : Core) → IsLive x → GoesOn x (step_take model now x)
