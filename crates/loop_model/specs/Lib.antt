@@ -30,3 +30,4 @@ pub mod Told
 pub mod Speeches
 pub mod Orderly
 pub mod Orderings
+pub mod KnownAnswers

@@ -17,7 +17,7 @@ use Rattle.hdlc_frames.specs.Framing.{Verdict}
 use Rattle.hdlc_station_model.specs.Stations.{settled}
 use Rattle.hdlc_station_model.specs.Calls as station
 use Rattle.hdlc_station_model.specs.Events.{news}
-use Rattle.sapdu.specs.Messages.{is_message}
+use Rattle.sapdu.specs.Messages.{IsMessage, is_message}
 use Rattle.safety_automaton.specs.Safety.{no_keys, Safety, SafetyEvent, DataRequest, DisconnectRequest, SafetyOutcome, octets_sent_in_outcome, step as speaks}
 use Rattle.safety_automaton.specs.Laws.{IsValid}
 use Rattle.er_end_model.specs.Outcomes.{SendRefusal, RefusedNotConnected, RefusedLength, RefusedFull, Outcome}
@@ -34,7 +34,7 @@ use Rattle.loop_recordings.proofs.Octets.{Octets, HasOctets, each_of, news_octet
 use Rattle.loop_recordings.proofs.Below.{Below}
 use Rattle.loop_recordings.proofs.Lines.{settled_sends}
 use Rattle.loop_recordings.proofs.Heard.{Fresh, receives_sends, ticks_sends, starts_sends}
-use Rattle.loop_recordings.proofs.Holds.{IsMessage, IsPeer, HoldsOf, holds_if, with_line, one_more_holds, departs_holds, says_holds, spoken_holds, link_holds, concludes_holds}
+use Rattle.loop_recordings.proofs.Holds.{IsPeer, HoldsOf, holds_if, with_line, one_more_holds, departs_holds, says_holds, spoken_holds, link_holds, concludes_holds}
 
 -- ---- what is told of an end
 

@@ -15,6 +15,7 @@ use Rattle.x224_class2.specs.Refusals.{protocol_error}
 use Rattle.x224_class2.specs.Tpdus.{GivenTpdu, Dr, Dc, octets_given}
 use Rattle.x224_class2.specs.Transport.{Transport, ReceptionDeed, Nothing, Called, Confirmed, Message, Disconnected, is_open, waiting_count, reception, after_hand}
 use Rattle.x224_class2.specs.Transport as transport
+use Rattle.sapdu.specs.Messages.{IsMessage}
 use Rattle.sapdu.specs.Spelling.{di_in}
 use Rattle.safety_automaton.specs.Safety.{no_keys, Safety, SafetyEvent, ConnectRequest, Received, SafetyOutcome, SentAu1, SentAu2, SentAu3, SentAr, ReceivedAr, AcceptedDt, SentDt, Refused, ReleasedLocally, ReleasedByPeer, NothingDone, peer_flag, octets_sent_in_outcome, step}
 use Rattle.safety_automaton.specs.Reports.{Report, ToldAnswered, ToldConnected, ToldAccepted, ToldReleased, ToldIgnored, report_of}
@@ -31,10 +32,6 @@ use Rattle.loop_recordings.proofs.Lines.{IsBlock, SendsOf, one_more, left_part, 
 use Rattle.loop_recordings.proofs.Heard.{hands_sends, finishes_sends, closes_sends}
 use Rattle.loop_recordings.proofs.Transports.{GivesOf, IfWhole, block_joined, due_gives, hand_gives, next_block, leave_block, confirm_block, next_gives}
 use Rattle.loop_recordings.proofs.Receptions.{IfUp, reception_keeps}
-
--- a message of the peer's user
-abbrev pub IsMessage : List ℕ → Type 0
-IsMessage message = length message ≤ 1023
 
 abbrev pub IsPeer : ℕ → Type 0
 IsPeer peer = peer < 16777216
@@ -177,7 +174,7 @@ module _ (laws : Below) where
   reported key_of s next event (SentAu3 session verified sealed octets) valid only long = tt
   reported key_of s next event (SentAr connection verified sealed octets) valid only long = (subst IsValid only.next_is valid).phase
   reported key_of s next event (ReceivedAr connection verified) valid only long = (subst IsValid only.next_is valid).phase
-  reported key_of s next event (AcceptedDt session user verified) valid only long = long.1
+  reported key_of s next event (AcceptedDt session user verified) valid only long = long
   reported key_of s next event (SentDt session user sealed octets) valid only long = tt
   reported key_of s next event (Refused refusal) valid only long = tt
   reported key_of s next event (ReleasedLocally release octets) valid only long = tt

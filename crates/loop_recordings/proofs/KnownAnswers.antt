@@ -22,10 +22,13 @@ no_peer : IsShort (ConnectedTo 16777216) → ⊥
 no_peer h = omega arith
 
 a_message : (message : List ℕ) → length message ≡ 1023 → IsShort (Accepted message) × IsShort (Taken message)
-a_message message e = (omega arith, omega arith)
+a_message message e = ((omega (arith, e), omega (arith, e)), (omega (arith, e), omega (arith, e)))
 
 too_long : (message : List ℕ) → length message ≡ 1024 → IsShort (Accepted message) → ⊥
-too_long message e h = omega arith
+too_long message e h = let few = h.1 in omega (arith, e, few)
+
+no_message : IsShort (Taken []) → ⊥
+no_message h = let some = h.0 in omega (arith, some)
 
 some_octets : (octets : List ℕ) → length octets ≡ 2700 → IsShort (Octets octets)
 some_octets octets e = omega arith

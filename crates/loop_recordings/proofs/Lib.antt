@@ -7,6 +7,7 @@ pub mod Transports
 pub mod Receptions
 pub mod Holds
 pub mod Events
+pub mod Hearings
 pub mod KnownAnswers
 pub mod Readings
 pub mod Replaying

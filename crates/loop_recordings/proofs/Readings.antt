@@ -78,8 +78,8 @@ tellable_refusal (RefusedFull waiting) octets short = octets
 
 tellable : (outcome : Outcome) → HasOctets outcome → IsShort outcome → IsTellable (trace_outcome_of outcome)
 tellable (ConnectedTo peer) octets short = short
-tellable (Accepted message) octets short = (omega (arith, short), octets)
-tellable (Taken message) octets short = (omega (arith, short), octets)
+tellable (Accepted message) octets short = (let few = short.1 in omega (arith, few), octets)
+tellable (Taken message) octets short = (let few = short.1 in omega (arith, few), octets)
 tellable NothingToTake octets short = tt
 tellable (Refused refusal) octets short = tellable_refusal refusal octets short
 tellable (WasReleased release) octets short = octets

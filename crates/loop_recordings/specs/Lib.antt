@@ -1,2 +1,3 @@
 pub mod Shorts
+pub mod Heard
 pub mod Recordings

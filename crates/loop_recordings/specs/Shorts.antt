@@ -3,6 +3,7 @@ use Rattle.std.specs.Prelude.{◌<◌, ◌≤◌, ◌^◌, List, [], ◌∷◌, 
 use Rattle.er_settings.specs.Making.{usual_settings}
 use Rattle.er_trace.specs.declared.entry.Entry.{Entry}
 use Rattle.er_trace.specs.Texts.{IsReadableEntry, AreReadableEntries}
+use Rattle.sapdu.specs.Messages.{IsMessage}
 use Rattle.er_end_model.specs.Outcomes.{SendRefusal, RefusedReleased, RefusedNotConnected, RefusedLength, RefusedFull}
 use Rattle.er_end_model.specs.Outcomes.{Outcome, ConnectedTo, Accepted, Taken, NothingToTake, Refused, WasReleased, Octets}
 use Rattle.er_end_model.specs.Steps.{Finds}
@@ -15,11 +16,11 @@ IsShortRefusal RefusedNotConnected = Unit {0}
 IsShortRefusal (RefusedLength found) = found < 2 ^ 64
 IsShortRefusal (RefusedFull waiting) = waiting < 2 ^ 64
 
--- the peer's number is an ETCS number of three octets, a message has at most 1,023 octets, and at most 2,700 octets go to the line at once
+-- the peer's number is an ETCS number of three octets, a message has 1 to 1,023 octets, and at most 2,700 octets go to the line at once
 abbrev pub IsShort : Outcome → Type 0
 IsShort (ConnectedTo peer) = peer < 16777216
-IsShort (Accepted message) = length message ≤ 1023
-IsShort (Taken message) = length message ≤ 1023
+IsShort (Accepted message) = IsMessage message
+IsShort (Taken message) = IsMessage message
 IsShort NothingToTake = Unit {0}
 IsShort (Refused refusal) = IsShortRefusal refusal
 IsShort (WasReleased release) = Unit {0}

@@ -33,7 +33,7 @@ use Rattle.loop_session.specs.declared.loop_fault.LoopFault.TheVariants.{Wires, 
 use Rattle.loop_io.specs.Seeing.{Counts}
 use Rattle.readiness_loop.specs.declared.line_plan.Served.{Served}
 use Rattle.readiness_loop.specs.Cuts.{Cut, LiesIn, cut_behind_part, IsToldFirst, first_turns}
-use Rattle.readiness_loop.specs.Claims.{pair_of, IsPrintedAndCalled, IsCutAt, IsLawfulLoop, HasTurns, HasDialled, NotDialling, LineFailed, FailsToDial, opening as model_opening, BeforeDialling, InDiallingHeader, InOpening, InDialling, BreaksOffDialling, halt_for, caller_of, DialsOn}
+use Rattle.readiness_loop.specs.Claims.{pair_of, IsPrintedAndCalled, IsCutAt, IsLawfulLoop, HasTurns, HasDialledTurns, HasDialled, NotDialling, LineFailed, FailsToDial, opening as model_opening, BeforeDialling, InDiallingHeader, InOpening, InDialling, BreaksOffDialling, halt_for, caller_of, DialsOn}
 use Rattle.readiness_loop.specs.Courses.{Around, HasComeFromCourse, Went, Broke, WentOff, RanOff, Runs, Dials, loop_outside_of, course_of, opening_over_kept_ends, Opened, Opens, halt_if}
 use Rattle.readiness_loop.specs.Lives.{around_at}
 use Rattle.loop_io.specs.Sequels.{counts_then, failed_behind}
@@ -262,6 +262,16 @@ dials_lawful laws plan caller minds words address x dialling = record {
   in_order = laws.in_order.dialling plan caller (beginning minds words) address x dialling;
 }
 
+-- whole turns
+dials_turns_done : (laws : Laws) (plan : Plan) (caller : Caller) (minds : List Mind) (words : Stream) (address : List ℕ) (x : Dialled)
+    → IsDialling plan caller (beginning minds words) address x → HasDialledTurns plan caller address minds words x
+dials_turns_done laws plan caller minds words address x dialling = record {
+  is_dialling = dialling;
+  lawful = dials_lawful laws plan caller minds words address x dialling;
+  replies = laws.replies.dialling plan caller (beginning minds words) address x dialling;
+  users = laws.users.dialling plan caller (beginning minds words) address x dialling;
+}
+
 dials_turns : (laws : Laws) (plan : Plan) (caller : Caller) (m b : Around) (minds : List Mind) (words : Stream) (address : List ℕ) (conn : ℕ) (x : Dialled) (count : ℕ) (why : Option Halt)
     → x.conn ≡ Some conn → Shown m b (model_whole plan caller (beginning minds words) conn x) count why
     → HasTurns plan (dials model_ends plan caller (beginning minds words) address x) count why
@@ -433,7 +443,7 @@ dial_off laws engine rbc kmac plan a m k b minds words address conn l fault allo
     let lies = lies_in_run plan o.state mine.state (turns_same laws plan caller minds words address conn x allowed) w.cut w.lies in
     let broke = broke_behind m.seen k.seen b.seen o.state o w.cut fault p.went.is.acted w.broke in (
       InDialling conn x.0 x.1 w.cut (cut_behind_part mine w.cut) lies
-          (dials_lawful laws few caller minds words address (met_so conn x w.lies.turns) dialling) refl
+          (dials_turns_done laws few caller minds words address (met_so conn x w.lies.turns) dialling) refl
           (dial_told laws plan caller minds words address conn x next_too w.cut dialling_too (lies_with model_ends plan mine.state w.cut lies))
           (cut_at plan a m b address conn (cut_behind_part mine w.cut) fault begun
           (subst (λ z. Broke m.seen b.seen z fault) (behind_as o mine w.cut same.order) broke)),

@@ -38,7 +38,7 @@ use Rattle.loop_session.specs.declared.loop_fault.LoopFault.{LoopFault}
 use Rattle.loop_session.specs.declared.loop_fault.LoopFault.TheVariants.{Wires, Sink, NoMemory}
 use Rattle.loop_io.specs.Seeing.{Counts}
 use Rattle.readiness_loop.specs.declared.line_plan.Served.{Served}
-use Rattle.readiness_loop.specs.Claims.{IsPrintedAndCalled, IsLawfulLoop, HasTurns, AreSpoken, UsersHeard, HasServed, NotListening, TurnFailed, FailsToServe, IsCutAt, BeforeListening, InServingHeader, InServing, BreaksOffServing, halt_for, ServesOn}
+use Rattle.readiness_loop.specs.Claims.{IsPrintedAndCalled, IsLawfulLoop, HasTurns, AreSpoken, UsersHeard, HasServedTurns, HasServed, NotListening, TurnFailed, FailsToServe, IsCutAt, BeforeListening, InServingHeader, InServing, BreaksOffServing, halt_for, ServesOn}
 use Rattle.readiness_loop.specs.Courses.{Around, Went, RanOff, Runs, Serves, loop_outside_of, course_of, loop_of}
 use Rattle.readiness_loop.specs.Lives.{around_at}
 use Rattle.loop_io.specs.Sequels.{counts_none, counts_then, failed_behind}
@@ -207,6 +207,16 @@ first_counts : (x y : ℕ) (address : List ℕ) → x ≤ y → Counts x y (List
 unfolding failures
 first_counts x y address p = omega (arith, p)
 
+-- whole turns
+serves_turns_done : (laws : Laws) (plan : Plan) (minds : List Mind) (words : Stream) (address : List ℕ) (turns : List Turn)
+    → IsServing plan (beginning minds words) turns → HasServedTurns plan address minds words turns
+serves_turns_done laws plan minds words address turns serving = record {
+  is_serving = serving;
+  lawful = serves_lawful laws plan minds words address turns serving;
+  replies = serves_replies laws plan minds words address turns serving;
+  users = serves_heard laws plan minds words address turns serving;
+}
+
 serve_off : (laws : Laws) (plan : Plan) (a m b : Around) (minds : List Mind) (words : Stream) (address : List ℕ) (fault : LoopFault) → AllAllowed plan.settings
     → HasBegun plan (Listens address true) a m → RanOff plan m b (beginning minds words) fault
     → BreaksOffServing (loop_outside_of a) (loop_outside_of b) plan address minds words
@@ -227,7 +237,7 @@ serve_off laws plan a m b minds words address fault allowed begun w =
     } in
     let lies = lies_in_run plan (beginning minds words) (beginning minds words) (begin_same laws.runs plan minds words allowed) w.cut w.lies in
     InServing w.cut lies
-    (serves_lawful laws few minds words address w.lies.turns serving)
+    (serves_turns_done laws few minds words address w.lies.turns serving)
     (told_first more (run model_ends more (beginning minds words) next_too) w.cut (laws.in_order.serving more (beginning minds words) next_too serving_too) (lies_with model_ends plan (beginning minds words) w.cut lies))
     (record {
       text = grew_then a.seen.held m.seen.held b.seen.held (trace_header plan.settings) (text_of w.cut) begun.text w.broke.text;

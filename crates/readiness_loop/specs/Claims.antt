@@ -151,14 +151,21 @@ pub data FailsToServe (before now : LoopOutside) (plan : Plan) (address : List �
   TurnFailed : (count : ℕ) → HasServed before now plan address minds words count (Some OnFailed)
       → FailsToServe before now plan address minds words left
 
+-- whole turns of a loop that then broke off: what the laws of the loop ask for, what holds of its journal, and what its users said and heard
+pub record HasServedTurns (plan : Plan) (address : List ℕ) (minds : List Mind) (words : Stream) (turns : List Turn) : Type 0 where
+  pub is_serving : IsServing plan (beginning minds words) turns
+  pub lawful : IsLawfulLoop plan (serves model_ends plan (beginning minds words) address true turns)
+  pub replies : AreSpoken minds (serves model_ends plan (beginning minds words) address true turns)
+  pub users : UsersHeard minds (serves model_ends plan (beginning minds words) address true turns)
+
 -- a write of the sink failed or memory ran out: before the loop listened; while the header was printed; or in its turns, at one cut
 pub data BreaksOffServing (before now : LoopOutside) (plan : Plan) (address : List ℕ) (minds : List Mind) (words : Stream) : Type 0 where
   BeforeListening : IsCutAt before now [] [] → BreaksOffServing before now plan address minds words
   InServingHeader : (part rest : List ℕ) → part ++ rest ≡ trace_header plan.settings → IsCutAt before now part (Listens address true ∷ [])
       → BreaksOffServing before now plan address minds words
-  -- the whole turns before the cut are lawful
+  -- the whole turns before the cut are those of a loop that did no more
   InServing : (cut : Cut) (lies : LiesInRun model_ends plan (beginning minds words) cut)
-      → IsLawfulLoop (with_turns plan (length lies.turns)) (serves model_ends (with_turns plan (length lies.turns)) (beginning minds words) address true lies.turns)
+      → HasServedTurns (with_turns plan (length lies.turns)) address minds words lies.turns
       → IsToldFirst cut
       → IsCutAt before now (trace_header plan.settings ++ text_of cut) (Listens address true ∷ calls_of cut)
       → BreaksOffServing before now plan address minds words
@@ -197,6 +204,13 @@ opening plan caller minds words conn first met = opens model_ends plan caller (a
 abbrev pub dial_with_connection : (conn first : ℕ) → Met → List Turn → Dialled
 dial_with_connection conn first met turns = record { conn = Some conn; first = first; met = met; turns = turns }
 
+-- whole turns of a loop that dialled and then broke off
+pub record HasDialledTurns (plan : Plan) (caller : Caller) (address : List ℕ) (minds : List Mind) (words : Stream) (answers : Dialled) : Type 0 where
+  pub is_dialling : IsDialling plan caller (beginning minds words) address answers
+  pub lawful : IsLawfulLoop plan (dials model_ends plan caller (beginning minds words) address answers)
+  pub replies : AreSpoken minds (dials model_ends plan caller (beginning minds words) address answers)
+  pub users : UsersHeard minds (dials model_ends plan caller (beginning minds words) address answers)
+
 -- the same, or in the opening
 pub data BreaksOffDialling (before now : LoopOutside) (plan : Plan) (caller : Caller) (address : List ℕ) (minds : List Mind) (words : Stream) : Type 0 where
   BeforeDialling : IsCutAt before now [] [] → BreaksOffDialling before now plan caller address minds words
@@ -207,7 +221,7 @@ pub data BreaksOffDialling (before now : LoopOutside) (plan : Plan) (caller : Ca
       → IsCutAt before now (trace_header plan.settings ++ text_of cut) (Dials address (Some conn) ∷ calls_of cut)
       → BreaksOffDialling before now plan caller address minds words
   InDialling : (conn first : ℕ) (met : Met) (rest cut : Cut) (lies : LiesInRun model_ends plan (opening plan caller minds words conn first met).state rest)
-      → IsLawfulLoop (with_turns plan (length lies.turns)) (dials model_ends (with_turns plan (length lies.turns)) caller (beginning minds words) address (dial_with_connection conn first met lies.turns))
+      → HasDialledTurns (with_turns plan (length lies.turns)) caller address minds words (dial_with_connection conn first met lies.turns)
       → cut ≡ cut_behind_part (opening plan caller minds words conn first met) rest
       → IsToldFirst cut
       → IsCutAt before now (trace_header plan.settings ++ text_of cut) (Dials address (Some conn) ∷ calls_of cut)
