@@ -192,6 +192,7 @@ fn status_of(rt: HostRuntime, words: &[String]) -> Status {
         },
     };
     told::ended(rt, words, &ended, sink.line());
+    told::ends_of_streams(rt, words, &ended);
     ended.status
 }
 

@@ -7,17 +7,17 @@ use Rattle.er_base.specs.LineTexts.{line_end, line_text}
 use Rattle.er_tap.specs.declared.tap_line.TapLine.{TapLine}
 use Rattle.er_end_model.specs.Steps.{Finds}
 use Rattle.tap_model.specs.Verdicts.{Known, Judged, judged, judged_from}
-use Rattle.tap_model.specs.Audits.{Audits}
+use Rattle.tap_model.specs.Audits.{WritesOf}
 use Rattle.tap_model.specs.declared.audit_fault.AuditFault.{AuditFault}
 use Rattle.tap_model.specs.declared.audit_fault.AuditFault.TheVariants.{NoLink, LinkTwice, Sink, NoMemory}
 use Rattle.link_trait.specs.Outside.{Grew, GrewPart}
 use Rattle.tap_model.specs.Lines.{TapOpening, fault_of_tap_lines, tap_opening_of_link}
 use Rattle.tap_model.specs.Ends.{stream_end}
-use Rattle.tap_model.specs.EndTexts.{words_of_stream, link_text_asked, links_text_asked, text_of_audit}
+use Rattle.tap_model.specs.EndTexts.{words_of_stream, link_text_asked, links_text_asked, text_of_audit, ends_of_link, ends_of_links}
 use Rattle.tap_model.specs.Hearing.{heard, items}
 use Rattle.tap_model.specs.Texts.{item_words, side_text, judged_at, link_text, links_text}
 use Rattle.link_audit.specs.declared.openings.Openings.{Openings}
-use Rattle.link_audit.specs.Openings.{opening_at, links_opened}
+use Rattle.link_audit.specs.Openings.{opening_at, links_opened, ends_opened}
 use Rattle.hdlc_frames.specs.Framing.{frames_of}
 use Rattle.link_audit.specs.Strides.{kept_count, told_of_stream, told_words}
 use Rattle.link_audit.specs.Writes.{Writes, side_with_end}
@@ -125,6 +125,29 @@ opened_by_lines ends finds lines o same n (suc count) least most =
     rw (same n least (omega arith))
     (ap (λ (t : List ℕ). link_text_asked ends finds lines n (tap_opening_of_link n lines) ++ t) (opened_by_lines ends finds lines o same (n + 1) count (omega arith) (omega arith)))
 
+-- the ends alone
+pub ends_more : (lines : List TapLine) (o : Openings) (n : ℕ) → n ≤ 64
+    → ends_opened lines o n (65 - n) ≡ ends_of_link lines n (opening_at o n) ++ ends_opened lines o (n + 1) (65 - (n + 1))
+unfolding ends_opened
+ends_more lines o n most =
+    let here : 65 - n ≡ suc (64 - n) = omega (arith, most) in
+    let next : 65 - (n + 1) ≡ 64 - n = omega arith in
+    rw (here, next) refl
+
+pub ends_none : (lines : List TapLine) (o : Openings) (n : ℕ) → 64 < n → ends_opened lines o n (65 - n) ≡ []
+unfolding ends_opened
+ends_none lines o n past =
+    let none : 65 - n ≡ zero = omega (arith, past) in
+    rw none refl
+
+pub ends_by_lines : (lines : List TapLine) (o : Openings) → ((n : ℕ) → 1 ≤ n → n ≤ 64 → opening_at o n ≡ tap_opening_of_link n lines)
+    → (n count : ℕ) → 1 ≤ n → n + count ≤ 65 → ends_opened lines o n count ≡ ends_of_links lines n count
+unfolding ends_opened ends_of_links
+ends_by_lines lines o same n zero least most = refl
+ends_by_lines lines o same n (suc count) least most =
+    rw (same n least (omega arith))
+    (ap (λ (t : List ℕ). ends_of_link lines n (tap_opening_of_link n lines) ++ t) (ends_by_lines lines o same (n + 1) count (omega arith) (omega arith)))
+
 -- without ends
 plain_link : (finds : Finds) (lines : List TapLine) (n : ℕ) (o : Option TapOpening) → link_text_asked false finds lines n o ≡ link_text finds lines n o
 plain_link finds lines n None = refl
@@ -140,11 +163,11 @@ pub all_asked : (ends : Bool) (finds : Finds) (lines : List TapLine) → links_t
 all_asked true finds lines = refl
 all_asked false finds lines = plain_links finds lines 1 64
 
--- what was written of all links is what an audit writes
-pub audited : (ends : Bool) (finds : Finds) (lines : List TapLine) (text : List ℕ) (before now : Option (List ℕ)) (f g : ℕ) (result : Result (Unit {0}) AuditFault)
-    → text ≡ text_of_audit ends finds lines → fault_of_tap_lines lines ≡ None → Writes before now f g text result → Audits ends finds lines before now f g result
-audited ends finds lines text before now f g (Ok done) is none w = (none, subst (λ (t : List ℕ). Grew before now t) is w)
-audited ends finds lines text before now f g (Err (NoLink line n)) is none w = absurd w
-audited ends finds lines text before now f g (Err (LinkTwice line n)) is none w = absurd w
-audited ends finds lines text before now f g (Err Sink) is none w = (none, (subst (λ (t : List ℕ). GrewPart before now t) is w.0, w.1))
-audited ends finds lines text before now f g (Err (NoMemory want)) is none w = (none, subst (λ (t : List ℕ). GrewPart before now t) is w)
+-- what was written of all links is what is to be written of the lines
+pub written_of : (all text : List ℕ) (lines : List TapLine) (before now : Option (List ℕ)) (f g : ℕ) (result : Result (Unit {0}) AuditFault)
+    → text ≡ all → fault_of_tap_lines lines ≡ None → Writes before now f g text result → WritesOf all lines before now f g result
+written_of all text lines before now f g (Ok done) is none w = (none, subst (λ (t : List ℕ). Grew before now t) is w)
+written_of all text lines before now f g (Err (NoLink line n)) is none w = absurd w
+written_of all text lines before now f g (Err (LinkTwice line n)) is none w = absurd w
+written_of all text lines before now f g (Err Sink) is none w = (none, (subst (λ (t : List ℕ). GrewPart before now t) is w.0, w.1))
+written_of all text lines before now f g (Err (NoMemory want)) is none w = (none, subst (λ (t : List ℕ). GrewPart before now t) is w)

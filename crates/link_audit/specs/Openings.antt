@@ -5,7 +5,7 @@ use Rattle.tap_model.specs.declared.audit_fault.AuditFault.{AuditFault}
 use Rattle.tap_model.specs.declared.audit_fault.AuditFault.TheVariants.{NoLink, LinkTwice, Sink, NoMemory}
 use Rattle.tap_model.specs.Lines.{TapOpening, NoLinkAt, TwiceAt, has, fault_at, links_opened_behind, fault_of_tap_lines, opens_link, first_opening, tap_opening_of_link}
 use Rattle.er_end_model.specs.Steps.{Finds}
-use Rattle.tap_model.specs.EndTexts.{link_text_asked}
+use Rattle.tap_model.specs.EndTexts.{link_text_asked, ends_of_link}
 use Rattle.link_audit.specs.declared.opening.Opening.{Opening}
 use Rattle.link_audit.specs.declared.openings.Openings.{Openings}
 
@@ -49,3 +49,8 @@ Checks lines (Err (NoLink line n)) = fault_of_tap_lines lines ≡ Some (NoLinkAt
 Checks lines (Err (LinkTwice line n)) = fault_of_tap_lines lines ≡ Some (TwiceAt line n)
 Checks lines (Err Sink) = ⊥
 Checks lines (Err (NoMemory want)) = ⊥
+
+-- the ends of the links from number n on, so many, by how they were opened
+unfoldable pub ends_opened : List TapLine → Openings → (n count : ℕ) → List ℕ
+ends_opened lines o n zero = []
+ends_opened lines o n (suc count) = ends_of_link lines n (opening_at o n) ++ ends_opened lines o (n + 1) count

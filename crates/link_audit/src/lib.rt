@@ -6,6 +6,7 @@
 
 mod digits;
 mod ear;
+mod ends;
 mod extent;
 mod items;
 mod judging;
@@ -24,4 +25,5 @@ mod texts;
 mod told;
 mod turned;
 
+pub use ends::tell_ends;
 pub use run::audit;

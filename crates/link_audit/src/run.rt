@@ -32,7 +32,7 @@ use std::alloc::Global;
 use tap_model::AuditFault;
 
 /// The most links.
-const MOST_LINKS: u8 = 64;
+pub(crate) const MOST_LINKS: u8 = 64;
 
 // Writes the line of an item.
 fn write_item<S: Sink>(
@@ -96,7 +96,7 @@ fn count_items(lines: &MarkedLines<'_>, link: u8, side: Side) -> u64
 }
 
 // Writes the line of a side's end, where ends are asked for.
-fn write_end<S: Sink>(
+pub(crate) fn write_end<S: Sink>(
     ends: bool,
     lines: &MarkedLines<'_>,
     link: u8,

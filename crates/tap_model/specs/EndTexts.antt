@@ -50,3 +50,19 @@ links_text_asked ends finds lines n (suc count) =
 abbrev pub text_of_audit : (ends : Bool) → Finds → List TapLine → List ℕ
 text_of_audit false finds lines = audit_text finds lines
 text_of_audit true finds lines = links_text_asked true finds lines 1 64
+
+-- ---- the ends alone
+
+-- of a link that was opened, e before r
+abbrev pub ends_of_link : List TapLine → ℕ → Option TapOpening → List ℕ
+ends_of_link lines n None = []
+ends_of_link lines n (Some o) = end_text true lines n E ++ end_text true lines n R
+
+-- of those from number n on, so many
+unfoldable pub ends_of_links : List TapLine → (n count : ℕ) → List ℕ
+ends_of_links lines n zero = []
+ends_of_links lines n (suc count) = ends_of_link lines n (tap_opening_of_link n lines) ++ ends_of_links lines (n + 1) count
+
+-- the ends of all links, numbers rising
+abbrev pub ends_of_all : List TapLine → List ℕ
+ends_of_all lines = ends_of_links lines 1 64
