@@ -93,7 +93,9 @@ pub(crate) fn ended(rt: HostRuntime, words: &[String], ended: &Ended, last: &[u8
 /// has it print.
 pub(crate) fn ends_of_streams(rt: HostRuntime, words: &[String], ended: &Ended) {
     let Command::Audit {
-        tap, ends: false, ..
+        tap,
+        ends: false,
+        ..
     } = command_from(words)
     else {
         return;
