@@ -79,13 +79,20 @@ def kind_of(text):
 
 # ---- audits
 
-def audited(program, keys, tap):
-    """The lines of an audit by link and side, and its status."""
+def audited(judge, what, program, keys, tap):
+    """The lines of an audit by link and side, and its status. How far the streams were heard is told on the standard error, in the lines that `ends` prints."""
     with tempfile.TemporaryDirectory() as work:
         for name, text in ("keys", keys), ("tap", tap):
             with open(os.path.join(work, name), "w", encoding="latin-1") as out:
                 out.write(text)
-        run = subprocess.run([program, "audit", "keys", "tap"], cwd=work, stdout=subprocess.PIPE, check=False, timeout=120)
+        run, ends = (
+            subprocess.run([program, "audit", "keys", "tap", *more], cwd=work, stdout=subprocess.PIPE, stderr=subprocess.PIPE, check=False, timeout=120)
+            for more in ([], ["ends"])
+        )
+    printed = ends.stdout.splitlines()
+    of_ends = [line for line in printed if line.split(b" ")[2] == b"end"]
+    judge.same(f"{what}: what is told of ends", (run.stderr.splitlines(), ends.stderr), (of_ends, b""))
+    judge.same(f"{what}: what is printed beside ends", run.stdout.splitlines(), [line for line in printed if line not in of_ends])
     lines = {}
     for line in run.stdout.decode("latin-1").splitlines():
         words = line.split(" ")
@@ -117,7 +124,7 @@ def good(judge, program, path):
     made = subprocess.run([sys.executable, "tools/tap"], input="".join(" ".join(words) + "\n" for words in printed).encode("latin-1"),
                           stdout=subprocess.PIPE, check=False)
     judge.same(f"{path} as a tap", made.returncode, 0)
-    lines, status = audited(program, key_file(links_of(drill)), made.stdout.decode("latin-1"))
+    lines, status = audited(judge, f"{path} as an audit", program, key_file(links_of(drill)), made.stdout.decode("latin-1"))
     judge.same(f"{path} as an audit", status, 0)
     for words in links_of(drill):
         for side in "er":
@@ -174,7 +181,7 @@ class Passed:
 def hostile(judge, program, name, drill):
     """Audits a drill; answers how many SaPDUs with and without a MAC were altered or foreign."""
     links, passed = links_of(drill), Passed(program, drill)
-    lines, status = audited(program, key_file(links), passed.tap(links))
+    lines, status = audited(judge, name, program, key_file(links), passed.tap(links))
     judge.same(f"{name}: its status", status, 0)
     counts = [0, 0]
     for words in links:
