@@ -15,3 +15,12 @@ pub mod Deciding
 pub mod Genuine
 pub mod Talked
 pub mod Unforged
+pub mod FirstHeard
+pub mod FirstWalk
+pub mod FirstSent
+pub mod FirstRun
+pub mod FirstEarly
+pub mod FirstCall
+pub mod FirstCalling
+pub mod FirstAnswering
+pub mod OwnGreets

@@ -27,13 +27,14 @@ use Rattle.tap_model.specs.Hearing.{heard, items}
 use Rattle.tap_model.specs.Verdicts.{Read, rb_in, ra_in, random_number_in_item, first_number}
 use Rattle.tap_laws.specs.Progress.{FirstAu1, FirstAu2, IsFirstSetUpText, Got, GotsNone, GotsOne, GotsAll, session_got, Stage, Begins, Waits, Speaks, Gone}
 use Rattle.tap_laws.specs.Runs.{calling_of, called_of}
+use Rattle.tap_laws.specs.LawsBelow.{LawsOfTwoEnds}
 use Rattle.tap_laws.specs.OneEnd.{Tells}
 use Rattle.tap_laws.specs.Worlds.{IsTapped}
 use Rattle.tap_laws.specs.AnyLine.{TellsAtSide, HasUnforgedConnection, AuditFindsTold, AuditFindsUnforged}
 use Rattle.tap_laws.proofs.Agreeing.{HasHead, front_head, head_number}
 use Rattle.tap_laws.proofs.Alone.{item_head}
 use Rattle.tap_laws.proofs.KeysTell.{DesLaws, keys_tell}
-use Rattle.tap_laws.proofs.Pairs.{Lower, Known_end, known_e, known_r}
+use Rattle.tap_laws.proofs.Pairs.{Known_end, known_e, known_r}
 use Rattle.tap_laws.proofs.Stages.{begins_session, waits_session}
 use Rattle.tap_laws.proofs.Talked.{BothKnow, both_know}
 use Rattle.tap_laws.proofs.Tapped.{ra_is, rb_is, one_key}
@@ -82,7 +83,7 @@ pub record Beside : Type 0 where
 
 -- ---- a link
 
-module _ (low : Lower) (beside : Beside) (settings : Settings) (basic : settings.modulo ≡ 8) (l : Link) (history : List Occurrence) (p : IsPair settings l history)
+module _ (low : LawsOfTwoEnds) (beside : Beside) (settings : Settings) (basic : settings.modulo ≡ 8) (l : Link) (history : List Occurrence) (p : IsPair settings l history)
     (keys : List KmacEntry) (lines : List TapLine) (m : ℕ) (t : IsTapped keys lines m l history) where
   abbrev s : EndLinkOpening
   s = p.s
@@ -130,7 +131,7 @@ module _ (low : Lower) (beside : Beside) (settings : Settings) (basic : settings
     r_tells : Tells (first_number ra_in (items (heard R e.stream))) s.ra
     r_tells = record {
       told = fe.connection.ra;
-      is = head_number ra_in fe.first (items (heard R e.stream)) (item_head low.wrapped R e.stream ke.given e fe.first ke.hears fe.head)
+      is = head_number ra_in fe.first (items (heard R e.stream)) (item_head low.one.wrapped R e.stream ke.given e fe.first ke.hears fe.head)
           ∙ ap (λ (z : Read). random_number_in_item ra_in z) au2.read;
       same = numbers.0;
     }
@@ -138,7 +139,7 @@ module _ (low : Lower) (beside : Beside) (settings : Settings) (basic : settings
     e_tells : Tells (first_number rb_in (items (heard E r.stream))) s.rb
     e_tells = record {
       told = fr.connection.rb;
-      is = head_number rb_in fr.first (items (heard E r.stream)) (item_head low.wrapped E r.stream kr.given r fr.first kr.hears fr.head)
+      is = head_number rb_in fr.first (items (heard E r.stream)) (item_head low.one.wrapped E r.stream kr.given r fr.first kr.hears fr.head)
           ∙ ap (λ (z : Read). random_number_in_item rb_in z) au1.read;
       same = sym numbers.1;
     }
@@ -166,7 +167,7 @@ module _ (low : Lower) (beside : Beside) (settings : Settings) (basic : settings
       let pairs : pair ≡ sides = ap₂ (λ (x y : End). record { e = x.core.safe.safety; r = y.core.safe.safety }) same_e same_r in
       by_side side (subst (λ (x : Pair). BothKnow x side) pairs b)
 
-pub audit_finds_unforged : StacksRun → Lower → Beside → AuditFindsTold → AuditFindsUnforged
+pub audit_finds_unforged : StacksRun → LawsOfTwoEnds → Beside → AuditFindsTold → AuditFindsUnforged
 audit_finds_unforged run low beside told plan steps fit allowed basic n l at keys lines m t side one =
     let history : List Occurrence = history_on n (world_run plan steps).1 in
     let p : IsPair plan.settings l history = run plan steps fit allowed n l at t.engine t.rbc t.kmac (Some t.kmac) t.ra t.rb t.link_is in
