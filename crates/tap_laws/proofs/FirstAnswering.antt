@@ -1,9 +1,8 @@
 -- What an end that answers sent, over its events: its CC first, or it accepted nothing, or it sent no I frame.
-use Rattle.std.proofs.Common.{◌≡◌, ◌∙◌, ◌≤◌, ◌<◌, ◌⊎◌, inl, inr, ℕ, ◌-◌, ◌^◌, min, Bool, true, false, not, ◌&&◌, List, [], ◌∷◌, ◌++◌, length, Option, Some, None, Result, Ok, Err, refl, sym, ap, subst, arith}
-use Rattle.std.specs.Prelude.{◌==◌, nat_lt, is_some, if◌then◌else◌}
+use Rattle.std.proofs.Common.{◌≡◌, ◌∙◌, ◌≤◌, ◌<◌, ◌⊎◌, inl, inr, ℕ, ◌-◌, ◌^◌, min, Bool, true, false, ◌&&◌, List, [], ◌++◌, length, Option, Some, None, Result, Ok, Err, refl, sym, ap, subst, arith}
+use Rattle.std.specs.Prelude.{◌==◌, is_some, if◌then◌else◌}
 use Rattle.std.proofs.lemmas.Bool.{cases_lt, lt-ltb}
 use Rattle.er_base.specs.declared.release.Release.{Release}
-use Rattle.er_base.specs.declared.cause.Cause.{Cause}
 use Rattle.er_base.specs.declared.cause.Cause.TheVariants.{BlockRefused, SetUpTimeSpent}
 use Rattle.er_base.specs.Causes.{release_of, by_this_end}
 use Rattle.des_block.specs.declared.triple_key.TripleKey.{TripleKey}
@@ -11,7 +10,7 @@ use Rattle.cbc_mac.specs.Mac.{mac_of}
 use Rattle.er_settings.specs.Values.{Settings}
 use Rattle.hdlc_frames.specs.Framing.{Verdict}
 use Rattle.hdlc_station_model.specs.Frames.{Frame}
-use Rattle.hdlc_station_model.specs.Stations.{Station, Deed, is_down, settled}
+use Rattle.hdlc_station_model.specs.Stations.{Station, Deed, settled}
 use Rattle.hdlc_station_model.specs.Receiving.{is_some_octets}
 use Rattle.hdlc_station_model.specs.Sending.{waiting}
 use Rattle.hdlc_station_model.specs.Calls as station
@@ -24,20 +23,20 @@ use Rattle.x224_tpdu.specs.ReadingLaws.{ReadingIsInRange}
 use Rattle.x224_tpdu.specs.Function.{reading}
 use Rattle.x224_class2.specs.declared.stage.Stage.TheVariants as stages
 use Rattle.x224_class2.specs.Refusals.{dr_reason, protocol_error, tpdu_refused}
-use Rattle.x224_class2.specs.Tpdus.{GivenTpdu, Cc, octets_given}
+use Rattle.x224_class2.specs.Tpdus.{Cc, octets_given}
 use Rattle.x224_class2.specs.Transport.{Transport, side_made, after_accept, next_tpdu, on_reading, reception, ReceptionDeed, Called}
 use Rattle.x224_class2.specs.Transport as transport
 use Rattle.sapdu.specs.Spelling.{Au2, spelling, read_of}
-use Rattle.safety_automaton.specs.Safety.{Safety, Phase, WaitAu1, WaitAu2, WaitAu3, WaitAr, Connected, Released, SafetyEvent, ConnectRequest, Received, DataRequest, DisconnectRequest, SafetyOutcome, SentAu1, SentAu2, SentAu3, SentAr, ReceivedAr, AcceptedDt, SentDt, Refused, ReleasedLocally, ReleasedByPeer, NothingDone, responder, octets_sent_in_outcome, step}
-use Rattle.safety_automaton.specs.Reports.{KeptSafe, report_of}
-use Rattle.safety_automaton.specs.Rules.{StepsOnly, IsStep, SendsAu2, AtReceived, AtDisconnect, AtConnect}
-use Rattle.er_end_model.specs.Outcomes.{SendRefusal, RefusedNotConnected}
-use Rattle.er_end_model.specs.Steps.{Finds, new_event_at, with_release, with_safety_step, send_dr, normal_disconnect, send_owed_answer, end_after_di, on_safety_release, InCr, on_safety_report, on_text, on_transport_deed, on_tpdu, on_joined_block, on_link_up, on_link_told, hand_next_tpdu, has_next_tpdu, hand_waiting_tpdus, most_offers, conclude_event, step_start, step_frame, refusal_of, refusal_at, is_connected, on_send, step_take, step_release, is_spent, di_of, on_expiry, step_tick, step_break}
+use Rattle.safety_automaton.specs.Safety.{Safety, WaitAu1, WaitAu2, WaitAu3, WaitAr, Connected, Released, ConnectRequest, Received, DataRequest, DisconnectRequest, SafetyOutcome, SentAu1, SentAu2, SentAu3, SentAr, ReceivedAr, AcceptedDt, SentDt, Refused, ReleasedLocally, ReleasedByPeer, NothingDone, responder, octets_sent_in_outcome, step}
+use Rattle.safety_automaton.specs.Reports.{report_of}
+use Rattle.safety_automaton.specs.Rules.{StepsOnly, IsStep, AtReceived, AtDisconnect, AtConnect}
+use Rattle.er_end_model.specs.Outcomes.{RefusedNotConnected}
+use Rattle.er_end_model.specs.Steps.{Finds, new_event_at, with_release, with_safety_step, send_dr, normal_disconnect, send_owed_answer, end_after_di, InCr, on_safety_report, on_text, on_transport_deed, on_tpdu, on_joined_block, on_link_up, on_link_told, hand_next_tpdu, has_next_tpdu, hand_waiting_tpdus, conclude_event, step_start, step_frame, refusal_of, refusal_at, is_connected, on_send, step_take, step_release, is_spent, di_of, on_expiry, step_tick, step_break}
 use Rattle.er_end_model.specs.Layers.{Core, model, written_by}
 use Rattle.tap_laws.proofs.FirstHeard.{octets_of_frames}
 use Rattle.tap_laws.proofs.FirstWalk.{link_walks, offers_walk, concludes_walk}
 use Rattle.tap_laws.proofs.FirstSent.{IsUnspoken, IsLost, Stays, Unspoken, Lost, Goes, goes_keeps, lost_keeps, first_goes, starts_stay, receives_stay, ticks_stay}
-use Rattle.tap_laws.proofs.FirstRun.{KeepsOn, Told, NeverSent, Gone, goes_told, told_on, IsGone, gone_start, gone_frame, gone_leave, gone_tick, gone_break, gone_take, gone_sends}
+use Rattle.tap_laws.proofs.FirstRun.{KeepsOn, Told, NeverSent, Gone, goes_told, told_on, IsGone}
 use Rattle.tap_laws.proofs.FirstEarly.{IsNew, Early, offers_one, concludes_live, early_again, early_now, departs_gone, live_if, break_gone, leave_gone, take_same, gone_concludes}
 
 -- a payload is the block of a CC whose user data is the AU2 of an end

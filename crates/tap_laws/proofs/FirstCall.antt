@@ -1,13 +1,10 @@
 -- An end that calls sends its CR, with its AU1, in the event in which the link comes up: in its first I frame.
-use Rattle.std.proofs.Common.{◌≡◌, ◌∙◌, ◌≤◌, ◌<◌, ◌⊎◌, inl, inr, ℕ, zero, suc, ◌+◌, ◌-◌, ◌^◌, Bool, true, false, not, ◌&&◌, ◌||◌, List, [], ◌∷◌, ◌++◌, length, Option, Some, None, Result, Ok, Err, refl, sym, ap, ap₂, subst, arith, append-nil, append_assoc}
-use Rattle.std.specs.Prelude.{◌==◌, nat_lt, max, is_some, if◌then◌else◌, slice_index_or}
-use Rattle.std.proofs.lemmas.Bool.{and_right, and_left, lt-ltb}
+use Rattle.std.proofs.Common.{◌≡◌, ◌∙◌, ◌≤◌, ℕ, ◌+◌, ◌-◌, Bool, true, false, ◌||◌, List, [], ◌∷◌, ◌++◌, length, Option, Some, None, Ok, refl, sym, ap, subst, arith}
+use Rattle.std.specs.Prelude.{nat_lt, if◌then◌else◌}
+use Rattle.std.proofs.lemmas.Bool.{lt-ltb}
 use Rattle.er_base.specs.declared.release.Release.{Release}
-use Rattle.er_base.specs.declared.cause.Cause.{Cause}
-use Rattle.er_base.specs.declared.cause.Cause.TheVariants.{User, BlockRefused, SetUpTimeSpent, SetUpUnanswered, FrameError, PeerDisconnected, LineEnded, LineFailed, LineStalled}
-use Rattle.er_base.specs.Causes.{release_of, by_this_end}
-use Rattle.des_block.specs.declared.triple_key.TripleKey.{TripleKey}
-use Rattle.er_settings.specs.Values.{Settings}
+use Rattle.er_base.specs.declared.cause.Cause.TheVariants.{SetUpUnanswered, FrameError, PeerDisconnected}
+use Rattle.er_base.specs.Causes.{release_of}
 use Rattle.hdlc_frames.specs.declared.controls.Control.{Control}
 use Rattle.hdlc_frames.specs.declared.controls.Control.TheVariants as control
 use Rattle.hdlc_frames.specs.ControlOctets.{control_of}
@@ -17,16 +14,16 @@ use Rattle.hdlc_station_model.specs.declared.phase.Phase.{Phase}
 use Rattle.hdlc_station_model.specs.declared.phase.Phase.TheVariants.{Idle, Setting, Up, Down}
 use Rattle.hdlc_station_model.specs.Frames.{Frame, SetUp, modulo}
 use Rattle.hdlc_station_model.specs.Frames as frames
-use Rattle.hdlc_station_model.specs.Stations.{Station, Deed, no_deed, is_down, is_up, settled, sees, puts}
-use Rattle.hdlc_station_model.specs.Sending.{waiting, can_send, sends_next, sends_up_to, sends_waiting, starts_timer, counts_expiry, settles, gives_up, is_due, expires, expires_at, expires_if_due}
-use Rattle.hdlc_station_model.specs.Receiving.{is_known_address, is_addressed, is_error, errs, strays, is_some_octets, row_idle, row_setting, row_of_phase, hears_control, hears_frame, hears}
+use Rattle.hdlc_station_model.specs.Stations.{Station, no_deed, is_down, is_up, settled, sees, puts}
+use Rattle.hdlc_station_model.specs.Sending.{waiting, can_send, sends_next, sends_waiting, starts_timer, counts_expiry, gives_up, is_due, expires, expires_at, expires_if_due}
+use Rattle.hdlc_station_model.specs.Receiving.{is_known_address, is_addressed, is_error, errs, strays, is_some_octets, row_idle, row_setting, row_of_phase, hears_control, hears}
 use Rattle.hdlc_station_model.specs.Calls.{starts, starts_at, receives, hands, finishes, closes, ticks}
 use Rattle.t70_header.specs.Blocks.{last_block}
 use Rattle.x224_tpdu.specs.Spelling.{connection_request}
 use Rattle.x224_tpdu.specs.Function.{reading}
 use Rattle.sapdu.specs.Spelling.{Au1, read_of}
 use Rattle.tap_laws.proofs.FirstWalk.{Keeps}
-use Rattle.tap_laws.proofs.FirstSent.{IsUnspoken, Stays, Unspoken, Lost, HasFirstFrame, HasFirst, Appends, hands_append, finishes_append, closes_append, spoken_then, speaks, hears_stays, due_stays, seen, starts_stay, receives_stay, ticks_stay}
+use Rattle.tap_laws.proofs.FirstSent.{IsUnspoken, Stays, Unspoken, Lost, HasFirstFrame, Appends, hands_append, finishes_append, closes_append, spoken_then, speaks, hears_stays, due_stays, seen}
 
 -- ---- the station of an end that calls, before the link came up
 

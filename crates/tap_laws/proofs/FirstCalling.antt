@@ -1,9 +1,8 @@
 -- What an end that calls sent, over its events: its CR first, or it accepted nothing.
-use Rattle.std.proofs.Common.{◌≡◌, ◌∙◌, ◌≤◌, ◌<◌, ◌⊎◌, inl, inr, ℕ, ◌-◌, ◌^◌, Bool, true, false, not, ◌&&◌, List, [], ◌∷◌, ◌++◌, length, Option, Some, None, Ok, refl, sym, ap, subst, arith, append-nil}
-use Rattle.std.specs.Prelude.{◌==◌, nat_lt, is_some, if◌then◌else◌}
-use Rattle.std.proofs.lemmas.Bool.{lt-ltb, eq-eqb}
+use Rattle.std.proofs.Common.{◌≡◌, ◌∙◌, ◌≤◌, ℕ, ◌-◌, Bool, true, false, List, [], ◌++◌, length, Option, Some, None, refl, sym, ap, subst, arith}
+use Rattle.std.specs.Prelude.{if◌then◌else◌}
+use Rattle.std.proofs.lemmas.Bool.{lt-ltb}
 use Rattle.er_base.specs.declared.release.Release.{Release}
-use Rattle.er_base.specs.declared.cause.Cause.{Cause}
 use Rattle.er_base.specs.declared.cause.Cause.TheVariants.{SetUpTimeSpent}
 use Rattle.er_base.specs.Causes.{release_of}
 use Rattle.des_block.specs.declared.triple_key.TripleKey.{TripleKey}
@@ -17,14 +16,12 @@ use Rattle.hdlc_station_model.specs.Sending.{waiting}
 use Rattle.hdlc_station_model.specs.Calls as station
 use Rattle.t70_header.specs.Blocks.{last_block}
 use Rattle.x224_class2.specs.Tpdus.{GivenTpdu, Cr, octets_given}
-use Rattle.x224_class2.specs.Transport.{Transport, side_made, after_connect, next_tpdu}
+use Rattle.x224_class2.specs.Transport.{Transport, side_made, after_connect}
 use Rattle.sapdu.specs.Spelling.{Au1, spelling}
-use Rattle.safety_automaton.specs.Safety.{no_keys, Safety, SafetyOutcome, ConnectRequest, initiator, step}
-use Rattle.safety_automaton.specs.Reports.{KeptSafe}
-use Rattle.er_end_model.specs.Outcomes.{SendRefusal, RefusedNotConnected}
-use Rattle.er_end_model.specs.Steps.{Finds, new_event_at, with_release, with_safety_step, send_dr, normal_disconnect, send_owed_answer, on_link_told, on_link_up, connect_with_text, hand_next_tpdu, has_next_tpdu, hand_waiting_tpdus, most_offers, conclude_event, step_start, step_frame, refusal_of, refusal_at, is_connected, on_send, step_take, step_release, is_spent, di_of, on_expiry, step_tick, step_break}
-use Rattle.er_end_model.specs.Layers.{Upper, Core, model, written_by}
-use Rattle.tap_laws.proofs.FirstHeard.{octets_of_frames}
+use Rattle.safety_automaton.specs.Safety.{no_keys, Safety, ConnectRequest, initiator, step}
+use Rattle.er_end_model.specs.Outcomes.{RefusedNotConnected}
+use Rattle.er_end_model.specs.Steps.{Finds, new_event_at, with_release, send_dr, normal_disconnect, send_owed_answer, on_link_told, on_link_up, hand_next_tpdu, has_next_tpdu, hand_waiting_tpdus, conclude_event, step_start, step_frame, refusal_of, refusal_at, is_connected, on_send, step_take, step_release, is_spent, di_of, on_expiry, step_tick, step_break}
+use Rattle.er_end_model.specs.Layers.{Core, model, written_by}
 use Rattle.tap_laws.proofs.FirstWalk.{offers_walk}
 use Rattle.tap_laws.proofs.FirstSent.{IsUnspoken, Stays, Unspoken, starts_stay, receives_stay, ticks_stay}
 use Rattle.tap_laws.proofs.FirstRun.{KeepsOn, HasGreeted, greeted_more, spoke_greets, IsGone, gone_start, gone_frame, gone_leave, gone_tick, gone_break, gone_take, gone_sends}

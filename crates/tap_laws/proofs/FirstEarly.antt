@@ -1,6 +1,6 @@
 -- An end before its transport was called: it accepted nothing, nothing was handed down, and it sent no I frame.
-use Rattle.std.proofs.Common.{◌≡◌, ◌∙◌, ℕ, zero, suc, ◌-◌, Bool, true, false, not, ◌&&◌, List, [], ◌∷◌, ◌++◌, length, Option, Some, None, refl, sym, ap, ap₂, subst, arith, append-nil}
-use Rattle.std.specs.Prelude.{◌==◌, nat_lt, is_some, if◌then◌else◌}
+use Rattle.std.proofs.Common.{◌≡◌, ◌∙◌, ℕ, zero, suc, ◌-◌, Bool, true, false, List, [], ◌++◌, length, Option, None, refl, sym, ap, ap₂, subst, arith, append-nil}
+use Rattle.std.specs.Prelude.{is_some, if◌then◌else◌}
 use Rattle.std.specs.List.{flat_map}
 use Rattle.std.proofs.lemmas.Bool.{and_right}
 use Rattle.std.proofs.lemmas.Grind.{flat_map-append}
@@ -11,7 +11,6 @@ use Rattle.er_base.specs.Causes.{release_of}
 use Rattle.er_settings.specs.Values.{Settings}
 use Rattle.hdlc_station_model.specs.Frames.{Frame, sent_octets}
 use Rattle.hdlc_station_model.specs.Stations.{Station, is_down, settled, puts}
-use Rattle.hdlc_station_model.specs.Sending.{settles}
 use Rattle.hdlc_station_model.specs.Frames as frames
 use Rattle.hdlc_station_model.specs.Calls.{finishes}
 use Rattle.x224_class2.specs.Tpdus.{Dr}
@@ -20,7 +19,7 @@ use Rattle.safety_automaton.specs.Safety.{no_keys, Safety, SafetyOutcome, Discon
 use Rattle.er_end_model.specs.Steps.{new_event, new_event_at, with_release, hand_tpdu, send_dr, normal_disconnect, with_safety_step, step_take, step_release, step_break, hand_next_tpdu, has_next_tpdu, hand_waiting_tpdus, most_offers, send_owed_answer, conclude_event}
 use Rattle.er_end_model.specs.Layers.{Core, model, written_by}
 use Rattle.tap_laws.proofs.FirstHeard.{AreQuiet, HasOpeningFrame, octets_of_frames}
-use Rattle.tap_laws.proofs.FirstSent.{IsUnspoken, IsLost, Stays, Unspoken, Lost, finishes_stay}
+use Rattle.tap_laws.proofs.FirstSent.{IsUnspoken, Stays, Unspoken, Lost, finishes_stay}
 use Rattle.tap_laws.proofs.FirstRun.{IsGone}
 
 -- what its upper layers are

@@ -1,19 +1,17 @@
 -- What is heard of the frames that an end sent, up to the first I frame: its payload counts first.
-use Rattle.std.proofs.Common.{◌≡◌, ◌∙◌, ◌≤◌, ◌<◌, ◌⊎◌, inl, inr, ℕ, ◌+◌, Bool, true, false, not, List, [], ◌∷◌, ◌++◌, length, map, Option, Some, None, Ok, refl, sym, ap, arith, append_assoc, append-nil}
+use Rattle.std.proofs.Common.{◌≡◌, ◌∙◌, ◌≤◌, ◌<◌, ◌⊎◌, inl, inr, ℕ, Bool, true, false, List, [], ◌∷◌, ◌++◌, length, map, Option, Some, refl, sym, ap, arith, append_assoc}
 use Rattle.std.specs.Prelude.{◌%◌}
 use Rattle.std.specs.List.{flat_map, AllByRecursion}
-use Rattle.std.proofs.lemmas.Grind.{flat_map-append}
 use Rattle.std.proofs.lemmas.List.Concat.{flat_map-cons}
 use Rattle.er_base.specs.declared.side.Side.{Side}
 use Rattle.er_base.specs.declared.side.Side.TheVariants.{E, R}
 use Rattle.hdlc_frames.specs.declared.controls.Control.{Control}
-use Rattle.hdlc_frames.specs.Controls.{control_octets}
 use Rattle.hdlc_frames.specs.ControlOctets.{control_of}
 use Rattle.hdlc_frames.specs.Framing as framing
 use Rattle.hdlc_frames.specs.Framing.{flag, Verdict, frames_of, between_flags, all_but_last, cut}
 use Rattle.hdlc_frames.specs.Spelling.{spelling, escaped, content_of}
 use Rattle.hdlc_frames.specs.Laws.{FrameReadsAsItself, FlagParts, ControlReadsBack}
-use Rattle.hdlc_station_model.specs.Frames.{Frame, Info, Rr, Rej, Srej, SetUp, Disc, Dm, Ua, shown, poll_final, information, sent_address, table_octets, sent_body, sent_octets}
+use Rattle.hdlc_station_model.specs.Frames.{Frame, Info, Rr, Rej, Srej, SetUp, Disc, Dm, Ua, shown, information, sent_address, sent_body, sent_octets}
 use Rattle.tap_model.specs.Hearing.{ReadFrame, frames_read, read_as, read_frame, is_link_opening, behind_opening, ends, before_end, is_next, in_sequence, payloads}
 
 -- ---- frames up to the first I frame

@@ -1,6 +1,6 @@
 -- An end over its events: what it sent begins with the frames up to its first I frame, or it accepted nothing, or it sent no I frame.
-use Rattle.std.proofs.Common.{◌≡◌, ◌∙◌, ◌≤◌, ℕ, ◌-◌, Bool, true, false, ◌&&◌, List, [], ◌∷◌, ◌++◌, length, Option, Some, None, refl, sym, ap, ap₂, subst, arith, append_assoc, append-nil}
-use Rattle.std.specs.Prelude.{◌==◌, is_some, if◌then◌else◌}
+use Rattle.std.proofs.Common.{◌≡◌, ◌∙◌, ℕ, ◌-◌, Bool, false, List, [], ◌∷◌, ◌++◌, length, Option, Some, None, refl, sym, ap, ap₂, subst, arith, append_assoc, append-nil}
+use Rattle.std.specs.Prelude.{is_some, if◌then◌else◌}
 use Rattle.std.specs.List.{flat_map}
 use Rattle.std.proofs.lemmas.Grind.{flat_map-append}
 use Rattle.er_base.specs.declared.release.Release.{Release}
@@ -8,7 +8,7 @@ use Rattle.er_base.specs.declared.cause.Cause.{Cause}
 use Rattle.er_base.specs.declared.cause.Cause.TheVariants.{LineEnded, LineFailed, LineStalled}
 use Rattle.hdlc_frames.specs.Framing.{Verdict}
 use Rattle.hdlc_station_model.specs.Frames.{Frame, Info, sent_octets}
-use Rattle.hdlc_station_model.specs.Stations.{Station, is_down, settled}
+use Rattle.hdlc_station_model.specs.Stations.{Station, settled}
 use Rattle.hdlc_station_model.specs.Events.{news}
 use Rattle.er_end_model.specs.Outcomes.{Outcome, SendRefusal, RefusedReleased}
 use Rattle.er_end_model.specs.Steps.{Finds, new_event_at, step_start, step_frame, refusal_of, refusal_at, is_connected, on_send, step_send_unless, step_take, step_release, step_tick, step_break, outcomes_of, if_connected, if_accepted, if_released, if_octets, if_taken}

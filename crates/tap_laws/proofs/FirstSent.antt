@@ -1,5 +1,5 @@
 -- What a station sends up to its first I frame, call by call: that frame has the payload that was handed down first.
-use Rattle.std.proofs.Common.{◌≡◌, ◌∙◌, ◌≤◌, ℕ, zero, suc, ◌+◌, ◌-◌, Bool, true, false, not, ◌&&◌, ◌||◌, List, [], ◌∷◌, ◌++◌, length, Option, Some, None, refl, sym, ap, subst, arith, append_assoc, append-nil}
+use Rattle.std.proofs.Common.{◌≡◌, ◌∙◌, ℕ, zero, suc, ◌+◌, ◌-◌, Bool, true, false, not, ◌&&◌, ◌||◌, List, [], ◌∷◌, ◌++◌, length, Option, Some, None, refl, sym, ap, subst, arith, append_assoc, append-nil}
 use Rattle.std.specs.Prelude.{◌==◌, ◌%◌, nat_lt, if◌then◌else◌, slice_index_or}
 use Rattle.std.proofs.lemmas.Bool.{and_parts}
 use Rattle.er_base.specs.declared.cause.Cause.TheVariants.{SetUpUnanswered, NoProgress}
@@ -10,10 +10,10 @@ use Rattle.hdlc_frames.specs.Framing.{Verdict}
 use Rattle.hdlc_frames.specs.Framing as framing
 use Rattle.hdlc_station_model.specs.declared.phase.Phase.{Phase}
 use Rattle.hdlc_station_model.specs.declared.phase.Phase.TheVariants.{Idle, Setting, Up, Down}
-use Rattle.hdlc_station_model.specs.Frames.{Frame, Info, Rr, Rej, Srej, SetUp, Disc, Dm, Ua, modulo}
-use Rattle.hdlc_station_model.specs.Stations.{Station, is_down, is_up, puts, sees, settled}
-use Rattle.hdlc_station_model.specs.Sending.{refuses_frame, gives_up, info_at, sends_next, can_send, waiting, sends_up_to, sends_waiting, sends_again, sends_again_some, frames_again, starts_timer, counts_expiry, settles, is_due, expires, expires_at, expires_if_due}
-use Rattle.hdlc_station_model.specs.Receiving.{is_known_address, is_addressed, is_error, errs, strays, is_some_octets, number_shown_as, acknowledges, acknowledging, by_number, takes, accepts, rejects, marks_busy, repeats_rejected, comes_up, agrees, sets_up_again, row_idle, row_setting, row_up, row_of_phase, hears_control, hears_frame, hears}
+use Rattle.hdlc_station_model.specs.Frames.{Frame, Info, Rr, Rej, SetUp, Disc, Ua, modulo}
+use Rattle.hdlc_station_model.specs.Stations.{Station, is_down, is_up, puts, sees}
+use Rattle.hdlc_station_model.specs.Sending.{refuses_frame, gives_up, info_at, sends_next, can_send, waiting, sends_up_to, sends_waiting, sends_again, frames_again, starts_timer, counts_expiry, settles, is_due, expires, expires_at, expires_if_due}
+use Rattle.hdlc_station_model.specs.Receiving.{is_known_address, is_addressed, is_error, errs, strays, is_some_octets, number_shown_as, acknowledges, acknowledging, takes, accepts, rejects, marks_busy, repeats_rejected, comes_up, agrees, sets_up_again, row_idle, row_setting, row_up, row_of_phase, hears_control, hears_frame, hears}
 use Rattle.hdlc_station_model.specs.Calls.{starts, starts_at, receives, hands, finishes, ticks, closes, closes_at}
 use Rattle.tap_laws.proofs.FirstWalk.{Keeps, Begins}
 use Rattle.tap_laws.proofs.FirstHeard.{IsQuiet, AreQuiet, IsOpeningFrame, HasOpeningFrame, quiet_append, opening_before, opening_last}

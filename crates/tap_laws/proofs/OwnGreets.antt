@@ -1,17 +1,14 @@
 -- What an end sent tells its random number first, where it accepted a message and, if it answers, sent an I frame.
-use Rattle.std.proofs.Common.{◌≡◌, ◌∙◌, ◌≤◌, ◌<◌, ◌⊎◌, inl, inr, ℕ, ◌+◌, ◌^◌, Bool, true, false, List, [], ◌∷◌, ◌++◌, length, Option, Some, Ok, refl, sym, ap, subst, arith}
+use Rattle.std.proofs.Common.{◌≡◌, ◌∙◌, ◌≤◌, ◌<◌, inl, inr, ℕ, ◌^◌, Bool, true, false, List, [], ◌∷◌, length, refl, ap, subst, arith}
 use Rattle.std.specs.Prelude.{◌==◌}
-use Rattle.std.proofs.lemmas.Bool.{ne_eqb}
 use Rattle.er_base.specs.declared.side.Side.{Side}
 use Rattle.er_base.specs.declared.side.Side.TheVariants.{E, R}
-use Rattle.des_block.specs.declared.triple_key.TripleKey.{TripleKey}
-use Rattle.cbc_mac.specs.Mac.{mac_of}
 use Rattle.cbc_mac.specs.Laws.{MacBelow}
 use Rattle.er_settings.specs.Values.{Settings}
 use Rattle.er_settings.specs.Ranges.{AllAllowed}
 use Rattle.er_settings.specs.Laws.{AllowedAreBounded}
 use Rattle.hdlc_frames.specs.Laws.{FrameReadsAsItself, FlagParts, ControlReadsBack}
-use Rattle.hdlc_station_model.specs.Frames.{Frame, Info}
+use Rattle.hdlc_station_model.specs.Frames.{Frame}
 use Rattle.t70_header.specs.Blocks.{last_block}
 use Rattle.t70_header.specs.JoiningLaws.{WrappedIsJoined}
 use Rattle.x224_tpdu.specs.Spelling.{TransportPdu, connection_request, connection_confirm}
@@ -20,22 +17,19 @@ use Rattle.x224_tpdu.specs.Writing.{written_octets}
 use Rattle.x224_tpdu.specs.Reading.{WrittenIsShort}
 use Rattle.x224_tpdu.specs.ReadingLaws.{ReadingOfWritten, ReadingIsInRange}
 use Rattle.x224_class2.specs.Tpdus.{Cr, Cc, octets_given}
-use Rattle.sapdu.specs.Spelling.{Au1, Au2, read_of, spelling}
+use Rattle.sapdu.specs.Spelling.{Au1, Au2, spelling}
 use Rattle.sapdu.specs.SpellingLaws.{IsReadBack, SpellsItsLength}
 use Rattle.safety_automaton.specs.Rules.{StepsOnly}
-use Rattle.er_end_model.specs.Outcomes.{Outcome}
-use Rattle.er_end_model.specs.Layers.{Core}
 use Rattle.er_end_model.specs.Ends.{Opening, Call, Answer, End, Moment, opened, end_run, outcomes}
-use Rattle.tap_model.specs.Given.{settings_of_opening, IsCallerStartedFirst}
+use Rattle.tap_model.specs.Given.{settings_of_opening}
 use Rattle.tap_model.specs.Hearing.{heard, items, payloads, heard_of}
 use Rattle.tap_model.specs.Verdicts.{Read, rb_in, ra_in, random_number_in_item, first_number}
 use Rattle.tap_laws.specs.OneEnd.{Tells, TellsOwn, AcceptedIsGood}
-use Rattle.tap_laws.specs.OwnRecordings.{octets_to_line, octets_sent, IsOpeningInRange, HasSpoken, OwnRecordingIsGood}
+use Rattle.tap_laws.specs.OwnRecordings.{octets_sent, IsOpeningInRange, HasSpoken, OwnRecordingIsGood}
 use Rattle.tap_laws.proofs.Agreeing.{HasHead, front_head, items_front, head_number, call_heard, confirm_heard, heard_is}
-use Rattle.tap_laws.proofs.FirstHeard.{octets_of_frames, side_of_station, first_counts}
-use Rattle.tap_laws.proofs.FirstSent.{HasFirstFrame}
+use Rattle.tap_laws.proofs.FirstHeard.{side_of_station, first_counts}
 use Rattle.tap_laws.proofs.FirstRun.{octets_told, octets_told_is, HasGreeted, Told, Waiting, Greeted, NeverSent, Gone, run_on}
-use Rattle.tap_laws.proofs.FirstCall.{IsCallingStation, IsCall}
+use Rattle.tap_laws.proofs.FirstCall.{IsCall}
 use Rattle.tap_laws.proofs.FirstCalling.{Calls, Before, Called, Left, calls_on}
 use Rattle.tap_laws.proofs.FirstAnswering.{IsAnswer, Answers, answers_on}
 use Rattle.tap_laws.proofs.FirstAnswering as answering
