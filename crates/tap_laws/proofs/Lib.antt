@@ -14,6 +14,7 @@ pub mod Told
 pub mod Deciding
 pub mod Genuine
 pub mod Talked
+pub mod Forging
 pub mod Unforged
 pub mod FirstHeard
 pub mod FirstWalk

@@ -36,7 +36,7 @@ HasSpoken (Call settings me peer kmac rb now) events = Unit {0}
 HasSpoken (Answer settings me ra now) events = 1 ≤ (end_run events (opened (Answer settings me ra now))).core.line.sent
 
 -- of each end at modulo 8 that was opened in range, behind all events: what it sent tells its own random number, so the recording is enough. It
--- refuses an audit that takes the end's own number from the last AU1 or AU2 of its side and not from the first
+-- refuses an end that answers with a CC without user data and sends its AU2 in a DT behind it: the first text of its side tells no number then
 abbrev pub OwnRecordingIsGood : Type 0
 OwnRecordingIsGood =
     (o : Opening) (finds : Finds) (events : List Moment) → (settings_of_opening o).modulo ≡ 8 → IsCallerStartedFirst o events → AllLookUp finds events

@@ -104,8 +104,7 @@ pub fn audit_finds_told()
     drill_laws::laws::stacks_run();
 }
 
-/// So too at an end that, if it accepted a message, told a connection which isn't marked as forged: whatever its messages are marked, and the
-/// connection of the other end.
+/// So too at an end whose connection isn't marked as forged: whatever its messages are marked, and the connection of the other end.
 pub fn audit_finds_unforged()
     ensures { AuditFindsUnforged }
 {
@@ -116,6 +115,7 @@ pub fn audit_finds_unforged()
     safety_automaton::laws::session_keys();
     drill_laws::laws::stacks_run();
     drill_laws::laws::stacks_talk();
+    drill_laws::laws::stacks_accept();
     drill_laws::laws::lawful();
     audit_finds_told();
 }

@@ -9,4 +9,5 @@ returns c =
       stay = c.session_keys.ensures.stay;
       lawful = c.lawful.ensures;
       talk = c.stacks_talk.ensures;
+      accept = c.stacks_accept.ensures;
     }) c.audit_finds_told.ensures
