@@ -19,7 +19,7 @@ use Rattle.tap_model.specs.declared.end_cause.EndCause.{EndCause}
 use Rattle.tap_model.specs.declared.end_cause.EndCause.TheVariants as why
 use Rattle.tap_model.specs.Hearing.{ReadFrame, frames_read, read_as, read_frame, address_of_side, Sort, Carries, SetsUp, Agrees, Disconnects, Leaves, Passes, sort_of, is_link_opening, behind_opening, ends, before_end, has_number, is_next, in_sequence, tpdu_before, tpdus_from, pdu_before, pdus_in, Hearing, silence, with_text, texts_from, heard_of}
 use Rattle.tap_model.specs.Ends.{frames_among, Reach, first_reach, Stride, PassedOver, Counted, CountedLast, Left, stride_at_data, stride_at_pdu, stride_at_block, stride_at_piece, stride_at_sort, stride_of, StreamEnd, behind_stride, end_from, opens_link_of, stream_end}
-use Rattle.tap_model.specs.StreamEnds.{blocks_in, heard_of_verdicts, pdus_of_blocks, tpdu_begun, dts_among, message_begun, CompletesTpdu, IsOpened, IsUnopened, GoesOn, HasGap, EndsList, ByDisc, ByDm, ByBlock, ByTpdu, ByDc, ByEr, ByNumber, ByLong, ByDr, IsEndOf, NeverOpens, StaysOpen, StaysInGap, EndsByFrame, EndsAreTold}
+use Rattle.tap_model.specs.StreamEnds.{blocks_in, heard_of_verdicts, pdus_of_blocks, tpdu_begun, dts_among, message_begun, CompletesTpdu, IsOpened, IsUnopened, GoesOn, HasGap, BringsTpdu, EndsList, ByDisc, ByDm, ByBlock, ByTpdu, ByDc, ByEr, ByNumber, ByLong, ByDr, IsEndOf, NeverOpens, StaysOpen, StaysInGap, EndsByFrame, EndsAreTold}
 use Rattle.tap_model.proofs.StreamEnded.{begun_parts, dts_parts, dts_data, message_parts, message_last, message_on, read_parts, read_then, blocks_of, cut_one, with_texts, one_text_more, Frames, Said, blocks_now, pdus_now, heard_now, heard_then, next_by, frames_pass, length_one, frames_count, heard_over, heard_counted, frame_opened, none_then, IsInformationTo, gap_stays, gap_back, gap_closed, Stands}
 
 -- ---- one verdict more
@@ -278,6 +278,9 @@ module _ (side : Side) (before : List Verdict) (blocks : List (List ℕ)) (r : R
         completes : CompletesTpdu blocks block tpdu
         completes = ap (λ (l : List ℕ). (joining.block_step l block).1) (sym st.held_is) ∙ ap (λ (j : List ℕ × joining.BlockJoiningResult). j.1) joins
 
+        brings : (read : Result TransportPdu TpFault) → reading tpdu ≡ read → BringsTpdu side blocks f read
+        brings read e = record { tpdu = tpdu; next = next; completes = completes; read_is = e }
+
         held_then : held ≡ (joining.block_step r.held block).0
         held_then = sym (ap (λ (j : List ℕ × joining.BlockJoiningResult). j.0) joins)
 
@@ -311,11 +314,11 @@ module _ (side : Side) (before : List Verdict) (blocks : List (List ℕ)) (r : R
             }))
         unfolding texts_from
         data_step dst last number user e false b is_number is_long =
-            ending why.Number (ByNumber tpdu dst last number user next completes e
+            ending why.Number (ByNumber dst last number user (brings (Ok (data_tpdu dst last number user)) e)
             (λ same. eqb-false number (dts_among st.pdus % 128) is_number (same ∙ ap (λ (l : List TransportPdu). dts_among l % 128) (pdus_now blocks st.pdus r.held st.joined)))) silence
             (λ bs. ap (texts_from (dts_among st.pdus) (message_begun [] st.pdus)) (read_then_pdus (Ok (data_tpdu dst last number user)) e bs) ∙ rw is_number refl)
         data_step dst last number user e true true is_number is_long =
-            ending why.Long (ByLong tpdu dst last number user next completes e
+            ending why.Long (ByLong dst last number user (brings (Ok (data_tpdu dst last number user)) e)
             (eqb-true number (dts_among st.pdus % 128) is_number ∙ ap (λ (l : List TransportPdu). dts_among l % 128) (sym (pdus_now blocks st.pdus r.held st.joined)))
             (rw (pdus_now blocks st.pdus r.held st.joined) (ltb-true most_octets (length (message_begun [] st.pdus ++ user)) is_long))) silence
             (λ bs. ap (texts_from (dts_among st.pdus) (message_begun [] st.pdus)) (read_then_pdus (Ok (data_tpdu dst last number user)) e bs) ∙ rw (is_number, is_long) refl)
@@ -354,19 +357,19 @@ module _ (side : Side) (before : List Verdict) (blocks : List (List ℕ)) (r : R
         pdu_step (Ok (connection_confirm credit dst src size user)) e =
             saying held (connection_confirm credit dst src size user) user held_then (read_then_pdus (Ok (connection_confirm credit dst src size user)) e) (λ d b ps. refl) refl (λ b. refl)
         pdu_step (Ok (disconnect_request dst src reason user)) e =
-            ending why.Dr (ByDr tpdu dst src reason user next completes e) (record { texts = []; parting = Some user })
+            ending why.Dr (ByDr dst src reason user (brings (Ok (disconnect_request dst src reason user)) e)) (record { texts = []; parting = Some user })
             (λ bs. ap (texts_from (dts_among st.pdus) (message_begun [] st.pdus)) (read_then_pdus (Ok (disconnect_request dst src reason user)) e bs))
         pdu_step (Ok (disconnect_confirm dst src)) e =
-            ending why.Tpdu (ByDc tpdu dst src next completes e) silence
+            ending why.Tpdu (ByDc dst src (brings (Ok (disconnect_confirm dst src)) e)) silence
             (λ bs. ap (texts_from (dts_among st.pdus) (message_begun [] st.pdus)) (read_then_pdus (Ok (disconnect_confirm dst src)) e bs))
         pdu_step (Ok (data_tpdu dst last number user)) e = data_any dst last number user e
         pdu_step (Ok (acknowledgement credit dst number)) e =
             silent held (acknowledgement credit dst number) held_then (read_then_pdus (Ok (acknowledgement credit dst number)) e) (λ d b ps. refl) refl (λ b. refl)
         pdu_step (Ok (tpdu_error dst cause)) e =
-            ending why.Tpdu (ByEr tpdu dst cause next completes e) silence
+            ending why.Tpdu (ByEr dst cause (brings (Ok (tpdu_error dst cause)) e)) silence
             (λ bs. ap (texts_from (dts_among st.pdus) (message_begun [] st.pdus)) (read_then_pdus (Ok (tpdu_error dst cause)) e bs))
         pdu_step (Err fault) e =
-            ending why.Tpdu (ByTpdu tpdu fault next completes e) silence
+            ending why.Tpdu (ByTpdu fault (brings (Err fault) e)) silence
             (λ bs. ap (texts_from (dts_among st.pdus) (message_begun [] st.pdus)) (read_then_pdus (Err fault) e bs))
 
       at_block : (held : List ℕ) (answer : joining.BlockJoiningResult) → joining.block_step r.held block ≡ (held, answer)

@@ -1,5 +1,5 @@
 -- A frame that meets a rule behind a beginning of a stream that goes on ends its list of texts.
-use Rattle.std.proofs.Common.{◌≡◌, ◌∙◌, ◌<◌, ◌⊎◌, inl, inr, ℕ, ◌+◌, Bool, true, false, List, [], ◌∷◌, ◌++◌, length, Some, Ok, Err, refl, sym, ap, subst, arith, append_assoc, append-nil}
+use Rattle.std.proofs.Common.{◌≡◌, ◌∙◌, ◌<◌, ◌⊎◌, inl, inr, ℕ, ◌+◌, Bool, true, false, List, [], ◌∷◌, ◌++◌, length, Some, Ok, Err, refl, sym, ap, subst, arith, append_assoc, append-nil, Result}
 use Rattle.std.specs.Prelude.{◌%◌, ◌==◌, nat_lt, ◌||◌, if◌then◌else◌}
 use Rattle.std.proofs.lemmas.Bool.{eq-eqb, ne_eqb, lt-ltb, and_parts}
 use Rattle.std.proofs.lemmas.List.{length-append}
@@ -7,13 +7,14 @@ use Rattle.er_base.specs.declared.side.Side.{Side}
 use Rattle.er_base.specs.Sides.{other}
 use Rattle.hdlc_frames.specs.Framing.{Verdict}
 use Rattle.t70_header.specs.Joining as joining
-use Rattle.x224_tpdu.specs.Spelling.{TransportPdu, data_tpdu}
+use Rattle.x224_tpdu.specs.declared.fault.TpFault.{TpFault}
+use Rattle.x224_tpdu.specs.Spelling.{TransportPdu, disconnect_request, disconnect_confirm, data_tpdu, tpdu_error}
 use Rattle.sapdu.specs.Messages.{most_octets}
 use Rattle.tap_model.specs.declared.end_cause.EndCause.{EndCause}
 use Rattle.tap_model.specs.declared.end_cause.EndCause.TheVariants as why
 use Rattle.tap_model.specs.Hearing.{ReadFrame, frames_read, read_frame, address_of_side, sort_of, is_link_opening, ends, has_number, is_next}
 use Rattle.tap_model.specs.Ends.{frames_among, Reach, first_reach, Stride, PassedOver, CountedLast, Left, stride_at_pdu, stride_at_block, stride_at_piece, stride_at_sort, stride_of, StreamEnd, behind_stride, end_from, opens_link_of, stream_end}
-use Rattle.tap_model.specs.StreamEnds.{blocks_in, pdus_of_blocks, tpdu_begun, dts_among, message_begun, IsUnopened, EndsList, ByDisc, ByDm, ByBlock, ByTpdu, ByDc, ByEr, ByNumber, ByLong, ByDr, IsGoingOn, RulesEnd}
+use Rattle.tap_model.specs.StreamEnds.{blocks_in, pdus_of_blocks, tpdu_begun, dts_among, message_begun, IsUnopened, BringsTpdu, EndsList, ByDisc, ByDm, ByBlock, ByTpdu, ByDc, ByEr, ByNumber, ByLong, ByDr, IsGoingOn, RulesEnd}
 use Rattle.tap_model.proofs.StreamEnded.{Stands, blocks_now, pdus_now, next_by, has_number_none, heard_over, frames_count, length_one}
 use Rattle.tap_model.proofs.StreamEnding.{Step, Passing, Counting, CutCounting, CutLeaving, step, read_one, behind_count, counted_none, NoneBehind, stands, still_none, still_skips, none_still_skips, none_still}
 
@@ -21,12 +22,12 @@ rule_ends : (side : Side) (blocks : List (List ℕ)) (f : ReadFrame) (cause : En
 rule_ends side blocks f cause (ByDisc poll c a) h = absurd h
 rule_ends side blocks f cause (ByDm c a) h = absurd h
 rule_ends side blocks f cause (ByBlock fault next e) h = absurd h
-rule_ends side blocks f cause (ByTpdu tpdu fault next c r) h = absurd h
-rule_ends side blocks f cause (ByDc tpdu dst src next c r) h = absurd h
-rule_ends side blocks f cause (ByEr tpdu dst of next c r) h = absurd h
-rule_ends side blocks f cause (ByNumber tpdu dst last number user next c r n) h = absurd h
-rule_ends side blocks f cause (ByLong tpdu dst last number user next c r n l) h = absurd h
-rule_ends side blocks f cause (ByDr tpdu dst src reason user next c r) h = absurd h
+rule_ends side blocks f cause (ByTpdu fault t) h = absurd h
+rule_ends side blocks f cause (ByDc dst src t) h = absurd h
+rule_ends side blocks f cause (ByEr dst of t) h = absurd h
+rule_ends side blocks f cause (ByNumber dst last number user t n) h = absurd h
+rule_ends side blocks f cause (ByLong dst last number user t n l) h = absurd h
+rule_ends side blocks f cause (ByDr dst src reason user t) h = absurd h
 
 -- ---- behind a beginning that goes on
 
@@ -159,6 +160,10 @@ module _ (side : Side) (before : List Verdict) (blocks : List (List ℕ)) (r : R
       ∙ ap (λ (s : Stride). behind_count (length blocks) (behind_stride s (frames_among behind) (λ z. end_from side z behind))) e
       ∙ ap (λ (k : ℕ). record { heard = k; left = frames_among behind; why = cause }) n
 
+  -- by the TPDU that it brings
+  brought : (read : Result TransportPdu TpFault) → BringsTpdu side blocks f read → stride_at_piece r f.information ≡ stride_at_pdu behind_piece read
+  brought read t = joined_stride (Ok (Some t.tpdu)) t.completes ∙ ap (stride_at_pdu behind_piece) t.read_is
+
   ended : (cause : EndCause) → EndsList side blocks f cause → (behind : List Verdict)
       → behind_count (length blocks) (behind_stride (stride_of side r (read_frame v)) (frames_among behind) (λ z. end_from side z behind))
       ≡ record { heard = length (blocks_in side (before ++ v ∷ [])); left = frames_among behind; why = cause }
@@ -166,19 +171,19 @@ module _ (side : Side) (before : List Verdict) (blocks : List (List ℕ)) (r : R
   ended cause (ByDm (inl c) a) = left why.Dm (rw c (eq-eqb f.address (address_of_side side) a)) (rw (c, eq-eqb f.address (address_of_side side) a) refl)
   ended cause (ByDm (inr c) a) = left why.Dm (rw c (eq-eqb f.address (address_of_side side) a)) (rw (c, eq-eqb f.address (address_of_side side) a) refl)
   ended cause (ByBlock fault next e) = counted why.Block next (joined_stride (Err fault) e)
-  ended cause (ByTpdu tpdu fault next c e) = counted why.Tpdu next (joined_stride (Ok (Some tpdu)) c ∙ ap (stride_at_pdu behind_piece) e)
-  ended cause (ByDc tpdu dst src next c e) = counted why.Tpdu next (joined_stride (Ok (Some tpdu)) c ∙ ap (stride_at_pdu behind_piece) e)
-  ended cause (ByEr tpdu dst of next c e) = counted why.Tpdu next (joined_stride (Ok (Some tpdu)) c ∙ ap (stride_at_pdu behind_piece) e)
-  ended cause (ByNumber tpdu dst last number user next c e n) =
+  ended cause (ByTpdu fault t) = counted why.Tpdu t.next (brought (Err fault) t)
+  ended cause (ByDc dst src t) = counted why.Tpdu t.next (brought (Ok (disconnect_confirm dst src)) t)
+  ended cause (ByEr dst of t) = counted why.Tpdu t.next (brought (Ok (tpdu_error dst of)) t)
+  ended cause (ByNumber dst last number user t n) =
       let other_number : (number == r.number) ≡ false = ne_eqb number r.number (λ same. n (same ∙ sym number_now)) in
       let test : stride_at_pdu behind_piece (Ok (data_tpdu dst last number user)) ≡ CountedLast why.Number = rw other_number refl in
-      counted why.Number next (joined_stride (Ok (Some tpdu)) c ∙ ap (stride_at_pdu behind_piece) e ∙ test)
-  ended cause (ByLong tpdu dst last number user next c e n l) =
+      counted why.Number t.next (brought (Ok (data_tpdu dst last number user)) t ∙ test)
+  ended cause (ByLong dst last number user t n l) =
       let same_number : (number == r.number) ≡ true = eq-eqb number r.number (n ∙ number_now) in
       let long : nat_lt most_octets (r.begun + length user) ≡ true = lt-ltb most_octets (r.begun + length user) (subst (λ (k : ℕ). most_octets < k) (size_now user) l) in
       let test : stride_at_pdu behind_piece (Ok (data_tpdu dst last number user)) ≡ CountedLast why.Long = rw (same_number, long) refl in
-      counted why.Long next (joined_stride (Ok (Some tpdu)) c ∙ ap (stride_at_pdu behind_piece) e ∙ test)
-  ended cause (ByDr tpdu dst src reason user next c e) = counted why.Dr next (joined_stride (Ok (Some tpdu)) c ∙ ap (stride_at_pdu behind_piece) e)
+      counted why.Long t.next (brought (Ok (data_tpdu dst last number user)) t ∙ test)
+  ended cause (ByDr dst src reason user t) = counted why.Dr t.next (brought (Ok (disconnect_request dst src reason user)) t)
 
 pub rules_end : RulesEnd
 unfolding end_from frames_read

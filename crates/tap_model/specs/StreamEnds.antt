@@ -1,6 +1,6 @@
 -- What the end of a stream tells, in words of what is heard of its frames (this profile): which frame ended the list of texts, by which rule of
 -- ISO/IEC 13239, ITU-T T.70 or ITU-T X.224, and that nothing behind it is heard, whatever it is; where none did, that the next I frame would be heard.
-use Rattle.std.specs.Prelude.{ℕ, ◌≡◌, ◌<◌, ◌+◌, ◌⊎◌, ◌%◌, Bool, true, false, List, [], ◌∷◌, ◌++◌, length, Some, None, Ok, Err}
+use Rattle.std.specs.Prelude.{ℕ, ◌≡◌, ◌<◌, ◌+◌, ◌⊎◌, ◌%◌, Bool, true, false, List, [], ◌∷◌, ◌++◌, length, Some, None, Ok, Err, Result}
 use Rattle.std.specs.List.{AllByRecursion}
 use Rattle.er_base.specs.declared.side.Side.{Side}
 use Rattle.er_base.specs.Sides.{other}
@@ -107,29 +107,34 @@ pub record HasGap (side : Side) (verdicts : List Verdict) : Type 0 where
 
 -- ---- where it ended
 
--- the rule by which a frame ended it, behind these blocks; the I frame that has the next N(S) is the last that counts
+-- the I frame that has the next N(S), behind these blocks, ends a TPDU that is read so
+pub record BringsTpdu (side : Side) (blocks : List (List ℕ)) (f : ReadFrame) (read : Result TransportPdu TpFault) : Type 0 where
+  pub tpdu : List ℕ
+  pub next : is_next side (length blocks) f ≡ true
+  pub completes : CompletesTpdu blocks f.information tpdu
+  pub read_is : reading tpdu ≡ read
+
+-- the rule by which a frame ended it, behind these blocks
 pub data EndsList (side : Side) (blocks : List (List ℕ)) (f : ReadFrame) : EndCause → Type 0 where
-  -- DISC is a command, with the receiver's address
+  -- DISC is a command, with the receiver's address; DM and FRMR are responses, with the sender's
   ByDisc : (poll : Bool) → f.control ≡ control.Disc poll → f.address ≡ address_of_side (other side) → EndsList side blocks f Disc
-  -- DM and FRMR are responses, with the sender's
   ByDm : (f.control ≡ control.Dm) ⊎ (f.control ≡ control.Frmr) → f.address ≡ address_of_side side → EndsList side blocks f Dm
-  -- a block with another header, or too long with what it is joined to
-  ByBlock : (fault : BlockFault) → is_next side (length blocks) f ≡ true → (joining.block_step (tpdu_begun [] blocks) f.information).1 ≡ Err fault → EndsList side blocks f Block
-  -- what is no TPDU; DC and ER
-  ByTpdu : (tpdu : List ℕ) (fault : TpFault) → is_next side (length blocks) f ≡ true → CompletesTpdu blocks f.information tpdu → reading tpdu ≡ Err fault → EndsList side blocks f Tpdu
-  ByDc : (tpdu : List ℕ) (dst src : ℕ) → is_next side (length blocks) f ≡ true → CompletesTpdu blocks f.information tpdu → reading tpdu ≡ Ok (disconnect_confirm dst src)
-      → EndsList side blocks f Tpdu
-  ByEr : (tpdu : List ℕ) (dst cause : ℕ) → is_next side (length blocks) f ≡ true → CompletesTpdu blocks f.information tpdu → reading tpdu ≡ Ok (tpdu_error dst cause)
-      → EndsList side blocks f Tpdu
+  -- the next I frame has a block with another header, or too long with what it is joined to
+  ByBlock : (fault : BlockFault) → is_next side (length blocks) f ≡ true → (joining.block_step (tpdu_begun [] blocks) f.information).1 ≡ Err fault
+      → EndsList side blocks f Block
+  -- or it brings what is no TPDU, a DC or an ER
+  ByTpdu : (fault : TpFault) → BringsTpdu side blocks f (Err fault) → EndsList side blocks f Tpdu
+  ByDc : (dst src : ℕ) → BringsTpdu side blocks f (Ok (disconnect_confirm dst src)) → EndsList side blocks f Tpdu
+  ByEr : (dst cause : ℕ) → BringsTpdu side blocks f (Ok (tpdu_error dst cause)) → EndsList side blocks f Tpdu
   -- a DT whose number isn't that of all before it, modulo 128
-  ByNumber : (tpdu : List ℕ) (dst : ℕ) (last : Bool) (number : ℕ) (user : List ℕ) → is_next side (length blocks) f ≡ true → CompletesTpdu blocks f.information tpdu
-      → reading tpdu ≡ Ok (data_tpdu dst last number user) → (number ≡ dts_among (pdus_of_blocks blocks) % 128 → ⊥) → EndsList side blocks f Number
+  ByNumber : (dst : ℕ) (last : Bool) (number : ℕ) (user : List ℕ) → BringsTpdu side blocks f (Ok (data_tpdu dst last number user))
+      → (number ≡ dts_among (pdus_of_blocks blocks) % 128 → ⊥) → EndsList side blocks f Number
   -- one that has it, whose message is above 1,032 octets
-  ByLong : (tpdu : List ℕ) (dst : ℕ) (last : Bool) (number : ℕ) (user : List ℕ) → is_next side (length blocks) f ≡ true → CompletesTpdu blocks f.information tpdu
-      → reading tpdu ≡ Ok (data_tpdu dst last number user) → number ≡ dts_among (pdus_of_blocks blocks) % 128
-      → most_octets < length (message_begun [] (pdus_of_blocks blocks) ++ user) → EndsList side blocks f Long
-  ByDr : (tpdu : List ℕ) (dst src reason : ℕ) (user : List ℕ) → is_next side (length blocks) f ≡ true → CompletesTpdu blocks f.information tpdu
-      → reading tpdu ≡ Ok (disconnect_request dst src reason user) → EndsList side blocks f Dr
+  ByLong : (dst : ℕ) (last : Bool) (number : ℕ) (user : List ℕ) → BringsTpdu side blocks f (Ok (data_tpdu dst last number user))
+      → number ≡ dts_among (pdus_of_blocks blocks) % 128 → most_octets < length (message_begun [] (pdus_of_blocks blocks) ++ user)
+      → EndsList side blocks f Long
+  -- a DR
+  ByDr : (dst src reason : ℕ) (user : List ℕ) → BringsTpdu side blocks f (Ok (disconnect_request dst src reason user)) → EndsList side blocks f Dr
 
 -- up to this frame the list went on; with it it ended; the frames behind it are left, and nothing of them is heard, whatever they are
 pub record IsEndedByFrame (side : Side) (verdicts : List Verdict) (e : StreamEnd) : Type 0 where
