@@ -32,7 +32,7 @@ use Rattle.tap_laws.specs.Runs.{calling_of, called_of}
 use Rattle.tap_laws.specs.LawsBelow.{LawsOfTwoEnds}
 use Rattle.tap_laws.specs.OneEnd.{Tells}
 use Rattle.tap_laws.specs.Worlds.{IsTapped}
-use Rattle.tap_laws.specs.AnyLine.{TellsAtSide, IsConnectionFact, HasForgedConnection, AuditFindsTold, AuditFindsUnforged}
+use Rattle.tap_laws.specs.AnyLine.{TellsAtSide, IsConnectionFact, AuditFindsTold, AuditFindsUnforged}
 use Rattle.tap_laws.proofs.Agreeing.{HasHead, front_head, head_number}
 use Rattle.tap_laws.proofs.Alone.{item_head}
 use Rattle.tap_laws.proofs.KeysTell.{DesLaws, keys_tell}
