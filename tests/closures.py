@@ -34,6 +34,7 @@ CLAIMS = [
     ("`audit` of `run`", "er_program/specs/AuditRuns"),
     ("`run`: every status of every command", "er_program/specs/Statuses"),
     ("What is heard of a tapped stream, and the verdicts", "tap_model/specs/Audits"),
+    ("The end of a stream", "tap_model/specs/StreamEnds"),
     ("What an end was given is heard", "tap_model/specs/Given"),
     ("An audit finds what was accepted", "tap_laws/specs/Worlds"),
     ("One end's audit", "tap_laws/specs/OneEnd"),

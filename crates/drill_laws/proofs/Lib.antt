@@ -52,3 +52,4 @@ pub mod StackRuns
 mod SettingsFit
 pub mod Holding
 pub mod StackFacts
+pub mod StackAccepting

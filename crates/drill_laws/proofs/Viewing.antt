@@ -34,7 +34,7 @@ use Rattle.drill_laws.proofs.Talking.{facts_among}
 -- ---- what was sent and accepted, by facts
 
 -- no payload of level link
-abbrev IsPlain : DrillOutcome → Type 0
+abbrev pub IsPlain : DrillOutcome → Type 0
 IsPlain (Handed payload) = ⊥
 IsPlain (Arrived payload) = ⊥
 IsPlain outcome = Unit {0}
@@ -86,7 +86,7 @@ accepted_by_facts s (o ∷ history) plain =
     ap₂ (λ (a b : List (List ℕ)). a ++ b) (accepted_at s o.side o.outcome plain.0) (accepted_by_facts s history plain.1)
     ∙ sym (flat_map-append (λ (f : SideFact). if is_side s f.side then pair.accepted_in f.fact else []) (facts_at o.side o.outcome) (facts_in history))
 
-plain_append : (history more : List Occurrence) → AllPlain history → AllPlain more → AllPlain (history ++ more)
+pub plain_append : (history more : List Occurrence) → AllPlain history → AllPlain more → AllPlain (history ++ more)
 plain_append [] more h m = m
 plain_append (o ∷ history) more h m = (h.0, plain_append history more h.1 m)
 

@@ -1,6 +1,7 @@
--- Lemmas: a link of two stacks is two ends over two lines behind steps of their own, and the stream of each end is what was passed to it; and its
--- facts are those of a talk of both safety sides (this profile).
+-- Lemmas: a link of two stacks is two ends over two lines behind steps of their own, and the stream of each end is what was passed to it; its facts
+-- are those of a talk of both safety sides, and have what each side accepted (this profile).
 use Rattle.std.specs.Prelude.{ℕ, ◌≡◌, not, List, Option, Some}
+use Rattle.er_base.specs.declared.side.Side.{Side}
 use Rattle.er_base.specs.declared.side.Side.TheVariants.{E, R}
 use Rattle.des_block.specs.declared.triple_key.TripleKey.{TripleKey}
 use Rattle.er_settings.specs.Values.{Settings}
@@ -8,6 +9,7 @@ use Rattle.er_settings.specs.Ranges.{AllAllowed}
 use Rattle.er_scenario.specs.declared.step.Step.{Step}
 use Rattle.safety_pair_laws.specs.Openings.{PairOpening, OfKeys, key_for}
 use Rattle.safety_pair_laws.specs.Talks.{Talks}
+use Rattle.safety_pair_laws.specs.Deliveries.{accepted_of}
 use Rattle.pair_model.specs.Steps.{PairStep}
 use Rattle.er_end_pair_laws.specs.Openings.{EndLinkOpening}
 use Rattle.er_end_pair_laws.specs.Steps as pair
@@ -60,3 +62,10 @@ StacksTalk =
     (plan : DrillPlan) (steps : List Step) (n : ℕ) (l : Link) → link_at (world_run plan steps).0 n ≡ Some l
     → (engine rbc : ℕ) (ke : TripleKey) (kr : Option TripleKey) (ra rb : ℕ) → l.opening ≡ OfStacks engine rbc ke kr ra rb
     → IsTalkOfStacks (OfKeys engine rbc ke kr ra rb) l (history_on n (world_run plan steps).1)
+
+-- what a side of such a link accepted stands in its facts, message by message
+abbrev pub StacksAccept : Type 0
+StacksAccept =
+    (plan : DrillPlan) (steps : List Step) (n : ℕ) (l : Link) → link_at (world_run plan steps).0 n ≡ Some l
+    → (engine rbc : ℕ) (ke : TripleKey) (kr : Option TripleKey) (ra rb : ℕ) → l.opening ≡ OfStacks engine rbc ke kr ra rb
+    → (side : Side) → accepted_by side (history_on n (world_run plan steps).1) ≡ accepted_of side (facts_in (history_on n (world_run plan steps).1))

@@ -16,7 +16,7 @@ ghost use Rattle.drill_model.specs.Headline.{HoldsAlways};
 ghost use Rattle.drill_model.specs.Printing.{PrintedAsMarked, LinesInOrder};
 ghost use Rattle.drill_model.specs.PrintedCounts.{DrainsCount, OnlyDrainsAreTold, TotalsCount, LinksAreClosed};
 ghost use Rattle.drill_model.specs.PrintedWords.{TextReadsBack, DrillsAreTold, DrillTextReadsBack};
-ghost use Rattle.drill_laws.specs.Stacks.{StacksRun, StacksTalk};
+ghost use Rattle.drill_laws.specs.Stacks.{StacksAccept, StacksRun, StacksTalk};
 
 // What each call of a station of either kind does to its lists and its release.
 fn station_laws()
@@ -265,5 +265,12 @@ pub fn stacks_talk()
     ensures { StacksTalk }
 {
     station_laws();
+    drill_model::laws::histories();
+}
+
+/// What a side of a link of level full accepted stands in its facts, whatever its line did.
+pub fn stacks_accept()
+    ensures { StacksAccept }
+{
     drill_model::laws::histories();
 }

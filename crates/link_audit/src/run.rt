@@ -7,9 +7,9 @@ ghost use Rattle.safety_automaton.specs.Keys.{key_at};
 ghost use Rattle.tap_model.specs.Verdicts.{judged, judged_from};
 ghost use Rattle.tap_model.specs.Hearing.{heard, items};
 ghost use Rattle.tap_model.specs.Lines.{stream_of};
-ghost use Rattle.tap_model.specs.Texts.{item_words, side_text, audit_text};
+ghost use Rattle.tap_model.specs.Texts.{item_words, side_text};
 ghost use Rattle.tap_model.specs.AllLinks.{IsOfAllLinks};
-ghost use Rattle.tap_model.specs.EndTexts.{end_text, link_text_asked};
+ghost use Rattle.tap_model.specs.EndTexts.{end_text, link_text_asked, text_of_audit};
 ghost use Rattle.tap_model.specs.Audits.{Audits};
 ghost use Rattle.link_audit.specs.Openings.{tap_opening_of_kept, opening_at, links_opened};
 ghost use Rattle.link_audit.specs.Strides.{kept_count};
@@ -216,8 +216,8 @@ pub fn audit<K: KeyFinder, S: Sink>(
 ) -> Result<(), AuditFault>
     requires { CanBeRead tap.now }
     ensures audits { Audits ends (key_at (K.entries keys.now)) tap.now.lines (S.state sink.old).held (S.state sink.new).held (S.state sink.old).faults (S.state sink.new).faults result }
-    // Without the lines of ends, that text is of all links that the tap opens, numbers rising, and of no other.
-    ensures links { IsOfAllLinks (key_at (K.entries keys.now)) tap.now.lines (audit_text (key_at (K.entries keys.now)) tap.now.lines) }
+    // That text is of all links that the tap opens, numbers rising, and of no other; each side's end stands behind its items.
+    ensures links { IsOfAllLinks ends (key_at (K.entries keys.now)) tap.now.lines (text_of_audit ends (key_at (K.entries keys.now)) tap.now.lines) }
     ensures later { (S.state sink.old).faults ≤ (S.state sink.new).faults }
 {
     tap_model::laws::audit_has_all_links();

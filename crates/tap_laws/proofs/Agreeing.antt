@@ -74,13 +74,13 @@ module _ (wrapped : WrappedIsJoined) where
       ap (λ (j : List ℕ × joining.BlockJoiningResult). texts_from 0 [] (pdus_in (tpdu_before j.1 (tpdus_from j.0 rest)))) (wrapped tpdu short)
       ∙ ap (λ (r : Result TransportPdu TpFault). texts_from 0 [] (pdu_before r (pdus_in (tpdus_from [] rest)))) read
 
-  call_heard : (tpdu user : List ℕ) (credit dst src size : ℕ) (rest : List (List ℕ)) → length tpdu ≤ 1024 → reading tpdu ≡ Ok (connection_request credit dst src size user)
+  pub call_heard : (tpdu user : List ℕ) (credit dst src size : ℕ) (rest : List (List ℕ)) → length tpdu ≤ 1024 → reading tpdu ≡ Ok (connection_request credit dst src size user)
       → HasHead user (heard_of (last_block tpdu ∷ rest)).texts
   unfolding texts_from
   call_heard tpdu user credit dst src size rest short read =
       ((texts_from 0 [] (pdus_in (tpdus_from [] rest))).texts, ap (λ (h : Hearing). h.texts) (first_heard tpdu (connection_request credit dst src size user) rest short read))
 
-  confirm_heard : (tpdu user : List ℕ) (credit dst src size : ℕ) (rest : List (List ℕ)) → length tpdu ≤ 1024 → reading tpdu ≡ Ok (connection_confirm credit dst src size user)
+  pub confirm_heard : (tpdu user : List ℕ) (credit dst src size : ℕ) (rest : List (List ℕ)) → length tpdu ≤ 1024 → reading tpdu ≡ Ok (connection_confirm credit dst src size user)
       → HasHead user (heard_of (last_block tpdu ∷ rest)).texts
   unfolding texts_from
   confirm_heard tpdu user credit dst src size rest short read =
@@ -93,7 +93,7 @@ module _ (wrapped : WrappedIsJoined) where
       ap (λ (h : Hearing). h.texts) (first_heard tpdu (disconnect_request dst src reason user) rest short read)
 
   -- the stream is heard of its payloads
-  heard_is : (side : Side) (stream : List ℕ) → heard side stream ≡ heard_of (payloads side stream)
+  pub heard_is : (side : Side) (stream : List ℕ) → heard side stream ≡ heard_of (payloads side stream)
   unfolding heard
   heard_is side stream = refl
 

@@ -11,12 +11,12 @@ use Rattle.sapdu.specs.Spelling.{Au1, read_of}
 use Rattle.er_end_model.specs.Steps.{Finds}
 use Rattle.er_end_model.specs.Ends.{Opening, Call, Answer, End, Moment, opened, end_run}
 use Rattle.tap_model.specs.Hearing.{heard, items}
-use Rattle.tap_model.specs.Given.{received, octets_of_moments, sender_to, settings_of_opening, IsCallerStartedFirst, HasHeardStreamTexts, GivenIsHeard}
+use Rattle.tap_model.specs.Given.{received, octets_of_moments, sender_to, settings_of_opening, IsCallerStartedFirst, HasHeardStreamTexts}
 use Rattle.tap_model.specs.Verdicts.{Read, Known, known_of, rb_in, ra_in, random_number_in_item, first_number, session_with, receiver_of}
 use Rattle.tap_laws.specs.LookingUp.{AllLookUp}
-use Rattle.tap_laws.specs.Progress.{etcs_number_of_end, FirstAu1, FirstAu2, SidesProgress, LiveSides}
+use Rattle.tap_laws.specs.Progress.{etcs_number_of_end, FirstAu1, FirstAu2}
+use Rattle.tap_laws.specs.LawsBelow.{LawsOfOneEnd}
 use Rattle.tap_laws.specs.OneEnd.{known_beside, Tells, FindsOwn, AcceptedIsGood}
-use Rattle.tap_laws.specs.OwnRecordings.{octets_sent, OwnRecordingIsGood}
 use Rattle.tap_laws.proofs.KeysTell.{same_keys}
 use Rattle.tap_laws.proofs.Finding.{Agreed, finds_end}
 use Rattle.tap_laws.proofs.Agreeing.{HasHead, front_head, items_front, head_number, all_head, given_head}
@@ -62,14 +62,7 @@ module _ (wrapped : WrappedIsJoined) (finds : Finds) (engine rbc : ℕ) (kmac : 
 
 -- ---- over its events
 
--- what other crates and laws say
-pub record Below : Type 0 where
-  pub wrapped : WrappedIsJoined
-  pub heard_is : GivenIsHeard
-  pub sides : SidesProgress
-  pub live : LiveSides
-
-module _ (low : Below) (o : Opening) (finds : Finds) (events : List Moment) (basic : (settings_of_opening o).modulo ≡ 8) (first : IsCallerStartedFirst o events)
+module _ (low : LawsOfOneEnd) (o : Opening) (finds : Finds) (events : List Moment) (basic : (settings_of_opening o).modulo ≡ 8) (first : IsCallerStartedFirst o events)
     (looks : AllLookUp finds events) where
   abbrev m : End
   m = end_run events (opened o)
@@ -85,7 +78,7 @@ module _ (low : Below) (o : Opening) (finds : Finds) (events : List Moment) (bas
       let f = finds_end known finds o receiver came given m (low.heard_is o events basic first) (low.sides o finds events looks) (low.live o events) agreed in
       record { prefix = f.prefix; all = f.all }
 
-pub accepted_is_good : Below → AcceptedIsGood
+pub accepted_is_good : LawsOfOneEnd → AcceptedIsGood
 accepted_is_good low (Call settings me peer key rb now) finds events basic first looks engine rbc kmac is own tells =
     let o : Opening = Call settings me peer key rb now in
     let came : List ℕ = octets_of_moments events in
@@ -102,7 +95,3 @@ accepted_is_good low (Answer settings me ra now) finds events basic first looks 
     λ at id rb x k head read find. let t = given_head low.wrapped E came given m x h head in is.kmac_is at id rb x t.0 k t.1 read find in
     found low o finds events basic first looks (known_beside engine rbc kmac o came own) is.rbc_is
     (agreed_answering low.wrapped finds engine rbc kmac came own given m settings me ra now same h tells)
-
-pub own_recording_is_good : AcceptedIsGood → OwnRecordingIsGood
-own_recording_is_good law o finds events basic first looks engine rbc kmac key tells =
-    law o finds events basic first looks engine rbc kmac key (octets_sent o events) tells

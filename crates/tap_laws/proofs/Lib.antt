@@ -14,4 +14,14 @@ pub mod Told
 pub mod Deciding
 pub mod Genuine
 pub mod Talked
+pub mod Forging
 pub mod Unforged
+pub mod FirstHeard
+pub mod FirstWalk
+pub mod FirstSent
+pub mod FirstRun
+pub mod FirstEarly
+pub mod FirstCall
+pub mod FirstCalling
+pub mod FirstAnswering
+pub mod OwnGreets

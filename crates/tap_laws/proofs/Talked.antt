@@ -98,7 +98,7 @@ all_front P [] ys h = tt
 all_front P (x ∷ xs) ys h = (h.0, all_front P xs ys h.1)
 
 -- where one of a list stands
-split_at : (xs : List MarkedFact) (k : ℕ) (x : MarkedFact) → k < length xs → slice_index_or xs k x ≡ x
+pub split_at : (xs : List MarkedFact) (k : ℕ) (x : MarkedFact) → k < length xs → slice_index_or xs k x ≡ x
     → (before : List MarkedFact) × (after : List MarkedFact) × (xs ≡ before ++ x ∷ after)
 split_at [] k x inside is = absurd (omega arith)
 split_at (y ∷ ys) zero x inside is = ([], ys, ap (λ (z : MarkedFact). z ∷ ys) is)

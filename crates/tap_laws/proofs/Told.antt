@@ -20,6 +20,7 @@ use Rattle.tap_model.specs.Hearing.{heard, items}
 use Rattle.tap_model.specs.Lines.{TapOpening}
 use Rattle.tap_model.specs.Verdicts.{rb_in, ra_in, first_number}
 use Rattle.tap_laws.specs.Runs.{calling_of, called_of}
+use Rattle.tap_laws.specs.LawsBelow.{LawsOfTwoEnds}
 use Rattle.tap_laws.specs.OneEnd.{Tells}
 use Rattle.tap_laws.specs.Pairs.{known_to}
 use Rattle.tap_laws.specs.Worlds.{IsTapped, opened_as, IsUnreleased}
@@ -27,10 +28,10 @@ use Rattle.tap_laws.specs.AnyLine.{TellsAtSide, FindsAtSide, AuditFindsTold}
 use Rattle.tap_laws.proofs.Finding.{finds_end}
 use Rattle.tap_laws.proofs.Agreeing.{HasHead}
 use Rattle.tap_laws.proofs.Alone.{agreed_calling, agreed_answering}
-use Rattle.tap_laws.proofs.Pairs.{Lower, Known_end, known_e, known_r}
+use Rattle.tap_laws.proofs.Pairs.{Known_end, known_e, known_r}
 use Rattle.tap_laws.proofs.Tapped.{prefix_is, ra_is, rb_is, one_key, good_of_e, good_of_r}
 
-module _ (low : Lower) (settings : Settings) (basic : settings.modulo ≡ 8) (l : Link) (history : List Occurrence) (p : IsPair settings l history)
+module _ (low : LawsOfTwoEnds) (settings : Settings) (basic : settings.modulo ≡ 8) (l : Link) (history : List Occurrence) (p : IsPair settings l history)
     (keys : List KmacEntry) (lines : List TapLine) (m : ℕ) (t : IsTapped keys lines m l history) where
   abbrev s : EndLinkOpening
   s = p.s
@@ -72,7 +73,7 @@ module _ (low : Lower) (settings : Settings) (basic : settings.modulo ≡ 8) (l 
   pub found_at : (side : Side) → ((accepted_by side history ≡ [] → ⊥) → TellsAtSide side t.ra t.rb history) → FindsAtSide keys lines m o l history side
   found_at E tells =
       let agreed =
-      agreed_calling low.wrapped s.finder s.engine s.rbc s.kmac e.stream r.stream ke.given e s.settings s.engine s.rbc s.kmac s.rb s.moment refl ke.hears (e_told tells) in
+      agreed_calling low.one.wrapped s.finder s.engine s.rbc s.kmac e.stream r.stream ke.given e s.settings s.engine s.rbc s.kmac s.rb s.moment refl ke.hears (e_told tells) in
       let f = finds_end (known_to s e r) s.finder (calling_of s) refl e.stream ke.given e ke.hears ke.progress ke.is_live agreed in
       let good = good_of_r settings l history p keys lines m t in
       record {
@@ -81,7 +82,7 @@ module _ (low : Lower) (settings : Settings) (basic : settings.modulo ≡ 8) (l 
       }
   found_at R tells =
       let agreed =
-      agreed_answering low.wrapped s.finder s.engine s.rbc s.kmac r.stream e.stream kr.given r s.settings s.rbc s.ra s.moment found_is kr.hears (r_told tells) in
+      agreed_answering low.one.wrapped s.finder s.engine s.rbc s.kmac r.stream e.stream kr.given r s.settings s.rbc s.ra s.moment found_is kr.hears (r_told tells) in
       let f = finds_end (known_to s e r) s.finder (called_of s) refl r.stream kr.given r kr.hears kr.progress kr.is_live agreed in
       let good = good_of_e settings l history p keys lines m t in
       record {
@@ -89,7 +90,7 @@ module _ (low : Lower) (settings : Settings) (basic : settings.modulo ≡ 8) (l 
         all = λ live. p.accepted_r ∙ f.all (subst IsUnreleased p.r_is live) ∙ good;
       }
 
-pub audit_finds_told : StacksRun → Lower → AuditFindsTold
+pub audit_finds_told : StacksRun → LawsOfTwoEnds → AuditFindsTold
 audit_finds_told run low plan steps fit allowed basic n l at keys lines m t side tells =
     let history : List Occurrence = history_on n (world_run plan steps).1 in
     let p : IsPair plan.settings l history = run plan steps fit allowed n l at t.engine t.rbc t.kmac (Some t.kmac) t.ra t.rb t.link_is in

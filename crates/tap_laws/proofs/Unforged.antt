@@ -1,5 +1,6 @@
 -- Where the connection of an end isn't forged, both ends know its session keys; so what was passed of either side tells its random number.
-use Rattle.std.proofs.Common.{◌≡◌, ◌∙◌, ℕ, List, [], ◌∷◌, ◌++◌, Option, Some, None, sym, ap, ap₂, subst}
+use Rattle.std.specs.Prelude.{Any}
+use Rattle.std.proofs.Common.{◌≡◌, ◌∙◌, ℕ, false, List, [], ◌∷◌, ◌++◌, Option, Some, None, sym, ap, ap₂, subst}
 use Rattle.er_base.specs.declared.side.Side.{Side}
 use Rattle.er_base.specs.declared.side.Side.TheVariants.{E, R}
 use Rattle.des_block.specs.declared.triple_key.TripleKey.{TripleKey}
@@ -11,6 +12,7 @@ use Rattle.safety_automaton.specs.Safety.{Connection, Phase, session_in}
 use Rattle.safety_automaton.specs.Keys.{KmacEntry}
 use Rattle.safety_automaton.specs.Laws.{KeysAreOwn, KeysStay}
 use Rattle.safety_pair_laws.specs.Openings.{PairOpening, OfKeys, Pair}
+use Rattle.safety_pair_laws.specs.Facts.{marked}
 use Rattle.safety_pair_laws.specs.Authentic.{Authentic}
 use Rattle.er_end_model.specs.Steps.{Finds}
 use Rattle.er_end_model.specs.Ends.{Opening, End}
@@ -22,19 +24,21 @@ use Rattle.drill_model.specs.Links.{Link, LinkOpening}
 use Rattle.drill_model.specs.Worlds.{history_on, world_run}
 use Rattle.drill_model.specs.Claims.{LawfulAt, IsLawfulHistory}
 use Rattle.drill_laws.specs.Laws.{LawfulAlways}
-use Rattle.drill_laws.specs.Stacks.{IsPair, StacksRun, IsTalkOfStacks, StacksTalk}
+use Rattle.drill_laws.specs.Stacks.{IsPair, StacksRun, IsTalkOfStacks, StacksTalk, StacksAccept}
 use Rattle.tap_model.specs.Hearing.{heard, items}
 use Rattle.tap_model.specs.Verdicts.{Read, rb_in, ra_in, random_number_in_item, first_number}
 use Rattle.tap_laws.specs.Progress.{FirstAu1, FirstAu2, IsFirstSetUpText, Got, GotsNone, GotsOne, GotsAll, session_got, Stage, Begins, Waits, Speaks, Gone}
 use Rattle.tap_laws.specs.Runs.{calling_of, called_of}
+use Rattle.tap_laws.specs.LawsBelow.{LawsOfTwoEnds}
 use Rattle.tap_laws.specs.OneEnd.{Tells}
 use Rattle.tap_laws.specs.Worlds.{IsTapped}
-use Rattle.tap_laws.specs.AnyLine.{TellsAtSide, HasUnforgedConnection, AuditFindsTold, AuditFindsUnforged}
+use Rattle.tap_laws.specs.AnyLine.{TellsAtSide, IsConnectionFact, AuditFindsTold, AuditFindsUnforged}
 use Rattle.tap_laws.proofs.Agreeing.{HasHead, front_head, head_number}
 use Rattle.tap_laws.proofs.Alone.{item_head}
 use Rattle.tap_laws.proofs.KeysTell.{DesLaws, keys_tell}
-use Rattle.tap_laws.proofs.Pairs.{Lower, Known_end, known_e, known_r}
+use Rattle.tap_laws.proofs.Pairs.{Known_end, known_e, known_r}
 use Rattle.tap_laws.proofs.Stages.{begins_session, waits_session}
+use Rattle.tap_laws.proofs.Forging.{told_unforged}
 use Rattle.tap_laws.proofs.Talked.{BothKnow, both_know}
 use Rattle.tap_laws.proofs.Tapped.{ra_is, rb_is, one_key}
 
@@ -72,6 +76,10 @@ module _ (finds : Finds) (o : Opening) (key : TripleKey) where
 stack_same : (a b : End) → OfStack a ≡ OfStack b → a ≡ b
 stack_same a b e = cc
 
+-- the end of this side told a connection that isn't marked as forged
+abbrev HasUnforgedConnection : Side → List Occurrence → Type 0
+HasUnforgedConnection side history = Any (λ f. (f.side ≡ side) × (f.forged ≡ false) × IsConnectionFact f.fact) (marked (facts_in history))
+
 -- what other crates and laws say
 pub record Beside : Type 0 where
   pub des : DesLaws
@@ -79,10 +87,11 @@ pub record Beside : Type 0 where
   pub stay : KeysStay
   pub lawful : LawfulAlways
   pub talk : StacksTalk
+  pub accept : StacksAccept
 
 -- ---- a link
 
-module _ (low : Lower) (beside : Beside) (settings : Settings) (basic : settings.modulo ≡ 8) (l : Link) (history : List Occurrence) (p : IsPair settings l history)
+module _ (low : LawsOfTwoEnds) (beside : Beside) (settings : Settings) (basic : settings.modulo ≡ 8) (l : Link) (history : List Occurrence) (p : IsPair settings l history)
     (keys : List KmacEntry) (lines : List TapLine) (m : ℕ) (t : IsTapped keys lines m l history) where
   abbrev s : EndLinkOpening
   s = p.s
@@ -130,7 +139,7 @@ module _ (low : Lower) (beside : Beside) (settings : Settings) (basic : settings
     r_tells : Tells (first_number ra_in (items (heard R e.stream))) s.ra
     r_tells = record {
       told = fe.connection.ra;
-      is = head_number ra_in fe.first (items (heard R e.stream)) (item_head low.wrapped R e.stream ke.given e fe.first ke.hears fe.head)
+      is = head_number ra_in fe.first (items (heard R e.stream)) (item_head low.one.wrapped R e.stream ke.given e fe.first ke.hears fe.head)
           ∙ ap (λ (z : Read). random_number_in_item ra_in z) au2.read;
       same = numbers.0;
     }
@@ -138,7 +147,7 @@ module _ (low : Lower) (beside : Beside) (settings : Settings) (basic : settings
     e_tells : Tells (first_number rb_in (items (heard E r.stream))) s.rb
     e_tells = record {
       told = fr.connection.rb;
-      is = head_number rb_in fr.first (items (heard E r.stream)) (item_head low.wrapped E r.stream kr.given r fr.first kr.hears fr.head)
+      is = head_number rb_in fr.first (items (heard E r.stream)) (item_head low.one.wrapped E r.stream kr.given r fr.first kr.hears fr.head)
           ∙ ap (λ (z : Read). random_number_in_item rb_in z) au1.read;
       same = sym numbers.1;
     }
@@ -166,12 +175,14 @@ module _ (low : Lower) (beside : Beside) (settings : Settings) (basic : settings
       let pairs : pair ≡ sides = ap₂ (λ (x y : End). record { e = x.core.safe.safety; r = y.core.safe.safety }) same_e same_r in
       by_side side (subst (λ (x : Pair). BothKnow x side) pairs b)
 
-pub audit_finds_unforged : StacksRun → Lower → Beside → AuditFindsTold → AuditFindsUnforged
-audit_finds_unforged run low beside told plan steps fit allowed basic n l at keys lines m t side one =
+pub audit_finds_unforged : StacksRun → LawsOfTwoEnds → Beside → AuditFindsTold → AuditFindsUnforged
+audit_finds_unforged run low beside told plan steps fit allowed basic n l at keys lines m t side none =
     let history : List Occurrence = history_on n (world_run plan steps).1 in
     let p : IsPair plan.settings l history = run plan steps fit allowed n l at t.engine t.rbc t.kmac (Some t.kmac) t.ra t.rb t.link_is in
     let here : LawfulAt (Some l) history = subst (λ (x : Option Link). LawfulAt x history) at (beside.lawful plan steps n) in
     let authentic : Authentic (OfKeys t.engine t.rbc t.kmac (Some t.kmac) t.ra t.rb) (facts_in history) = subst (λ (x : LinkOpening). IsLawfulHistory x history) t.link_is here in
     let talk = beside.talk plan steps n l at t.engine t.rbc t.kmac (Some t.kmac) t.ra t.rb t.link_is in
+    let accepted = beside.accept plan steps n l at t.engine t.rbc t.kmac (Some t.kmac) t.ra t.rb t.link_is side in
     told plan steps fit allowed basic n l at keys lines m t side
-    (λ some. unforged_tell low beside plan.settings basic l history p keys lines m t side authentic talk (one some))
+    (λ some. unforged_tell low beside plan.settings basic l history p keys lines m t side authentic talk
+    (told_unforged t.engine t.rbc t.kmac (Some t.kmac) t.ra t.rb history authentic side (λ nothing. some (accepted ∙ nothing)) none))

@@ -1,7 +1,7 @@
 -- An audit of a tapped link of a world, at level full and modulo 8, whatever its line does: of an end that isn't deceived it finds good what that end
 -- accepted (UNISIG SUBSET-037; this profile).
 use Rattle.hdlc_station_model.specs.Lines.{IsPrefix}
-use Rattle.std.specs.Prelude.{ℕ, ◌≡◌, false, List, [], Some, Any}
+use Rattle.std.specs.Prelude.{ℕ, ◌≡◌, true, List, [], Some, Any}
 use Rattle.er_base.specs.declared.side.Side.{Side}
 use Rattle.er_base.specs.declared.side.Side.TheVariants.{E, R}
 use Rattle.er_base.specs.Sides.{other}
@@ -37,9 +37,9 @@ IsConnectionFact (Verified heard key text) = ⊥
 IsConnectionFact (Connected heard connection text) = Unit {0}
 IsConnectionFact (Accepted heard user key text) = ⊥
 
--- the end of this side told a connection, and it isn't marked as forged
-abbrev pub HasUnforgedConnection : Side → List Occurrence → Type 0
-HasUnforgedConnection side history = Any (λ f. (f.side ≡ side) × (f.forged ≡ false) × IsConnectionFact f.fact) (marked (facts_in history))
+-- the end of this side told a connection that is marked as forged
+abbrev pub HasForgedConnection : Side → List Occurrence → Type 0
+HasForgedConnection side history = Any (λ f. (f.side ≡ side) × (f.forged ≡ true) × IsConnectionFact f.fact) (marked (facts_in history))
 
 -- ---- what is found
 
@@ -60,12 +60,12 @@ AuditFindsTold =
     → ((accepted_by side (history_on n (world_run plan steps).1) ≡ [] → ⊥) → TellsAtSide side t.ra t.rb (history_on n (world_run plan steps).1))
     → FindsAtSide keys lines m (opened_as keys lines m l (history_on n (world_run plan steps).1) t) l (history_on n (world_run plan steps).1) side
 
--- and at each end that, if it accepted a message, told a connection which isn't marked as forged, whatever its messages or the other end are marked
+-- and at each end whose connection isn't marked as forged, whatever its messages or the other end are marked. It refuses what the one above does, and
+-- a connection that isn't marked where an AU2 before it was forged
 abbrev pub AuditFindsUnforged : Type 0
 AuditFindsUnforged =
     (plan : DrillPlan) (steps : List Step) → AllFit steps → AllAllowed plan.settings → plan.settings.modulo ≡ 8
     → (n : ℕ) (l : Link) → link_at (world_run plan steps).0 n ≡ Some l
     → (keys : List KmacEntry) (lines : List TapLine) (m : ℕ) → (t : IsTapped keys lines m l (history_on n (world_run plan steps).1))
-    → (side : Side)
-    → ((accepted_by side (history_on n (world_run plan steps).1) ≡ [] → ⊥) → HasUnforgedConnection side (history_on n (world_run plan steps).1))
+    → (side : Side) → (HasForgedConnection side (history_on n (world_run plan steps).1) → ⊥)
     → FindsAtSide keys lines m (opened_as keys lines m l (history_on n (world_run plan steps).1) t) l (history_on n (world_run plan steps).1) side

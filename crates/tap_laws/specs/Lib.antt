@@ -1,6 +1,7 @@
 pub mod LookingUp
 pub mod Progress
 pub mod Runs
+pub mod LawsBelow
 pub mod OneEnd
 pub mod OwnRecordings
 pub mod Pairs

@@ -3,6 +3,7 @@
 
 ghost use Rattle.tap_laws.specs.Progress.{LiveSides, SidesProgress};
 ghost use Rattle.tap_laws.specs.Runs.{EndsAreRuns};
+ghost use Rattle.tap_laws.specs.LawsBelow.{LawsOfOneEnd, LawsOfTwoEnds};
 ghost use Rattle.tap_laws.specs.OneEnd.{AcceptedIsGood};
 ghost use Rattle.tap_laws.specs.OwnRecordings.{OwnRecordingIsGood};
 ghost use Rattle.tap_laws.specs.Pairs.{PairsAudited};
@@ -27,21 +28,51 @@ pub fn ends_are_runs()
     ensures { EndsAreRuns }
 {}
 
-/// One end alone, at modulo 8, over any events, with its KMAC, and beside any stream of its own side whose first item tells its random number: what
-/// it accepted is a prefix of the texts of its peer's good DTs in the audit, and equal to it while the end isn't released. Nothing is said of the
-/// line or of the peer.
-pub fn accepted_is_good()
-    ensures { AcceptedIsGood }
+// What is known of one end, for the laws of audits.
+fn laws_of_one_end()
+    ensures { LawsOfOneEnd }
 {
     t70_header::laws::wrapping();
     tap_hearing::laws::given_is_heard();
     sides_progress();
 }
 
-/// So too with the end's own recording: the octets that came to it, and beside them those that it sent, where these tell its random number.
+// And of two.
+fn laws_of_two_ends()
+    ensures { LawsOfTwoEnds }
+{
+    laws_of_one_end();
+    er_end_pair_laws::laws::prefix();
+    er_end_pair_laws::laws::greets();
+    er_end_model::laws::octets_are_heard();
+    ends_are_runs();
+}
+
+/// One end alone, at modulo 8, over any events, with its KMAC, and beside any stream of its own side whose first item tells its random number: what
+/// it accepted is a prefix of the texts of its peer's good DTs in the audit, and equal to it while the end isn't released. Nothing is said of the
+/// line or of the peer.
+pub fn accepted_is_good()
+    ensures { AcceptedIsGood }
+{
+    laws_of_one_end();
+}
+
+/// So too with the end's own recording: the octets that came to it, and beside them those that it sent. Of openings in range; an end that answers sent
+/// an I frame.
 pub fn own_recording_is_good()
     ensures { OwnRecordingIsGood }
 {
+    t70_header::laws::wrapping();
+    hdlc_frames::laws::frame_reads_as_itself();
+    hdlc_frames::laws::flag_parts();
+    hdlc_frames::laws::control_reads_back();
+    er_settings::laws::allowed_are_bounded();
+    x224_tpdu::laws::reading();
+    x224_tpdu::laws::writing();
+    sapdu::laws::spelled_is_read();
+    sapdu::laws::lengths_of_spellings();
+    cbc_mac::laws::mac_below();
+    safety_automaton::laws::steps();
     accepted_is_good();
 }
 
@@ -50,13 +81,7 @@ pub fn own_recording_is_good()
 pub fn pairs_audited()
     ensures { PairsAudited }
 {
-    t70_header::laws::wrapping();
-    er_end_pair_laws::laws::prefix();
-    er_end_pair_laws::laws::greets();
-    er_end_model::laws::octets_are_heard();
-    tap_hearing::laws::given_is_heard();
-    sides_progress();
-    ends_are_runs();
+    laws_of_two_ends();
 }
 
 /// Every list of steps of a world, each link of level full at modulo 8 that keeps its order, whatever it loses and repeats, and every tap of what was
@@ -75,34 +100,22 @@ pub fn audit_finds_accepted()
 pub fn audit_finds_told()
     ensures { AuditFindsTold }
 {
-    t70_header::laws::wrapping();
-    er_end_pair_laws::laws::prefix();
-    er_end_pair_laws::laws::greets();
-    er_end_model::laws::octets_are_heard();
-    tap_hearing::laws::given_is_heard();
-    sides_progress();
-    ends_are_runs();
+    laws_of_two_ends();
     drill_laws::laws::stacks_run();
 }
 
-/// So too at an end that, if it accepted a message, told a connection which isn't marked as forged: whatever its messages are marked, and the
-/// connection of the other end.
+/// So too at an end whose connection isn't marked as forged: whatever its messages are marked, and the connection of the other end.
 pub fn audit_finds_unforged()
     ensures { AuditFindsUnforged }
 {
-    t70_header::laws::wrapping();
-    er_end_pair_laws::laws::prefix();
-    er_end_pair_laws::laws::greets();
-    er_end_model::laws::octets_are_heard();
-    tap_hearing::laws::given_is_heard();
+    laws_of_two_ends();
     des_block::laws::decipher_undoes_encipher();
     des_block::laws::encipher_undoes_decipher();
     des_block::laws::gives_blocks();
     safety_automaton::laws::session_keys();
-    sides_progress();
-    ends_are_runs();
     drill_laws::laws::stacks_run();
     drill_laws::laws::stacks_talk();
+    drill_laws::laws::stacks_accept();
     drill_laws::laws::lawful();
     audit_finds_told();
 }

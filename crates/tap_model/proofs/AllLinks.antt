@@ -1,5 +1,5 @@
 -- The text of an audit is of each link that its tap opens, and of no other.
-use Rattle.std.proofs.Common.{◌≡◌, ◌∙◌, ◌≤◌, ◌⊎◌, inl, inr, ℕ, zero, suc, ◌+◌, List, [], ◌∷◌, ◌++◌, Option, Some, None, refl, sym, ap, arith, subst}
+use Rattle.std.proofs.Common.{◌≡◌, ◌∙◌, ◌≤◌, ◌⊎◌, inl, inr, ℕ, zero, suc, ◌+◌, List, [], ◌∷◌, ◌++◌, Option, Some, None, refl, sym, ap, ap₂, arith, subst, append-nil}
 use Rattle.std.specs.Prelude.{◌==◌, Bool, true, false, if◌then◌else◌}
 use Rattle.std.specs.List.{flat_map}
 use Rattle.std.proofs.lemmas.Bool.{eqb-true}
@@ -10,7 +10,9 @@ use Rattle.er_tap.specs.declared.tap_step.TapStep.TheVariants as step
 use Rattle.er_tap.specs.Ranges.{IsLink, IsInRange, AreInRange}
 use Rattle.er_end_model.specs.Steps.{Finds}
 use Rattle.tap_model.specs.Lines.{TapOpening, opens_link, first_opening, tap_opening_of_link}
-use Rattle.tap_model.specs.Texts.{link_text, links_text}
+use Rattle.er_base.specs.declared.side.Side.TheVariants.{E, R}
+use Rattle.tap_model.specs.Texts.{side_text, judged_at, link_text, links_text}
+use Rattle.tap_model.specs.EndTexts.{link_text_asked, links_text_asked, text_of_audit}
 use Rattle.tap_model.specs.AllLinks.{TappedLink, AreRisingFrom, IsAmong, text_of_link, AuditHasAllLinks}
 
 abbrev link_of : ℕ → TapOpening → TappedLink
@@ -80,17 +82,34 @@ only lines k o n (suc count) h =
 
 -- ---- the text
 
-text_with : (finds : Finds) (lines : List TapLine) (n : ℕ) (found : Option TapOpening) (rest : List TappedLink)
-    → link_text finds lines n found ++ flat_map (text_of_link finds lines) rest ≡ flat_map (text_of_link finds lines) (with_opened n found rest)
-text_with finds lines n None rest = refl
-text_with finds lines n (Some o) rest = sym (flat_map-cons (text_of_link finds lines) (link_of n o) rest)
+text_with : (ends : Bool) (finds : Finds) (lines : List TapLine) (n : ℕ) (found : Option TapOpening) (rest : List TappedLink)
+    → link_text_asked ends finds lines n found ++ flat_map (text_of_link ends finds lines) rest ≡ flat_map (text_of_link ends finds lines) (with_opened n found rest)
+text_with ends finds lines n None rest = refl
+text_with ends finds lines n (Some o) rest = sym (flat_map-cons (text_of_link ends finds lines) (link_of n o) rest)
 
-text_is : (finds : Finds) (lines : List TapLine) (n count : ℕ) → links_text finds lines n count ≡ flat_map (text_of_link finds lines) (opened_from lines n count)
-unfolding links_text
-text_is finds lines n zero = refl
-text_is finds lines n (suc count) =
-    ap (λ (rest : List ℕ). link_text finds lines n (tap_opening_of_link n lines) ++ rest) (text_is finds lines (n + 1) count)
-    ∙ text_with finds lines n (tap_opening_of_link n lines) (opened_from lines (n + 1) count)
+text_asked : (ends : Bool) (finds : Finds) (lines : List TapLine) (n count : ℕ)
+    → links_text_asked ends finds lines n count ≡ flat_map (text_of_link ends finds lines) (opened_from lines n count)
+unfolding links_text_asked
+text_asked ends finds lines n zero = refl
+text_asked ends finds lines n (suc count) =
+    ap (λ (rest : List ℕ). link_text_asked ends finds lines n (tap_opening_of_link n lines) ++ rest) (text_asked ends finds lines (n + 1) count)
+    ∙ text_with ends finds lines n (tap_opening_of_link n lines) (opened_from lines (n + 1) count)
+
+-- without ends
+plain_link : (finds : Finds) (lines : List TapLine) (n : ℕ) (o : Option TapOpening) → link_text finds lines n o ≡ link_text_asked false finds lines n o
+plain_link finds lines n None = refl
+plain_link finds lines n (Some o) =
+    ap₂ (λ (a b : List ℕ). a ++ b) (sym (append-nil (side_text n E (judged_at finds n o lines E)))) (sym (append-nil (side_text n R (judged_at finds n o lines R))))
+
+plain_links : (finds : Finds) (lines : List TapLine) (n count : ℕ) → links_text finds lines n count ≡ links_text_asked false finds lines n count
+unfolding links_text links_text_asked
+plain_links finds lines n zero = refl
+plain_links finds lines n (suc count) =
+    ap₂ (λ (a b : List ℕ). a ++ b) (plain_link finds lines n (tap_opening_of_link n lines)) (plain_links finds lines (n + 1) count)
+
+text_is : (ends : Bool) (finds : Finds) (lines : List TapLine) → text_of_audit ends finds lines ≡ flat_map (text_of_link ends finds lines) (opened_from lines 1 64)
+text_is false finds lines = plain_links finds lines 1 64 ∙ text_asked false finds lines 1 64
+text_is true finds lines = text_asked true finds lines 1 64
 
 -- ---- the numbers of links
 
@@ -123,10 +142,10 @@ among_all lines range n o e = by n (number_in n o lines range e) e
     by (suc j) h e = let most : suc j ≤ 64 = h.1 in among lines (suc j) o e j 1 64 (omega arith) (omega (arith, most))
 
 pub audit_has_all_links : AuditHasAllLinks
-audit_has_all_links finds lines range = record {
+audit_has_all_links ends finds lines range = record {
   links = opened_from lines 1 64;
   rising = rising_weaker 0 1 (opened_from lines 1 64) (omega arith) (rising lines 1 64);
   each = among_all lines range;
   only = λ n o h. only lines n o 1 64 h;
-  text_is = text_is finds lines 1 64;
+  text_is = text_is ends finds lines;
 }

@@ -8,6 +8,7 @@ pub mod AllLinks
 pub mod EndWords
 pub mod Ends
 pub mod EndTexts
+pub mod StreamEnds
 pub mod Audits
 pub mod Ears
 pub mod KnownAnswers

@@ -2,14 +2,4 @@ use Rattle.tap_laws.proofs.Pairs.{pairs_audited}
 use Rattle.tap_laws.proofs.laws.pairs_audited.Goals as goal
 
 pub returns : goal.returns
-returns c =
-    pairs_audited (record {
-      wrapped = c.wrapping.ensures;
-      prefix = c.prefix.ensures;
-      greets = c.greets.ensures;
-      heard_is = c.given_is_heard.ensures;
-      streams = c.octets_are_heard.ensures.stream;
-      sides = c.sides_progress.ensures.progress;
-      live = c.sides_progress.ensures.live;
-      runs = c.ends_are_runs.ensures;
-    })
+returns c = pairs_audited c.laws_of_two_ends.ensures
