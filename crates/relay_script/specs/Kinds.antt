@@ -6,27 +6,27 @@ use Rattle.relay_script.specs.declared.unit_kind.UnitKind.{UnitKind}
 use Rattle.relay_script.specs.declared.unit_kind.UnitKind.TheVariants.{Any, Bad, Info, Rr, Rnr, Rej, Srej, Sabm, Ua, Disc, Dm, Frmr, Other, Cr, Cc, Dr, Dc, Dt, Ak, Er}
 
 -- KIND
-abbrev pub kind_word : UnitKind → List ℕ
-kind_word Any = codes "any"
-kind_word Bad = codes "bad"
-kind_word Info = codes "i"
-kind_word Rr = codes "rr"
-kind_word Rnr = codes "rnr"
-kind_word Rej = codes "rej"
-kind_word Srej = codes "srej"
-kind_word Sabm = codes "sabm"
-kind_word Ua = codes "ua"
-kind_word Disc = codes "disc"
-kind_word Dm = codes "dm"
-kind_word Frmr = codes "frmr"
-kind_word Other = codes "other"
-kind_word Cr = codes "cr"
-kind_word Cc = codes "cc"
-kind_word Dr = codes "dr"
-kind_word Dc = codes "dc"
-kind_word Dt = codes "dt"
-kind_word Ak = codes "ak"
-kind_word Er = codes "er"
+abbrev pub unit_kind_word : UnitKind → List ℕ
+unit_kind_word Any = codes "any"
+unit_kind_word Bad = codes "bad"
+unit_kind_word Info = codes "i"
+unit_kind_word Rr = codes "rr"
+unit_kind_word Rnr = codes "rnr"
+unit_kind_word Rej = codes "rej"
+unit_kind_word Srej = codes "srej"
+unit_kind_word Sabm = codes "sabm"
+unit_kind_word Ua = codes "ua"
+unit_kind_word Disc = codes "disc"
+unit_kind_word Dm = codes "dm"
+unit_kind_word Frmr = codes "frmr"
+unit_kind_word Other = codes "other"
+unit_kind_word Cr = codes "cr"
+unit_kind_word Cc = codes "cc"
+unit_kind_word Dr = codes "dr"
+unit_kind_word Dc = codes "dc"
+unit_kind_word Dt = codes "dt"
+unit_kind_word Ak = codes "ak"
+unit_kind_word Er = codes "er"
 
 abbrev pub all_kinds : List UnitKind
 all_kinds =
@@ -34,7 +34,7 @@ all_kinds =
 
 -- the kind that a word names, where it names one
 abbrev pub kind_named : List ℕ → Option UnitKind
-kind_named word = find (λ kind. bytes_eq word (kind_word kind)) all_kinds
+kind_named word = find (λ kind. bytes_eq word (unit_kind_word kind)) all_kinds
 
 -- the place of a kind in the list of all
 abbrev pub kind_place : UnitKind → ℕ

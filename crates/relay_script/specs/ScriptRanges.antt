@@ -7,8 +7,8 @@ use Rattle.relay_script.specs.declared.script.Script.{Script}
 use Rattle.relay_script.specs.declared.script_line.ScriptLine.{ScriptLine}
 
 -- which unit or octet, from 1 to 10 ^ 9
-abbrev pub IsCounted : ℕ → Type 0
-IsCounted n = (1 ≤ n) × (n ≤ 1000000000)
+abbrev pub IsOrdinal : ℕ → Type 0
+IsOrdinal n = (1 ≤ n) × (n ≤ 1000000000)
 
 -- milliseconds, at most 10 ^ 9
 abbrev pub IsDelay : ℕ → Type 0
@@ -25,14 +25,14 @@ IsPutText text = (length text ≤ 4096) × AreOctets text
 abbrev pub IsChangeInRange : Change → Type 0
 IsChangeInRange Lose = Unit {0}
 IsChangeInRange Repeat = Unit {0}
-IsChangeInRange (Alter place mask) = IsCounted place × IsMask mask
+IsChangeInRange (Alter place mask) = IsOrdinal place × IsMask mask
 IsChangeInRange (Put text) = IsPutText text
 IsChangeInRange (Delay milliseconds) = IsDelay milliseconds
 IsChangeInRange Close = Unit {0}
 
 -- what a line says, its numbers in their ranges
 abbrev pub IsLineInRange : ScriptLine → Type 0
-IsLineInRange line = IsCounted line.number × IsChangeInRange line.change
+IsLineInRange line = IsOrdinal line.number × IsChangeInRange line.change
 
 abbrev pub AreLinesInRange : List ScriptLine → Type 0
 AreLinesInRange [] = Unit {0}

@@ -3,7 +3,7 @@
 ghost use Rattle.std.specs.Prelude.{◌≡◌, ◌<◌, ◌≤◌, IfOk};
 ghost use Rattle.er_base.specs.Arguments.{number_argument, text_argument};
 ghost use Rattle.er_base.specs.Rows.{AnswersAsWordsSay};
-ghost use Rattle.relay_script.specs.ScriptRanges.{IsCounted, IsDelay, IsPutText, IsMask};
+ghost use Rattle.relay_script.specs.ScriptRanges.{IsOrdinal, IsDelay, IsPutText, IsMask};
 ghost use Rattle.relay_script.specs.Table.{kind_argument, only_mask, octet_mask_argument};
 
 use crate::unit_kind::UnitKind;
@@ -18,7 +18,7 @@ const MOST_TEXT_OCTETS: usize = 4_096;
 /// Which unit or octet, 1 to 10^9.
 pub fn read_counted(word: &[u8]) -> Result<u32, Why>
     ensures value { result ≡ number_argument 1 1000000000 word.now }
-    ensures range { IfOk result (λ n. IsCounted n) }
+    ensures range { IfOk result (λ n. IsOrdinal n) }
 {
     Ok(read_number(word, 1, MOST)? as u32)
 }

@@ -1,5 +1,5 @@
 ghost use Rattle.std.specs.Prelude.{◌≡◌, ◌<◌};
-ghost use Rattle.relay_script.specs.Kinds.{kind_word, kind_named, kind_place};
+ghost use Rattle.relay_script.specs.Kinds.{unit_kind_word, kind_named, kind_place};
 
 /// The kinds of units that a line can name. A unit may be of several.
 #[derive(Clone, Copy, Debug, PartialEq, Eq)]
@@ -75,7 +75,7 @@ const ALL_KINDS: [UnitKind; KIND_COUNT] = [
 impl UnitKind {
     /// The word of the kind.
     pub fn word(self) -> &'static [u8]
-        ensures { result.now ≡ kind_word self }
+        ensures { result.now ≡ unit_kind_word self }
     {
         match self {
             UnitKind::Any => b"any",
