@@ -23,11 +23,16 @@ UnitsGoOn =
     → (parts_of_sent (came ++ more) ≡ parts_of_sent came ++ parts_from (standing_behind came) more)
     × (standing_behind (came ++ more) ≡ standing_from (standing_behind came) more)
 
--- the octet that ends a unit closes one frame of all that came, the one that is found in the unit
+-- an octet closes one frame of all that came, and it is the one that is found in a unit
+pub record EndsInFrame (came : List ℕ) (octet : ℕ) (unit : List ℕ) : Type 0 where
+  pub verdict : Verdict
+  pub found : found_in unit ≡ Some verdict
+  pub frames : frames_of (came ++ octet ∷ []) ≡ frames_of came ++ verdict ∷ []
+
+-- the octet that ends a unit does so
 abbrev pub UnitsEndInFrames : Type 0
 UnitsEndInFrames =
-    (came : List ℕ) (octet : ℕ) (unit : List ℕ) → parts_from (standing_behind came) (octet ∷ []) ≡ Whole unit ∷ []
-    → (verdict : Verdict) × ((found_in unit ≡ Some verdict) × (frames_of (came ++ octet ∷ []) ≡ frames_of came ++ verdict ∷ []))
+    (came : List ℕ) (octet : ℕ) (unit : List ℕ) → parts_from (standing_behind came) (octet ∷ []) ≡ Whole unit ∷ [] → EndsInFrame came octet unit
 
 -- an octet that closes a frame ends a unit, where octets are held; so no frame is closed among octets that are held
 abbrev pub FramesEndUnits : Type 0

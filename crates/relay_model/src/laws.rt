@@ -32,7 +32,9 @@ pub fn frames_end_units()
 /// A unit has at most 4,096 octets. Refuses that octets are held for ever.
 pub fn units_are_short()
     ensures { UnitsAreShort }
-{}
+{
+    flag_parts();
+}
 
 /// What is given of a beginning is never taken back. Refuses that a line names a unit by what comes behind it.
 pub fn given_begins()
