@@ -30,8 +30,8 @@ joined_more load front back unclosed =
 joined_closed : (load : Load) (front back : List Load) → load.closes ≡ true → joined_loads (load ∷ front) back ≡ load ∷ front
 joined_closed load front back closed = rw closed refl
 
-behind_open : (load : Load) (rest : List Load) → load.closes ≡ false → behind_load load rest ≡ load ∷ rest
-behind_open load rest unclosed = rw unclosed refl
+behind_unclosed : (load : Load) (rest : List Load) → load.closes ≡ false → behind_load load rest ≡ load ∷ rest
+behind_unclosed load rest unclosed = rw unclosed refl
 
 behind_closed : (load : Load) (rest : List Load) → load.closes ≡ true → behind_load load rest ≡ load ∷ []
 behind_closed load rest closed = rw closed refl
@@ -77,11 +77,11 @@ loads_append lines side before (Whole unit ∷ p) q =
           ∙ sym (joined_closed load [] (loads_from lines side (before ++ units_in (Whole unit ∷ p)) q) t)
           ∙ ap (λ (l : List Load). joined_loads l (loads_from lines side (before ++ units_in (Whole unit ∷ p)) q)) (sym (behind_closed load front t))
       | inr f ↦
-          behind_open load (loads_from lines side next (p ++ q)) f
+          behind_unclosed load (loads_from lines side next (p ++ q)) f
           ∙ ap (λ (l : List Load). load ∷ l) (loads_append lines side next p q)
           ∙ sym (joined_more load front (loads_from lines side (next ++ units_in p) q) f)
           ∙ ap (λ (u : List (List ℕ)). joined_loads (load ∷ front) (loads_from lines side u q)) same
-          ∙ ap (λ (l : List Load). joined_loads l (loads_from lines side (before ++ units_in (Whole unit ∷ p)) q)) (sym (behind_open load front f))
+          ∙ ap (λ (l : List Load). joined_loads l (loads_from lines side (before ++ units_in (Whole unit ∷ p)) q)) (sym (behind_unclosed load front f))
     ]
 
 pub sent_append : (script : Script) (side : Side) (came more : List ℕ)
@@ -206,10 +206,10 @@ none_for lines side before (Whole unit ∷ parts) none =
     rw (none_changes lines side before unit (load_as_it_came unit) none)
     (gives_whole unit (loads_from lines side (before ++ unit ∷ []) parts) parts (none_for lines side (before ++ unit ∷ []) parts none))
 
-pub open_carried : (script : Script) (side : Side) (came : List ℕ) → is_closed_by script side came ≡ false
+pub unclosed_carried : (script : Script) (side : Side) (came : List ℕ) → is_closed_by script side came ≡ false
     → carried script side came ≡ given_of_sent script side came ++ held_in_standing (standing_behind came)
 unfolding carried
-open_carried script side came f = rw f refl
+unclosed_carried script side came f = rw f refl
 
 sent_gives : (script : Script) (side : Side) (came : List ℕ) → NoneFor side script.lines
     → (given_of_sent script side came ≡ octets_in_parts (parts_of_sent came)) × (is_closed_by script side came ≡ false)
@@ -221,6 +221,6 @@ sent_gives script side came none =
 pub passed_is_sent : PassedIsSent
 passed_is_sent script side came none =
     let g = sent_gives script side came none in
-    open_carried script side came g.1
+    unclosed_carried script side came g.1
     ∙ ap (λ (o : List ℕ). o ++ held_in_standing (standing_behind came)) g.0
     ∙ parts_are_sent Unbegun came
