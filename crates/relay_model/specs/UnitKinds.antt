@@ -1,7 +1,7 @@
 -- The kinds of a unit (this profile): by the verdict on the frame that its last flag closes (ISO/IEC 13239), by the control at modulo 8 of a frame of
 -- any address, and by the TPDU (ITU-T X.224) in the one block (ITU-T T.70) that an I frame may carry.
-use Rattle.std.specs.Prelude.{ℕ, List, [], ◌∷◌, drop, Option, Some, None, Result, Ok, Err, Bool, if◌then◌else◌}
-use Rattle.std.specs.List.{last_or, list_any}
+use Rattle.std.specs.Prelude.{ℕ, List, [], ◌∷◌, slice_get, Option, Some, None, Result, Ok, Err, Bool, if◌then◌else◌}
+use Rattle.std.specs.List.{list_any}
 use Rattle.hdlc_frames.specs.declared.controls.Control.{Control}
 use Rattle.hdlc_frames.specs.declared.controls.Control.TheVariants as control
 use Rattle.hdlc_frames.specs.ControlOctets.{control_of}
@@ -14,9 +14,9 @@ use Rattle.relay_script.specs.declared.unit_kind.UnitKind.{UnitKind}
 use Rattle.relay_script.specs.declared.unit_kind.UnitKind.TheVariants.{Any, Bad, Info, Rr, Rnr, Rej, Srej, Sabm, Ua, Disc, Dm, Frmr, Other, Cr, Cc, Dr, Dc, Dt, Ak, Er}
 use Rattle.relay_script.specs.Kinds.{is_same_kind}
 
--- what is found in a unit: a flag stands before it, or it begins with one
+-- what is found in a unit, where a flag stands before it: it has one frame (a public law of this crate)
 unfoldable pub found_in : (unit : List ℕ) → Option Verdict
-found_in unit = last_or None (frames_of (flag ∷ unit))
+found_in unit = slice_get (frames_of (flag ∷ unit)) 0
 
 -- ---- TPDUs
 

@@ -1,0 +1,115 @@
+//! The kinds of a unit.
+
+ghost use Rattle.std.specs.Prelude.{◌≡◌, ◌∷◌, [], option_map, slice_get};
+ghost use Rattle.std.specs.Option.{option_to_list};
+ghost use Rattle.hdlc_frames.specs.Framing.{frames_of};
+ghost use Rattle.hdlc_frames.specs.Framing as framing;
+ghost use Rattle.x224_tpdu.specs.Spellings.{pdu_of};
+ghost use Rattle.relay_model.specs.UnitKinds.{kind_of_pdu, kinds_of_information, kinds_of_control, kinds_of_body, kinds_of_found};
+ghost use Rattle.relay_carrier.specs.Kinds.{kinds_but_any, is_at_place};
+
+use hdlc_frames::{Control, Deframer, Found, control};
+use relay_script::UnitKind;
+use x224_tpdu::{Tpdu, read};
+
+/// The kinds of a unit but `any`: that of what is found in it, and that of the TPDU which an I frame carries.
+#[derive(Clone, Copy, Debug, PartialEq, Eq)]
+pub struct UnitKinds {
+    link: UnitKind,
+    tpdu: Option<UnitKind>,
+}
+
+// The kind of a TPDU.
+fn kind_of_tpdu(tpdu: &Tpdu<'_>) -> UnitKind
+    ensures { result ≡ kind_of_pdu (pdu_of tpdu.now) }
+{
+    match tpdu {
+        Tpdu::Cr { .. } => UnitKind::Cr,
+        Tpdu::Cc { .. } => UnitKind::Cc,
+        Tpdu::Dr { .. } => UnitKind::Dr,
+        Tpdu::Dc { .. } => UnitKind::Dc,
+        Tpdu::Dt { .. } => UnitKind::Dt,
+        Tpdu::Ak { .. } => UnitKind::Ak,
+        Tpdu::Er { .. } => UnitKind::Er,
+    }
+}
+
+// The kind of the TPDU in information that is the one block of a TPDU.
+fn kind_in_block(information: &[u8]) -> Option<UnitKind>
+    ensures { option_to_list result ≡ kinds_of_information information.now }
+{
+    let [0x01, 0x00, octets @ ..] = information else {
+        return None;
+    };
+    match read(octets) {
+        Ok(tpdu) => Some(kind_of_tpdu(&tpdu)),
+        Err(_) => None,
+    }
+}
+
+// The kind of a control that carries no information for a unit.
+fn kind_of_control(control: Control) -> UnitKind {
+    match control {
+        Control::Info { .. } => UnitKind::Info,
+        Control::Rr { .. } => UnitKind::Rr,
+        Control::Rnr { .. } => UnitKind::Rnr,
+        Control::Rej { .. } => UnitKind::Rej,
+        Control::Srej { .. } => UnitKind::Srej,
+        Control::Sabm { .. } => UnitKind::Sabm,
+        Control::Sabme { .. } => UnitKind::Other,
+        Control::Disc { .. } => UnitKind::Disc,
+        Control::Ua => UnitKind::Ua,
+        Control::Dm => UnitKind::Dm,
+        Control::Frmr => UnitKind::Frmr,
+    }
+}
+
+fn alone(link: UnitKind) -> UnitKinds
+    ensures { kinds_but_any result ≡ link ∷ [] }
+{
+    UnitKinds { link, tpdu: None }
+}
+
+// The kinds of a frame by its body.
+fn kinds_of_body(body: &[u8]) -> UnitKinds
+    ensures { kinds_but_any result ≡ kinds_of_found (Some (framing.Frame 0 body.now)) }
+{
+    let Some((control, information)) = control(body) else {
+        return alone(UnitKind::Other);
+    };
+    let tpdu = match control {
+        Control::Info { .. } => kind_in_block(information),
+        _ => None,
+    };
+    UnitKinds {
+        link: kind_of_control(control),
+        tpdu,
+    }
+}
+
+/// The kinds of a unit, from a flag and the unit behind it.
+pub fn kinds_of(framed: &[u8]) -> UnitKinds
+    ensures { kinds_but_any result ≡ kinds_of_found (slice_get (frames_of framed.now) 0) }
+{
+    let mut deframer = Deframer::new();
+    let (_, found) = deframer.feed(framed);
+    match found {
+        Some(Found::Frame(frame)) => kinds_of_body(frame.body),
+        _ => alone(UnitKind::Bad),
+    }
+}
+
+impl UnitKinds {
+    /// Whether the unit is of the kind at a place among all kinds.
+    pub fn has_at(&self, place: usize) -> bool
+        ensures { result ≡ is_at_place place (Any ∷ kinds_but_any self.now) }
+    {
+        if place == UnitKind::Any.place() || place == self.link.place() {
+            return true;
+        }
+        match self.tpdu {
+            Some(kind) => place == kind.place(),
+            None => false,
+        }
+    }
+}
