@@ -1,1 +1,4 @@
 pub mod Kinds
+pub mod Cutting
+pub mod Counting
+pub mod Standing

@@ -1,5 +1,13 @@
 //! Which lines name a unit, and what they make of it.
 
+ghost use Rattle.std.specs.Prelude.{◌≡◌, ◌++◌, ◌∷◌, [], ℕ, List, IfOk};
+ghost use Rattle.relay_script.specs.declared.unit_kind.UnitKind.TheVariants.{Any};
+ghost use Rattle.relay_script.specs.ScriptRanges.{IsLineInRange, IsScriptInRange};
+ghost use Rattle.relay_model.specs.UnitKinds.{kinds_in};
+ghost use Rattle.relay_model.specs.Loads.{line_names, load_of_unit};
+ghost use Rattle.relay_carrier.specs.Counting.{CountsUnits, KeepsLoad};
+ghost use Rattle.relay_carrier.specs.Kinds.{kinds_but_any};
+
 use crate::counts::Counts;
 use crate::load::Load;
 use crate::unit_kinds::UnitKinds;
@@ -8,7 +16,11 @@ use relay_script::{Script, ScriptLine};
 use std::alloc::Global;
 
 // Whether a line names a unit of a side, of which it is the newest that was counted.
-fn names(line: &ScriptLine, side: Side, kinds: &UnitKinds, counts: &Counts) -> bool {
+fn names(line: &ScriptLine, side: Side, kinds: &UnitKinds, counts: &Counts) -> bool
+    requires { IsLineInRange line.now }
+    ensures { (before : List (List ℕ)) (unit : List ℕ) → Any ∷ kinds_but_any kinds.now ≡ kinds_in unit → CountsUnits counts.now (before ++ unit ∷ [])
+        → result ≡ line_names line.now side before unit }
+{
     if line.side != side {
         return false;
     }
@@ -26,7 +38,12 @@ pub fn load_of(
     kinds: &UnitKinds,
     counts: &Counts,
     unit: &[u8],
-) -> Result<Load, NoMemory> {
+) -> Result<Load, NoMemory>
+    requires range { IsScriptInRange script.now }
+    requires kinds { Any ∷ kinds_but_any kinds.now ≡ kinds_in unit.now }
+    ensures { IfOk result (λ kept. (before : List (List ℕ)) → CountsUnits counts.now (before ++ unit.now ∷ [])
+        → KeepsLoad kept (load_of_unit script.now.lines side before unit.now)) }
+{
     let mut load = Load::of(alloc, unit)?;
     for line in script.lines.as_slice() {
         if names(line, side, kinds, counts) {

@@ -1,7 +1,7 @@
 //! What a carrier gives, whichever way the octets are cut.
 
 use er_base::{NoMemory, Room, Side, octets_of};
-use relay_carrier::{Came, Carrier};
+use relay_carrier::Carrier;
 use relay_script::{Script, read};
 use std::alloc::Global;
 use std::test::Fail;
@@ -44,19 +44,22 @@ fn given(
     let mut carrier = Carrier::new(alloc, side)?;
     let mut came = Room::with_capacity(alloc, 4_096)?;
     let mut given = Vec::new(alloc);
+    let mut all = Vec::new(alloc);
     for piece in octets.chunks(cut) {
         let mut rest = piece;
         for _ in 0..piece.len() {
             if !rest.is_empty() && !carrier.is_closed() {
                 let taken = carrier.take(alloc, script, 0, rest, &mut came, &mut given)?;
                 rest = rest.split_at(taken.used).1;
+                all.extend_from_slice(given.as_slice())?;
             }
         }
     }
     if !carrier.is_closed() {
         carrier.end(0, &mut came, &mut given)?;
+        all.extend_from_slice(given.as_slice())?;
     }
-    Ok(given)
+    Ok(all)
 }
 
 // Whether a row is so at each of four cuts.

@@ -1,0 +1,57 @@
+-- Contract: a carrier stands where octets that came from its side lead.
+use Rattle.std.specs.Prelude.{◌≡◌, ℕ, ◌≤◌, Bool, false, List, [], ◌∷◌, ◌++◌, take}
+use Rattle.std.specs.List.{All}
+use Rattle.er_base.specs.declared.side.Side.{Side}
+use Rattle.relay_script.specs.declared.script.Script.{Script}
+use Rattle.relay_model.specs.Units.{Standing, parts_from, standing_from, standing_behind, parts_of_sent, held_in_standing, units_in}
+use Rattle.relay_model.specs.Loads.{Load, load_of_unit, loads_from}
+use Rattle.relay_model.specs.Carried.{given_of_sent, is_closed_by, carried, due_behind}
+use Rattle.relay_carrier.specs.Counting.{within_64_bits, CountsUnits}
+
+-- what a contract sees of a carrier
+pub record KCarrier : Type 0 where
+  pub side : Side
+  pub standing : Standing
+  pub counts : List ℕ
+  pub closed : Bool
+  -- the newest moment at which something is due
+  pub newest : ℕ
+
+-- these octets came from its side, and lead here
+pub record StandsBehind (script : Script) (came : List ℕ) (k : KCarrier) : Type 0 where
+  pub standing : k.standing ≡ standing_behind came
+  pub counts : CountsUnits k.counts (units_in (parts_of_sent came))
+  pub closed : k.closed ≡ is_closed_by script k.side came
+
+-- what is given of octets, where these came before them: all loads that they bring
+abbrev pub loads_behind : Script → Side → (came more : List ℕ) → List Load
+loads_behind script side came more = loads_from script.lines side (units_in (parts_of_sent came)) (parts_from (standing_behind came) more)
+
+-- octets are taken behind those that came: the carrier stands behind them too, what is given of all grows by what is given of these, and it is due
+-- no earlier than what was given before
+pub record TakesOctets (script : Script) (old new : KCarrier) (moment : ℕ) (octets given : List ℕ) (due : ℕ) (came : List ℕ) : Type 0 where
+  pub stands : StandsBehind script (came ++ octets) new
+  pub given : given_of_sent script old.side (came ++ octets) ≡ given_of_sent script old.side came ++ given
+  pub due : All (λ load. due ≡ within_64_bits (due_behind old.newest moment load.delay)) (loads_behind script old.side came octets)
+
+abbrev pub Takes : Script → (old new : KCarrier) → (moment : ℕ) → (octets given : List ℕ) → (due : ℕ) → Type 0
+Takes script old new moment octets given due =
+    (came : List ℕ) → StandsBehind script came old → TakesOctets script old new moment octets given due came
+
+-- a unit is taken behind units: what is given is the load of the unit, which says whether the connection is closed behind it
+pub record TakesUnitBehind (script : Script) (old new : KCarrier) (moment : ℕ) (unit given : List ℕ) (due : ℕ) (units : List (List ℕ)) : Type 0 where
+  pub side : new.side ≡ old.side
+  pub standing : new.standing ≡ old.standing
+  pub counts : CountsUnits new.counts (units ++ unit ∷ [])
+  pub newest : new.newest ≡ due
+  pub given : given ≡ (load_of_unit script.lines old.side units unit).octets
+  pub closed : new.closed ≡ (load_of_unit script.lines old.side units unit).closes
+  pub due : due ≡ within_64_bits (due_behind old.newest moment (load_of_unit script.lines old.side units unit).delay)
+
+abbrev pub TakesUnit : Script → (old new : KCarrier) → (moment : ℕ) → (unit given : List ℕ) → (due : ℕ) → Type 0
+TakesUnit script old new moment unit given due =
+    (units : List (List ℕ)) → CountsUnits old.counts units → TakesUnitBehind script old new moment unit given due units
+
+-- the side ended: with what is held all is given that is carried
+abbrev pub Ends : Script → KCarrier → (given : List ℕ) → Type 0
+Ends script k given = (came : List ℕ) → StandsBehind script came k → given_of_sent script k.side came ++ given ≡ carried script k.side came
