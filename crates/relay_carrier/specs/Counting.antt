@@ -1,4 +1,4 @@
--- Representation: counts of units, and delays, up to the greatest number of 64 bits; no claim rests on it.
+-- Contract: counts of units, and delays, up to the greatest number of 64 bits.
 use Rattle.std.specs.Prelude.{◌≡◌, ℕ, ◌+◌, nat_lt, Bool, true, false, if◌then◌else◌, List, slice_index}
 use Rattle.relay_script.specs.declared.unit_kind.UnitKind.{UnitKind}
 use Rattle.relay_script.specs.Kinds.{kind_place}

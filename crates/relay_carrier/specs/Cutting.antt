@@ -1,11 +1,9 @@
--- Representation: how the code keeps where a side stands, and tells of parts; no claim rests on it.
-use Rattle.std.specs.Prelude.{◌≡◌, ℕ, ◌<◌, Bool, true, false, List, [], ◌∷◌, length}
+-- Representation: how the code keeps where a side stands; no claim rests on it.
+use Rattle.std.specs.Prelude.{◌≡◌, ℕ, ◌<◌, Bool, true, false, List, [], length}
 use Rattle.er_base.specs.Stored.{Stored}
-use Rattle.relay_carrier.specs.declared.came.Came.{Came}
-use Rattle.relay_carrier.specs.declared.came.Came.TheVariants as came
 use Rattle.relay_carrier.specs.declared.stage.Stage.{Stage}
 use Rattle.relay_carrier.specs.declared.stage.Stage.TheVariants as stage
-use Rattle.relay_model.specs.Units.{Standing, Unbegun, Holding, Overlong, Part, Outside, Whole, octets_in_parts}
+use Rattle.relay_model.specs.Units.{Standing, Unbegun, Holding, Overlong}
 
 -- where the side stands
 abbrev pub standing_kept : Stage → (held : List ℕ) → (begun : Bool) → Standing
@@ -29,20 +27,3 @@ abbrev pub is_holding : Standing → Bool
 is_holding Unbegun = false
 is_holding (Holding held begun) = true
 is_holding Overlong = false
-
--- the parts that one octet brought
-abbrev pub parts_told : Came → (octets : List ℕ) → List Part
-parts_told came.Held octets = []
-parts_told came.Outside octets = Outside octets ∷ []
-parts_told came.Unit octets = Whole octets ∷ []
-
-abbrev pub AreOutside : List Part → Type 0
-AreOutside [] = Unit {0}
-AreOutside (Outside octets ∷ parts) = AreOutside parts
-AreOutside (Whole unit ∷ parts) = ⊥
-
--- the parts that octets brought: none, octets of no unit, or one unit
-abbrev pub TellsParts : Came → (octets : List ℕ) → List Part → Type 0
-TellsParts came.Held octets parts = (parts ≡ []) × (octets ≡ [])
-TellsParts came.Outside octets parts = AreOutside parts × (octets_in_parts parts ≡ octets)
-TellsParts came.Unit octets parts = parts ≡ Whole octets ∷ []

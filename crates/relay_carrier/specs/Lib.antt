@@ -1,4 +1,5 @@
 pub mod Kinds
 pub mod Cutting
+pub mod Told
 pub mod Counting
 pub mod Standing

@@ -4,7 +4,7 @@ ghost use Rattle.std.specs.Prelude.{◌≡◌, ◌<◌, ◌≤◌, ◌++◌, tru
 ghost use Rattle.relay_script.specs.declared.script.Script as model;
 ghost use Rattle.relay_script.specs.ScriptRanges.{IsScriptInRange};
 ghost use Rattle.relay_model.specs.Units.{parts_from, held_in_standing};
-ghost use Rattle.relay_carrier.specs.Cutting.{TellsParts};
+ghost use Rattle.relay_carrier.specs.Told.{TellsParts};
 ghost use Rattle.relay_carrier.specs.Standing.{StandsBehind, Takes, TakesUnit, Ends};
 ghost use Rattle.relay_carrier.specs.Counting.{within_64_bits};
 ghost use Rattle.relay_model.specs.Carried.{due_behind};

@@ -2,8 +2,9 @@
 
 ghost use Rattle.std.specs.Prelude.{◌≡◌, ◌<◌, ◌≤◌, ◌++◌, true, [], length, take, IfOk};
 ghost use Rattle.relay_carrier.specs.declared.came.Came.TheVariants as came;
-ghost use Rattle.relay_model.specs.Units.{Unbegun, turn_to, unit_turn, standing_from, parts_from, held_in_standing};
-ghost use Rattle.relay_carrier.specs.Cutting.{is_holding, parts_told, TellsParts};
+ghost use Rattle.relay_model.specs.Units.{Unbegun, Overlong, turn_to, unit_turn, standing_from, parts_from, held_in_standing};
+ghost use Rattle.relay_carrier.specs.Cutting.{is_holding};
+ghost use Rattle.relay_carrier.specs.Told.{parts_told, TellsParts};
 
 use crate::came::Came;
 use crate::stage::Stage;

@@ -6,6 +6,8 @@ ghost use Rattle.hdlc_frames.specs.Framing.{frames_of};
 ghost use Rattle.hdlc_frames.specs.Framing as framing;
 ghost use Rattle.x224_tpdu.specs.Spellings.{pdu_of};
 ghost use Rattle.relay_model.specs.UnitKinds.{kind_of_pdu, kinds_of_information, kinds_of_control, kinds_of_body, kinds_of_found};
+ghost use Rattle.relay_script.specs.declared.unit_kind.UnitKind.TheVariants.{Any};
+ghost use Rattle.std.specs.Prelude.{Some};
 ghost use Rattle.relay_carrier.specs.Kinds.{kinds_but_any, is_at_place};
 
 use hdlc_frames::{Control, Deframer, Found, control};
