@@ -5,7 +5,7 @@ use Rattle.er_base.specs.declared.side.Side.{Side}
 use Rattle.relay_script.specs.declared.script.Script.{Script}
 use Rattle.relay_model.specs.Units.{Standing, parts_from, standing_from, standing_behind, parts_of_sent, held_in_standing, units_in}
 use Rattle.relay_model.specs.Loads.{Load, load_of_unit, loads_from}
-use Rattle.relay_model.specs.Carried.{given_of_sent, is_closed_by, carried, due_behind}
+use Rattle.relay_model.specs.Carried.{loads_behind, given_of_sent, is_closed_by, carried, due_behind}
 use Rattle.relay_carrier.specs.Counting.{within_64_bits, CountsUnits}
 
 -- what a contract sees of a carrier
@@ -22,10 +22,6 @@ pub record StandsBehind (script : Script) (came : List ℕ) (k : KCarrier) : Typ
   pub standing : k.standing ≡ standing_behind came
   pub counts : CountsUnits k.counts (units_in (parts_of_sent came))
   pub closed : k.closed ≡ is_closed_by script k.side came
-
--- what is given of octets, where these came before them: all loads that they bring
-abbrev pub loads_behind : Script → Side → (came more : List ℕ) → List Load
-loads_behind script side came more = loads_from script.lines side (units_in (parts_of_sent came)) (parts_from (standing_behind came) more)
 
 -- octets are taken behind those that came: the carrier stands behind them too, what is given of all grows by what is given of these, and it is due
 -- no earlier than what was given before

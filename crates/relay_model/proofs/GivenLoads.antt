@@ -8,9 +8,9 @@ use Rattle.relay_script.specs.declared.script.Script.{Script}
 use Rattle.relay_script.specs.declared.script_line.ScriptLine.{ScriptLine}
 use Rattle.relay_model.specs.Units.{Part, Outside, Whole, Standing, Unbegun, parts_from, standing_from, standing_behind, parts_of_sent, held_in_standing, units_in, octets_in_parts}
 use Rattle.relay_model.specs.Loads.{Load, load_as_it_came, is_same_side, load_by, load_of_unit, behind_load, loads_from, load_changed, line_names}
-use Rattle.relay_model.specs.Carried.{loads_of_sent, octets_of_loads, closes_behind, given_of_sent, is_closed_by, carried}
+use Rattle.relay_model.specs.Carried.{loads_of_sent, octets_of_loads, closes_behind, loads_behind, given_of_sent, is_closed_by, carried}
 use Rattle.relay_model.specs.Losing.{NoneFor}
-use Rattle.relay_model.specs.Laws.{GivenBegins, ClosedStays, PassedIsSent}
+use Rattle.relay_model.specs.Laws.{GivenBegins, LoadsGoOn, ClosedStays, PassedIsSent}
 use Rattle.relay_model.proofs.Cuts.{parts_append, parts_are_sent}
 
 -- ---- loads behind loads
@@ -126,6 +126,36 @@ carried_goes_on script side came more =
 
 pub given_begins : GivenBegins
 given_begins = record { given = given_goes_on; carried = carried_goes_on }
+
+-- ---- going on
+
+more_loads : (script : Script) (side : Side) (came more : List ℕ) → is_closed_by script side came ≡ false
+    → loads_of_sent script side (came ++ more) ≡ loads_of_sent script side came ++ loads_behind script side came more
+unfolding is_closed_by loads_behind
+more_loads script side came more f =
+    sent_append script side came more
+    ∙ unclosed_joined (loads_of_sent script side came) (loads_from script.lines side (units_in (parts_of_sent came)) (parts_from (standing_behind came) more)) f
+
+closes_append : (front back : List Load) → closes_behind front ≡ false → closes_behind (front ++ back) ≡ closes_behind back
+closes_append [] back f = refl
+closes_append (x ∷ front) back f =
+    let both = or_parts x.closes (closes_behind front) f in
+    rw both.0 (closes_append front back both.1)
+
+more_given : (script : Script) (side : Side) (came more : List ℕ) → is_closed_by script side came ≡ false
+    → given_of_sent script side (came ++ more) ≡ given_of_sent script side came ++ octets_of_loads (loads_behind script side came more)
+unfolding given_of_sent
+more_given script side came more f =
+    ap octets_of_loads (more_loads script side came more f) ∙ octets_append (loads_of_sent script side came) (loads_behind script side came more)
+
+more_closed : (script : Script) (side : Side) (came more : List ℕ) → is_closed_by script side came ≡ false
+    → is_closed_by script side (came ++ more) ≡ closes_behind (loads_behind script side came more)
+unfolding is_closed_by
+more_closed script side came more f =
+    ap closes_behind (more_loads script side came more f) ∙ closes_append (loads_of_sent script side came) (loads_behind script side came more) f
+
+pub loads_go_on : LoadsGoOn
+loads_go_on = record { given = more_given; closed = more_closed }
 
 -- ---- closed
 

@@ -3,14 +3,18 @@ use Rattle.std.specs.Prelude.{ℕ, ◌+◌, ◌||◌, nat_lt, Bool, if◌then◌
 use Rattle.std.specs.List.{flat_map, list_any}
 use Rattle.er_base.specs.declared.side.Side.{Side}
 use Rattle.relay_script.specs.declared.script.Script.{Script}
-use Rattle.relay_model.specs.Units.{parts_of_sent, standing_behind, held_in_standing}
+use Rattle.relay_model.specs.Units.{parts_from, parts_of_sent, standing_behind, held_in_standing, units_in}
 use Rattle.relay_model.specs.Loads.{Load, loads_from}
 
 -- all that is given of what came so far, in order
 unfoldable pub loads_of_sent : Script → Side → (came : List ℕ) → List Load
 loads_of_sent script side came = loads_from script.lines side [] (parts_of_sent came)
 
--- its octets
+-- what is given of more octets, where these came before them and the connection is not closed
+unfoldable pub loads_behind : Script → Side → (came more : List ℕ) → List Load
+loads_behind script side came more = loads_from script.lines side (units_in (parts_of_sent came)) (parts_from (standing_behind came) more)
+
+-- the octets of loads
 unfoldable pub octets_of_loads : List Load → List ℕ
 octets_of_loads loads = flat_map (λ load. load.octets) loads
 

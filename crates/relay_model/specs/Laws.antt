@@ -7,7 +7,7 @@ use Rattle.hdlc_frames.specs.Framing.{Verdict, frames_of}
 use Rattle.relay_script.specs.declared.script.Script.{Script}
 use Rattle.relay_model.specs.Units.{Part, Whole, Standing, Holding, standing_from, parts_from, standing_behind, parts_of_sent, held_in_standing, octets_in_parts, units_in}
 use Rattle.relay_model.specs.UnitKinds.{found_in}
-use Rattle.relay_model.specs.Carried.{given_of_sent, is_closed_by, carried}
+use Rattle.relay_model.specs.Carried.{octets_of_loads, closes_behind, loads_behind, given_of_sent, is_closed_by, carried}
 use Rattle.relay_model.specs.Losing.{LosesAndRepeats, LoseOnly, NoneFor}
 
 -- ---- units
@@ -17,11 +17,9 @@ abbrev pub PartsAreSent : Type 0
 PartsAreSent = (came : List ℕ) → octets_in_parts (parts_of_sent came) ++ held_in_standing (standing_behind came) ≡ came
 
 -- the cut into units goes on from where the side stands: how octets were read changes nothing
-abbrev pub UnitsGoOn : Type 0
-UnitsGoOn =
-    (came more : List ℕ)
-    → (parts_of_sent (came ++ more) ≡ parts_of_sent came ++ parts_from (standing_behind came) more)
-    × (standing_behind (came ++ more) ≡ standing_from (standing_behind came) more)
+pub record UnitsGoOn : Type 0 where
+  pub parts : (came more : List ℕ) → parts_of_sent (came ++ more) ≡ parts_of_sent came ++ parts_from (standing_behind came) more
+  pub standing : (came more : List ℕ) → standing_behind (came ++ more) ≡ standing_from (standing_behind came) more
 
 -- an octet closes one frame of all that came, and it is the one that is found in a unit
 pub record EndsInFrame (came : List ℕ) (octet : ℕ) (unit : List ℕ) : Type 0 where
@@ -51,6 +49,13 @@ UnitsAreShort =
 pub record GivenBegins : Type 0 where
   pub given : (script : Script) (side : Side) (came more : List ℕ) → Begins (given_of_sent script side came) (given_of_sent script side (came ++ more))
   pub carried : (script : Script) (side : Side) (came more : List ℕ) → Begins (given_of_sent script side came) (carried script side (came ++ more))
+
+-- what is given goes on from where the side stands and the units that came, where no line has closed the connection
+pub record LoadsGoOn : Type 0 where
+  pub given : (script : Script) (side : Side) (came more : List ℕ) → is_closed_by script side came ≡ false
+      → given_of_sent script side (came ++ more) ≡ given_of_sent script side came ++ octets_of_loads (loads_behind script side came more)
+  pub closed : (script : Script) (side : Side) (came more : List ℕ) → is_closed_by script side came ≡ false
+      → is_closed_by script side (came ++ more) ≡ closes_behind (loads_behind script side came more)
 
 -- behind a close nothing is given
 abbrev pub ClosedStays : Type 0

@@ -1,6 +1,6 @@
 //! The laws of what a relay carries, each as a function of which its contract is the statement: they run nothing.
 
-ghost use Rattle.relay_model.specs.Laws.{PartsAreSent, UnitsGoOn, UnitsEndInFrames, FramesEndUnits, UnitsAreShort, GivenBegins, ClosedStays, PassedIsSent, LosingLine};
+ghost use Rattle.relay_model.specs.Laws.{PartsAreSent, UnitsGoOn, UnitsEndInFrames, FramesEndUnits, UnitsAreShort, GivenBegins, LoadsGoOn, ClosedStays, PassedIsSent, LosingLine};
 
 use hdlc_frames::laws::flag_parts;
 
@@ -39,6 +39,11 @@ pub fn units_are_short()
 /// What is given of a beginning is never taken back. Refuses that a line names a unit by what comes behind it.
 pub fn given_begins()
     ensures { GivenBegins }
+{}
+
+/// What is given goes on from where the side stands and the units that came. Refuses that units are counted from the newest read.
+pub fn loads_go_on()
+    ensures { LoadsGoOn }
 {}
 
 /// Behind a close nothing is given. Refuses that octets which are held are given behind a close.
