@@ -1,5 +1,5 @@
 -- Octets cut one behind another, and runs of octets of no unit.
-use Rattle.std.proofs.Common.{arith, ◌≡◌, ℕ, zero, suc, ◌+◌, ◌<◌, ◌≤◌, ◌==◌, ◌&&◌, nat_lt, Bool, true, false, not, List, [], ◌∷◌, ◌++◌, length, take, get_or, refl, ap, sym, ◌∙◌, append_assoc, append-nil, inl, inr, if◌then◌else◌}
+use Rattle.std.proofs.Common.{arith, ◌≡◌, ℕ, zero, suc, ◌+◌, ◌<◌, ◌≤◌, ◌==◌, ◌&&◌, nat_lt, Bool, true, false, not, List, [], ◌∷◌, ◌++◌, length, take, get_or, refl, ap, subst, add-one, sym, ◌∙◌, append_assoc, append-nil, inl, inr, if◌then◌else◌}
 use Rattle.std.proofs.lemmas.Bool.{cases_Bool, eq-eqb}
 use Rattle.std.proofs.lemmas.List.{take_more, take_all}
 use Rattle.std.specs.List.{All, flat_map}
@@ -69,7 +69,13 @@ pub record PassesTo (s : Standing) (octets : List ℕ) (next : Standing) : Type 
   pub octets_are : octets_in_parts (parts_from s octets) ≡ octets
 
 abbrev pub ArePlain : List ℕ → Type 0
-ArePlain octets = All (λ octet. (octet == flag) ≡ false) octets
+ArePlain [] = Unit {0}
+ArePlain (x ∷ octets) = ((x == flag) ≡ false) × ArePlain octets
+
+-- by the octets at their places
+pub plain_by_places : (octets : List ℕ) → ((k : ℕ) → k < length octets → (get_or octets k 0 == flag) ≡ false) → ArePlain octets
+plain_by_places [] h = tt
+plain_by_places (x ∷ octets) h = (h 0 (omega arith), plain_by_places octets (λ k inside. subst (λ (n : ℕ). (get_or (x ∷ octets) n 0 == flag) ≡ false) (add-one k) (h (k + 1) (omega (arith, inside)))))
 
 passes_none : (s : Standing) → PassesTo s [] s
 unfolding standing_from parts_from octets_in_parts

@@ -1,6 +1,7 @@
 -- The frames of all that came, by where a side stands.
 use Rattle.std.proofs.Common.{arith, ◌≡◌, ◌≢◌, ℕ, ◌+◌, ◌<◌, ◌≤◌, ◌==◌, nat_lt, ◌&&◌, Bool, true, false, not, List, [], ◌∷◌, ◌++◌, length, Option, None, Some, refl, ap, subst, sym, ◌∙◌, append_assoc, append-nil, inl, inr, if◌then◌else◌, length-append}
 use Rattle.std.proofs.lemmas.Bool.{cases_Bool, eqb-true, and_parts}
+use Rattle.std.proofs.lemmas.List.Elements.{All-nil, All-cons, All-append}
 use Rattle.std.specs.List.{All}
 use Rattle.hdlc_frames.specs.Framing.{flag, Verdict, verdict_on, frames_of}
 use Rattle.hdlc_frames.specs.Laws.{FlagParts}
@@ -155,24 +156,23 @@ frames_end_units parts came octet held begun stands closes =
 
 -- ---- units are short
 
-abbrev Short : List (List ℕ) → Type 0
-Short units = All (λ (unit : List ℕ). length unit ≤ 4096) units
+abbrev IsShort : List ℕ → Type 0
+IsShort unit = length unit ≤ 4096
 
-short_append : (a b : List (List ℕ)) → Short a → Short b → Short (a ++ b)
-short_append [] b h k = k
-short_append (x ∷ a) b h k = (h.0, short_append a b h.1 k)
+abbrev Short : List (List ℕ) → Type 0
+Short units = All IsShort units
 
 none_short : Short (units_in [])
 unfolding units_in
-none_short = tt
+none_short = All-nil IsShort
 
 outside_short : (octets : List ℕ) → Short (units_in (Outside octets ∷ []))
 unfolding units_in
-outside_short octets = tt
+outside_short octets = All-nil IsShort
 
 unit_short : (unit : List ℕ) → length unit ≤ 4096 → Short (units_in (Whole unit ∷ []))
 unfolding units_in
-unit_short unit h = (h, tt)
+unit_short unit h = All-cons IsShort unit [] h (All-nil IsShort)
 
 held_short : (held : List ℕ) (begun : Bool) → Short (units_in (held_or_passed held begun).parts)
 held_short held begun =
@@ -199,7 +199,7 @@ unfolding parts_from
 all_short parts s [] w = none_short
 all_short parts s (x ∷ came) w =
     rw (units_append (unit_turn s x).parts (parts_from (unit_turn s x).next came))
-    (short_append (units_in (unit_turn s x).parts) (units_in (parts_from (unit_turn s x).next came)) (turn_short s x w)
+    (All-append IsShort (units_in (unit_turn s x).parts) (units_in (parts_from (unit_turn s x).next came)) (turn_short s x w)
     (all_short parts (unit_turn s x).next came (turn_well parts s x w)))
 
 few_held : (s : Standing) → StandsWell s → length (held_in_standing s) ≤ 4095

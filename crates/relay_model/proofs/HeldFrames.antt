@@ -1,6 +1,7 @@
 -- Octets that are held: flags, and then octets of one frame that is not closed.
 use Rattle.std.proofs.Common.{arith, ◌≡◌, ◌≢◌, ℕ, ◌+◌, ◌<◌, ◌≤◌, ◌==◌, nat_lt, ◌&&◌, Bool, true, false, not, List, [], ◌∷◌, ◌++◌, length, refl, ap, sym, ◌∙◌, append_assoc, append-nil, inl, inr, if◌then◌else◌, length-append}
 use Rattle.std.proofs.lemmas.Bool.{cases_Bool, eqb-true, ltb-true, true≢false}
+use Rattle.std.proofs.lemmas.List.Elements.{All-nil, All-cons}
 use Rattle.std.proofs.lemmas.List.Splits.{slice_split_none, slice_split_at}
 use Rattle.std.specs.List.{All}
 use Rattle.hdlc_frames.specs.Framing.{flag, Verdict, verdict_on, has_octets, cut, all_but_last, between_flags, frames_of}
@@ -9,7 +10,15 @@ use Rattle.relay_model.specs.Units.{Standing, Unbegun, Holding, Overlong, held_o
 
 -- no octet is a flag
 abbrev pub ArePlain : List ℕ → Type 0
-ArePlain octets = All (λ octet. (octet == flag) ≡ false) octets
+ArePlain [] = Unit {0}
+ArePlain (x ∷ octets) = ((x == flag) ≡ false) × ArePlain octets
+
+abbrev IsPlain : ℕ → Type 0
+IsPlain octet = (octet == flag) ≡ false
+
+plain_all : (octets : List ℕ) → ArePlain octets → All IsPlain octets
+plain_all [] h = All-nil IsPlain
+plain_all (x ∷ octets) h = All-cons IsPlain x octets h.0 (plain_all octets h.1)
 
 pub plain_more : (octets : List ℕ) (x : ℕ) → ArePlain octets → (x == flag) ≡ false → ArePlain (octets ++ x ∷ [])
 plain_more [] x h f = (f, tt)
@@ -19,19 +28,19 @@ plain_more (y ∷ octets) x h f = (h.0, plain_more octets x h.1 f)
 
 pub no_frame_before : (octets : List ℕ) → ArePlain octets → frames_of octets ≡ []
 unfolding frames_of between_flags all_but_last cut
-no_frame_before octets plain = rw (slice_split_none (λ (octet : ℕ). octet == flag) octets plain) refl
+no_frame_before octets plain = rw (slice_split_none (λ (octet : ℕ). octet == flag) octets (plain_all octets plain)) refl
 
 pub no_frame_at : (octets : List ℕ) → ArePlain octets → frames_of (octets ++ flag ∷ []) ≡ []
 unfolding frames_of between_flags all_but_last cut
-no_frame_at octets plain = rw (slice_split_at (λ (octet : ℕ). octet == flag) octets flag [] plain refl) refl
+no_frame_at octets plain = rw (slice_split_at (λ (octet : ℕ). octet == flag) octets flag [] (plain_all octets plain) refl) refl
 
 no_frame_behind : (octets : List ℕ) → ArePlain octets → frames_of (flag ∷ octets) ≡ []
 unfolding frames_of between_flags all_but_last cut
-no_frame_behind octets plain = rw (slice_split_none (λ (octet : ℕ). octet == flag) octets plain) refl
+no_frame_behind octets plain = rw (slice_split_none (λ (octet : ℕ). octet == flag) octets (plain_all octets plain)) refl
 
 one_frame : (octets : List ℕ) → ArePlain octets → has_octets octets ≡ true → frames_of (flag ∷ octets ++ flag ∷ []) ≡ verdict_on octets ∷ []
 unfolding frames_of between_flags all_but_last cut
-one_frame octets plain some = rw (slice_split_at (λ (octet : ℕ). octet == flag) octets flag [] plain refl, some) refl
+one_frame octets plain some = rw (slice_split_at (λ (octet : ℕ). octet == flag) octets flag [] (plain_all octets plain) refl, some) refl
 
 one_flag : frames_of (flag ∷ []) ≡ []
 unfolding frames_of between_flags all_but_last cut
