@@ -1,5 +1,5 @@
 -- The lines so far, before what those that are left say.
-use Rattle.std.proofs.Common.{◌≡◌, ℕ, List, [], ◌∷◌, ◌++◌, Result, Ok, Err, refl, ap, sym, ◌∙◌, append_assoc, append-nil}
+use Rattle.std.proofs.Common.{◌≡◌, List, [], ◌∷◌, ◌++◌, Result, Ok, Err, refl, ap, sym, ◌∙◌, append_assoc, append-nil}
 use Rattle.er_base.specs.declared.why.Why.{Why}
 use Rattle.er_base.specs.declared.line_fault.LineFault.{LineFault}
 use Rattle.er_base.specs.declared.line_fault.LineFault.TheVariants as line

@@ -1,6 +1,6 @@
 -- One line more, a line that is refused, and the end of the text, by the lemmas on what lines say.
-use Rattle.std.proofs.Common.{sym, ◌∙◌, ap, arith}
-use Rattle.relay_script.proofs.ScriptLines.{one_line, none_left, refused_answers, ranged_more, behind}
+use Rattle.std.proofs.Common.{sym, ◌∙◌, arith}
+use Rattle.relay_script.proofs.ScriptLines.{one_line, none_left, refused_answers, ranged_more}
 use Rattle.relay_script.proofs.KeptLines.{said_by_kept, refused_by_kept}
 use Rattle.relay_script.proofs.reader.read_behind.Goals as goal
 
