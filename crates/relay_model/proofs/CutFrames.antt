@@ -1,15 +1,15 @@
 -- The frames of all that came, by where a side stands.
-use Rattle.std.proofs.Common.{arith, ◌≡◌, ◌≢◌, ℕ, ◌+◌, ◌<◌, ◌≤◌, ◌==◌, nat_lt, ◌&&◌, Bool, true, false, not, List, [], ◌∷◌, ◌++◌, length, Option, None, Some, refl, ap, subst, sym, ◌∙◌, append_assoc, append-nil, inl, inr, if◌then◌else◌, length-append}
+use Rattle.std.proofs.Common.{arith, ◌≡◌, ◌≢◌, ℕ, ◌≤◌, ◌==◌, nat_lt, ◌&&◌, Bool, true, false, not, List, [], ◌∷◌, ◌++◌, length, Some, refl, ap, subst, sym, ◌∙◌, append_assoc, append-nil, inl, inr, length-append}
 use Rattle.std.proofs.lemmas.Bool.{cases_Bool, eqb-true, and_parts}
 use Rattle.std.proofs.lemmas.List.Elements.{All-nil, All-cons, All-append}
 use Rattle.std.specs.List.{All}
 use Rattle.hdlc_frames.specs.Framing.{flag, Verdict, verdict_on, frames_of}
 use Rattle.hdlc_frames.specs.Laws.{FlagParts}
-use Rattle.relay_model.specs.Units.{Part, Outside, Whole, Standing, Unbegun, Holding, Overlong, held_or_passed, unit_turn, standing_from, parts_from, standing_behind, parts_of_sent, held_in_standing, units_in}
+use Rattle.relay_model.specs.Units.{Outside, Whole, Standing, Unbegun, Holding, Overlong, held_or_passed, unit_turn, standing_from, parts_from, standing_behind, held_in_standing, units_in}
 use Rattle.relay_model.specs.UnitKinds.{found_in}
 use Rattle.relay_model.specs.Laws.{EndsInFrame, UnitsEndInFrames, FramesEndUnits, UnitsAreShort}
-use Rattle.relay_model.proofs.Cuts.{parts_one, turn_ends, turn_goes_on, units_append}
-use Rattle.relay_model.proofs.HeldFrames.{ArePlain, plain_more, flag_cuts, flag_twice, HeldShape, shape_more, held_frames, unit_frames, HeldWell, StandsWell, turn_well, stands_well}
+use Rattle.relay_model.proofs.Cuts.{parts_one, turn_ends, units_append}
+use Rattle.relay_model.proofs.HeldFrames.{ArePlain, plain_more, flag_cuts, flag_twice, HeldShape, shape_more, held_frames, unit_frames, StandsWell, turn_well, stands_well}
 
 -- what the frames of more octets are, behind those that came
 abbrev pub FramesSplit : (came : List ℕ) → Standing → Type 0

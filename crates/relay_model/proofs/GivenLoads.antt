@@ -1,13 +1,13 @@
 -- What is given of parts, one behind another.
-use Rattle.std.proofs.Common.{◌≡◌, ℕ, ◌==◌, ◌&&◌, ◌||◌, Bool, true, false, List, [], ◌∷◌, ◌++◌, refl, ap, sym, ◌∙◌, append_assoc, append-nil, inl, inr, if◌then◌else◌}
+use Rattle.std.proofs.Common.{◌≡◌, ℕ, true, false, List, [], ◌∷◌, ◌++◌, refl, ap, sym, ◌∙◌, append_assoc, append-nil, inl, inr, if◌then◌else◌}
 use Rattle.std.proofs.lemmas.Bool.{cases_Bool, false_from_ne_true, or_parts}
-use Rattle.std.specs.List.{flat_map, list_any}
+use Rattle.std.specs.List.{flat_map}
 use Rattle.er_base.specs.declared.side.Side.{Side}
 use Rattle.er_base.specs.Printing.{Begins}
 use Rattle.relay_script.specs.declared.script.Script.{Script}
 use Rattle.relay_script.specs.declared.script_line.ScriptLine.{ScriptLine}
-use Rattle.relay_model.specs.Units.{Part, Outside, Whole, Standing, Unbegun, parts_from, standing_from, standing_behind, parts_of_sent, held_in_standing, units_in, octets_in_parts}
-use Rattle.relay_model.specs.Loads.{Load, load_as_it_came, is_same_side, load_by, load_of_unit, behind_load, loads_from, load_changed, line_names}
+use Rattle.relay_model.specs.Units.{Part, Outside, Whole, Unbegun, parts_from, standing_behind, parts_of_sent, held_in_standing, units_in, octets_in_parts}
+use Rattle.relay_model.specs.Loads.{Load, load_as_it_came, is_same_side, load_by, load_of_unit, behind_load, loads_from, line_names}
 use Rattle.relay_model.specs.Carried.{loads_of_sent, octets_of_loads, closes_behind, loads_behind, given_of_sent, is_closed_by, carried}
 use Rattle.relay_model.specs.Losing.{NoneFor}
 use Rattle.relay_model.specs.Laws.{GivenBegins, LoadsGoOn, ClosedStays, PassedIsSent}

@@ -1,5 +1,5 @@
 -- Lists of which some elements are left out and some repeated.
-use Rattle.std.proofs.Common.{◌≡◌, ℕ, ◌+◌, List, [], ◌∷◌, ◌++◌, replicate, refl, ap, sym, ◌∙◌, append_assoc, append-nil}
+use Rattle.std.proofs.Common.{ℕ, List, [], ◌∷◌, ◌++◌, replicate, refl, ap, sym, ◌∙◌, append_assoc, append-nil}
 use Rattle.relay_model.specs.Losing.{LosesAndRepeats}
 
 pub lossy_same : {A : Type 0} (xs : List A) → LosesAndRepeats xs xs

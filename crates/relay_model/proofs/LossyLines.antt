@@ -1,5 +1,5 @@
 -- Lines that lose, repeat and delay: the frames found on the other side, by where a side stands.
-use Rattle.std.proofs.Common.{arith, ◌≡◌, ℕ, ◌+◌, ◌==◌, nat_lt, ◌&&◌, Bool, true, false, not, List, [], ◌∷◌, ◌++◌, length, replicate, refl, ap, subst, sym, ◌∙◌, append_assoc, append-nil, inl, inr, if◌then◌else◌}
+use Rattle.std.proofs.Common.{◌≡◌, ℕ, ◌+◌, ◌==◌, nat_lt, ◌&&◌, Bool, true, false, not, List, [], ◌∷◌, ◌++◌, length, replicate, refl, ap, subst, sym, ◌∙◌, append_assoc, append-nil, inl, inr}
 use Rattle.std.proofs.lemmas.Bool.{cases_Bool, eqb-true, and_parts}
 use Rattle.std.proofs.lemmas.List.{replicate_more}
 use Rattle.er_base.specs.declared.side.Side.{Side}
@@ -9,12 +9,12 @@ use Rattle.relay_script.specs.declared.change.Change.{Change}
 use Rattle.relay_script.specs.declared.change.Change.TheVariants.{Lose, Repeat, Alter, Put, Delay, Close}
 use Rattle.relay_script.specs.declared.script.Script.{Script}
 use Rattle.relay_script.specs.declared.script_line.ScriptLine.{ScriptLine}
-use Rattle.relay_model.specs.Units.{Part, Outside, Whole, Standing, Unbegun, Holding, Overlong, UnitTurn, turn_to, held_or_passed, unit_turn, standing_from, parts_from, standing_behind, parts_of_sent, held_in_standing, units_in}
-use Rattle.relay_model.specs.Loads.{Load, load_as_it_came, load_changed, is_same_side, line_names, load_by, load_of_unit, behind_load, loads_from}
-use Rattle.relay_model.specs.Carried.{loads_of_sent, octets_of_loads, closes_behind, given_of_sent, is_closed_by, carried}
+use Rattle.relay_model.specs.Units.{Outside, Whole, Standing, Unbegun, Holding, Overlong, UnitTurn, turn_to, held_or_passed, unit_turn, standing_from, parts_from, parts_of_sent, held_in_standing, units_in}
+use Rattle.relay_model.specs.Loads.{Load, load_as_it_came, load_changed, is_same_side, line_names, load_by, load_of_unit, loads_from}
+use Rattle.relay_model.specs.Carried.{loads_of_sent, octets_of_loads, closes_behind, given_of_sent, is_closed_by}
 use Rattle.relay_model.specs.Losing.{LosesAndRepeats, IsLosingChange, LoseOnly}
 use Rattle.relay_model.specs.Laws.{LosingLine}
-use Rattle.relay_model.proofs.HeldFrames.{ArePlain, plain_more, no_frame_before, no_frame_at, flag_alone, flag_cuts, flag_twice, HeldShape, shape_flag, shape_none, shape_more, held_frames, unit_frames, HeldWell, StandsWell, turn_well}
+use Rattle.relay_model.proofs.HeldFrames.{ArePlain, no_frame_before, no_frame_at, flag_alone, flag_cuts, flag_twice, HeldShape, held_frames, unit_frames, StandsWell, turn_well}
 use Rattle.relay_model.proofs.CutFrames.{FramesSplit, held_closes_none, split_more, split_turn}
 use Rattle.relay_model.proofs.GivenLoads.{loads_append, octets_append, unclosed_joined, unclosed_append, other_line, unclosed_carried}
 use Rattle.relay_model.proofs.Lossy.{lossy_same, lossy_join, lossy_times}

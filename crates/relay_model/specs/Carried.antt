@@ -1,5 +1,5 @@
 -- What a relay carries from one side of a connection to the other (this profile): a function of the script and of what came from that side.
-use Rattle.std.specs.Prelude.{ℕ, ◌+◌, ◌||◌, nat_lt, Bool, if◌then◌else◌, List, [], ◌++◌}
+use Rattle.std.specs.Prelude.{ℕ, ◌+◌, nat_lt, Bool, if◌then◌else◌, List, [], ◌++◌}
 use Rattle.std.specs.List.{flat_map, list_any}
 use Rattle.er_base.specs.declared.side.Side.{Side}
 use Rattle.relay_script.specs.declared.script.Script.{Script}

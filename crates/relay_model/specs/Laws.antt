@@ -1,11 +1,11 @@
 -- The public laws of what a relay carries. Each is proved as a function of the module `laws`.
-use Rattle.std.specs.Prelude.{◌≡◌, ◌≢◌, ℕ, ◌≤◌, Bool, true, false, List, [], ◌∷◌, ◌++◌, length, Option, Some}
+use Rattle.std.specs.Prelude.{◌≡◌, ◌≢◌, ℕ, ◌≤◌, Bool, true, false, List, [], ◌∷◌, ◌++◌, length, Some}
 use Rattle.std.specs.List.{All}
 use Rattle.er_base.specs.declared.side.Side.{Side}
 use Rattle.er_base.specs.Printing.{Begins}
 use Rattle.hdlc_frames.specs.Framing.{Verdict, frames_of}
 use Rattle.relay_script.specs.declared.script.Script.{Script}
-use Rattle.relay_model.specs.Units.{Part, Whole, Standing, Holding, standing_from, parts_from, standing_behind, parts_of_sent, held_in_standing, octets_in_parts, units_in}
+use Rattle.relay_model.specs.Units.{Whole, Holding, standing_from, parts_from, standing_behind, parts_of_sent, held_in_standing, octets_in_parts, units_in}
 use Rattle.relay_model.specs.UnitKinds.{found_in}
 use Rattle.relay_model.specs.Carried.{octets_of_loads, closes_behind, loads_behind, given_of_sent, is_closed_by, carried}
 use Rattle.relay_model.specs.Losing.{LosesAndRepeats, LoseOnly, NoneFor}

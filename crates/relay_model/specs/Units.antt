@@ -1,6 +1,6 @@
 -- The units of what a side of a relayed connection sends, and what lies outside units (this profile). Frames are closed by flags, as those of
 -- ISO/IEC 13239 are.
-use Rattle.std.specs.Prelude.{ℕ, ◌==◌, nat_lt, ◌&&◌, Bool, true, false, not, if◌then◌else◌, List, [], ◌∷◌, ◌++◌, length}
+use Rattle.std.specs.Prelude.{ℕ, ◌==◌, nat_lt, ◌&&◌, Bool, false, not, if◌then◌else◌, List, [], ◌∷◌, ◌++◌, length}
 use Rattle.std.specs.List.{flat_map}
 use Rattle.hdlc_frames.specs.Framing.{flag}
 
