@@ -1,7 +1,8 @@
 -- Octets cut one behind another, and runs of octets of no unit.
 use Rattle.std.proofs.Common.{arith, ◌≡◌, ℕ, zero, suc, ◌+◌, ◌<◌, ◌≤◌, ◌==◌, ◌&&◌, nat_lt, Bool, true, false, not, List, [], ◌∷◌, ◌++◌, length, take, get_or, refl, ap, subst, add-one, sym, ◌∙◌, append_assoc, append-nil, inl, inr, if◌then◌else◌}
-use Rattle.std.proofs.lemmas.Bool.{cases_Bool, eq-eqb}
-use Rattle.std.proofs.lemmas.List.{take_more, take_all}
+use Rattle.std.proofs.lemmas.Bool.{cases_Bool, eqb-true, false_from_ne_true}
+use Rattle.std.proofs.lemmas.List.{take_more, length-take-le, get_or-take}
+use Rattle.memchr.specs.Find.{Nowhere, Passes, is_byte}
 use Rattle.std.specs.List.{All, flat_map}
 use Rattle.hdlc_frames.specs.Framing.{flag}
 use Rattle.relay_model.specs.Units.{Part, Outside, Whole, Standing, Unbegun, Holding, Overlong, UnitTurn, turn_to, unit_turn, standing_from, parts_from, octets_in_parts, octets_in_part}
@@ -125,3 +126,36 @@ first_flag_stands octets = refl
 pub first_flag_parts : (octets : List ℕ) → parts_from Unbegun (flag ∷ octets) ≡ parts_from (Holding [] false) (flag ∷ octets)
 unfolding parts_from
 first_flag_parts octets = refl
+
+-- ---- runs that the code finds
+
+plain_until : (octets : List ℕ) (n : ℕ) → n ≤ length octets → Nowhere (Passes (is_byte 0x7e) octets) 0 n → ArePlain (take n octets)
+plain_until octets n inside none =
+    let size : length (take n octets) ≡ n = length-take-le n octets inside in
+    plain_by_places (take n octets)
+    (λ k within.
+    let early : k < n = omega (arith, size, within) in
+    let same : get_or (take n octets) k 0 ≡ get_or octets k 0 = get_or-take n octets k 0 early in
+    rw same (false_from_ne_true (get_or octets k 0 == flag) (none k (omega arith) early)))
+
+pub passes_until : (octets : List ℕ) (n : ℕ) → n ≤ length octets → Nowhere (Passes (is_byte 0x7e) octets) 0 n → PassesTo Unbegun (take n octets) Unbegun
+passes_until octets n inside none = passes_before (take n octets) (plain_until octets n inside none)
+
+pub passes_on_until : (octets : List ℕ) (n : ℕ) → n ≤ length octets → Nowhere (Passes (is_byte 0x7e) octets) 0 n → PassesTo Overlong (take n octets) Overlong
+passes_on_until octets n inside none = passes_on (take n octets) (plain_until octets n inside none)
+
+pub passes_with_flag : (octets : List ℕ) (n : ℕ) → n < length octets → Nowhere (Passes (is_byte 0x7e) octets) 0 n → (get_or octets n 0 == flag) ≡ true
+    → PassesTo Overlong (take (n + 1) octets) (Holding [] false)
+passes_with_flag octets n inside none at =
+    let last : take (n + 1) octets ≡ take n octets ++ flag ∷ [] =
+    take_more octets n 0 inside ∙ ap (λ (x : ℕ). take n octets ++ x ∷ []) (eqb-true (get_or octets n 0) flag at) in
+    rw last (passes_flag (take n octets) (plain_until octets n (omega (arith, inside)) none))
+
+-- the first octet is a flag
+pub first_taken : (octets : List ℕ) (n : ℕ) → 0 < length octets → (get_or octets 0 0 == flag) ≡ true → 0 < n
+    → (standing_from Unbegun (take n octets) ≡ standing_from (Holding [] false) (take n octets))
+    × (parts_from Unbegun (take n octets) ≡ parts_from (Holding [] false) (take n octets))
+first_taken [] n some at moves = absurd (omega (arith, some))
+first_taken (x ∷ octets) zero some at moves = absurd (omega (arith, moves))
+first_taken (x ∷ octets) (suc n) some at moves =
+    rw (eqb-true x flag at) (first_flag_stands (take n octets), first_flag_parts (take n octets))

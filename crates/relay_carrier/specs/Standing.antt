@@ -27,8 +27,8 @@ pub record StandsBehind (script : Script) (came : List ℕ) (k : KCarrier) : Typ
 -- no earlier than what was given before
 pub record TakesOctets (script : Script) (old new : KCarrier) (moment : ℕ) (octets given : List ℕ) (due : ℕ) (came : List ℕ) : Type 0 where
   pub stands : StandsBehind script (came ++ octets) new
-  pub given : given_of_sent script old.side (came ++ octets) ≡ given_of_sent script old.side came ++ given
-  pub due : All (λ load. due ≡ within_64_bits (due_behind old.newest moment load.delay)) (loads_behind script old.side came octets)
+  pub gives : given_of_sent script old.side (came ++ octets) ≡ given_of_sent script old.side came ++ given
+  pub due_is : All (λ load. due ≡ within_64_bits (due_behind old.newest moment load.delay)) (loads_behind script old.side came octets)
 
 abbrev pub Takes : Script → (old new : KCarrier) → (moment : ℕ) → (octets given : List ℕ) → (due : ℕ) → Type 0
 Takes script old new moment octets given due =
@@ -40,9 +40,9 @@ pub record TakesUnitBehind (script : Script) (old new : KCarrier) (moment : ℕ)
   pub standing : new.standing ≡ old.standing
   pub counts : CountsUnits new.counts (units ++ unit ∷ [])
   pub newest : new.newest ≡ due
-  pub given : given ≡ (load_of_unit script.lines old.side units unit).octets
+  pub gives : given ≡ (load_of_unit script.lines old.side units unit).octets
   pub closed : new.closed ≡ (load_of_unit script.lines old.side units unit).closes
-  pub due : due ≡ within_64_bits (due_behind old.newest moment (load_of_unit script.lines old.side units unit).delay)
+  pub due_is : due ≡ within_64_bits (due_behind old.newest moment (load_of_unit script.lines old.side units unit).delay)
 
 abbrev pub TakesUnit : Script → (old new : KCarrier) → (moment : ℕ) → (unit given : List ℕ) → (due : ℕ) → Type 0
 TakesUnit script old new moment unit given due =

@@ -115,23 +115,39 @@ impl Carrier {
         ensures side { OnOk result (self.new.side ≡ self.old.side) }
         ensures capacity { came.new.capacity ≡ 4096 }
     {
+        relay_model::laws::units_go_on();
+        relay_model::laws::loads_go_on();
         came.clear();
         given.clear();
         let most = octets.len().min(MOST_OCTETS);
         let (used, what) = self.cutter.take(&octets[..most], came);
-        let due = match what {
-            Came::Held => self.newest,
+        match what {
+            Came::Held => {
+                let due = self.newest;
+                Ok(Taken {
+                    used,
+                    came: what,
+                    due,
+                })
+            }
             Came::Outside => {
                 given.extend_from_slice(came.held())?;
-                self.due_at(moment, 0)
+                let due = self.due_at(moment, 0);
+                Ok(Taken {
+                    used,
+                    came: what,
+                    due,
+                })
             }
-            Came::Unit => self.unit(alloc, script, moment, came.held(), given)?,
-        };
-        Ok(Taken {
-            used,
-            came: what,
-            due,
-        })
+            Came::Unit => {
+                let due = self.unit(alloc, script, moment, came.held(), given)?;
+                Ok(Taken {
+                    used,
+                    came: what,
+                    due,
+                })
+            }
+        }
     }
 
     // A unit came: `given` is what is given for it.

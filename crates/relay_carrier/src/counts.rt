@@ -31,6 +31,17 @@ fn counted(count: u64, more: bool) -> u64
     if more { count.saturating_add(1) } else { count }
 }
 
+// The counts where a unit more came.
+fn counted_all(counts: &[u64; KIND_COUNT], kinds: &UnitKinds) -> [u64; KIND_COUNT]
+    ensures { (place : ℕ) → place < 20 → slice_index result place ≡ one_more_if (is_at_place place (Any ∷ kinds_but_any kinds.now)) (slice_index counts.now place) }
+{
+    let mut more = [0; KIND_COUNT];
+    'places: for place in 0..KIND_COUNT {
+        more[place] = counted(counts[place], kinds.has_at(place));
+    }
+    more
+}
+
 impl Counts {
     /// No unit came.
     pub fn new() -> Counts
@@ -45,9 +56,7 @@ impl Counts {
     pub fn add(&mut self, kinds: &UnitKinds)
         ensures { (place : ℕ) → place < 20 → slice_index self.new place ≡ one_more_if (is_at_place place (Any ∷ kinds_but_any kinds.now)) (slice_index self.old place) }
     {
-        'places: for place in 0..KIND_COUNT {
-            self.of_kinds[place] = counted(self.of_kinds[place], kinds.has_at(place));
-        }
+        self.of_kinds = counted_all(&self.of_kinds, kinds);
     }
 
     /// How many units of a kind came.

@@ -1,7 +1,7 @@
 //! Cuts what comes from a side into units and other octets.
 
 ghost use Rattle.std.specs.Prelude.{◌≡◌, ◌<◌, ◌≤◌, ◌++◌, true, [], length, take, IfOk};
-ghost use Rattle.relay_carrier.specs.declared.came.Came.TheVariants as came;
+ghost use Rattle.relay_carrier.specs.declared.came.Came.TheVariants as brought;
 ghost use Rattle.relay_model.specs.Units.{Unbegun, Overlong, turn_to, unit_turn, standing_from, parts_from, held_in_standing};
 ghost use Rattle.relay_carrier.specs.Cutting.{is_holding};
 ghost use Rattle.relay_carrier.specs.Told.{parts_told, TellsParts};
@@ -157,8 +157,8 @@ impl Cutter {
         requires room { came.old.capacity ≡ 4096 }
         requires empty { came.old.items ≡ [] }
         ensures turn { unit_turn self.old octet ≡ turn_to self.new (parts_told result came.new.items) }
-        ensures still { result ≡ came.Held → is_holding self.new ≡ true }
-        ensures none { result ≡ came.Held → came.new.items ≡ [] }
+        ensures still { result ≡ brought.Held → is_holding self.new ≡ true }
+        ensures none { result ≡ brought.Held → came.new.items ≡ [] }
         ensures capacity { came.new.capacity ≡ 4096 }
     {
         self.held.put(&[octet]);

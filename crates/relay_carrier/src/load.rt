@@ -1,6 +1,6 @@
 //! What is given for a unit.
 
-ghost use Rattle.std.specs.Prelude.{◌≡◌, ◌++◌, IfOk, OnOk};
+ghost use Rattle.std.specs.Prelude.{◌≡◌, ◌<◌, ◌++◌, IfOk, OnOk};
 ghost use Rattle.relay_model.specs.Loads as model;
 ghost use Rattle.relay_model.specs.Loads.{load_as_it_came, load_changed, with_octet_masked};
 ghost use Rattle.relay_script.specs.ScriptRanges.{IsChangeInRange};

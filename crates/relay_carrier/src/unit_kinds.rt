@@ -3,7 +3,7 @@
 ghost use Rattle.std.specs.Prelude.{◌≡◌, ◌∷◌, [], option_map, slice_get};
 ghost use Rattle.std.specs.Option.{option_to_list};
 ghost use Rattle.hdlc_frames.specs.Framing.{frames_of};
-ghost use Rattle.hdlc_frames.specs.Framing as framing;
+ghost use Rattle.hdlc_frames.specs.ControlOctets.{control_of};
 ghost use Rattle.x224_tpdu.specs.Spellings.{pdu_of};
 ghost use Rattle.relay_model.specs.UnitKinds.{kind_of_pdu, kinds_of_information, kinds_of_control, kinds_of_body, kinds_of_found};
 ghost use Rattle.relay_script.specs.declared.unit_kind.UnitKind.TheVariants.{Any};
@@ -49,43 +49,41 @@ fn kind_in_block(information: &[u8]) -> Option<UnitKind>
     }
 }
 
-// The kind of a control that carries no information for a unit.
-fn kind_of_control(control: Control) -> UnitKind {
-    match control {
-        Control::Info { .. } => UnitKind::Info,
-        Control::Rr { .. } => UnitKind::Rr,
-        Control::Rnr { .. } => UnitKind::Rnr,
-        Control::Rej { .. } => UnitKind::Rej,
-        Control::Srej { .. } => UnitKind::Srej,
-        Control::Sabm { .. } => UnitKind::Sabm,
-        Control::Sabme { .. } => UnitKind::Other,
-        Control::Disc { .. } => UnitKind::Disc,
-        Control::Ua => UnitKind::Ua,
-        Control::Dm => UnitKind::Dm,
-        Control::Frmr => UnitKind::Frmr,
-    }
-}
-
 fn alone(link: UnitKind) -> UnitKinds
     ensures { kinds_but_any result ≡ link ∷ [] }
 {
     UnitKinds { link, tpdu: None }
 }
 
+// The kinds of a control and the information behind it.
+fn kinds_of_control(control: Control, information: &[u8]) -> UnitKinds
+    ensures { kinds_but_any result ≡ kinds_of_control control information.now }
+{
+    match control {
+        Control::Info { .. } => UnitKinds {
+            link: UnitKind::Info,
+            tpdu: kind_in_block(information),
+        },
+        Control::Rr { .. } => alone(UnitKind::Rr),
+        Control::Rnr { .. } => alone(UnitKind::Rnr),
+        Control::Rej { .. } => alone(UnitKind::Rej),
+        Control::Srej { .. } => alone(UnitKind::Srej),
+        Control::Sabm { .. } => alone(UnitKind::Sabm),
+        Control::Sabme { .. } => alone(UnitKind::Other),
+        Control::Disc { .. } => alone(UnitKind::Disc),
+        Control::Ua => alone(UnitKind::Ua),
+        Control::Dm => alone(UnitKind::Dm),
+        Control::Frmr => alone(UnitKind::Frmr),
+    }
+}
+
 // The kinds of a frame by its body.
 fn kinds_of_body(body: &[u8]) -> UnitKinds
-    ensures { kinds_but_any result ≡ kinds_of_found (Some (framing.Frame 0 body.now)) }
+    ensures { kinds_but_any result ≡ kinds_of_body (control_of 8 body.now) }
 {
-    let Some((control, information)) = control(body) else {
-        return alone(UnitKind::Other);
-    };
-    let tpdu = match control {
-        Control::Info { .. } => kind_in_block(information),
-        _ => None,
-    };
-    UnitKinds {
-        link: kind_of_control(control),
-        tpdu,
+    match control(body) {
+        Some((control, information)) => kinds_of_control(control, information),
+        None => alone(UnitKind::Other),
     }
 }
 
