@@ -1,2 +1,5 @@
 mod Turns
 mod Counted
+mod FirstFound
+mod SoFar
+mod Takings

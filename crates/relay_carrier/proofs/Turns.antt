@@ -6,7 +6,9 @@ use Rattle.memchr.specs.Find.{Nowhere, Passes, is_byte}
 use Rattle.std.specs.List.{All, flat_map}
 use Rattle.hdlc_frames.specs.Framing.{flag}
 use Rattle.relay_model.specs.Units.{Part, Outside, Whole, Standing, Unbegun, Holding, Overlong, UnitTurn, turn_to, unit_turn, standing_from, parts_from, octets_in_parts, octets_in_part}
-use Rattle.relay_carrier.specs.Told.{AreOutside}
+use Rattle.relay_carrier.specs.declared.came.Came.{Came}
+use Rattle.relay_carrier.specs.declared.came.Came.TheVariants as brought
+use Rattle.relay_carrier.specs.Told.{AreOutside, parts_told, TellsParts}
 
 pub parts_append : (s : Standing) (came more : List ℕ) → parts_from s (came ++ more) ≡ parts_from s came ++ parts_from (standing_from s came) more
 unfolding parts_from standing_from
@@ -159,3 +161,12 @@ first_taken [] n some at moves = absurd (omega (arith, some))
 first_taken (x ∷ octets) zero some at moves = absurd (omega (arith, moves))
 first_taken (x ∷ octets) (suc n) some at moves =
     rw (eqb-true x flag at) (first_flag_stands (take n octets), first_flag_parts (take n octets))
+
+-- ---- what the code tells of one octet, it tells of all
+
+pub tells_told : (what : Came) (octets : List ℕ) (parts : List Part) → (what ≡ brought.Held → octets ≡ []) → parts ≡ parts_told what octets
+    → TellsParts what octets parts
+unfolding octets_in_parts
+tells_told brought.Held octets parts none is = (is, none refl)
+tells_told brought.Outside octets parts none is = rw is (tt, append-nil octets)
+tells_told brought.Unit octets parts none is = is

@@ -1,6 +1,6 @@
 //! Which lines name a unit, and what they make of it.
 
-ghost use Rattle.std.specs.Prelude.{◌≡◌, ◌++◌, ◌∷◌, [], ℕ, List, IfOk};
+ghost use Rattle.std.specs.Prelude.{◌≡◌, ◌++◌, ◌∷◌, [], ℕ, List, IfOk, OnOk};
 ghost use Rattle.relay_script.specs.declared.unit_kind.UnitKind.TheVariants.{Any};
 ghost use Rattle.relay_script.specs.ScriptRanges.{IsLineInRange, IsScriptInRange};
 ghost use Rattle.relay_model.specs.UnitKinds.{kinds_in};
@@ -37,7 +37,7 @@ fn names(line: &ScriptLine, side: Side, kinds: &UnitKinds, counts: &Counts) -> b
     if !kinds.has_at(line.kind.place()) {
         return false;
     }
-    counts.of(line.kind) == u64::from(line.number)
+    counts.of(line.kind) == line.number as u64
 }
 
 // What a line makes of what is given, where it names the unit.

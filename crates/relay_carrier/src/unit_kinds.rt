@@ -3,6 +3,7 @@
 ghost use Rattle.std.specs.Prelude.{◌≡◌, ◌∷◌, [], option_map, slice_get};
 ghost use Rattle.std.specs.Option.{option_to_list};
 ghost use Rattle.hdlc_frames.specs.Framing.{frames_of};
+ghost use Rattle.hdlc_frames.specs.Shown.{verdict_of_octets_found};
 ghost use Rattle.hdlc_frames.specs.ControlOctets.{control_of};
 ghost use Rattle.x224_tpdu.specs.Spellings.{pdu_of};
 ghost use Rattle.relay_model.specs.UnitKinds.{kind_of_pdu, kinds_of_information, kinds_of_control, kinds_of_body, kinds_of_found};
@@ -87,16 +88,28 @@ fn kinds_of_body(body: &[u8]) -> UnitKinds
     }
 }
 
+// The kinds of a unit in which this is found.
+fn kinds_of_found(found: &Option<Found<'_>>) -> UnitKinds
+    ensures { kinds_but_any result ≡ kinds_of_found (option_map verdict_of_octets_found found.now) }
+{
+    match found {
+        Some(Found::Frame(frame)) => kinds_of_body(frame.body),
+        Some(Found::BadFcs) => alone(UnitKind::Bad),
+        Some(Found::TooShort) => alone(UnitKind::Bad),
+        Some(Found::TooLong) => alone(UnitKind::Bad),
+        Some(Found::Aborted) => alone(UnitKind::Bad),
+        None => alone(UnitKind::Bad),
+    }
+}
+
 /// The kinds of a unit, from a flag and the unit behind it.
+#[tactic(auto, using(crate::proofs::FirstFound::first_found))]
 pub fn kinds_of(framed: &[u8]) -> UnitKinds
     ensures { kinds_but_any result ≡ kinds_of_found (slice_get (frames_of framed.now) 0) }
 {
     let mut deframer = Deframer::new();
     let (_, found) = deframer.feed(framed);
-    match found {
-        Some(Found::Frame(frame)) => kinds_of_body(frame.body),
-        _ => alone(UnitKind::Bad),
-    }
+    kinds_of_found(&found)
 }
 
 impl UnitKinds {
