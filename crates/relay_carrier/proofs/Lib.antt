@@ -3,3 +3,4 @@ mod Counted
 mod FirstFound
 mod SoFar
 mod Takings
+mod Takes

@@ -1,5 +1,5 @@
 -- What the lines so far made of a unit.
-use Rattle.std.proofs.Common.{arith, ◌≡◌, ℕ, zero, suc, ◌+◌, ◌<◌, List, [], ◌∷◌, ◌++◌, length, drop, get_or, refl, ap, sym, ◌∙◌, if◌then◌else◌}
+use Rattle.std.proofs.Common.{arith, ◌≡◌, ℕ, zero, suc, ◌+◌, ◌<◌, List, [], ◌∷◌, ◌++◌, length, drop, get_or, refl, ap, subst, sym, ◌∙◌, ◌≤◌, if◌then◌else◌}
 use Rattle.std.proofs.lemmas.List.{drop_more, drop_all}
 use Rattle.er_base.specs.declared.side.Side.{Side}
 use Rattle.relay_script.specs.declared.script_line.ScriptLine.{ScriptLine}
@@ -45,10 +45,10 @@ by_none : (side : Side) (before : List (List ℕ)) (unit : List ℕ) (load : mod
 unfolding load_by
 by_none side before unit load = refl
 
-pub all_applied : (lines : List ScriptLine) (side : Side) (before : List (List ℕ)) (unit : List ℕ) (n : ℕ) (kept : Load) → length lines ≡ n
+pub all_applied : (lines : List ScriptLine) (side : Side) (before : List (List ℕ)) (unit : List ℕ) (n : ℕ) (kept : Load) → length lines ≤ n
     → LoadSoFar lines side before unit n kept → KeepsLoad kept (load_of_unit lines side before unit)
 all_applied lines side before unit n kept end l =
-    let none : drop n lines ≡ [] = drop_all n lines (omega (arith, end)) in
+    let none : drop n lines ≡ [] = drop_all n lines end in
     let is : l.so_far ≡ load_of_unit lines side before unit =
     sym (by_none side before unit l.so_far) ∙ ap (λ (rest : List ScriptLine). load_by rest side before unit l.so_far) (sym none) ∙ l.rest in
     rw (sym is) l.keeps
@@ -57,3 +57,6 @@ pub ranged_at : (lines : List ScriptLine) (n : ℕ) (d : ScriptLine) → AreLine
 ranged_at [] n d h inside = absurd (omega (arith, inside))
 ranged_at (x ∷ lines) zero d h inside = h.0
 ranged_at (x ∷ lines) (suc n) d h inside = ranged_at lines n d h.1 (omega (arith, inside))
+
+pub ranged_is : (lines : List ScriptLine) (n : ℕ) (x : ScriptLine) → AreLinesInRange lines → n < length lines → x ≡ get_or lines n x → IsLineInRange x
+ranged_is lines n x h inside is = subst IsLineInRange (sym is) (ranged_at lines n x h inside)

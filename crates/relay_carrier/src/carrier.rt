@@ -50,6 +50,19 @@ impl Model for Carrier {
     ghost view = { λ c. record { side = c.side; standing = c.cutter; counts = c.counts; closed = c.closed; newest = c.newest } };
 }
 
+// The first octets, at most as many as are cut at once.
+fn at_most(octets: &[u8]) -> &[u8]
+    ensures few { length result.now ≤ 4096 }
+    ensures within { length result.now ≤ length octets.now }
+    ensures some { 0 < length octets.now → 0 < length result.now }
+    ensures begins { (n : ℕ) → n ≤ length result.now → take n result.now ≡ take n octets.now }
+{
+    if octets.len() > MOST_OCTETS {
+        return &octets[..MOST_OCTETS];
+    }
+    octets
+}
+
 impl Carrier {
     /// Nothing came from this side.
     pub fn new(alloc: Global, side: Side) -> Result<Carrier, NoMemory>
@@ -119,8 +132,8 @@ impl Carrier {
         relay_model::laws::loads_go_on();
         came.clear();
         given.clear();
-        let most = octets.len().min(MOST_OCTETS);
-        let (used, what) = self.cutter.take(&octets[..most], came);
+        let piece = at_most(octets);
+        let (used, what) = self.cutter.take(piece, came);
         match what {
             Came::Held => {
                 let due = self.newest;
@@ -162,6 +175,8 @@ impl Carrier {
         requires range { IsScriptInRange script.now }
         requires empty { given.old.items ≡ [] }
         ensures unit { IfOk result (λ due. TakesUnit script.now self.old self.new moment unit.now given.new.items due) }
+        ensures newest { IfOk result (λ due. self.new.newest ≡ due) }
+        ensures side { OnOk result (self.new.side ≡ self.old.side) }
     {
         let mut framed = Vec::new(alloc);
         framed.push(FLAG)?;

@@ -94,20 +94,16 @@ impl Cutter {
         ensures parts { TellsParts result.1 came.new.items (parts_from self.old (take result.0 octets.now)) }
         ensures capacity { came.new.capacity ≡ 4096 }
     {
-        match memchr(FLAG, octets) {
-            Some(0) => {
-                self.stage = Stage::Holding;
-                self.take_held(octets, came)
-            }
-            Some(place) => {
-                came.put(&octets[..place]);
-                (place, Came::Outside)
-            }
-            None => {
-                came.put(octets);
-                (octets.len(), Came::Outside)
-            }
+        let Some(place) = memchr(FLAG, octets) else {
+            came.put(octets);
+            return (octets.len(), Came::Outside);
+        };
+        if place == 0 {
+            self.stage = Stage::Holding;
+            return self.take_held(octets, came);
         }
+        came.put(&octets[..place]);
+        (place, Came::Outside)
     }
 
     // Where octets are held.
