@@ -1,5 +1,5 @@
 -- What the lines so far made of a unit.
-use Rattle.std.proofs.Common.{arith, ◌≡◌, ℕ, zero, suc, ◌+◌, ◌<◌, List, [], ◌∷◌, ◌++◌, length, drop, get_or, refl, ap, subst, sym, ◌∙◌, ◌≤◌, if◌then◌else◌}
+use Rattle.std.proofs.Common.{arith, ◌≡◌, ℕ, zero, suc, ◌+◌, ◌<◌, List, [], ◌∷◌, length, drop, get_or, refl, ap, subst, sym, ◌∙◌, ◌≤◌, if◌then◌else◌}
 use Rattle.std.proofs.lemmas.List.{drop_more, drop_all}
 use Rattle.er_base.specs.declared.side.Side.{Side}
 use Rattle.relay_script.specs.declared.script_line.ScriptLine.{ScriptLine}

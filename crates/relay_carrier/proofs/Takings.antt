@@ -1,13 +1,12 @@
 -- A carrier, by where octets that came lead.
-use Rattle.std.proofs.Common.{arith, ◌≡◌, ℕ, ◌&&◌, Bool, true, false, List, [], ◌∷◌, ◌++◌, length, replicate, refl, ap, sym, ◌∙◌, append-nil, inl, inr, if◌then◌else◌}
+use Rattle.std.proofs.Common.{◌≡◌, ℕ, ◌&&◌, Bool, true, false, List, [], replicate, refl, sym, ◌∙◌}
 use Rattle.er_base.specs.declared.side.Side.{Side}
 use Rattle.relay_script.specs.declared.script.Script.{Script}
 use Rattle.relay_carrier.specs.declared.stage.Stage.{Stage}
 use Rattle.relay_carrier.specs.declared.stage.Stage.TheVariants as stage
-use Rattle.relay_model.specs.Units.{Standing, Unbegun, Holding, Overlong, standing_from, parts_from, units_in, held_in_standing}
+use Rattle.relay_model.specs.Units.{Standing, Unbegun, Overlong, standing_from, parts_from, units_in, held_in_standing}
 use Rattle.relay_model.specs.Loads.{loads_from}
 use Rattle.relay_model.specs.Carried.{loads_of_sent, is_closed_by, carried}
-use Rattle.relay_carrier.specs.Counting.{CountsUnits}
 use Rattle.relay_carrier.specs.Cutting.{standing_kept, HoldsNothing}
 use Rattle.relay_carrier.specs.Standing.{KCarrier, StandsBehind, Ends}
 use Rattle.relay_carrier.proofs.Counted.{counts_none}

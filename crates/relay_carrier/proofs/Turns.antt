@@ -1,11 +1,10 @@
 -- Octets cut one behind another, and runs of octets of no unit.
-use Rattle.std.proofs.Common.{arith, ◌≡◌, ℕ, zero, suc, ◌+◌, ◌<◌, ◌≤◌, ◌==◌, ◌&&◌, nat_lt, Bool, true, false, not, List, [], ◌∷◌, ◌++◌, length, take, get_or, refl, ap, subst, add-one, sym, ◌∙◌, append_assoc, append-nil, inl, inr, if◌then◌else◌}
-use Rattle.std.proofs.lemmas.Bool.{cases_Bool, eqb-true, false_from_ne_true}
+use Rattle.std.proofs.Common.{arith, ◌≡◌, ℕ, zero, suc, ◌+◌, ◌<◌, ◌≤◌, ◌==◌, true, false, List, [], ◌∷◌, ◌++◌, length, take, get_or, refl, ap, subst, add-one, sym, ◌∙◌, append_assoc, append-nil}
+use Rattle.std.proofs.lemmas.Bool.{eqb-true, false_from_ne_true}
 use Rattle.std.proofs.lemmas.List.{take_more, length-take-le, get_or-take}
 use Rattle.memchr.specs.Find.{Nowhere, Passes, is_byte}
-use Rattle.std.specs.List.{All, flat_map}
 use Rattle.hdlc_frames.specs.Framing.{flag}
-use Rattle.relay_model.specs.Units.{Part, Outside, Whole, Standing, Unbegun, Holding, Overlong, UnitTurn, turn_to, unit_turn, standing_from, parts_from, octets_in_parts, octets_in_part}
+use Rattle.relay_model.specs.Units.{Part, Outside, Standing, Unbegun, Holding, Overlong, UnitTurn, turn_to, unit_turn, standing_from, parts_from, octets_in_parts}
 use Rattle.relay_carrier.specs.declared.came.Came.{Came}
 use Rattle.relay_carrier.specs.declared.came.Came.TheVariants as brought
 use Rattle.relay_carrier.specs.Told.{AreOutside, parts_told, TellsParts}

@@ -1,10 +1,10 @@
 -- Contract: a carrier stands where octets that came from its side lead.
-use Rattle.std.specs.Prelude.{◌≡◌, ℕ, ◌≤◌, Bool, false, List, [], ◌∷◌, ◌++◌, take}
+use Rattle.std.specs.Prelude.{◌≡◌, ℕ, Bool, List, [], ◌∷◌, ◌++◌}
 use Rattle.std.specs.List.{All}
 use Rattle.er_base.specs.declared.side.Side.{Side}
 use Rattle.relay_script.specs.declared.script.Script.{Script}
-use Rattle.relay_model.specs.Units.{Standing, parts_from, standing_from, standing_behind, parts_of_sent, held_in_standing, units_in}
-use Rattle.relay_model.specs.Loads.{Load, load_of_unit, loads_from}
+use Rattle.relay_model.specs.Units.{Standing, standing_behind, parts_of_sent, units_in}
+use Rattle.relay_model.specs.Loads.{load_of_unit}
 use Rattle.relay_model.specs.Carried.{loads_behind, given_of_sent, is_closed_by, carried, due_behind}
 use Rattle.relay_carrier.specs.Counting.{within_64_bits, CountsUnits}
 

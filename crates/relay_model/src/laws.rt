@@ -56,8 +56,8 @@ pub fn passed_is_sent()
     ensures { PassedIsSent }
 {}
 
-/// Lines that lose, repeat and delay make a line that only loses and repeats frames. Refuses that a lost unit leaves nothing, by which the frame behind
-/// a shared flag would be lost or joined to another.
+/// Lines that lose, repeat and delay make a line that only loses and repeats frames. Refuses that octets which are too many for a unit are one: where
+/// they are lost, what is left of their frame is found as another.
 pub fn losing_line()
     ensures { LosingLine }
 {

@@ -1,5 +1,5 @@
 -- What is held is given.
-use Rattle.std.proofs.Common.{ap, sym, ◌∙◌, ◌++◌, ℕ, List}
+use Rattle.std.proofs.Common.{ap, ◌∙◌, ◌++◌, ℕ, List}
 use Rattle.relay_model.specs.Units.{held_in_standing}
 use Rattle.relay_carrier.specs.Standing.{KCarrier}
 use Rattle.relay_carrier.proofs.Takings.{ends}

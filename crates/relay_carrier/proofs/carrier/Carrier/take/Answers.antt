@@ -1,8 +1,5 @@
 -- By what the octets came to.
-use Rattle.std.proofs.Common.{◌≡◌, false, List, ℕ, refl, ap, sym, ◌∙◌, ◌++◌, take}
-use Rattle.relay_model.specs.Units.{parts_from, standing_from}
-use Rattle.relay_carrier.specs.Told.{AreOutside}
-use Rattle.relay_model.specs.Units.{octets_in_parts}
+use Rattle.std.proofs.Common.{◌≡◌, false, List, ℕ, refl, ap, sym, ◌∙◌, ◌++◌}
 use Rattle.relay_carrier.proofs.Takes.{takes_held, takes_outside, takes_one}
 use Rattle.relay_carrier.proofs.carrier.Carrier.take.Goals as goal
 

@@ -1,5 +1,5 @@
 -- By the lemmas on loads and counts.
-use Rattle.std.proofs.Common.{◌≡◌, ◌++◌, ◌∷◌, [], List, ℕ, ap, sym, ◌∙◌}
+use Rattle.std.proofs.Common.{◌++◌, ◌∷◌, [], List, ℕ, ap, sym, ◌∙◌}
 use Rattle.relay_script.specs.declared.unit_kind.UnitKind.TheVariants.{Any}
 use Rattle.relay_carrier.specs.Kinds.{kinds_but_any}
 use Rattle.relay_carrier.proofs.Counted.{counts_more}
