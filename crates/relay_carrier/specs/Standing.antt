@@ -30,8 +30,8 @@ pub record TakesOctets (script : Script) (old new : KCarrier) (moment : ℕ) (oc
   pub gives : given_of_sent script old.side (came ++ octets) ≡ given_of_sent script old.side came ++ given
   pub due_is : All (λ load. due ≡ within_64_bits (due_behind old.newest moment load.delay)) (loads_behind script old.side came octets)
 
-abbrev pub Takes : Script → (old new : KCarrier) → (moment : ℕ) → (octets given : List ℕ) → (due : ℕ) → Type 0
-Takes script old new moment octets given due =
+abbrev pub TakesBehind : Script → (old new : KCarrier) → (moment : ℕ) → (octets given : List ℕ) → (due : ℕ) → Type 0
+TakesBehind script old new moment octets given due =
     (came : List ℕ) → StandsBehind script came old → TakesOctets script old new moment octets given due came
 
 -- a unit is taken behind units: what is given is the load of the unit, which says whether the connection is closed behind it

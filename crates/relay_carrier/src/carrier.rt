@@ -5,7 +5,7 @@ ghost use Rattle.relay_script.specs.declared.script.Script as model;
 ghost use Rattle.relay_script.specs.ScriptRanges.{IsScriptInRange};
 ghost use Rattle.relay_model.specs.Units.{parts_from, held_in_standing};
 ghost use Rattle.relay_carrier.specs.Told.{TellsParts};
-ghost use Rattle.relay_carrier.specs.Standing.{StandsBehind, Takes, TakesUnit, Ends};
+ghost use Rattle.relay_carrier.specs.Standing.{StandsBehind, TakesBehind, TakesUnit, Ends};
 ghost use Rattle.relay_carrier.specs.Counting.{within_64_bits};
 ghost use Rattle.relay_model.specs.Carried.{due_behind};
 
@@ -123,7 +123,7 @@ impl Carrier {
         ensures within { IfOk result (λ taken. taken.used ≤ length octets.now) }
         ensures moves { IfOk result (λ taken. 0 < length octets.now → 0 < taken.used) }
         ensures parts { IfOk result (λ taken. TellsParts taken.came came.new.items (parts_from self.old.standing (take taken.used octets.now))) }
-        ensures given { IfOk result (λ taken. Takes script.now self.old self.new moment (take taken.used octets.now) given.new.items taken.due) }
+        ensures given { IfOk result (λ taken. TakesBehind script.now self.old self.new moment (take taken.used octets.now) given.new.items taken.due) }
         ensures newest { IfOk result (λ taken. self.new.newest ≡ taken.due) }
         ensures side { OnOk result (self.new.side ≡ self.old.side) }
         ensures capacity { came.new.capacity ≡ 4096 }
