@@ -45,7 +45,7 @@ fn given(
     let mut came = Room::with_capacity(alloc, 4_096)?;
     let mut given = Vec::new(alloc);
     let mut all = Vec::new(alloc);
-    for piece in octets.chunks(cut) {
+    for piece in octets.chunks(cut.max(1)) {
         let mut rest = piece;
         for _ in 0..piece.len() {
             if !rest.is_empty() && !carrier.is_closed() {
@@ -99,7 +99,7 @@ fn worked_rows(rt: HostRuntime) -> Result<(), Fail> {
 fn long_run(alloc: Global, zeros: usize) -> Result<Vec<u8>, NoMemory> {
     let mut octets = Vec::new(alloc);
     octets.push(0x7e)?;
-    octets.resize(zeros + 1, 0)?;
+    octets.resize(zeros.saturating_add(1), 0)?;
     octets.extend_from_slice(&[0x7e, 0x01, 0x3f, 0xeb, 0xdf, 0x7e])?;
     Ok(octets)
 }
