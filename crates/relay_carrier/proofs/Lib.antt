@@ -1,0 +1,6 @@
+mod Turns
+mod Counted
+mod FirstFound
+mod SoFar
+mod Takings
+mod Takes

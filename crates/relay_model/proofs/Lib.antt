@@ -1,0 +1,6 @@
+mod Cuts
+mod HeldFrames
+mod CutFrames
+mod GivenLoads
+mod Lossy
+mod LossyLines

@@ -1,0 +1,8 @@
+pub mod Units
+pub mod UnitKinds
+pub mod Loads
+pub mod Carried
+pub mod Losing
+pub mod Laws
+pub mod KnownUnits
+pub mod KnownAnswers

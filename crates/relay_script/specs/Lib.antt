@@ -1,0 +1,7 @@
+pub mod Kinds
+pub mod ScriptRanges
+pub mod Table
+pub mod Files
+pub mod Answers
+pub mod Readings
+pub mod KnownAnswers
