@@ -24,3 +24,4 @@ pub mod BulkSteady
 pub mod BulkRuns
 pub mod BulkMeanings
 pub mod WholeRuns
+pub mod Migrating

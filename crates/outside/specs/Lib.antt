@@ -8,3 +8,4 @@ pub mod Notes
 pub mod TieSteps
 pub mod Chains
 pub mod ScriptSteps
+pub mod SinkTexts

@@ -7,25 +7,25 @@ use Rattle.outside.specs.Scripts.{End, With, Sunk, OutOfMemory, Script, Ends, Fe
 
 -- ---- acts alone
 
--- memory ran out before the first act
-runs_spent : (s : Script) → Runs s [] OutOfMemory
-unfolding Runs IsFetchThen
-runs_spent (Ends status) = (refl, inr refl)
-runs_spent (Fetches name next) = refl
-runs_spent (Prints Is next) = inr (inr (refl, refl))
-
 runs_printed : (Is : List ℕ → Type 0) (next : Script) (text : List ℕ) (rest : List Act) (end : End) → Is text → Runs next rest end → Runs (Prints Is next) (printing text ++ rest) end
 unfolding Runs
 runs_printed Is next text rest end is runs = inl (record { text = text; is = is; rest = rest; acts_are = refl; then = runs })
 
 -- ---- no step
 
-pub does_spent : (s : Script) (t : Told) → Does s t t OutOfMemory
-does_spent s t = record { acts = []; did = did_nothing t; runs = runs_spent s }
+-- memory ran out before a print
+pub does_spent : (Is : List ℕ → Type 0) (next : Script) (t : Told) → Does (Prints Is next) t t OutOfMemory
+unfolding Runs
+does_spent Is next t = record { acts = []; did = did_nothing t; runs = inr (inr (refl, refl)) }
+
+-- and before a fetch
+pub does_spent_asking : (name : List ℕ) (next : Option (List ℕ) → Script) (t : Told) → Does (Fetches name next) t t OutOfMemory
+unfolding Runs IsFetchThen
+does_spent_asking name next t = record { acts = []; did = did_nothing t; runs = refl }
 
 pub does_end : (status : ℕ) (t : Told) → Does (Ends status) t t (With status)
 unfolding Runs
-does_end status t = record { acts = []; did = did_nothing t; runs = (refl, inl refl) }
+does_end status t = record { acts = []; did = did_nothing t; runs = (refl, refl) }
 
 -- ---- a print
 

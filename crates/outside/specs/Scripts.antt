@@ -1,5 +1,5 @@
 -- What a run is to do to the outside, as a script: its fetches and prints in their order, each behind what the ones before it were answered
--- (this profile). Memory may run out anywhere, and then nothing more is done; a write that fails ends the run.
+-- (this profile). Memory may run out before each of them, and in a fetch, and then nothing more is done; a write that fails ends the run.
 use Rattle.std.specs.Prelude.{◌≡◌, ◌⊎◌, ℕ, true, false, List, [], ◌∷◌, ◌++◌, Option, Some, None}
 use Rattle.outside.specs.Acts.{Gave, Failed, Spent, Act, Fetched, Wrote, Called, Asked, Drew}
 use Rattle.outside.specs.Doings.{Told, Did}
@@ -54,7 +54,7 @@ IsPrintThen Is Then acts end = IsPrinted Is Then acts ⊎ IsUnprinted Is acts en
 
 -- these acts are those of the script, which so ended
 unfoldable pub Runs : Script → List Act → End → Type 0
-Runs (Ends status) acts end = (acts ≡ []) × ((end ≡ With status) ⊎ (end ≡ OutOfMemory))
+Runs (Ends status) acts end = (acts ≡ []) × (end ≡ With status)
 Runs (Fetches name next) acts end = IsFetchThen name (λ file rest. Runs (next file) rest end) acts end
 Runs (Prints Is next) acts end = IsPrintThen Is (λ rest. Runs next rest end) acts end
 
