@@ -5,7 +5,7 @@ ghost use Rattle.link_trait.specs.Outside.{Grew, GrewPart, HasStayedAsTold};
 ghost use Rattle.key_store.specs.KeyFiles.{keys_of};
 ghost use Rattle.outside.specs.Scripts.{Does};
 ghost use Rattle.er_statuses.specs.FileScripts.{behind_keys};
-ghost use Rattle.er_statuses.specs.ScriptEnds.{end_of};
+ghost use Rattle.er_statuses.specs.ScriptEnds.{end_of_run};
 ghost use Rattle.er_program.specs.Commands.{Migrate};
 ghost use Rattle.er_program.specs.FileScripts.{prints_keys, migrates};
 ghost use Rattle.er_program.specs.Writing.{EndsCommand};
@@ -20,7 +20,7 @@ use std::alloc::Global;
 // Prints the entries of a store.
 #[tactic(auto, using(outside::specs::ScriptSteps::does_spent))]
 fn print_keys<O: Outside>(alloc: Global, store: &KeyStore, outside: &mut O) -> Result<Status, Stop>
-    ensures does { Does (prints_keys store.now) (O.told outside.old) (O.told outside.new) (end_of result) }
+    ensures does { Does (prints_keys store.now) (O.told outside.old) (O.told outside.new) (end_of_run result) }
 {
     let text = store.to_text(alloc)?;
     last(0, text.as_slice(), outside)
@@ -28,7 +28,7 @@ fn print_keys<O: Outside>(alloc: Global, store: &KeyStore, outside: &mut O) -> R
 
 // The octets of the file.
 fn migrate_file<O: Outside>(alloc: Global, octets: &[u8], outside: &mut O) -> Result<Status, Stop>
-    ensures does { Does (behind_keys (keys_of octets.now) prints_keys) (O.told outside.old) (O.told outside.new) (end_of result) }
+    ensures does { Does (behind_keys (keys_of octets.now) prints_keys) (O.told outside.old) (O.told outside.new) (end_of_run result) }
 {
     match KeyStore::from_bytes(alloc, octets) {
         Ok(store) => print_keys(alloc, &store, outside),
@@ -38,7 +38,7 @@ fn migrate_file<O: Outside>(alloc: Global, octets: &[u8], outside: &mut O) -> Re
 
 // Fetches the key file, and prints one of version 2 that has its entries.
 fn migrate<O: Outside>(alloc: Global, name: &str, outside: &mut O) -> Result<Status, Stop>
-    ensures does { Does (migrates name.now) (O.told outside.old) (O.told outside.new) (end_of result) }
+    ensures does { Does (migrates name.now) (O.told outside.old) (O.told outside.new) (end_of_run result) }
 {
     match outside.fetch(alloc, name) {
         Ok(octets) => migrate_file(alloc, octets.as_slice(), outside),

@@ -11,10 +11,10 @@ use Rattle.er_statuses.specs.declared.status.Status.{Status}
 use Rattle.er_statuses.specs.declared.stop.Stop.{Stop}
 use Rattle.er_statuses.specs.declared.stop.Stop.TheVariants as stop
 
-abbrev pub end_of : Result Status Stop → End
-end_of (Ok status) = With status.0
-end_of (Err stop.Sink) = Sunk
-end_of (Err (stop.NoMemory want)) = OutOfMemory
+abbrev pub end_of_run : Result Status Stop → End
+end_of_run (Ok status) = With status.0
+end_of_run (Err stop.Sink) = Sunk
+end_of_run (Err (stop.NoMemory want)) = OutOfMemory
 
 -- the acts by which a text was printed, or its write failed
 abbrev pub said_acts : List ℕ → Result (Unit {0}) Failed → List Act

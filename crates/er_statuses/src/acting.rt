@@ -8,7 +8,7 @@ ghost use Rattle.outside.specs.Doings.{Did};
 ghost use Rattle.outside.specs.Scripts.{Does, says_last};
 ghost use Rattle.er_statuses.specs.KeyLines.{keys_line};
 ghost use Rattle.er_statuses.specs.LastLines.{fetch_line, fault_line, why_word};
-ghost use Rattle.er_statuses.specs.ScriptEnds.{end_of, said_acts, EndsRefused};
+ghost use Rattle.er_statuses.specs.ScriptEnds.{end_of_run, said_acts, EndsRefused};
 
 use crate::key_lines::decimal_text;
 use crate::last_lines::{fault_line, fetch_line, why_octets};
@@ -33,7 +33,7 @@ pub fn say<O: Outside>(text: &[u8], outside: &mut O) -> Result<(), Failed>
 
 /// Writes a text, and gives the status that goes with it.
 pub fn last<O: Outside>(status: u8, text: &[u8], outside: &mut O) -> Result<Status, Stop>
-    ensures does { Does (says_last status text.now) (O.told outside.old) (O.told outside.new) (end_of result) }
+    ensures does { Does (says_last status text.now) (O.told outside.old) (O.told outside.new) (end_of_run result) }
 {
     match say(text, outside) {
         Ok(()) => Ok(Status(status)),
@@ -44,7 +44,7 @@ pub fn last<O: Outside>(status: u8, text: &[u8], outside: &mut O) -> Result<Stat
 /// The fetch of that name failed.
 #[tactic(auto, using(outside::specs::ScriptSteps::does_spent))]
 pub fn unfetched<O: Outside>(alloc: Global, name: &str, outside: &mut O) -> Result<Status, Stop>
-    ensures does { Does (says_last 2 (fetch_line name.now)) (O.told outside.old) (O.told outside.new) (end_of result) }
+    ensures does { Does (says_last 2 (fetch_line name.now)) (O.told outside.old) (O.told outside.new) (end_of_run result) }
 {
     let line = fetch_line(alloc, name)?;
     last(2, line.as_slice(), outside)
@@ -58,7 +58,7 @@ pub fn out_of_form<O: Outside>(
     why: Why,
     outside: &mut O,
 ) -> Result<Status, Stop>
-    ensures does { Does (says_last 3 (fault_line line (why_word why))) (O.told outside.old) (O.told outside.new) (end_of result) }
+    ensures does { Does (says_last 3 (fault_line line (why_word why))) (O.told outside.old) (O.told outside.new) (end_of_run result) }
 {
     let line = fault_line(alloc, line, why_octets(why))?;
     last(3, line.as_slice(), outside)
@@ -71,7 +71,7 @@ pub fn say_keys<O: Outside>(
     words: &[PrintedWord<'_>],
     outside: &mut O,
 ) -> Result<Status, Stop>
-    ensures does { Does (says_last 4 (line_text (codes "!" ∷ map word_printed words.now))) (O.told outside.old) (O.told outside.new) (end_of result) }
+    ensures does { Does (says_last 4 (line_text (codes "!" ∷ map word_printed words.now))) (O.told outside.old) (O.told outside.new) (end_of_run result) }
 {
     let mut line = Vec::new(alloc);
     put_line(&Plain(b"!"), words, &mut line)?;
@@ -81,7 +81,7 @@ pub fn say_keys<O: Outside>(
 // The key file has a version that is unknown.
 #[tactic(auto, using(outside::specs::ScriptSteps::does_spent))]
 fn say_version<O: Outside>(alloc: Global, version: i64, outside: &mut O) -> Result<Status, Stop>
-    ensures does { Does (says_last 4 (keys_line (keys.Version version))) (O.told outside.old) (O.told outside.new) (end_of result) }
+    ensures does { Does (says_last 4 (keys_line (keys.Version version))) (O.told outside.old) (O.told outside.new) (end_of_run result) }
 {
     let number = decimal_text(alloc, version)?;
     let words = [Plain(b"keys"), Plain(b"version"), Plain(number.as_bytes())];
@@ -94,7 +94,7 @@ pub fn keys_refused<O: Outside>(
     fault: KeyFileFault,
     outside: &mut O,
 ) -> Result<Status, Stop>
-    ensures ends { EndsRefused fault (O.told outside.old) (O.told outside.new) (end_of result) }
+    ensures ends { EndsRefused fault (O.told outside.old) (O.told outside.new) (end_of_run result) }
 {
     match fault {
         KeyFileFault::Document => {

@@ -15,9 +15,9 @@ use Rattle.link_trait.specs.declared.wires.WriteAnswer.{WriteAnswer}
 use Rattle.link_trait.specs.declared.wires.WriteAnswer.TheVariants as write_answer
 use Rattle.link_trait.specs.Wires.{Call, Listens, Dials, Turns, Reads, Writes, Closes, opened_by_dial, opened_by_turn, dialled, reading_of}
 use Rattle.outside.specs.Acts.{Fetch, Gave, Failed, Spent, SeenCall, Listened, Dialled, Turned, Read, Sent, Closed, Act, Fetched, Wrote, Called, Asked, Drew}
-use Rattle.outside.specs.Acts.{is_fetch, is_write, is_call, is_question, is_opening_call, is_failed_fetch, is_failed_write, is_failed_call, is_failed_opening, failed_call, failed_opening_call}
+use Rattle.outside.specs.Acts.{is_fetch, is_write, is_call, is_question, is_opening_call, is_cabinet_fault, is_sink_fault, is_wires_fault, is_opening_fault, failed_call, failed_opening_call}
 use Rattle.outside.specs.Seen.{fetched_by, seen_of_call, opened_by_call, listening_by_call}
-use Rattle.outside.specs.Ties.{AsksFor, AreFiled, Puts, Counts, GrewBy, GrewSeen, CabinetDid, SinkDid, WiresDid, ClockDid, AreDrawn}
+use Rattle.outside.specs.Ties.{AsksFor, AreFiled, PutsInSink, Counts, GrewBy, GrewSeen, CabinetDid, SinkDid, WiresDid, ClockDid, AreDrawn}
 use Rattle.outside.specs.Doings.{PartNames, Told, Did}
 use Rattle.outside.specs.TieSteps.{grew_by_one, cabinet_rests, sink_rests, wires_rest, clock_rests, drawn_nothing, drawn_one}
 
@@ -44,7 +44,7 @@ cabinet_act octets_of (Ok file) a b name has kept notes later rose = record {
   files = kept;
   filed = (file_there a.files b.files name (octets_of file) kept has, tt);
   asked = grew_by_one AsksFor a.asked b.asked (Fetched name (Gave (octets_of file))) (name ∷ []) refl notes;
-  faults = counts_act is_failed_fetch a.faults b.faults (Fetched name (Gave (octets_of file))) later (λ h. absurd (true≢false (sym h)));
+  faults = counts_act is_cabinet_fault a.faults b.faults (Fetched name (Gave (octets_of file))) later (λ h. absurd (true≢false (sym h)));
 }
   where
     file_there : (before now : Option (List (List ℕ × List ℕ))) (name file : List ℕ) → HasStayedAsTold before now → HasFile before name file → HasFile now name file
@@ -57,14 +57,14 @@ cabinet_act octets_of (Err fault.Failed) a b name has kept notes later rose = re
   files = kept;
   filed = tt;
   asked = grew_by_one AsksFor a.asked b.asked (Fetched name Failed) (name ∷ []) refl notes;
-  faults = counts_act is_failed_fetch a.faults b.faults (Fetched name Failed) later (λ h. rose refl);
+  faults = counts_act is_cabinet_fault a.faults b.faults (Fetched name Failed) later (λ h. rose refl);
 }
 cabinet_act octets_of (Err (fault.NoMemory want)) a b name has kept notes later rose = record {
   rests = λ h. absurd (true≢false h);
   files = kept;
   filed = tt;
   asked = grew_by_one AsksFor a.asked b.asked (Fetched name Spent) notes.part (noted notes.part notes.rest name notes.is) notes.grew;
-  faults = counts_act is_failed_fetch a.faults b.faults (Fetched name Spent) later (λ h. absurd (true≢false (sym h)));
+  faults = counts_act is_cabinet_fault a.faults b.faults (Fetched name Spent) later (λ h. absurd (true≢false (sym h)));
 }
   where
     -- a beginning of a list of one name is that list or none
@@ -99,13 +99,13 @@ sink_act : {T E : Type 0} (result : Result T E) (a b : SinkState) (piece : List 
     → SinkDid a b (Wrote piece (is_ok result) ∷ [])
 sink_act (Ok done) a b piece whole part cause = record {
   rests = λ h. absurd (true≢false h);
-  held = grew_by_one Puts a.held b.held (Wrote piece true) piece refl whole;
-  faults = counts_act is_failed_write a.faults b.faults (Wrote piece true) cause.later (λ h. absurd (true≢false (sym h)));
+  held = grew_by_one PutsInSink a.held b.held (Wrote piece true) piece refl whole;
+  faults = counts_act is_sink_fault a.faults b.faults (Wrote piece true) cause.later (λ h. absurd (true≢false (sym h)));
 }
 sink_act (Err failed) a b piece whole part cause = record {
   rests = λ h. absurd (true≢false h);
-  held = grew_by_one Puts a.held b.held (Wrote piece false) part.part (part.rest, part.is) part.grew;
-  faults = counts_act is_failed_write a.faults b.faults (Wrote piece false) cause.later (λ h. cause.failed);
+  held = grew_by_one PutsInSink a.held b.held (Wrote piece false) part.part (part.rest, part.is) part.grew;
+  faults = counts_act is_sink_fault a.faults b.faults (Wrote piece false) cause.later (λ h. cause.failed);
 }
 
 pub did_write : {T E : Type 0} (result : Result T E) (t : Told) (acts : List Act) (b : SinkState) (piece : List ℕ)
@@ -144,8 +144,8 @@ did_call call t acts b grew told opened listening later rose turn_later turn_ros
         calls = record { more = call ∷ []; are = refl; grew = told };
         opened = opened;
         listening = listening;
-        faults = counts_act is_failed_call t.wires.faults b.faults act later rose;
-        turn_faults = counts_act is_failed_opening t.wires.turn_faults b.turn_faults act turn_later turn_rose;
+        faults = counts_act is_wires_fault t.wires.faults b.faults act later rose;
+        turn_faults = counts_act is_opening_fault t.wires.turn_faults b.turn_faults act turn_later turn_rose;
         turns_rest = λ h. turn_rests (alone (is_opening_call (seen_of_call call)) h);
       };
       clock = clock_rests t.clock act refl;

@@ -113,12 +113,12 @@ is_opening_call (Read conn size reading) = false
 is_opening_call (Sent conn piece answer) = false
 is_opening_call (Closed conn) = false
 
-abbrev pub is_opening : Act → Bool
-is_opening (Fetched name answer) = false
-is_opening (Wrote piece done) = false
-is_opening (Called call) = is_opening_call call
-is_opening (Asked moment) = false
-is_opening (Drew word) = false
+abbrev pub is_opening_act : Act → Bool
+is_opening_act (Fetched name answer) = false
+is_opening_act (Wrote piece done) = false
+is_opening_act (Called call) = is_opening_call call
+is_opening_act (Asked moment) = false
+is_opening_act (Drew word) = false
 
 -- ---- acts that failed. Want of memory is no fault
 
@@ -127,20 +127,20 @@ failed_fetch (Gave octets) = false
 failed_fetch Failed = true
 failed_fetch Spent = false
 
-abbrev pub is_failed_fetch : Act → Bool
-is_failed_fetch (Fetched name answer) = failed_fetch answer
-is_failed_fetch (Wrote piece done) = false
-is_failed_fetch (Called call) = false
-is_failed_fetch (Asked moment) = false
-is_failed_fetch (Drew word) = false
+abbrev pub is_cabinet_fault : Act → Bool
+is_cabinet_fault (Fetched name answer) = failed_fetch answer
+is_cabinet_fault (Wrote piece done) = false
+is_cabinet_fault (Called call) = false
+is_cabinet_fault (Asked moment) = false
+is_cabinet_fault (Drew word) = false
 
-abbrev pub is_failed_write : Act → Bool
-is_failed_write (Fetched name answer) = false
-is_failed_write (Wrote piece true) = false
-is_failed_write (Wrote piece false) = true
-is_failed_write (Called call) = false
-is_failed_write (Asked moment) = false
-is_failed_write (Drew word) = false
+abbrev pub is_sink_fault : Act → Bool
+is_sink_fault (Fetched name answer) = false
+is_sink_fault (Wrote piece true) = false
+is_sink_fault (Wrote piece false) = true
+is_sink_fault (Called call) = false
+is_sink_fault (Asked moment) = false
+is_sink_fault (Drew word) = false
 
 abbrev pub failed_turn : Happening → Bool
 failed_turn (happening.Accepted conn) = false
@@ -182,16 +182,16 @@ failed_opening_call (Read conn size reading) = false
 failed_opening_call (Sent conn piece answer) = false
 failed_opening_call (Closed conn) = false
 
-abbrev pub is_failed_call : Act → Bool
-is_failed_call (Fetched name answer) = false
-is_failed_call (Wrote piece done) = false
-is_failed_call (Called call) = failed_call call
-is_failed_call (Asked moment) = false
-is_failed_call (Drew word) = false
+abbrev pub is_wires_fault : Act → Bool
+is_wires_fault (Fetched name answer) = false
+is_wires_fault (Wrote piece done) = false
+is_wires_fault (Called call) = failed_call call
+is_wires_fault (Asked moment) = false
+is_wires_fault (Drew word) = false
 
-abbrev pub is_failed_opening : Act → Bool
-is_failed_opening (Fetched name answer) = false
-is_failed_opening (Wrote piece done) = false
-is_failed_opening (Called call) = failed_opening_call call
-is_failed_opening (Asked moment) = false
-is_failed_opening (Drew word) = false
+abbrev pub is_opening_fault : Act → Bool
+is_opening_fault (Fetched name answer) = false
+is_opening_fault (Wrote piece done) = false
+is_opening_fault (Called call) = failed_opening_call call
+is_opening_fault (Asked moment) = false
+is_opening_fault (Drew word) = false

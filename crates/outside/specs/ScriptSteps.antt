@@ -3,28 +3,28 @@ use Rattle.std.proofs.Common.{◌≡◌, ℕ, inl, inr, true, false, List, [], �
 use Rattle.outside.specs.Acts.{Fetch, Gave, Failed, Spent, Act, Fetched, Wrote}
 use Rattle.outside.specs.Doings.{Told, Did}
 use Rattle.outside.specs.Chains.{did_nothing, did_then}
-use Rattle.outside.specs.Scripts.{End, With, Sunk, OutOfMemory, Script, Ends, Fetches, Prints, printing, IsFetchThen, IsPrinted, IsUnprinted, Runs, Does}
+use Rattle.outside.specs.Scripts.{End, With, Sunk, OutOfMemory, Script, Ends, Fetches, Prints, printing, IsFetchThen, IsPrinted, IsUnprinted, RunsScript, Does}
 
 -- ---- acts alone
 
-runs_printed : (Is : List ℕ → Type 0) (next : Script) (text : List ℕ) (rest : List Act) (end : End) → Is text → Runs next rest end → Runs (Prints Is next) (printing text ++ rest) end
-unfolding Runs
+runs_printed : (Is : List ℕ → Type 0) (next : Script) (text : List ℕ) (rest : List Act) (end : End) → Is text → RunsScript next rest end → RunsScript (Prints Is next) (printing text ++ rest) end
+unfolding RunsScript
 runs_printed Is next text rest end is runs = inl (record { text = text; is = is; rest = rest; acts_are = refl; then = runs })
 
 -- ---- no step
 
 -- memory ran out before a print
 pub does_spent : (Is : List ℕ → Type 0) (next : Script) (t : Told) → Does (Prints Is next) t t OutOfMemory
-unfolding Runs
+unfolding RunsScript
 does_spent Is next t = record { acts = []; did = did_nothing t; runs = inr (inr (refl, refl)) }
 
 -- and before a fetch
 pub does_spent_asking : (name : List ℕ) (next : Option (List ℕ) → Script) (t : Told) → Does (Fetches name next) t t OutOfMemory
-unfolding Runs IsFetchThen
+unfolding RunsScript IsFetchThen
 does_spent_asking name next t = record { acts = []; did = did_nothing t; runs = refl }
 
 pub does_end : (status : ℕ) (t : Told) → Does (Ends status) t t (With status)
-unfolding Runs
+unfolding RunsScript
 does_end status t = record { acts = []; did = did_nothing t; runs = (refl, refl) }
 
 -- ---- a print
@@ -41,7 +41,7 @@ does_printed Is next text before mid now end is did does = record {
 -- its write failed
 pub does_sank : (Is : List ℕ → Type 0) (next : Script) (text : List ℕ) (before now : Told)
     → Is text → Did before now (Wrote text false ∷ []) → Does (Prints Is next) before now Sunk
-unfolding Runs
+unfolding RunsScript
 does_sank Is next text before now is did = record {
   acts = Wrote text false ∷ [];
   did = did;
@@ -53,7 +53,7 @@ does_sank Is next text before now is did = record {
 -- it gave a file
 pub does_had : (name file : List ℕ) (next : Option (List ℕ) → Script) (before mid now : Told) (end : End)
     → Did before mid (Fetched name (Gave file) ∷ []) → Does (next (Some file)) mid now end → Does (Fetches name next) before now end
-unfolding Runs IsFetchThen
+unfolding RunsScript IsFetchThen
 does_had name file next before mid now end did does = record {
   acts = Fetched name (Gave file) ∷ does.acts;
   did = did_then before mid now (Fetched name (Gave file) ∷ []) does.acts did does.did;
@@ -63,7 +63,7 @@ does_had name file next before mid now end did does = record {
 -- it gave none
 pub does_had_none : (name : List ℕ) (next : Option (List ℕ) → Script) (before mid now : Told) (end : End)
     → Did before mid (Fetched name Failed ∷ []) → Does (next None) mid now end → Does (Fetches name next) before now end
-unfolding Runs IsFetchThen
+unfolding RunsScript IsFetchThen
 does_had_none name next before mid now end did does = record {
   acts = Fetched name Failed ∷ does.acts;
   did = did_then before mid now (Fetched name Failed ∷ []) does.acts did does.did;
@@ -73,7 +73,7 @@ does_had_none name next before mid now end did does = record {
 -- memory ran out in it
 pub does_spent_fetching : (name : List ℕ) (next : Option (List ℕ) → Script) (before now : Told)
     → Did before now (Fetched name Spent ∷ []) → Does (Fetches name next) before now OutOfMemory
-unfolding Runs IsFetchThen
+unfolding RunsScript IsFetchThen
 does_spent_fetching name next before now did = record { acts = Fetched name Spent ∷ []; did = did; runs = (refl, refl, refl) }
 
 -- ---- texts of a kind
@@ -88,9 +88,9 @@ unprinted_as Is Other acts end so p = record { text = p.text; is = so p.text p.i
 
 -- a text of one kind is one of another
 runs_as : (Is Other : List ℕ → Type 0) (next : Script) (acts : List Act) (end : End) → ((text : List ℕ) → Is text → Other text)
-    → Runs (Prints Is next) acts end → Runs (Prints Other next) acts end
-unfolding Runs
-runs_as Is Other next acts end so (inl p) = inl (printed_as Is Other (λ rest. Runs next rest end) acts so p)
+    → RunsScript (Prints Is next) acts end → RunsScript (Prints Other next) acts end
+unfolding RunsScript
+runs_as Is Other next acts end so (inl p) = inl (printed_as Is Other (λ rest. RunsScript next rest end) acts so p)
 runs_as Is Other next acts end so (inr (inl p)) = inr (inl (unprinted_as Is Other acts end so p))
 runs_as Is Other next acts end so (inr (inr p)) = inr (inr p)
 

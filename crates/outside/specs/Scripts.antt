@@ -53,16 +53,16 @@ abbrev pub IsPrintThen : (Is : List ℕ → Type 0) → (List Act → Type 0) �
 IsPrintThen Is Then acts end = IsPrinted Is Then acts ⊎ IsUnprinted Is acts end ⊎ ((acts ≡ []) × (end ≡ OutOfMemory))
 
 -- these acts are those of the script, which so ended
-unfoldable pub Runs : Script → List Act → End → Type 0
-Runs (Ends status) acts end = (acts ≡ []) × (end ≡ With status)
-Runs (Fetches name next) acts end = IsFetchThen name (λ file rest. Runs (next file) rest end) acts end
-Runs (Prints Is next) acts end = IsPrintThen Is (λ rest. Runs next rest end) acts end
+unfoldable pub RunsScript : Script → List Act → End → Type 0
+RunsScript (Ends status) acts end = (acts ≡ []) × (end ≡ With status)
+RunsScript (Fetches name next) acts end = IsFetchThen name (λ file rest. RunsScript (next file) rest end) acts end
+RunsScript (Prints Is next) acts end = IsPrintThen Is (λ rest. RunsScript next rest end) acts end
 
 -- the script was run: these acts were done, and so it ended
 pub record Does (script : Script) (before now : Told) (end : End) : Type 0 where
   pub acts : List Act
   pub did : Did before now acts
-  pub runs : Runs script acts end
+  pub runs : RunsScript script acts end
 
 -- where what is left of a script is run, the whole was run: what a loop over the steps of a script carries along
 abbrev pub LeadsOn : (whole left : Script) → (before now : Told) → Type 0

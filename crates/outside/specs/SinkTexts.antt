@@ -3,8 +3,8 @@ use Rattle.std.proofs.Common.{◌≡◌, ◌⊎◌, ℕ, inl, inr, Bool, true, f
 use Rattle.std.specs.List.{list_any}
 use Rattle.link_trait.specs.Outside.{Grew, GrewPart}
 use Rattle.outside.specs.Acts.{Fetch, Gave, Failed, Spent, Act, Fetched, Wrote, Called, Asked, Drew, is_fetch}
-use Rattle.outside.specs.Ties.{IsLeft, GrewBy, AsksFor, Puts}
-use Rattle.outside.specs.Scripts.{printing, End, Script, Ends, Prints, IsPrinted, IsUnprinted, Runs}
+use Rattle.outside.specs.Ties.{IsLeft, GrewBy, AsksFor, PutsInSink}
+use Rattle.outside.specs.Scripts.{printing, End, Script, Ends, Prints, IsPrinted, IsUnprinted, RunsScript}
 
 -- no act leaves anything
 pub nothing_left_by : {A : Type 0} {Leaves : Act → List A → Type 0} (a b : Option (List A)) → GrewBy Leaves a b [] → Grew a b []
@@ -13,21 +13,21 @@ nothing_left_by {A} a b p = subst (λ (all : List A). Grew a b all) p.left p.gre
 
 -- ---- octets in the sink
 
-left_of_printed : (text : List ℕ) (all : List ℕ) → IsLeft Puts (printing text ++ []) all → all ≡ text
+left_of_printed : (text : List ℕ) (all : List ℕ) → IsLeft PutsInSink (printing text ++ []) all → all ≡ text
 unfolding IsLeft
 left_of_printed [] all p = p
 left_of_printed (octet ∷ octets) all p =
     p.4 ∙ ap (λ (first : List ℕ). first ++ p.1) p.2 ∙ ap (λ (rest : List ℕ). (octet ∷ octets) ++ rest) p.3 ∙ append-nil (octet ∷ octets)
 
 -- a text was printed
-pub text_printed_by : (a b : Option (List ℕ)) (text : List ℕ) → GrewBy Puts a b (printing text ++ []) → Grew a b text
+pub text_printed_by : (a b : Option (List ℕ)) (text : List ℕ) → GrewBy PutsInSink a b (printing text ++ []) → Grew a b text
 text_printed_by a b text p = subst (λ (octets : List ℕ). Grew a b octets) (left_of_printed text p.more p.left) p.grew
 
 -- its write failed
-pub text_begun_by : (a b : Option (List ℕ)) (text : List ℕ) → GrewBy Puts a b (Wrote text false ∷ []) → GrewPart a b text
+pub text_begun_by : (a b : Option (List ℕ)) (text : List ℕ) → GrewBy PutsInSink a b (Wrote text false ∷ []) → GrewPart a b text
 unfolding IsLeft
 text_begun_by a b text p =
-    let left : IsLeft Puts (Wrote text false ∷ []) p.more = p.left in
+    let left : IsLeft PutsInSink (Wrote text false ∷ []) p.more = p.left in
     record {
       part = left.0;
       rest = left.2.0;
@@ -36,10 +36,10 @@ text_begun_by a b text p =
     }
 
 -- a fetch leaves nothing there
-pub behind_fetched : (a b : Option (List ℕ)) (name : List ℕ) (answer : Fetch) (acts : List Act) → GrewBy Puts a b (Fetched name answer ∷ acts) → GrewBy Puts a b acts
+pub behind_fetched : (a b : Option (List ℕ)) (name : List ℕ) (answer : Fetch) (acts : List Act) → GrewBy PutsInSink a b (Fetched name answer ∷ acts) → GrewBy PutsInSink a b acts
 unfolding IsLeft
 behind_fetched a b name answer acts p =
-    let left : IsLeft Puts (Fetched name answer ∷ acts) p.more = p.left in
+    let left : IsLeft PutsInSink (Fetched name answer ∷ acts) p.more = p.left in
     record {
       more = left.1;
       left = left.3;
@@ -96,8 +96,8 @@ name_noted_by a b name p =
 -- ---- a script of one text
 
 -- it asks for no file
-pub fetches_none : (Is : List ℕ → Type 0) (status : ℕ) (acts : List Act) (end : End) → Runs (Prints Is (Ends status)) acts end → IsFalse (list_any is_fetch acts)
-unfolding Runs
+pub fetches_none : (Is : List ℕ → Type 0) (status : ℕ) (acts : List Act) (end : End) → RunsScript (Prints Is (Ends status)) acts end → IsFalse (list_any is_fetch acts)
+unfolding RunsScript
 fetches_none Is status acts end (inl p) = subst (λ (xs : List Act). IsFalse (list_any is_fetch xs)) (sym p.acts_are) (printed p.text p.rest p.then.0)
   where
     printed : (text : List ℕ) (rest : List Act) → rest ≡ [] → IsFalse (list_any is_fetch (printing text ++ rest))

@@ -12,9 +12,9 @@ use Rattle.link_trait.specs.Growth.{grew_nothing, grew_then, kept_same, kept_the
 use Rattle.link_trait.specs.States.{CabinetState, SinkState, WiresState, ClockState}
 use Rattle.link_trait.specs.Wires.{Call}
 use Rattle.outside.specs.Acts.{Fetch, Gave, Failed, Spent, SeenCall, Act, Fetched, Wrote, Called, Asked, Drew, call_of_act, moment_of_act}
-use Rattle.outside.specs.Acts.{is_fetch, is_write, is_call, is_question, is_opening, is_failed_fetch, is_failed_write, is_failed_call, is_failed_opening}
+use Rattle.outside.specs.Acts.{is_fetch, is_write, is_call, is_question, is_opening_act, is_cabinet_fault, is_sink_fault, is_wires_fault, is_opening_fault}
 use Rattle.outside.specs.Seen.{seen_of_call, opened_by_call, listening_by_call}
-use Rattle.outside.specs.Ties.{IsLeft, GrewBy, Counts, AsksFor, AreFiled, CabinetDid, Puts, SinkDid, GrewSeen, WiresDid, ClockDid, AreDrawn}
+use Rattle.outside.specs.Ties.{IsLeft, GrewBy, Counts, AsksFor, AreFiled, CabinetDid, PutsInSink, SinkDid, GrewSeen, WiresDid, ClockDid, AreDrawn}
 
 -- ---- tests on acts
 
@@ -133,17 +133,17 @@ cabinet_nothing c = record {
   files = kept_same c.files;
   filed = tt;
   asked = grew_by_nothing AsksFor c.asked;
-  faults = counts_none is_failed_fetch c.faults [] refl;
+  faults = counts_none is_cabinet_fault c.faults [] refl;
 }
 
 -- one act of another part
-cabinet_still : (c : CabinetState) (act : Act) → AreFiled c.files (act ∷ []) → AsksFor act [] → IsFalse (list_any is_failed_fetch (act ∷ [])) → CabinetDid c c (act ∷ [])
+cabinet_still : (c : CabinetState) (act : Act) → AreFiled c.files (act ∷ []) → AsksFor act [] → IsFalse (list_any is_cabinet_fault (act ∷ [])) → CabinetDid c c (act ∷ [])
 cabinet_still c act filed asks none = record {
   rests = λ h. refl;
   files = kept_same c.files;
   filed = filed;
   asked = grew_by_none AsksFor c.asked act asks;
-  faults = counts_none is_failed_fetch c.faults (act ∷ []) none;
+  faults = counts_none is_cabinet_fault c.faults (act ∷ []) none;
 }
 
 pub cabinet_rests : (c : CabinetState) (act : Act) → IsFalse (is_fetch act) → CabinetDid c c (act ∷ [])
@@ -160,19 +160,19 @@ cabinet_then a b c xs ys p q = record {
   files = kept_then a.files b.files c.files p.files q.files;
   filed = filed_then c.files xs ys (filed_kept b.files c.files xs q.files p.filed) q.filed;
   asked = grew_by_then AsksFor a.asked b.asked c.asked xs ys p.asked q.asked;
-  faults = counts_then is_failed_fetch a.faults b.faults c.faults xs ys p.faults q.faults;
+  faults = counts_then is_cabinet_fault a.faults b.faults c.faults xs ys p.faults q.faults;
 }
 
 -- ---- the sink
 
 pub sink_nothing : (k : SinkState) → SinkDid k k []
-sink_nothing k = record { rests = λ h. refl; held = grew_by_nothing Puts k.held; faults = counts_none is_failed_write k.faults [] refl }
+sink_nothing k = record { rests = λ h. refl; held = grew_by_nothing PutsInSink k.held; faults = counts_none is_sink_fault k.faults [] refl }
 
-sink_still : (k : SinkState) (act : Act) → Puts act [] → IsFalse (list_any is_failed_write (act ∷ [])) → SinkDid k k (act ∷ [])
+sink_still : (k : SinkState) (act : Act) → PutsInSink act [] → IsFalse (list_any is_sink_fault (act ∷ [])) → SinkDid k k (act ∷ [])
 sink_still k act puts none = record {
   rests = λ h. refl;
-  held = grew_by_none Puts k.held act puts;
-  faults = counts_none is_failed_write k.faults (act ∷ []) none;
+  held = grew_by_none PutsInSink k.held act puts;
+  faults = counts_none is_sink_fault k.faults (act ∷ []) none;
 }
 
 pub sink_rests : (k : SinkState) (act : Act) → IsFalse (is_write act) → SinkDid k k (act ∷ [])
@@ -185,8 +185,8 @@ sink_rests k (Drew word) h = sink_still k (Drew word) refl refl
 pub sink_then : (a b c : SinkState) (xs ys : List Act) → SinkDid a b xs → SinkDid b c ys → SinkDid a c (xs ++ ys)
 sink_then a b c xs ys p q = record {
   rests = λ h. let none = none_of_both is_write xs ys h in q.rests none.1 ∙ p.rests none.0;
-  held = grew_by_then Puts a.held b.held c.held xs ys p.held q.held;
-  faults = counts_then is_failed_write a.faults b.faults c.faults xs ys p.faults q.faults;
+  held = grew_by_then PutsInSink a.held b.held c.held xs ys p.held q.held;
+  faults = counts_then is_sink_fault a.faults b.faults c.faults xs ys p.faults q.faults;
 }
 
 -- ---- the wires
@@ -210,19 +210,19 @@ wires_nothing w = record {
   calls = grew_seen_nothing w.calls;
   opened = refl;
   listening = refl;
-  faults = counts_none is_failed_call w.faults [] refl;
-  turn_faults = counts_none is_failed_opening w.turn_faults [] refl;
+  faults = counts_none is_wires_fault w.faults [] refl;
+  turn_faults = counts_none is_opening_fault w.turn_faults [] refl;
   turns_rest = λ h. refl;
 }
 
-wires_still : (w : WiresState) (act : Act) → filter_map call_of_act (act ∷ []) ≡ [] → IsFalse (list_any is_failed_call (act ∷ [])) → IsFalse (list_any is_failed_opening (act ∷ [])) → WiresDid w w (act ∷ [])
+wires_still : (w : WiresState) (act : Act) → filter_map call_of_act (act ∷ []) ≡ [] → IsFalse (list_any is_wires_fault (act ∷ [])) → IsFalse (list_any is_opening_fault (act ∷ [])) → WiresDid w w (act ∷ [])
 wires_still w act no_call no_fault no_turn = record {
   rests = λ h. refl;
   calls = subst (λ (cs : List SeenCall). GrewSeen w.calls w.calls cs) (sym no_call) (grew_seen_nothing w.calls);
   opened = subst (λ (cs : List SeenCall). w.opened ≡ fold opened_by_call w.opened cs) (sym no_call) refl;
   listening = subst (λ (cs : List SeenCall). w.listening ≡ fold listening_by_call w.listening cs) (sym no_call) refl;
-  faults = counts_none is_failed_call w.faults (act ∷ []) no_fault;
-  turn_faults = counts_none is_failed_opening w.turn_faults (act ∷ []) no_turn;
+  faults = counts_none is_wires_fault w.faults (act ∷ []) no_fault;
+  turn_faults = counts_none is_opening_fault w.turn_faults (act ∷ []) no_turn;
   turns_rest = λ h. refl;
 }
 
@@ -243,9 +243,9 @@ wires_then a b c xs ys p q =
       calls = subst (λ (cs : List SeenCall). GrewSeen a.calls c.calls cs) (sym both) (grew_seen_then a.calls b.calls c.calls xcs ycs p.calls q.calls);
       opened = subst (λ (cs : List SeenCall). c.opened ≡ fold opened_by_call a.opened cs) (sym both) (fold_then opened_by_call a.opened b.opened c.opened xcs ycs p.opened q.opened);
       listening = subst (λ (cs : List SeenCall). c.listening ≡ fold listening_by_call a.listening cs) (sym both) (fold_then listening_by_call a.listening b.listening c.listening xcs ycs p.listening q.listening);
-      faults = counts_then is_failed_call a.faults b.faults c.faults xs ys p.faults q.faults;
-      turn_faults = counts_then is_failed_opening a.turn_faults b.turn_faults c.turn_faults xs ys p.turn_faults q.turn_faults;
-      turns_rest = λ h. let none = none_of_both is_opening xs ys h in q.turns_rest none.1 ∙ p.turns_rest none.0;
+      faults = counts_then is_wires_fault a.faults b.faults c.faults xs ys p.faults q.faults;
+      turn_faults = counts_then is_opening_fault a.turn_faults b.turn_faults c.turn_faults xs ys p.turn_faults q.turn_faults;
+      turns_rest = λ h. let none = none_of_both is_opening_act xs ys h in q.turns_rest none.1 ∙ p.turns_rest none.0;
     }
 
 -- ---- the clock and the random words

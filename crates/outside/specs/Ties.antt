@@ -7,7 +7,7 @@ use Rattle.link_trait.specs.Outside.{Grew, HasFile, HasStayedAsTold, Rose}
 use Rattle.link_trait.specs.States.{CabinetState, SinkState, WiresState, ClockState}
 use Rattle.link_trait.specs.Wires.{Call}
 use Rattle.outside.specs.Acts.{Gave, Failed, Spent, SeenCall, Act, Fetched, Wrote, Called, Asked, Drew, calls_in_acts, moments_in_acts, words_in_acts}
-use Rattle.outside.specs.Acts.{is_fetch, is_write, is_call, is_question, is_draw, is_opening, is_failed_fetch, is_failed_write, is_failed_call, is_failed_opening}
+use Rattle.outside.specs.Acts.{is_fetch, is_write, is_call, is_question, is_draw, is_opening_act, is_cabinet_fault, is_sink_fault, is_wires_fault, is_opening_fault}
 use Rattle.outside.specs.Seen.{seen_of_call, opened_by_call, listening_by_call}
 
 -- ---- what acts leave in a part, one behind the other
@@ -56,23 +56,23 @@ pub record CabinetDid (before now : CabinetState) (acts : List Act) : Type 0 whe
   pub files : HasStayedAsTold before.files now.files
   pub filed : AreFiled now.files acts
   pub asked : GrewBy AsksFor before.asked now.asked acts
-  pub faults : Counts is_failed_fetch before.faults now.faults acts
+  pub faults : Counts is_cabinet_fault before.faults now.faults acts
 
 -- ---- the sink
 
 -- the octets that an act puts there: a piece wholly, or a beginning of one that failed
-abbrev pub Puts : Act → List ℕ → Type 0
-Puts (Fetched name answer) octets = octets ≡ []
-Puts (Wrote piece true) octets = octets ≡ piece
-Puts (Wrote piece false) octets = (cut : List ℕ) × (octets ++ cut ≡ piece)
-Puts (Called call) octets = octets ≡ []
-Puts (Asked moment) octets = octets ≡ []
-Puts (Drew word) octets = octets ≡ []
+abbrev pub PutsInSink : Act → List ℕ → Type 0
+PutsInSink (Fetched name answer) octets = octets ≡ []
+PutsInSink (Wrote piece true) octets = octets ≡ piece
+PutsInSink (Wrote piece false) octets = (cut : List ℕ) × (octets ++ cut ≡ piece)
+PutsInSink (Called call) octets = octets ≡ []
+PutsInSink (Asked moment) octets = octets ≡ []
+PutsInSink (Drew word) octets = octets ≡ []
 
 pub record SinkDid (before now : SinkState) (acts : List Act) : Type 0 where
   pub rests : IsFalse (list_any is_write acts) → now ≡ before
-  pub held : GrewBy Puts before.held now.held acts
-  pub faults : Counts is_failed_write before.faults now.faults acts
+  pub held : GrewBy PutsInSink before.held now.held acts
+  pub faults : Counts is_sink_fault before.faults now.faults acts
 
 -- ---- the wires
 
@@ -87,9 +87,9 @@ pub record WiresDid (before now : WiresState) (acts : List Act) : Type 0 where
   pub calls : GrewSeen before.calls now.calls (calls_in_acts acts)
   pub opened : now.opened ≡ fold opened_by_call before.opened (calls_in_acts acts)
   pub listening : now.listening ≡ fold listening_by_call before.listening (calls_in_acts acts)
-  pub faults : Counts is_failed_call before.faults now.faults acts
-  pub turn_faults : Counts is_failed_opening before.turn_faults now.turn_faults acts
-  pub turns_rest : IsFalse (list_any is_opening acts) → now.turn_faults ≡ before.turn_faults
+  pub faults : Counts is_wires_fault before.faults now.faults acts
+  pub turn_faults : Counts is_opening_fault before.turn_faults now.turn_faults acts
+  pub turns_rest : IsFalse (list_any is_opening_act acts) → now.turn_faults ≡ before.turn_faults
 
 -- ---- the clock and the random words
 
