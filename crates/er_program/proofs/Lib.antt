@@ -24,4 +24,5 @@ pub mod BulkSteady
 pub mod BulkRuns
 pub mod BulkMeanings
 pub mod WholeRuns
+pub mod FileActs
 pub mod Migrating

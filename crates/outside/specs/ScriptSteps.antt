@@ -9,7 +9,7 @@ use Rattle.outside.specs.Scripts.{End, With, Sunk, OutOfMemory, Script, Ends, Fe
 
 runs_printed : (Is : List ℕ → Type 0) (next : Script) (text : List ℕ) (rest : List Act) (end : End) → Is text → RunsScript next rest end → RunsScript (Prints Is next) (printing text ++ rest) end
 unfolding RunsScript
-runs_printed Is next text rest end is runs = inl (record { text = text; is = is; rest = rest; acts_are = refl; then = runs })
+runs_printed Is next text rest end is runs = inl (record { text = text; is = is; rest = rest; acts_are = refl; follows = runs })
 
 -- ---- no step
 
@@ -80,7 +80,7 @@ does_spent_fetching name next before now did = record { acts = Fetched name Spen
 
 printed_as : (Is Other : List ℕ → Type 0) (Then : List Act → Type 0) (acts : List Act) → ((text : List ℕ) → Is text → Other text)
     → IsPrinted Is Then acts → IsPrinted Other Then acts
-printed_as Is Other Then acts so p = record { text = p.text; is = so p.text p.is; rest = p.rest; acts_are = p.acts_are; then = p.then }
+printed_as Is Other Then acts so p = record { text = p.text; is = so p.text p.is; rest = p.rest; acts_are = p.acts_are; follows = p.follows }
 
 unprinted_as : (Is Other : List ℕ → Type 0) (acts : List Act) (end : End) → ((text : List ℕ) → Is text → Other text)
     → IsUnprinted Is acts end → IsUnprinted Other acts end

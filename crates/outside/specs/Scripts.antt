@@ -39,7 +39,7 @@ pub record IsPrinted (Is : List ℕ → Type 0) (Then : List Act → Type 0) (ac
   pub is : Is text
   pub rest : List Act
   pub acts_are : acts ≡ printing text ++ rest
-  pub then : Then rest
+  pub follows : Then rest
 
 -- the write of a text of the kind failed, and nothing followed
 pub record IsUnprinted (Is : List ℕ → Type 0) (acts : List Act) (end : End) : Type 0 where

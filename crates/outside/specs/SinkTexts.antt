@@ -98,7 +98,7 @@ name_noted_by a b name p =
 -- it asks for no file
 pub fetches_none : (Is : List ℕ → Type 0) (status : ℕ) (acts : List Act) (end : End) → RunsScript (Prints Is (Ends status)) acts end → IsFalse (list_any is_fetch acts)
 unfolding RunsScript
-fetches_none Is status acts end (inl p) = subst (λ (xs : List Act). IsFalse (list_any is_fetch xs)) (sym p.acts_are) (printed p.text p.rest p.then.0)
+fetches_none Is status acts end (inl p) = subst (λ (xs : List Act). IsFalse (list_any is_fetch xs)) (sym p.acts_are) (printed p.text p.rest p.follows.0)
   where
     printed : (text : List ℕ) (rest : List Act) → rest ≡ [] → IsFalse (list_any is_fetch (printing text ++ rest))
     printed [] rest none = subst (λ (xs : List Act). IsFalse (list_any is_fetch xs)) (sym none) refl

@@ -33,7 +33,7 @@ one_of_both : (is : Act → Bool) (xs ys : List Act) → IsTrue (list_any is (xs
 one_of_both is xs ys h = either (list_any is xs) (list_any is ys) (sym (list_any-append is xs ys) ∙ h)
 
 never : {A : Type 0} (b : Bool) → b ≡ false → b ≡ true → A
-never b no yes = absurd (true≢false (sym yes ∙ no))
+never b p q = absurd (true≢false (sym q ∙ p))
 
 -- ---- what acts leave
 
