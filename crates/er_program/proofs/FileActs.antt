@@ -1,17 +1,17 @@
 -- What the script of a command over one file did: by the acts, how the run ended, what the sink got, and which name was asked for.
-use Rattle.std.proofs.Common.{◌≡◌, ◌≤◌, ◌⊎◌, ℕ, inl, inr, true, false, List, [], ◌∷◌, ◌++◌, Option, Some, None, Result, Ok, Err, IfOk, IsFalse, refl, sym, ap, subst, ◌∙◌}
+use Rattle.std.proofs.Common.{◌≡◌, ◌≤◌, ℕ, inl, inr, false, List, [], ◌∷◌, ◌++◌, Option, Result, Ok, Err, IfOk, IsFalse, refl, sym, ap, subst, ◌∙◌}
 use Rattle.std.specs.List.{list_any}
-use Rattle.link_trait.specs.Outside.{Grew, GrewPart, HasFile, Rose}
+use Rattle.link_trait.specs.Outside.{Grew, GrewPart, HasFile}
 use Rattle.link_trait.specs.Growth.{part_whole}
 use Rattle.er_base.specs.declared.no_memory.NoMemory.{NoMemory}
 use Rattle.outside.specs.Acts.{Fetch, Gave, Failed, Spent, Act, Fetched, Wrote, Called, Asked, Drew, is_fetch, is_sink_fault}
 use Rattle.outside.specs.Ties.{GrewBy, Counts, AsksFor, AreFiled, PutsInSink}
 use Rattle.outside.specs.Doings.{Told, Did}
-use Rattle.outside.specs.Scripts.{End, With, Sunk, OutOfMemory, Script, Ends, Prints, IsFetchThen, IsPrinted, IsUnprinted, printing, RunsScript, says_last}
+use Rattle.outside.specs.Scripts.{End, With, Sunk, OutOfMemory, Script, Ends, Prints, IsFetchThen, printing, RunsScript}
 use Rattle.outside.specs.SinkTexts.{nothing_left_by, text_printed_by, text_begun_by, behind_fetched, name_asked_by, name_noted_by, fetches_none}
 use Rattle.er_statuses.specs.Answers.{Answer, Files}
 use Rattle.er_statuses.specs.LastLines.{fetch_line}
-use Rattle.er_statuses.specs.FileScripts.{answers, behind_fetch, fetches_file}
+use Rattle.er_statuses.specs.FileScripts.{answers, fetches_file}
 use Rattle.er_statuses.specs.ScriptEnds.{end_of_run}
 use Rattle.er_statuses.specs.Writing.{GivesAnswer, EndsUnfetched}
 use Rattle.er_statuses.specs.Fetching.{ends_unfetched}

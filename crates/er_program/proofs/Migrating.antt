@@ -1,7 +1,7 @@
 -- What the script of `migrate` did: how the run ended, what the sink got, and which name was asked for.
 use Rattle.std.proofs.Common.{◌≡◌, ◌≤◌, ℕ, List, [], ◌∷◌, Option, Result, Ok, Err, IfOk, IsFalse, refl, sym, subst}
 use Rattle.std.specs.List.{list_any}
-use Rattle.link_trait.specs.Outside.{Grew, GrewPart, HasFile}
+use Rattle.link_trait.specs.Outside.{Grew, GrewPart}
 use Rattle.er_base.specs.declared.no_memory.NoMemory.{NoMemory}
 use Rattle.safety_automaton.specs.Keys.{KmacEntry}
 use Rattle.key_store.specs.declared.key_file_fault.KeyFileFault.{KeyFileFault}
@@ -10,7 +10,7 @@ use Rattle.outside.specs.Acts.{Act, is_fetch}
 use Rattle.outside.specs.Doings.{Told, Did}
 use Rattle.outside.specs.Scripts.{End, OutOfMemory, Script, RunsScript}
 use Rattle.outside.specs.SinkTexts.{fetches_none}
-use Rattle.er_statuses.specs.Answers.{Answer, Files, keys_answer}
+use Rattle.er_statuses.specs.Answers.{Files, keys_answer}
 use Rattle.er_statuses.specs.FileScripts.{behind_keys}
 use Rattle.er_statuses.specs.ScriptEnds.{end_of_run}
 use Rattle.er_statuses.specs.declared.status.Status.{Status}

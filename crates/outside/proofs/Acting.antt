@@ -1,6 +1,5 @@
 -- One act at each part, from what the part's own call says of it.
-use Rattle.std.proofs.Common.{◌≡◌, ◌≤◌, ◌⊎◌, ◌+◌, ℕ, inl, inr, Bool, true, false, ◌||◌, List, [], ◌∷◌, ◌++◌, Option, None, Some, Result, Ok, Err, IsTrue, IsFalse, IfOk, OnErr, OnOk, is_ok, refl, sym, ap, ◌∙◌, append-nil, true≢false, suc, length, arith}
-use Rattle.std.specs.List.{list_any}
+use Rattle.std.proofs.Common.{◌≡◌, ◌≤◌, ◌⊎◌, ◌+◌, ℕ, inl, inr, Bool, true, false, ◌||◌, List, [], ◌∷◌, ◌++◌, Option, None, Some, Result, Ok, Err, IsTrue, IsFalse, IfOk, OnErr, OnOk, is_ok, refl, sym, ap, true≢false, suc, length, arith}
 use Rattle.rand_core.specs.Stream.{Stream, next_u64}
 use Rattle.link_trait.specs.Outside.{Grew, GrewPart, HasCause, HasFile, HasStayedAsTold, Notes, Rose}
 use Rattle.link_trait.specs.States.{CabinetState, SinkState, WiresState, ClockState}
@@ -14,11 +13,11 @@ use Rattle.link_trait.specs.declared.wires.ReadAnswer.TheVariants as read_answer
 use Rattle.link_trait.specs.declared.wires.WriteAnswer.{WriteAnswer}
 use Rattle.link_trait.specs.declared.wires.WriteAnswer.TheVariants as write_answer
 use Rattle.link_trait.specs.Wires.{Call, Listens, Dials, Turns, Reads, Writes, Closes, opened_by_dial, opened_by_turn, dialled, reading_of}
-use Rattle.outside.specs.Acts.{Fetch, Gave, Failed, Spent, SeenCall, Listened, Dialled, Turned, Read, Sent, Closed, Act, Fetched, Wrote, Called, Asked, Drew}
-use Rattle.outside.specs.Acts.{is_fetch, is_write, is_call, is_question, is_opening_call, is_cabinet_fault, is_sink_fault, is_wires_fault, is_opening_fault, failed_call, failed_opening_call}
+use Rattle.outside.specs.Acts.{Gave, Failed, Spent, Listened, Dialled, Turned, Read, Sent, Closed, Act, Fetched, Wrote, Called, Asked, Drew}
+use Rattle.outside.specs.Acts.{is_opening_call, is_cabinet_fault, is_sink_fault, is_wires_fault, is_opening_fault, failed_call, failed_opening_call}
 use Rattle.outside.specs.Seen.{fetched_by, seen_of_call, opened_by_call, listening_by_call}
-use Rattle.outside.specs.Ties.{AsksFor, AreFiled, PutsInSink, Counts, GrewBy, GrewSeen, CabinetDid, SinkDid, WiresDid, ClockDid, AreDrawn}
-use Rattle.outside.specs.Doings.{PartNames, Told, Did}
+use Rattle.outside.specs.Ties.{AsksFor, AreFiled, PutsInSink, Counts, CabinetDid, SinkDid}
+use Rattle.outside.specs.Doings.{Told, Did}
 use Rattle.outside.specs.TieSteps.{grew_by_one, cabinet_rests, sink_rests, wires_rest, clock_rests, drawn_nothing, drawn_one}
 
 -- ---- a count of faults at one act

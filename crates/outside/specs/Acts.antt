@@ -97,13 +97,6 @@ is_question (Called call) = false
 is_question (Asked moment) = true
 is_question (Drew word) = false
 
-abbrev pub is_draw : Act → Bool
-is_draw (Fetched name answer) = false
-is_draw (Wrote piece done) = false
-is_draw (Called call) = false
-is_draw (Asked moment) = false
-is_draw (Drew word) = true
-
 -- a listen, a dial or a turn: a call from which a connection may come
 abbrev pub is_opening_call : SeenCall → Bool
 is_opening_call (Listened address listens) = true

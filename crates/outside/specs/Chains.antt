@@ -1,5 +1,5 @@
 -- Lemmas: no act was done; and one run of acts and then another; for the proofs of the crates above.
-use Rattle.std.proofs.Common.{◌≡◌, ℕ, List, [], ◌++◌, filter_map, refl, sym, ap, subst, ◌∙◌, append_assoc, append-nil}
+use Rattle.std.proofs.Common.{ℕ, List, [], ◌++◌, filter_map, refl, sym, ap, subst, ◌∙◌, append_assoc, append-nil}
 use Rattle.std.proofs.lemmas.List.Elements.{filter_map-append}
 use Rattle.outside.specs.Acts.{Act, word_of_act}
 use Rattle.outside.specs.Ties.{AreDrawn}

@@ -1,7 +1,7 @@
 -- Representation: the act that a note of the code is.
 use Rattle.std.specs.Prelude.{length}
 use Rattle.link_trait.specs.Wires.{reading_of, dialled}
-use Rattle.outside.specs.Acts.{SeenCall, Listened, Dialled, Turned, Read, Sent, Closed, Act, Fetched, Wrote, Called, Asked, Drew}
+use Rattle.outside.specs.Acts.{Listened, Dialled, Turned, Read, Sent, Closed, Act, Fetched, Wrote, Called, Asked, Drew}
 use Rattle.outside.specs.Seen.{fetched_by}
 use Rattle.outside.specs.declared.note.Note.{Note}
 use Rattle.outside.specs.declared.note.Note.TheVariants as note

@@ -1,6 +1,6 @@
 -- Lemmas: how a script is run step by step; for the proofs of the crates above.
-use Rattle.std.proofs.Common.{◌≡◌, ℕ, inl, inr, true, false, List, [], ◌∷◌, ◌++◌, Option, Some, None, refl, sym, ap, subst, ◌∙◌, append-nil}
-use Rattle.outside.specs.Acts.{Fetch, Gave, Failed, Spent, Act, Fetched, Wrote}
+use Rattle.std.proofs.Common.{ℕ, inl, inr, false, List, [], ◌∷◌, ◌++◌, Option, Some, None, refl}
+use Rattle.outside.specs.Acts.{Gave, Failed, Spent, Act, Fetched, Wrote}
 use Rattle.outside.specs.Doings.{Told, Did}
 use Rattle.outside.specs.Chains.{did_nothing, did_then}
 use Rattle.outside.specs.Scripts.{End, With, Sunk, OutOfMemory, Script, Ends, Fetches, Prints, printing, IsFetchThen, IsPrinted, IsUnprinted, RunsScript, Does}

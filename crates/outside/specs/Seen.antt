@@ -1,5 +1,5 @@
 -- What an act says of a call of a cabinet or of wires, by its answer (this profile).
-use Rattle.std.specs.Prelude.{ℕ, Bool, ◌||◌, ◌+◌, true, false, List, Option, Some, None, Result, Ok, Err}
+use Rattle.std.specs.Prelude.{ℕ, Bool, ◌||◌, ◌+◌, List, Some, None, Result, Ok, Err}
 use Rattle.link_trait.specs.declared.cabinet.FetchFault.{FetchFault}
 use Rattle.link_trait.specs.declared.cabinet.FetchFault.TheVariants as fault
 use Rattle.link_trait.specs.Wires.{Call, Listens, Dials, Turns, Reads, Writes, Closes, opened_by_turn}

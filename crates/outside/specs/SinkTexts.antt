@@ -2,9 +2,9 @@
 use Rattle.std.proofs.Common.{◌≡◌, ◌⊎◌, ℕ, inl, inr, Bool, true, false, ◌||◌, List, [], ◌∷◌, ◌++◌, Option, IsFalse, refl, sym, ap, subst, ◌∙◌, append-nil, true≢false}
 use Rattle.std.specs.List.{list_any}
 use Rattle.link_trait.specs.Outside.{Grew, GrewPart}
-use Rattle.outside.specs.Acts.{Fetch, Gave, Failed, Spent, Act, Fetched, Wrote, Called, Asked, Drew, is_fetch}
+use Rattle.outside.specs.Acts.{Fetch, Spent, Act, Fetched, Wrote, Called, Asked, Drew, is_fetch}
 use Rattle.outside.specs.Ties.{IsLeft, GrewBy, AsksFor, PutsInSink}
-use Rattle.outside.specs.Scripts.{printing, End, Script, Ends, Prints, IsPrinted, IsUnprinted, RunsScript}
+use Rattle.outside.specs.Scripts.{printing, End, Ends, Prints, RunsScript}
 
 -- no act leaves anything
 pub nothing_left_by : {A : Type 0} {Leaves : Act → List A → Type 0} (a b : Option (List A)) → GrewBy Leaves a b [] → Grew a b []

@@ -11,7 +11,7 @@ use Rattle.link_trait.specs.Outside.{Grew, HasFile, HasStayedAsTold, Rose}
 use Rattle.link_trait.specs.Growth.{grew_nothing, grew_then, kept_same, kept_then}
 use Rattle.link_trait.specs.States.{CabinetState, SinkState, WiresState, ClockState}
 use Rattle.link_trait.specs.Wires.{Call}
-use Rattle.outside.specs.Acts.{Fetch, Gave, Failed, Spent, SeenCall, Act, Fetched, Wrote, Called, Asked, Drew, call_of_act, moment_of_act}
+use Rattle.outside.specs.Acts.{Gave, Failed, Spent, SeenCall, Act, Fetched, Wrote, Called, Asked, Drew, call_of_act, moment_of_act}
 use Rattle.outside.specs.Acts.{is_fetch, is_write, is_call, is_question, is_opening_act, is_cabinet_fault, is_sink_fault, is_wires_fault, is_opening_fault}
 use Rattle.outside.specs.Seen.{seen_of_call, opened_by_call, listening_by_call}
 use Rattle.outside.specs.Ties.{IsLeft, GrewBy, Counts, AsksFor, AreFiled, CabinetDid, PutsInSink, SinkDid, GrewSeen, WiresDid, ClockDid, AreDrawn}

@@ -6,8 +6,8 @@ use Rattle.rand_core.specs.Stream.{Stream, next_u64}
 use Rattle.link_trait.specs.Outside.{Grew, HasFile, HasStayedAsTold, Rose}
 use Rattle.link_trait.specs.States.{CabinetState, SinkState, WiresState, ClockState}
 use Rattle.link_trait.specs.Wires.{Call}
-use Rattle.outside.specs.Acts.{Gave, Failed, Spent, SeenCall, Act, Fetched, Wrote, Called, Asked, Drew, calls_in_acts, moments_in_acts, words_in_acts}
-use Rattle.outside.specs.Acts.{is_fetch, is_write, is_call, is_question, is_draw, is_opening_act, is_cabinet_fault, is_sink_fault, is_wires_fault, is_opening_fault}
+use Rattle.outside.specs.Acts.{Gave, Failed, Spent, SeenCall, Act, Fetched, Wrote, Called, Asked, Drew, calls_in_acts, moments_in_acts}
+use Rattle.outside.specs.Acts.{is_fetch, is_write, is_call, is_question, is_opening_act, is_cabinet_fault, is_sink_fault, is_wires_fault, is_opening_fault}
 use Rattle.outside.specs.Seen.{seen_of_call, opened_by_call, listening_by_call}
 
 -- ---- what acts leave in a part, one behind the other

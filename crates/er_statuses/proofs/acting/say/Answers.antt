@@ -1,5 +1,5 @@
 -- Nothing is done for an empty text; and one that isn't is printed by one write.
-use Rattle.std.proofs.Common.{◌≡◌, ◌==◌, ℕ, true, false, List, [], ◌∷◌, length, Result, Ok, Err, is_ok, eqb-true, eqb-false, refl, arith}
+use Rattle.std.proofs.Common.{◌≡◌, ◌==◌, ℕ, true, false, List, [], ◌∷◌, length, Result, Ok, Err, is_ok, eqb-true, eqb-false, arith}
 use Rattle.link_trait.specs.declared.sink.Failed.{Failed}
 use Rattle.outside.specs.Acts.{Wrote}
 use Rattle.outside.specs.Doings.{Told, Did}
