@@ -1,5 +1,5 @@
 -- One act at each part, from what the part's own call says of it.
-use Rattle.std.proofs.Common.{◌≡◌, ◌≤◌, ◌⊎◌, ◌+◌, ℕ, inl, inr, Bool, true, false, ◌||◌, List, [], ◌∷◌, ◌++◌, Option, None, Some, Result, Ok, Err, IsTrue, IsFalse, IfOk, OnErr, OnOk, is_ok, refl, sym, ap, true≢false, suc, length, arith}
+use Rattle.std.proofs.Common.{◌≡◌, ◌≤◌, ◌⊎◌, ℕ, inl, inr, Bool, true, false, ◌||◌, List, [], ◌∷◌, ◌++◌, Option, None, Some, Result, Ok, Err, IsTrue, IsFalse, IfOk, OnErr, OnOk, is_ok, refl, sym, ap, true≢false, suc, length, arith}
 use Rattle.rand_core.specs.Stream.{Stream, next_u64}
 use Rattle.link_trait.specs.Outside.{Grew, GrewPart, HasCause, HasFile, HasStayedAsTold, Notes, Rose}
 use Rattle.link_trait.specs.States.{CabinetState, SinkState, WiresState, ClockState}

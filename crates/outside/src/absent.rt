@@ -56,14 +56,17 @@ pub struct NoWords;
 impl Rng for NoWords {
     ghost stream = { λ _. no_words };
 
+    #[tactic(auto, unfolding(rand_core::specs::Stream::next_u32))]
     fn next_u32(&mut self) -> u32 {
         0
     }
 
+    #[tactic(auto, unfolding(rand_core::specs::Stream::next_u64))]
     fn next_u64(&mut self) -> u64 {
         0
     }
 
+    #[tactic(auto, unfolding(rand_core::specs::Stream::fill_bytes))]
     fn fill_bytes(&mut self, dst: &mut [u8]) {
         dst.fill(0);
     }

@@ -8,9 +8,9 @@ pub(crate) enum Note<'a> {
     /// A file was asked for by its name.
     Fetched(&'a str, &'a Result<Vec<u8>, FetchFault>),
     /// A piece was written, wholly or not.
-    Wrote(&'a [u8], bool),
+    Wrote(&'a [u8], &'a Result<(), Failed>),
     /// The wires were to listen at an address.
-    Listened(&'a str, bool),
+    Listened(&'a str, &'a Result<(), Failed>),
     /// An address was dialled.
     Dialled(&'a str, &'a Result<Conn, Failed>),
     /// A turn brought this.

@@ -93,13 +93,13 @@ impl<'f, 'k, 'w, 'c, 'r, F: Cabinet, K: Sink, W: Wires, C: Clock, R: Rng> Outsid
 
     fn write(&mut self, piece: &[u8]) -> Result<(), Failed> {
         let answer = self.sink.write(piece);
-        self.history.note(&Note::Wrote(piece, answer.is_ok()));
+        self.history.note(&Note::Wrote(piece, &answer));
         answer
     }
 
     fn listen(&mut self, address: &str) -> Result<(), Failed> {
         let answer = self.wires.listen(address);
-        self.history.note(&Note::Listened(address, answer.is_ok()));
+        self.history.note(&Note::Listened(address, &answer));
         answer
     }
 
