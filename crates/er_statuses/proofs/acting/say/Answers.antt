@@ -1,5 +1,5 @@
 -- Nothing is done for an empty text; and one that isn't is printed by one write.
-use Rattle.std.proofs.Common.{◌≡◌, ◌==◌, ℕ, true, false, List, [], ◌∷◌, length, Result, Ok, Err, is_ok, eqb-true, eqb-false, arith}
+use Rattle.std.proofs.Common.{◌≡◌, ◌==◌, ℕ, true, false, List, [], ◌∷◌, length, Result, Ok, Err, is_ok, eqb-true, true≢false, arith}
 use Rattle.link_trait.specs.declared.sink.Failed.{Failed}
 use Rattle.outside.specs.Acts.{Wrote}
 use Rattle.outside.specs.Doings.{Told, Did}
@@ -14,7 +14,7 @@ said_nothing (octet ∷ octets) t none = absurd (let q : ⊥ = omega (arith, eqb
 
 said_some : (text : List ℕ) (result : Result (Unit {0}) Failed) (before now : Told) → (length text == 0) ≡ false → Did before now (Wrote text (is_ok result) ∷ [])
     → Did before now (said_acts text result)
-said_some [] result before now some did = absurd (let q : ⊥ = omega (arith, eqb-false (length {A = ℕ} []) 0 some) in q)
+said_some [] result before now some did = absurd (true≢false some)
 said_some (octet ∷ octets) (Ok done) before now some did = did
 said_some (octet ∷ octets) (Err failed) before now some did = did
 
