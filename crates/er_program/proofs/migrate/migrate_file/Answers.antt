@@ -30,7 +30,7 @@ refused (keys.Version n) read before now end is does = rw is does
 refused (keys.NoMemory want) read before now end is ends = rw (ends.0, ends.1) (spent read before)
 
 pub returns-in-Ok : goal.returns-in-Ok
-returns-in-Ok g c = record { does = rw c.in-Ok.ensures c.print_keys.ensures.does }
+returns-in-Ok g c = record { does = rw c.in-Ok.ensures.exact c.print_keys.ensures.does }
 
 pub returns-in-Err : goal.returns-in-Err
-returns-in-Err g c = record { does = refused c.in-Err.fault _ _ _ _ c.in-Err.ensures c.keys_refused.ensures.ends }
+returns-in-Err g c = record { does = refused c.in-Err.fault _ _ _ _ c.in-Err.ensures.exact c.keys_refused.ensures.ends }

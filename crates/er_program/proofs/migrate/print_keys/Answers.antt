@@ -8,5 +8,5 @@ use Rattle.er_program.proofs.migrate.print_keys.Goals as goal
 pub returns : goal.returns
 returns g c = record {
   does = does_as (λ line. line ≡ c.as_slice.result.now) (λ text. keys_of text ≡ Ok c.args.store.now) (Ends 0) _ _ _
-      (λ text is. ap keys_of (is ∙ c.as_slice.ensures.value) ∙ c.in_ok-text.ensures) c.last.ensures.does;
+      (λ text is. ap keys_of (is ∙ c.as_slice.ensures.value) ∙ c.in_ok-text.ensures.read_back) c.last.ensures.does;
 }
