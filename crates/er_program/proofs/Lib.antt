@@ -26,3 +26,6 @@ pub mod BulkMeanings
 pub mod WholeRuns
 pub mod FileActs
 pub mod Migrating
+pub mod EachText
+pub mod BitReading
+pub mod BitActs
