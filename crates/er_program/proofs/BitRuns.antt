@@ -11,7 +11,6 @@ use Rattle.hdlc_bits.specs.Framing.{Verdict, frames_of_bits}
 use Rattle.hdlc_bits.specs.Keeping.{KeptBitDeframer, kept_of}
 use Rattle.hdlc_bits.specs.Laws.{FramesGrow}
 use Rattle.link_trait.specs.Outside.{HasFile}
-use Rattle.er_base.specs.declared.no_memory.NoMemory.{NoMemory}
 use Rattle.er_program.specs.Commands.{Bits}
 use Rattle.er_statuses.specs.LastLines.{fetch_line}
 use Rattle.er_statuses.specs.Answers.{Files}

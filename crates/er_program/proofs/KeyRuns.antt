@@ -1,6 +1,5 @@
 -- How the answer to a key file ends, from how its parts end.
 use Rattle.std.proofs.Common.{ℕ, List, [], Option, Some, None, Result, Ok, Err, refl}
-use Rattle.er_base.specs.declared.no_memory.NoMemory.{NoMemory}
 use Rattle.key_store.specs.KeyFiles.{keys_of}
 use Rattle.link_trait.specs.Outside.{HasFile}
 use Rattle.er_program.specs.Commands.{Migrate}

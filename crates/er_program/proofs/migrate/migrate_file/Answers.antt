@@ -1,6 +1,5 @@
 -- The store that was read, and the key file that is refused.
 use Rattle.std.proofs.Common.{List, Result, Ok, Err}
-use Rattle.er_base.specs.declared.no_memory.NoMemory.{NoMemory}
 use Rattle.key_store.specs.Answers.{RefusesAsKeyFileSays}
 use Rattle.key_store.specs.declared.key_file_fault.KeyFileFault.{KeyFileFault}
 use Rattle.key_store.specs.declared.key_file_fault.KeyFileFault.TheVariants as keys
