@@ -36,7 +36,7 @@ for line in open("crates.txt"):
         continue
     text = ""
     for folder, _, files in os.walk("crates/" + row.group(1)):
-        if "/out" not in folder:
+        if "/out/" not in folder + "/":
             text += "".join(open(os.path.join(folder, file), encoding="utf-8").read() for file in files if file.endswith((".rt", ".antt")))
     for library in row.group(2).split():
         if not re.search(rf"\bRattle\.{library}\.|\b{library}::", text):

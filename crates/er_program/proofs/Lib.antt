@@ -24,3 +24,8 @@ pub mod BulkSteady
 pub mod BulkRuns
 pub mod BulkMeanings
 pub mod WholeRuns
+pub mod FileActs
+pub mod Migrating
+pub mod EachText
+pub mod BitReading
+pub mod BitActs

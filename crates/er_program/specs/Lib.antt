@@ -12,6 +12,8 @@ pub mod BitWriting
 pub mod BulkTexts
 pub mod BulkRuns
 pub mod KeyWriting
+pub mod FileScripts
+pub mod BitScripts
 pub mod ReplayWriting
 pub mod AuditWriting
 pub mod CheckWriting

@@ -1,22 +1,25 @@
 //! `bits FILE`: a recorded synchronous line, read as frames with zero insertion.
 
-ghost use Rattle.std.specs.Prelude.{◌≡◌, ◌≤◌, ◌*◌, ◌++◌, [], ◌∷◌, length, IfOk, OnOk, option_map};
-ghost use Rattle.std.specs.Option.{option_to_list};
+ghost use Rattle.std.specs.Prelude.{◌≡◌, ◌≤◌, ◌*◌, ◌++◌, [], ◌∷◌, false, length, nat_lt, IfOk, OnOk, option_map};
 ghost use Rattle.link_trait.specs.Outside.{Grew, GrewPart, HasStayedAsTold};
 ghost use Rattle.er_base.specs.LineTexts.{line_text};
 ghost use Rattle.hdlc_bits.specs.Shown.{verdict_of_bits_found};
-ghost use Rattle.er_program.specs.Answers.{bits_answer};
-ghost use Rattle.er_program.specs.BitTexts.{verdict_words, verdict_lines, counts_line};
-ghost use Rattle.er_program.specs.BitWriting.{found_count, WritesTextWithFrameCount, EndsBits};
+ghost use Rattle.outside.specs.Scripts.{Does, says_last};
+ghost use Rattle.er_statuses.specs.ScriptEnds.{end_of_run};
+ghost use Rattle.er_program.specs.BitScripts.{SaysVerdict, SaysFound};
+ghost use Rattle.er_program.specs.BitTexts.{verdict_words, counts_line, most_line_octets};
+ghost use Rattle.er_program.specs.BitWriting.{found_count};
 ghost use Rattle.er_program.specs.Commands.{Bits};
-ghost use Rattle.er_statuses.specs.Writing.{GivesAnswer};
+ghost use Rattle.er_program.specs.FileScripts.{reads_bits, reads_line};
 ghost use Rattle.er_program.specs.Writing.{EndsCommand};
 
 use er_base::{NoMemory, PrintedWord, Why, put_line};
-use er_statuses::{Status, Stop, fetched, last, out_of_form, say};
+use er_statuses::acting::{last, out_of_form, say, unfetched};
+use er_statuses::{Status, Stop};
 use hdlc_bits::laws::{frames_grow, nothing_is_read, reading_goes_on};
 use hdlc_bits::{BitDeframer, BitFound};
-use link_trait::{Cabinet, Sink};
+use link_trait::{Cabinet, FetchFault, Sink};
+use outside::{NoClock, NoWires, NoWords, Outside, Parts};
 use std::alloc::Global;
 
 /// The greatest number of octets that a recorded line may have (this profile).
@@ -55,36 +58,40 @@ fn frames_in(found: &BitFound<'_>) -> u64
 }
 
 // Writes the line of what was found, and answers how many frames that is.
-fn tell_found<K: Sink>(alloc: Global, found: &BitFound<'_>, sink: &mut K) -> Result<u64, Stop>
-    ensures tells { WritesTextWithFrameCount (line_text (verdict_words (verdict_of_bits_found found.now))) (found_count (Some (verdict_of_bits_found found.now)))
-        (K.state sink.old).held (K.state sink.new).held (K.state sink.old).faults (K.state sink.new).faults result }
-    ensures sink_count { (K.state sink.old).faults ≤ (K.state sink.new).faults }
+fn tell_found<O: Outside>(alloc: Global, found: &BitFound<'_>, outside: &mut O) -> Result<u64, Stop>
+    ensures says { SaysVerdict (verdict_of_bits_found found.now) (O.told outside.old) (O.told outside.new) result }
 {
     let mut line = Vec::new(alloc);
     put_verdict(found, &mut line)?;
-    match say(line.as_slice(), sink) {
+    match say(line.as_slice(), outside) {
         Ok(()) => Ok(frames_in(found)),
         Err(_) => Err(Stop::Sink),
     }
 }
 
 // The same of what one call found, which may be nothing.
-fn tell<K: Sink>(alloc: Global, found: &Option<BitFound<'_>>, sink: &mut K) -> Result<u64, Stop>
-    ensures tells { WritesTextWithFrameCount (verdict_lines (option_to_list (option_map verdict_of_bits_found found.now))) (found_count (option_map verdict_of_bits_found found.now))
-        (K.state sink.old).held (K.state sink.new).held (K.state sink.old).faults (K.state sink.new).faults result }
-    ensures sink_count { (K.state sink.old).faults ≤ (K.state sink.new).faults }
+fn tell<O: Outside>(
+    alloc: Global,
+    found: &Option<BitFound<'_>>,
+    outside: &mut O,
+) -> Result<u64, Stop>
+    ensures says { SaysFound (option_map verdict_of_bits_found found.now) (O.told outside.old) (O.told outside.new) result }
 {
     match found {
-        Some(found) => tell_found(alloc, found, sink),
+        Some(found) => tell_found(alloc, found, outside),
         None => Ok(0),
     }
 }
 
 // The last line: how many bits there are, and how many frames.
-fn counted<K: Sink>(alloc: Global, bits: u64, frames: u64, sink: &mut K) -> Result<Status, Stop>
-    ensures gives { GivesAnswer (record { status = 0; text = counts_line bits frames }) (K.state sink.old).held (K.state sink.new).held
-        (K.state sink.old).faults (K.state sink.new).faults result }
-    ensures sink_count { (K.state sink.old).faults ≤ (K.state sink.new).faults }
+#[tactic(auto, using(outside::specs::ScriptSteps::does_spent))]
+fn counted<O: Outside>(
+    alloc: Global,
+    bits: u64,
+    frames: u64,
+    outside: &mut O,
+) -> Result<Status, Stop>
+    ensures does { Does (says_last 0 (counts_line bits frames)) (O.told outside.old) (O.told outside.new) (end_of_run result) }
 {
     let mut line = Vec::new(alloc);
     put_line(
@@ -96,14 +103,13 @@ fn counted<K: Sink>(alloc: Global, bits: u64, frames: u64, sink: &mut K) -> Resu
         ],
         &mut line,
     )?;
-    last(0, line.as_slice(), sink)
+    last(0, line.as_slice(), outside)
 }
 
 // Reads a line, and writes the line of each verdict as soon as it comes.
-fn read_line<K: Sink>(alloc: Global, octets: &[u8], sink: &mut K) -> Result<Status, Stop>
+fn read_line<O: Outside>(alloc: Global, octets: &[u8], outside: &mut O) -> Result<Status, Stop>
     requires short { length octets.now ≤ 16777216 }
-    ensures ends { EndsBits octets.now (K.state sink.old).held (K.state sink.new).held (K.state sink.old).faults (K.state sink.new).faults result }
-    ensures sink_count { (K.state sink.old).faults ≤ (K.state sink.new).faults }
+    ensures does { Does (reads_bits false octets.now) (O.told outside.old) (O.told outside.new) (end_of_run result) }
 {
     reading_goes_on();
     nothing_is_read();
@@ -115,23 +121,33 @@ fn read_line<K: Sink>(alloc: Global, octets: &[u8], sink: &mut K) -> Result<Stat
     while at < bits {
         let (used, found) = deframer.feed(octets, at, bits);
         at += used;
-        match tell(alloc, &found, sink) {
+        match tell(alloc, &found, outside) {
             Ok(more) => frames += more,
             Err(stop) => return Err(stop),
         }
     }
-    counted(alloc, bits, frames, sink)
+    counted(alloc, bits, frames, outside)
 }
 
 // The octets of the file.
-fn bits_file<K: Sink>(alloc: Global, octets: &[u8], sink: &mut K) -> Result<Status, Stop>
-    ensures ends { EndsBits octets.now (K.state sink.old).held (K.state sink.new).held (K.state sink.old).faults (K.state sink.new).faults result }
-    ensures sink_count { (K.state sink.old).faults ≤ (K.state sink.new).faults }
+fn bits_file<O: Outside>(alloc: Global, octets: &[u8], outside: &mut O) -> Result<Status, Stop>
+    ensures does { Does (reads_bits (nat_lt most_line_octets (length octets.now)) octets.now) (O.told outside.old) (O.told outside.new) (end_of_run result) }
 {
     if octets.len() > MOST_LINE_OCTETS {
-        return out_of_form(alloc, 0, Why::Long, sink);
+        return out_of_form(alloc, 0, Why::Long, outside);
     }
-    read_line(alloc, octets, sink)
+    read_line(alloc, octets, outside)
+}
+
+// Fetches the file, and prints what it is read as.
+fn bits<O: Outside>(alloc: Global, name: &str, outside: &mut O) -> Result<Status, Stop>
+    ensures does { Does (reads_line name.now) (O.told outside.old) (O.told outside.new) (end_of_run result) }
+{
+    match outside.fetch(alloc, name) {
+        Ok(octets) => bits_file(alloc, octets.as_slice(), outside),
+        Err(FetchFault::Failed) => unfetched(alloc, name, outside),
+        Err(FetchFault::NoMemory(want)) => Err(Stop::NoMemory(want)),
+    }
 }
 
 /// `bits NAME`: fetches the file, and prints what it is read as.
@@ -149,8 +165,14 @@ pub fn bits_run<F: Cabinet, K: Sink>(
     ensures count { (F.state cabinet.old).faults ≤ (F.state cabinet.new).faults }
     ensures sink_count { (K.state sink.old).faults ≤ (K.state sink.new).faults }
 {
-    match fetched(alloc, name, cabinet, sink) {
-        Ok(octets) => bits_file(alloc, octets.as_slice(), sink),
-        Err(ended) => ended,
-    }
+    let mut wires = NoWires;
+    let mut clock = NoClock;
+    let mut randoms = NoWords;
+    let mut parts = Parts::new(cabinet, sink, &mut wires, &mut clock, &mut randoms);
+    let ended = bits(alloc, name, &mut parts);
+    let Parts { cabinet, sink, .. } = parts;
+    // What is lent is given back here, which the clauses speak of.
+    let _ = &cabinet;
+    let _ = &sink;
+    ended
 }

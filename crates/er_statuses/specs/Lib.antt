@@ -3,3 +3,5 @@ pub mod KeyLines
 pub mod Answers
 pub mod Writing
 pub mod Fetching
+pub mod FileScripts
+pub mod ScriptEnds

@@ -47,7 +47,7 @@ fn say_version<K: Sink>(alloc: Global, version: i64, sink: &mut K) -> Result<Sta
 }
 
 // A number with its sign.
-fn decimal_text(alloc: Global, number: i64) -> Result<String, NoMemory>
+pub(crate) fn decimal_text(alloc: Global, number: i64) -> Result<String, NoMemory>
     ensures { IfOk result (λ text. string_bytes text ≡ signed_decimal number) }
 {
     Ok(number.to_string(alloc)?)

@@ -4,6 +4,7 @@
 //! any line.
 #![tactic(auto)]
 
+pub mod acting;
 mod endings;
 mod files;
 mod key_lines;
