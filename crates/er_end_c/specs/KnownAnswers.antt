@@ -1,22 +1,20 @@
 -- Known answers, worked out by hand from the comments of the header for C: each deed, each status, and what stands against making an end.
-use Rattle.std.specs.Prelude.{ℕ, ℤ, pos, negsuc, ◌≡◌, Bool, true, false, List, [], ◌∷◌, Option, Some, None, refl}
+use Rattle.std.specs.Prelude.{ℕ, pos, negsuc, ◌≡◌, Bool, true, false, List, [], ◌∷◌, Some, None, refl}
 use Rattle.er_base.specs.declared.release.Release.{Release}
 use Rattle.hdlc_station_model.specs.declared.counts.Counts.{Counts}
-use Rattle.er_end_model.specs.Outcomes.{Outcome, ConnectedTo, Accepted, Taken, NothingToTake, Refused, WasReleased, Octets, SendRefusal, RefusedReleased, RefusedNotConnected, RefusedLength, RefusedFull}
+use Rattle.er_end_model.specs.Outcomes.{ConnectedTo, Accepted, Taken, NothingToTake, Refused, WasReleased, Octets, RefusedReleased, RefusedNotConnected, RefusedLength, RefusedFull}
 use Rattle.er_end_model.specs.Ends as event
 use Rattle.er_end_model.specs.Steps.{Finds}
-use Rattle.er_end_c.specs.declared.face.CCounts.{CCounts}
 use Rattle.er_end_c.specs.declared.face.CDeeds.{CDeeds}
-use Rattle.er_end_c.specs.declared.face.CKey.{CKey}
 use Rattle.er_end_c.specs.declared.face.CSettings.{CSettings}
 use Rattle.er_end_c.specs.declared.fault.Fault.TheVariants as fault
 use Rattle.er_end_c.specs.declared.handle.CEnd.{CEnd}
 use Rattle.er_end_c.specs.declared.held.Held.{Held}
 use Rattle.er_end_c.specs.Deeds.{deeds_told, deeds_by_outcome_kind, release_deeds, status_told, counts_shown}
 use Rattle.er_end_c.specs.Handles.{is_handle_open}
-use Rattle.er_end_c.specs.Calls.{HandleCall, Release as ReleaseCall, Tick, Ended, is_moment_too_late, event_of, status_after, deeds_after}
+use Rattle.er_end_c.specs.Calls.{HandleCall, Release as ReleaseCall, Tick, is_moment_too_late, event_of, status_after, deeds_after}
 use Rattle.er_end_c.specs.Makings.{are_allowed, is_number, fault_of_handle_making, entry_shown, fault_status}
-use Rattle.er_end_c.specs.Reads.{none_or, deadline_status, shown_deadline, shown_release_status, shown_release, found_status, shown_counts}
+use Rattle.er_end_c.specs.Reads.{none_or, deadline_status, shown_deadline, shown_release_status, shown_release, found_status}
 
 -- ---- deeds
 
@@ -90,7 +88,7 @@ pub of_closed_handles :
     × (deadline_status None ≡ negsuc 0)
     × (shown_release_status None ≡ negsuc 0)
     × (found_status None ≡ negsuc 0)
-of_closed_handles = (λ call. refl, (λ call. refl, (refl, refl, refl)))
+of_closed_handles = ((λ call. refl), (λ call. refl), refl, refl, refl)
 
 -- 10 ^ 15 is the last moment; a call that has none is never late
 pub of_moments :
@@ -98,7 +96,7 @@ pub of_moments :
     × ((held : Held) → status_after (Tick 1000000000000001) (Some held) ≡ negsuc 2)
     × ((held : Held) → deeds_after (Tick 1000000000000001) (Some held) ≡ nothing)
     × ((held : Held) → status_after (ReleaseCall 1000000000000001 7) (Some held) ≡ negsuc 2)
-of_moments = (refl, (λ held. refl, (λ held. refl, λ held. refl)))
+of_moments = (refl, (λ held. refl), (λ held. refl), (λ held. refl))
 
 -- a release's number is its sub-reason and not its moment
 pub of_release_calls : (finds : Finds) → event_of finds (ReleaseCall 40 7) ≡ event.Leave 7
@@ -107,11 +105,11 @@ of_release_calls finds = refl
 -- ---- statuses and numbers of calls that read
 
 pub of_reads :
-    (none_or (Some 40) ≡ pos 0)
-    × (none_or {ℕ} None ≡ pos 5)
+    (none_or {A = ℕ} (Some 40) ≡ pos 0)
+    × (none_or {A = ℕ} None ≡ pos 5)
     × ((held : Held) → found_status (Some held) ≡ pos 0)
     × (shown_deadline 40 None ≡ 40)
-of_reads = (refl, refl, (λ held. refl, refl))
+of_reads = (refl, refl, (λ held. refl), refl)
 
 abbrev counts : Counts
 counts = record { bad_fcs = 1; short = 2; long = 3; aborted = 4; stray = 5 }
