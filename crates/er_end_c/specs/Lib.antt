@@ -9,3 +9,4 @@ pub mod Shown
 pub mod Reads
 pub mod Used
 pub mod Runs
+pub mod KnownAnswers
