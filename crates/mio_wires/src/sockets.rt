@@ -1,10 +1,13 @@
 //! The sockets, what `mio` reports of them, and nothing of numbers and counts of faults.
 
-ghost use Rattle.std.specs.Prelude.{◌≡◌, ◌<◌, ◌≤◌, ◌+◌, ◌⊎◌, ℕ, length, IfOk, IfSome, IsSome, true, false};
+ghost use Rattle.std.specs.Prelude.{◌≡◌, ◌<◌, ◌≤◌, ◌+◌, ◌⊎◌, ℕ, [], length, IfOk, IfSome, IsSome, IsSomeAnd, true, false};
 ghost use Rattle.std.specs.Duration.{as_nanos};
 ghost use Rattle.std.specs.IoError.{error_kind};
 ghost use Rattle.mio_wires.specs.Standing.{HasRoomForHappening, StandsIn, IsClosed, count};
 ghost use Rattle.mio_wires.specs.Awaiting.{AwaitsRoom};
+ghost use Rattle.mio_wires.specs.Leaving.{first_until};
+ghost use Rattle.mio_wires.specs.Moments.{moment_of};
+ghost use Rattle.mio_wires.specs.Waiting.{WaitsUntil, earlier};
 
 use crate::accepting::accept;
 use crate::faults::WireFault;
@@ -249,7 +252,9 @@ impl<R: Net + Clock + Drop> Sockets<R> {
     }
 
     // Waits at most so long, and hears of all that happened.
-    fn hear(&mut self, wait: Option<Duration>) -> Result<(), WireFault> {
+    fn hear(&mut self, wait: Option<Duration>) -> Result<(), WireFault>
+        ensures { self.new.lines.places ≡ self.old.lines.places }
+    {
         match &mut self.poll {
             Ok(poll) => poll.poll(&mut self.events, wait)?,
             Err(error) => return Err(WireFault::System(*error)),
@@ -266,7 +271,9 @@ impl<R: Net + Clock + Drop> Sockets<R> {
     }
 
     // What comes by time: the listener is tried again, and connections that leave have to be gone.
-    fn do_what_is_due(&mut self) {
+    fn do_what_is_due(&mut self)
+        ensures { self.new.lines.places ≡ self.old.lines.places }
+    {
         if self.again_at.is_none() && !self.lines.any_leaves() {
             return;
         }
@@ -335,7 +342,9 @@ impl<R: Net + Clock + Drop> Sockets<R> {
     }
 
     // Closes what is open, and waits at most so many milliseconds until the peers of all that was closed have closed too.
-    pub fn finish(&mut self, most: u64) {
+    pub fn finish(&mut self, most: u64)
+        ensures { self.new.lines.places.items ≡ [] }
+    {
         let begun = self.now();
         let last = begun.saturating_add(most);
         self.listener = None;
@@ -351,10 +360,11 @@ impl<R: Net + Clock + Drop> Sockets<R> {
         }
     }
 
-    // How long to wait for a happening: not at all where one stands in the queue.
+    // How long to wait for a happening: not at all where one stands in the queue, else until this moment or the first of what is due here.
     fn wait(&mut self, until: Option<u64>) -> Option<Duration>
-        ensures at_once { 0 < count self.old.lines.queue → IsSome result }
-        ensures none { 0 < count self.old.lines.queue → IfSome result (λ wait. as_nanos wait ≡ 0) }
+        ensures at_once { 0 < count self.old.lines.queue → IsSomeAnd result (λ wait. as_nanos wait ≡ 0) }
+        ensures exact { count self.old.lines.queue ≡ 0 → WaitsUntil (earlier until (earlier self.old.again_at (first_until self.old.lines.leaving.waits))) (moment_of self.new.moments) result }
+        ensures rest { self.new ≡ record self.old { moments = self.new.moments } }
     {
         if !self.lines.is_quiet() {
             return Some(Duration::ZERO);
@@ -366,7 +376,8 @@ impl<R: Net + Clock + Drop> Sockets<R> {
 
     // The moment that it is now.
     fn now(&mut self) -> u64
-        ensures { self.new ≡ record self.old { moments = self.new.moments } }
+        ensures moment { result ≡ moment_of self.new.moments }
+        ensures rest { self.new ≡ record self.old { moments = self.new.moments } }
     {
         self.moments.now(&self.rt)
     }
@@ -381,7 +392,9 @@ fn made(poll: &io::Result<Poll>) -> Result<&Poll, WireFault> {
 }
 
 // The earlier of two moments, where they are.
-fn earlier(one: Option<u64>, other: Option<u64>) -> Option<u64> {
+fn earlier(one: Option<u64>, other: Option<u64>) -> Option<u64>
+    ensures { result ≡ earlier one other }
+{
     match (one, other) {
         (Some(one), Some(other)) => Some(one.min(other)),
         (one, None) => one,
