@@ -134,10 +134,11 @@ with tempfile.TemporaryDirectory() as work:
     client.close()
     time.sleep(0.3)
     calls = serving.calls().splitlines()
-    socket_of = next((found[1] for call in calls if (found := re.search(r" accept4\(.* = (\d+)$", call))), "none")
-    written = [at for at, call in enumerate(calls) if re.search(r" write\(1, .*< 1 released ", call)]
-    closed = [at for at, call in enumerate(calls) if re.search(rf" (?:shutdown|close)\({socket_of}[,)]", call)]
-    check(written and closed and written[0] < closed[0], f"a release is written before its socket is closed: {socket_of} {written} {closed}")
+    accepted = [(at, found[1]) for at, call in enumerate(calls) if (found := re.search(r"\baccept4\(.* = (\d+)$", call))]
+    begun, number = accepted[0] if accepted else (len(calls), "none")
+    written = [at for at, call in enumerate(calls) if re.search(r"\bwrite\(1, .*< 1 released ", call)]
+    closed = [at for at, call in enumerate(calls) if at > begun and re.search(rf"\b(?:shutdown|close)\({number}[,)]", call)]
+    check(written and closed and written[0] < closed[0], f"a release is written before its socket is closed: {accepted} {written} {closed}")
     serving.ended()
 
 # the second registering is that of the first connection

@@ -1,2 +1,3 @@
 pub mod AllTold
+pub mod Firsts
 pub mod Rising
