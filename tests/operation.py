@@ -368,15 +368,15 @@ check(len(words) == len(set(words)) == 4, "two servers and two calls have four d
 def said_by_a_train(server, text):
     """What a train sends to a server, piece by piece, until this text was said back, and the number of the AU2 that it got."""
     host, port = server.address.split(":")
-    train, pieces = Train(5, 9, KMAC, os.urandom), []
+    train, pieces, has_said = Train(5, 9, KMAC, os.urandom), [], False
     with socket.create_connection((host, int(port)), timeout=5) as line:
         pieces.append(train.start())
         while not train.heard:
             line.sendall(pieces[-1])
             pieces.append(train.receive(line.recv(65536)))
-            if train.state == "connected" and not train.heard and not train.has_said:
+            if train.state == "connected" and not has_said:
                 pieces[-1] += train.say(text)
-                train.has_said = True
+                has_said = True
     return pieces[:-1], train.peers_random.hex()
 
 

@@ -27,7 +27,6 @@ class Train:
         self.engine, self.rbc, self.kmac = engine, rbc, TripleKey(bytes.fromhex(kmac))
         self.own_random = draw(8)
         self.peers_random = self.keys = None
-        self.has_said = False
         self.state = "set-up"
         self.heard = []
         self.sent = self.came = 0

@@ -1,3 +1,4 @@
+pub mod Later
 pub mod LineEndings
 pub mod LineMeanings
 pub mod Recordings

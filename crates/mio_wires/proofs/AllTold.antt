@@ -24,4 +24,4 @@ all_told (Takes ∷ acts) (first ∷ before) what rest kept enough =
     Contains-append_right (first ∷ []) (told_by acts (before ++ what ∷ rest)) what (all_told acts before what rest kept (omega (arith, enough)))
 all_told (Forgets number ∷ acts) before what rest kept enough =
     rw (filter-append (stays_at number) before (what ∷ rest), kept.0)
-        (all_told acts (filter (stays_at number) before) what (filter (stays_at number) rest) kept.1 (omega (arith, fewer number before, enough)))
+    (all_told acts (filter (stays_at number) before) what (filter (stays_at number) rest) kept.1 (omega (arith, fewer number before, enough)))

@@ -1,3 +1,2 @@
 pub mod AllTold
-pub mod Firsts
 pub mod Rising

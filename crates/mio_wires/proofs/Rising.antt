@@ -1,9 +1,10 @@
 -- Connections that leave, each no earlier than the one before it.
-use Rattle.std.proofs.Common.{◌≡◌, ℕ, ◌+◌, ◌<◌, ◌≤◌, Bool, true, false, cond, List, [], ◌∷◌, ◌++◌, drop, refl, ap, arith, Option, None, Some}
+use Rattle.std.proofs.Common.{◌≡◌, ℕ, ◌+◌, ◌<◌, ◌≤◌, Bool, true, false, cond, List, [], ◌∷◌, ◌++◌, drop, length, refl, ap, subst, arith}
+use Rattle.std.specs.Prelude.{slice_index_or}
 use Rattle.std.specs.List.{filter}
 use Rattle.std.proofs.lemmas.Bool.{lt-ltb, le-ltb}
 use Rattle.mio_wires.specs.declared.leaving.Leaving.{Leaving}
-use Rattle.mio_wires.specs.Leaving.{RisesBetween, first_until, staying}
+use Rattle.mio_wires.specs.Leaving.{RisesBetween, staying}
 
 pub weaker : (low from to : ℕ) (waits : List Leaving) → low ≤ from → RisesBetween from to waits → RisesBetween low to waits
 weaker low from to [] l r = omega (arith, l, r)
@@ -20,11 +21,11 @@ dropped to (first ∷ rest) r = weaker 0 first.until to rest (omega arith) r.1
 
 pub filtered : (test : Leaving → Bool) (from to : ℕ) (waits : List Leaving) → RisesBetween from to waits → RisesBetween from to (filter test waits)
 filtered test from to [] r = r
-filtered test from to (first ∷ rest) r = by (test first)
+filtered test from to (first ∷ rest) r = by (test first) (filtered test first.until to rest r.1)
   where
-    by : (b : Bool) → RisesBetween from to (cond b (first ∷ filter test rest) (filter test rest))
-    by true = (r.0, filtered test first.until to rest r.1)
-    by false = weaker from first.until to (filter test rest) r.0 (filtered test first.until to rest r.1)
+    by : (b : Bool) → RisesBetween first.until to (filter test rest) → RisesBetween from to (cond b (first ∷ filter test rest) (filter test rest))
+    by true more = (r.0, more)
+    by false more = weaker from first.until to (filter test rest) r.0 more
 
 -- where the earliest hasn't come, none has
 none_due : (now from to : ℕ) (waits : List Leaving) → now < from → RisesBetween from to waits → staying now waits ≡ waits
@@ -33,18 +34,10 @@ none_due now from to (first ∷ rest) l r =
     let later : now < first.until = omega (arith, l, r.0) in
     rw (lt-ltb now first.until later) (ap (λ more. first ∷ more) (none_due now first.until to rest later r.1))
 
--- where there is no first one whose moment has come, all stay
-pub all_stay : (now to : ℕ) (waits : List Leaving) → RisesBetween 0 to waits
-    → ((until : ℕ) → first_until waits ≡ Some until → now < until) → staying now waits ≡ waits
-all_stay now to [] r later = refl
-all_stay now to (first ∷ rest) r later =
-    let l : now < first.until = later first.until refl in
-    rw (lt-ltb now first.until l) (ap (λ more. first ∷ more) (none_due now first.until to rest l r.1))
-
--- the first doesn't stay where its moment has come
-pub first_goes : (now : ℕ) (waits : List Leaving) (until : ℕ) → first_until waits ≡ Some until → until ≤ now → staying now (drop 1 waits) ≡ staying now waits
-first_goes now [] until e l = absurd cc e
-first_goes now (first ∷ rest) until e l = rw (le-ltb now first.until (goes first.until until e l)) refl
-  where
-    goes : (a b : ℕ) → Some a ≡ Some b → b ≤ now → a ≤ now
-    goes a b same least = let same' : a ≡ b = cc same in omega (arith, same', least)
+-- where the first stays, all do
+pub all_stay : (now to : ℕ) (waits : List Leaving) (first : Leaving) → RisesBetween 0 to waits → 0 < length waits → first ≡ slice_index_or waits 0 first
+    → now < first.until → staying now waits ≡ waits
+all_stay now to [] first r some is later = absurd (omega (arith, some))
+all_stay now to (one ∷ rest) first r some is later =
+    let l : now < one.until = subst (λ which. now < which.until) is later in
+    rw (lt-ltb now one.until l) (ap (λ more. one ∷ more) (none_due now one.until to rest l r.1))

@@ -1,5 +1,5 @@
 -- Connections that leave, in the order in which they have to be gone (this profile).
-use Rattle.std.specs.Prelude.{ℕ, ◌+◌, ◌^◌, ◌≤◌, min, max, Bool, nat_lt, not, ◌==◌, List, [], ◌∷◌, ◌++◌, Option, None, Some}
+use Rattle.std.specs.Prelude.{ℕ, ◌+◌, ◌-◌, ◌^◌, ◌≤◌, min, max, nat_lt, not, ◌==◌, List, [], ◌∷◌, ◌++◌, Option, None, Some}
 use Rattle.std.specs.List.{filter}
 use Rattle.mio_wires.specs.declared.leaving.Leaving.{Leaving}
 

@@ -1,5 +1,5 @@
 -- What is done with the queue of happenings, and what it tells (this profile).
-use Rattle.std.specs.Prelude.{◌≡◌, ℕ, ◌+◌, ◌==◌, Bool, true, false, not, List, [], ◌∷◌, ◌++◌, length, take, drop, ◌⊎◌}
+use Rattle.std.specs.Prelude.{◌≡◌, ℕ, ◌+◌, ◌≤◌, ◌==◌, Bool, true, false, not, List, [], ◌∷◌, ◌++◌, length, take, drop, ◌⊎◌}
 use Rattle.std.specs.List.{All, Contains, filter}
 use Rattle.mio_wires.specs.declared.queue.Seen.{Seen}
 use Rattle.mio_wires.specs.declared.queue.Seen.TheVariants as seen

@@ -1,6 +1,6 @@
 //! The connections that leave: whoever has the wires closed them, and their peers may still send.
 
-ghost use Rattle.std.specs.Prelude.{◌≡◌, ◌==◌, ◌+◌, ◌<◌, true, false, None, length, drop, slice_get, option_map, IfOk, OnSome};
+ghost use Rattle.std.specs.Prelude.{◌≡◌, ◌==◌, ◌+◌, ◌<◌, ℕ, not, true, false, None, length, drop, slice_get, option_map, IfOk, IfSome, OnSome};
 ghost use Rattle.mio_wires.specs.Leaving.{none_leave, with_leaving, first_until, staying, others};
 
 use crate::leaving::Leaving;
@@ -46,9 +46,10 @@ impl Leavers {
         self.leaving.len()
     }
 
-    // The moment at which the first has to be gone. None of the others has to be gone earlier.
+    // The moment at which the first has to be gone. None of the others has to be gone earlier: where the first stays, all do.
     pub fn first(&self) -> Option<u64>
-        ensures { result ≡ first_until self.now.waits }
+        ensures first { result ≡ first_until self.now.waits }
+        ensures least { (now : ℕ) → IfSome result (λ until. now < until → staying now self.now.waits ≡ self.now.waits) }
     {
         Some(self.leaving.front()?.until)
     }
@@ -90,6 +91,10 @@ impl Leavers {
     pub fn forget(&mut self, slot: usize)
         ensures { self.new ≡ record self.old { waits = others slot self.old.waits } }
     {
-        self.leaving.retain(|leaving| leaving.slot != slot);
+        self.leaving.retain(
+            |leaving| -> bool
+                ensures { result ≡ not (leaving.now.slot == slot) }
+            { leaving.slot != slot },
+        );
     }
 }

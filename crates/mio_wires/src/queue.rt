@@ -1,8 +1,7 @@
 //! What happened, in the order in which it is answered.
 
-ghost use Rattle.std.specs.Prelude.{◌≡◌, ◌==◌, ◌<◌, ◌+◌, true};
+ghost use Rattle.std.specs.Prelude.{◌≡◌, ◌==◌, ◌<◌, not, true};
 ghost use Rattle.std.specs.Option.{option_to_list};
-ghost use Rattle.std.specs.VecDeque.{deque_len, deque_capacity};
 ghost use Rattle.mio_wires.specs.Queueing.{Takes, Forgets, IsAdded, behind, is_at, told};
 ghost use Rattle.mio_wires.specs.Standing.{HasRoomForHappening, StandsIn, count};
 
@@ -104,6 +103,10 @@ impl Queue {
         ensures room { HasRoomForHappening self.old → HasRoomForHappening self.new }
         ensures others { self.new.seen.items ≡ behind (Forgets number) self.old.seen.items }
     {
-        self.seen.retain(|seen| !seen.is_at(number));
+        self.seen.retain(
+            |seen| -> bool
+                ensures { result ≡ not (is_at number seen.now) }
+            { !seen.is_at(number) },
+        );
     }
 }
