@@ -14,6 +14,7 @@ use crate::queue::{Queue, Seen};
 use er_base::NoMemory;
 use mio::event::Event;
 use mio::net::TcpStream;
+use mio::{Events, Token};
 use slab::Slab;
 use std::alloc::Global;
 use std::io;
@@ -28,6 +29,8 @@ const MOST_LEAVING: usize = 256;
 
 // Each connection has a slot, below this, which is its token.
 pub const SLOTS: usize = MOST_CONNECTIONS + MOST_LEAVING;
+
+pub const LISTENER: Token = Token(SLOTS);
 
 // A listener, and two happenings a connection.
 const MOST_SEEN: usize = 2 * MOST_CONNECTIONS + 1;
@@ -195,9 +198,22 @@ impl Lines {
         self.queue.add_listener();
     }
 
+    // All that the system tells of the listener and of connections.
+    pub fn hear_all(&mut self, events: &Events)
+        ensures { self.new.places ≡ self.old.places }
+    {
+        for event in events.iter() {
+            if event.token() == LISTENER {
+                self.try_listener();
+            } else {
+                self.hear(event);
+            }
+        }
+    }
+
     // What is told of the connection in a slot: of an open one it comes to stand in the queue, one that leaves is read
     // away from.
-    pub fn hear(&mut self, event: &Event)
+    fn hear(&mut self, event: &Event)
         ensures { self.new.places ≡ self.old.places }
     {
         let slot = event.token().0;

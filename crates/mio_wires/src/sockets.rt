@@ -11,7 +11,7 @@ ghost use Rattle.mio_wires.specs.Waiting.{WaitsUntil, earlier};
 
 use crate::accepting::accept;
 use crate::faults::WireFault;
-use crate::lines::{Lines, SLOTS, Start};
+use crate::lines::{LISTENER, Lines, SLOTS, Start};
 use crate::moments::Moments;
 use crate::options::set_for_frames;
 use crate::queue::Seen;
@@ -25,9 +25,6 @@ use std::io::{ErrorKind, Read, Write};
 use std::net::{Net, SocketAddr};
 use std::rt::Clock;
 use std::time::Duration;
-
-// A connection's token is its slot, which is below this.
-const LISTENER: Token = Token(SLOTS);
 
 // An accept that failed is tried again after so many milliseconds.
 const ACCEPT_AGAIN: u64 = 500;
@@ -259,13 +256,7 @@ impl<R: Net + Clock + Drop> Sockets<R> {
             Ok(poll) => poll.poll(&mut self.events, wait)?,
             Err(error) => return Err(WireFault::System(*error)),
         }
-        for event in self.events.iter() {
-            if event.token() == LISTENER {
-                self.lines.try_listener();
-            } else {
-                self.lines.hear(event);
-            }
-        }
+        self.lines.hear_all(&self.events);
         self.do_what_is_due();
         Ok(())
     }
