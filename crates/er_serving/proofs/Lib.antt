@@ -1,4 +1,3 @@
-pub mod Later
 pub mod LineEndings
 pub mod LineMeanings
 pub mod Recordings
