@@ -13,5 +13,5 @@ pub record Readings : Type 0 where
   pub latest : ℕ
 
 -- the moment at which it read that
-abbrev pub moment_of : Readings → ℕ
-moment_of clock = moment_since clock.wall clock.begun clock.latest
+abbrev pub machine_moment : Readings → ℕ
+machine_moment clock = moment_since clock.wall clock.begun clock.latest

@@ -2,7 +2,7 @@
 
 ghost use Rattle.std.specs.Prelude.{◌≡◌, ◌≤◌, ◌^◌, max, None, IfOk, OnErr};
 ghost use Rattle.std.specs.Duration.{as_nanos};
-ghost use Rattle.er_serving.specs.Moments.{moment_of, moment_since};
+ghost use Rattle.er_serving.specs.Moments.{machine_moment, moment_since};
 
 use er_base::MOST_MOMENT;
 use link_trait::Clock;
@@ -54,7 +54,7 @@ impl<R: SystemClock + Drop> MachineClock<R> {
     fn hear(&mut self, reading: io::Result<Duration>) -> u64
         ensures read { IfOk reading (λ read. self.new ≡ record self.old { latest = max self.old.latest (as_nanos read) }) }
         ensures stands { OnErr reading (self.new ≡ self.old) }
-        ensures moment { result ≡ moment_of self.new }
+        ensures moment { result ≡ machine_moment self.new }
     {
         if let Ok(read) = reading {
             if self.latest.checked_sub(read).is_none() {
@@ -79,10 +79,10 @@ impl<R: SystemClock + Drop> Clock for MachineClock<R> {
     ghost state = { λ _. record { answers = None } };
 
     fn now(&mut self) -> u64
-        ensures moment { result ≡ moment_of self.new }
+        ensures moment { result ≡ machine_moment self.new }
         ensures begun { (self.new.wall ≡ self.old.wall) × (self.new.begun ≡ self.old.begun) }
         ensures forward { self.old.latest ≤ self.new.latest }
-        ensures no_earlier { moment_of self.old ≤ result }
+        ensures no_earlier { machine_moment self.old ≤ result }
         ensures most { result ≤ 10 ^ 15 }
     {
         let reading = self.rt.monotonic();

@@ -5,9 +5,9 @@ use Rattle.mio_wires.specs.declared.moments.Moments.{Moments}
 
 -- the moment, in milliseconds and at most 2^64 - 1, at which the system's clock reads `read`, where it read `first` at the moment `begun`;
 -- both readings are nanoseconds
-abbrev pub moment_since : (begun first read : ℕ) → ℕ
-moment_since begun first read = min (begun + (read - first) / 1000000) (2 ^ 64 - 1)
+abbrev pub wires_moment_since : (begun first read : ℕ) → ℕ
+wires_moment_since begun first read = min (begun + (read - first) / 1000000) (2 ^ 64 - 1)
 
 -- the moment at which it read what it read last
-abbrev pub moment_of : Moments → ℕ
-moment_of m = moment_since m.begun (as_nanos m.first) (as_nanos m.read)
+abbrev pub wires_moment : Moments → ℕ
+wires_moment m = wires_moment_since m.begun (as_nanos m.first) (as_nanos m.read)

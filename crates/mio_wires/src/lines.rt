@@ -5,7 +5,7 @@ ghost use Rattle.std.specs.IoError.{error_kind};
 ghost use Rattle.std.specs.Io.{ReadsAtMost, WritesAtMost};
 ghost use Rattle.slab.specs.Slab.{get};
 ghost use Rattle.mio_wires.specs.Leaving.{first_until, staying, others};
-ghost use Rattle.mio_wires.specs.Queueing.{Takes, Forgets, IsAdded, behind, told};
+ghost use Rattle.mio_wires.specs.Queueing.{Takes, Forgets, IsAdded, behind, told_at_act};
 ghost use Rattle.mio_wires.specs.Standing.{HasRoomForHappening, StandsIn, IsConnectionOpen, HasSlot, IsOfOpen, IsClosed, count};
 ghost use Rattle.mio_wires.specs.Awaiting.{LeavesNothing, AwaitsRoom};
 
@@ -280,7 +280,7 @@ impl Lines {
     // Takes the first of what happened, where its connection is still open. It may come to stand in the queue again then.
     pub fn take(&mut self) -> Option<Seen>
         ensures open { IfSome result (IsOfOpen self.old.places.items) }
-        ensures first { IfSome result (λ seen. told Takes self.old.queue.seen.items ≡ seen ∷ []) }
+        ensures first { IfSome result (λ seen. told_at_act Takes self.old.queue.seen.items ≡ seen ∷ []) }
         ensures rest { self.new.queue.seen.items ≡ behind Takes self.old.queue.seen.items }
         ensures places { self.new.places ≡ self.old.places }
     {

@@ -2,7 +2,7 @@
 
 ghost use Rattle.std.specs.Prelude.{◌≡◌, IfOk, OnErr};
 ghost use Rattle.std.specs.Duration.{as_nanos};
-ghost use Rattle.mio_wires.specs.Moments.{moment_of, moment_since};
+ghost use Rattle.mio_wires.specs.Moments.{wires_moment, wires_moment_since};
 
 use std::io;
 use std::rt::Clock;
@@ -29,7 +29,7 @@ impl Moments {
 
     // From this moment on, which is now.
     pub fn from<R: Clock>(rt: &R, moment: u64) -> Moments
-        ensures { moment_of result ≡ moment }
+        ensures { wires_moment result ≡ moment }
     {
         let first = rt.monotonic().unwrap_or(Duration::ZERO);
         Moments {
@@ -41,16 +41,16 @@ impl Moments {
 
     // The moment that it is now. Where the system's clock can't be read, the last answer stands.
     pub fn now<R: Clock>(&mut self, rt: &R) -> u64
-        ensures { result ≡ moment_of self.new }
+        ensures { result ≡ wires_moment self.new }
     {
         self.hear(rt.monotonic())
     }
 
     // The moment at which the system's clock reads this.
     fn hear(&mut self, reading: io::Result<Duration>) -> u64
-        ensures moment { IfOk reading (λ read. result ≡ moment_since self.old.begun (as_nanos self.old.first) (as_nanos read)) }
-        ensures stands { OnErr reading (result ≡ moment_of self.old) }
-        ensures kept { result ≡ moment_of self.new }
+        ensures moment { IfOk reading (λ read. result ≡ wires_moment_since self.old.begun (as_nanos self.old.first) (as_nanos read)) }
+        ensures stands { OnErr reading (result ≡ wires_moment self.old) }
+        ensures kept { result ≡ wires_moment self.new }
     {
         if let Ok(read) = reading {
             self.read = read;
@@ -60,7 +60,7 @@ impl Moments {
 
     // The moment at which the system's clock read what it read last.
     fn moment(&self) -> u64
-        ensures { result ≡ moment_of self.now }
+        ensures { result ≡ wires_moment self.now }
     {
         let since = self.read.saturating_sub(self.first).as_millis();
         let since = u64::try_from(since).unwrap_or(u64::MAX);

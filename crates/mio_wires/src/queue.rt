@@ -2,7 +2,7 @@
 
 ghost use Rattle.std.specs.Prelude.{◌≡◌, ◌==◌, ◌<◌, not, true};
 ghost use Rattle.std.specs.Option.{option_to_list};
-ghost use Rattle.mio_wires.specs.Queueing.{Takes, Forgets, IsAdded, behind, is_at, told};
+ghost use Rattle.mio_wires.specs.Queueing.{Takes, Forgets, IsAdded, behind, is_seen_at, told_at_act};
 ghost use Rattle.mio_wires.specs.Standing.{HasRoomForHappening, StandsIn, count};
 
 use er_base::NoMemory;
@@ -20,7 +20,7 @@ pub enum Seen {
 impl Seen {
     // Whether it happened at the connection of this number.
     fn is_at(self, number: u64) -> bool
-        ensures { result ≡ is_at number self }
+        ensures { result ≡ is_seen_at number self }
     {
         match self {
             Seen::Listener => false,
@@ -88,7 +88,7 @@ impl Queue {
 
     // Takes the first happening.
     pub fn next(&mut self) -> Option<Seen>
-        ensures first { option_to_list result ≡ told Takes self.old.seen.items }
+        ensures first { option_to_list result ≡ told_at_act Takes self.old.seen.items }
         ensures rest { self.new.seen.items ≡ behind Takes self.old.seen.items }
     {
         let seen = self.seen.pop_front()?;
@@ -105,7 +105,7 @@ impl Queue {
     {
         self.seen.retain(
             |seen| -> bool
-                ensures { result ≡ not (is_at number seen.now) }
+                ensures { result ≡ not (is_seen_at number seen.now) }
             { !seen.is_at(number) },
         );
     }

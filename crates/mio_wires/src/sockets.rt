@@ -6,7 +6,7 @@ ghost use Rattle.std.specs.IoError.{error_kind};
 ghost use Rattle.mio_wires.specs.Standing.{HasRoomForHappening, StandsIn, IsClosed, count};
 ghost use Rattle.mio_wires.specs.Awaiting.{AwaitsRoom};
 ghost use Rattle.mio_wires.specs.Leaving.{first_until};
-ghost use Rattle.mio_wires.specs.Moments.{moment_of};
+ghost use Rattle.mio_wires.specs.Moments.{wires_moment};
 ghost use Rattle.mio_wires.specs.Waiting.{WaitsUntil, earlier};
 
 use crate::accepting::accept;
@@ -354,7 +354,7 @@ impl<R: Net + Clock + Drop> Sockets<R> {
     // How long to wait for a happening: not at all where one stands in the queue, else until this moment or the first of what is due here.
     fn wait(&mut self, until: Option<u64>) -> Option<Duration>
         ensures at_once { 0 < count self.old.lines.queue → IsSomeAnd result (λ wait. as_nanos wait ≡ 0) }
-        ensures exact { count self.old.lines.queue ≡ 0 → WaitsUntil (earlier until (earlier self.old.again_at (first_until self.old.lines.leaving.waits))) (moment_of self.new.moments) result }
+        ensures exact { count self.old.lines.queue ≡ 0 → WaitsUntil (earlier until (earlier self.old.again_at (first_until self.old.lines.leaving.waits))) (wires_moment self.new.moments) result }
         ensures rest { self.new ≡ record self.old { moments = self.new.moments } }
     {
         if !self.lines.is_quiet() {
@@ -367,7 +367,7 @@ impl<R: Net + Clock + Drop> Sockets<R> {
 
     // The moment that it is now.
     fn now(&mut self) -> u64
-        ensures moment { result ≡ moment_of self.new.moments }
+        ensures moment { result ≡ wires_moment self.new.moments }
         ensures rest { self.new ≡ record self.old { moments = self.new.moments } }
     {
         self.moments.now(&self.rt)

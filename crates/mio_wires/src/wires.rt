@@ -3,7 +3,7 @@
 ghost use Rattle.std.specs.Prelude.{◌≡◌, ◌≢◌, ℕ, IfOk, None};
 ghost use Rattle.link_trait.specs.Wires.{opened_by_turn};
 ghost use Rattle.mio_wires.specs.Counting.{unused};
-ghost use Rattle.mio_wires.specs.Telling.{told_as};
+ghost use Rattle.mio_wires.specs.Telling.{told_as_happening};
 
 use crate::faults::WireFault;
 use crate::queue::Seen;
@@ -108,7 +108,7 @@ impl<R: Net + Clock + Drop> MioWires<R> {
 
 // As what a happening is told.
 fn told_as(seen: Seen) -> Happening
-    ensures told { result ≡ told_as seen }
+    ensures told { result ≡ told_as_happening seen }
     ensures no_other { (conn : Conn) → result ≢ Happening.Accepted conn }
     ensures no_fault { result ≢ Happening.Failed }
     ensures opened { (n : ℕ) → opened_by_turn result n ≡ n }
