@@ -1,6 +1,7 @@
 """`serve` with calls of the system that fail: who waits is accepted all the same, and an accepted connection that is lost is told."""
 
 import os
+import re
 import signal
 import socket
 import subprocess
@@ -10,7 +11,7 @@ import time
 
 program = sys.argv[1]
 KEYS = 'version = 1\n\n[[key]]\nengine = 5\nrbc = 9\nkmac = "0123456789abcdef23456789abcdef01456789abcdef0123"\n'
-SABM, UA = bytes.fromhex("7e013febdf7e"), bytes.fromhex("7e017383577e")
+SABM, UA, DISC = bytes.fromhex("7e013febdf7e"), bytes.fromhex("7e017383577e"), bytes.fromhex("7e015381767e")
 checks = failed = 0
 
 
@@ -41,12 +42,12 @@ def is_answered(client, within):
 class Serving:
     """A server under strace, in which calls fail as it is told; what it printed, and how often each call was made."""
 
-    def __init__(self, work, *injected):
+    def __init__(self, work, *injected, more=""):
         keys = os.path.join(work, "keys")
         with open(keys, "w") as f:
             f.write(KEYS)
         self.port, self.log, self.out = free_port(), os.path.join(work, "calls"), os.path.join(work, "out")
-        words = ["strace", "-f", "-o", self.log, "-e", "trace=accept4,epoll_ctl,recvfrom,sendto,listen,setsockopt"]
+        words = ["strace", "-f", "-s", "100000", "-o", self.log, "-e", "trace=accept4,epoll_ctl,recvfrom,sendto,listen,setsockopt" + more]
         for fault in injected:
             words += ["-e", "inject=" + fault]
         with open(self.out, "wb") as out:
@@ -91,6 +92,21 @@ def waits(fault, within, most_accepts):
         check(accepts <= most_accepts, f"{fault}: {accepts} accepts in {took:.1f} s")
 
 
+def waits_beside_another(fault):
+    """One peer comes beside one that is connected and says nothing, and the accept fails: that other one makes no turn."""
+    with tempfile.TemporaryDirectory() as work:
+        serving = Serving(work, fault)
+        idle = serving.connected()
+        time.sleep(0.3)
+        client = serving.connected()
+        answered = is_answered(client, 1)
+        accepts = serving.calls().count("accept4(")
+        serving.ended()
+        idle.close()
+        check(answered, f"{fault}: the peer that waits beside an idle one is answered within a second")
+        check(accepts <= 5, f"{fault}: {accepts} accepts beside an idle one")
+
+
 waits("accept4:error=ECONNABORTED:when=1", 2, 4)
 waits("accept4:error=EPROTO:when=1..3", 2, 6)
 waits("accept4:error=EMFILE:when=1", 3, 4)
@@ -99,6 +115,31 @@ waits("accept4:error=ENOBUFS:when=1", 3, 4)
 waits("accept4:error=ENOMEM:when=1", 3, 4)
 waits("recvfrom:error=EINTR:when=1", 2, 4)
 waits("sendto:error=EINTR:when=1", 2, 4)
+
+waits_beside_another("accept4:error=EMFILE:when=2")
+waits_beside_another("accept4:error=ENFILE:when=2")
+
+# what a release tells is written before its socket is closed
+with tempfile.TemporaryDirectory() as work:
+    serving = Serving(work, more=",write,shutdown,close")
+    client = serving.connected()
+    check(is_answered(client, 3), "a set-up frame is answered")
+    client.sendall(DISC)
+    client.settimeout(3)
+    try:
+        while client.recv(4096):
+            pass
+    except OSError:
+        pass
+    client.close()
+    time.sleep(0.3)
+    calls = serving.calls().splitlines()
+    accepted = [(at, found[1]) for at, call in enumerate(calls) if (found := re.search(r"\baccept4\(.* = (\d+)$", call))]
+    begun, number = accepted[0] if accepted else (len(calls), "none")
+    written = [at for at, call in enumerate(calls) if re.search(r"\bwrite\(1, .*< 1 released ", call)]
+    closed = [at for at, call in enumerate(calls) if at > begun and re.search(rf"\b(?:shutdown|close)\({number}[,)]", call)]
+    check(written and closed and written[0] < closed[0], f"a release is written before its socket is closed: {accepted} {written} {closed}")
+    serving.ended()
 
 # the second registering is that of the first connection
 with tempfile.TemporaryDirectory() as work:
@@ -131,7 +172,7 @@ with tempfile.TemporaryDirectory() as work:
     client = serving.connected()
     check(is_answered(client, 3), "a set-up frame is answered")
     calls = serving.calls()
-    for option in ("TCP_NODELAY, [1]", "SO_KEEPALIVE, [1]", "TCP_KEEPIDLE, [30]", "TCP_KEEPINTVL, [10]", "TCP_KEEPCNT, [3]"):
+    for option in ("TCP_NODELAY, [1]", "SO_KEEPALIVE, [1]", "TCP_KEEPIDLE, [30]", "TCP_KEEPINTVL, [10]", "TCP_KEEPCNT, [3]", "SO_SNDBUF, [65536]", "SO_RCVBUF, [65536]"):
         check(option in calls, f"{option} is set")
     serving.ended()
 

@@ -139,11 +139,13 @@ for seconds, (came, text, told, looked) in results.items():
     check(looked, f"the program looks at a clock that was set by {seconds} s")
     check(len(frames) == 6, f"set by {seconds} s: six set-up frames: {came}")
     steps = [b - a for a, b in zip(frames, frames[1:])]
-    check(all(0.5 <= step <= 2.5 for step in steps), f"set by {seconds} s: a set-up frame each second: {steps}")
-    check(sum(steps) <= 8, f"set by {seconds} s: five seconds from the first to the last: {steps}")
+    check(all(0.9 <= step <= 1.2 for step in steps), f"set by {seconds} s: a set-up frame each second: {steps}")
     check("< 1 released 1 1 local\n" in text, f"set by {seconds} s: given up with 1.1: {text[-200:]}")
     moments = [int(m) for m in re.findall(r"^> (\d+) ", text, re.M)]
-    check(moments == sorted(moments) and 5_500 <= moments[-1] - moments[0] <= 15_000, f"set by {seconds} s: moments go on: {moments}")
+    ticks = moments[:1] + [int(m) for m in re.findall(r"^> (\d+) 1 tick$", text, re.M)]
+    steps = [b - a for a, b in zip(ticks, ticks[1:])]
+    check(moments == sorted(moments), f"set by {seconds} s: moments go on: {moments}")
+    check(len(steps) == 6 and all(900 <= step <= 1_200 for step in steps), f"set by {seconds} s: six ticks, each a second behind the last: {steps}")
     check("released, 1.1 local" in told, f"what became of the call is told: {told}")
 
 # ---- no bound of turns, 300 trains one after the other, what a kill leaves
@@ -352,7 +354,7 @@ server.end(signal.SIGTERM)
 check(train.heard == LONG, f"messages of 1 to 1,023 octets are said back: {[len(text) for text in train.heard]}")
 check(server.replays(), "their recording replays")
 
-# ---- random numbers are drawn anew at each start
+# ---- random numbers are drawn anew at each start, so what a train sent to one server is nothing to the next
 
 words = []
 for _ in range(2):
@@ -361,6 +363,48 @@ for _ in range(2):
     server.end(signal.SIGTERM)
     words += re.findall(r"^> \d+ 1 call 5 9 ([0-9a-f]{16})$", text, re.M) + re.findall(r"^> \d+ 1 answer 9 ([0-9a-f]{16})$", recorded(server), re.M)
 check(len(words) == len(set(words)) == 4, "two servers and two calls have four different random numbers")
+
+
+def said_by_a_train(server, text):
+    """What a train sends to a server, piece by piece, until this text was said back, and the number of the AU2 that it got."""
+    host, port = server.address.split(":")
+    train, pieces, has_said = Train(5, 9, KMAC, os.urandom), [], False
+    with socket.create_connection((host, int(port)), timeout=5) as line:
+        pieces.append(train.start())
+        while not train.heard:
+            line.sendall(pieces[-1])
+            pieces.append(train.receive(line.recv(65536)))
+            if train.state == "connected" and not has_said:
+                pieces[-1] += train.say(text)
+                has_said = True
+    return pieces[:-1], train.peers_random.hex()
+
+
+def said_again(server, pieces):
+    """The same pieces, each behind something that the server said or half a second."""
+    host, port = server.address.split(":")
+    with socket.create_connection((host, int(port)), timeout=0.5) as line:
+        for piece in pieces:
+            try:
+                line.sendall(piece)
+                line.recv(65536)
+            except OSError:
+                pass
+
+
+first = Server("-")
+pieces, number = said_by_a_train(first, b"position-report-00000001")
+first.end(signal.SIGTERM)
+check("< 1 connected 5\n" in recorded(first) and "< 1 accepted " in recorded(first), f"a train is served: {recorded(first)[-300:]}")
+check(re.search(rf"^> \d+ 1 answer 9 {number}$", recorded(first), re.M), f"the number of AU2 is that of the recording: {number}")
+second = Server("-")
+said_again(second, pieces)
+_, other = said_by_a_train(second, b"position-report-00000001")
+second.end(signal.SIGTERM)
+text = recorded(second)
+check(other != number, f"the next server's AU2 has another number: {number} {other}")
+check(not re.search(r"^< 1 (?:connected|accepted) ", text, re.M) and re.search(r"^< 1 released 3 ", text, re.M), f"what was said to one server connects nobody to the next: {text[:2_000]}")
+check("< 2 connected 5\n" in text, "and an honest train is served behind it")
 
 # ---- where T1 of three ends expires in one turn, they are visited in rising number
 

@@ -135,11 +135,19 @@ def farewells():
         check(got[:6] == ua and closed, f"one that shut its side is answered, and then closed: {got.hex()} {closed}")
         late = connected(port)
         late.sendall(sabm + disc)
+        sent = 0
+        for _ in range(5):
+            time.sleep(0.2)
+            try:
+                late.sendall(sabm * 200)
+                sent += 1
+            except OSError:
+                break
         time.sleep(0.3)
-        late.sendall(sabm * 200)
-        time.sleep(0.3)
+        reset = late.getsockopt(socket.SOL_SOCKET, socket.SO_ERROR)
         got, closed = heard(late, 1_000)
         check(got[:6] == ua and len(got) > 6 and closed, f"the answer to a release arrives, whatever comes behind it: {got.hex()} {closed}")
+        check(sent == 5 and reset == 0, f"one that sends on five times behind its release is never reset: {sent} {reset}")
         begun = time.monotonic()
         other = connected(port)
         other.sendall(sabm)
@@ -149,6 +157,26 @@ def farewells():
             client.close()
         server.terminate()
         server.wait()
+
+
+def last_turns():
+    """Behind the last turn each peer is closed, and none is reset, though octets of theirs weren't read."""
+    with tempfile.TemporaryDirectory() as work:
+        server, probe, recording, port = serving(work, "12")
+        peers = [probe]
+        for _ in range(3):
+            peers.append(connected(port))
+            time.sleep(0.1)
+        for peer in peers:
+            peer.sendall(b"~" * 50_000)
+        told = [heard(peer, 1_000) for peer in peers]
+        status = server.wait(timeout=60)
+        with open(recording, "rb") as text:
+            came = sum(len(octets) // 2 for octets in re.findall(rb"^> \d+ \d+ octets ([0-9a-f]+)$", text.read(), re.M))
+        check(status == 0 and came < 200_000, f"a server ends by its turns before it read all: {status} {came}")
+        check(all(closed for _, closed in told), f"peers whose octets weren't read are closed and not reset: {told}")
+        for peer in peers:
+            peer.close()
 
 
 def is_train(told):
@@ -210,5 +238,6 @@ with tempfile.TemporaryDirectory() as work:
 
 never_reads()
 farewells()
+last_turns()
 print(f"{checks} checks, {failed} failed")
 sys.exit(1 if failed else 0)

@@ -26,7 +26,7 @@ class Train:
     def __init__(self, engine, rbc, kmac, draw):
         self.engine, self.rbc, self.kmac = engine, rbc, TripleKey(bytes.fromhex(kmac))
         self.own_random = draw(8)
-        self.keys = None
+        self.peers_random = self.keys = None
         self.state = "set-up"
         self.heard = []
         self.sent = self.came = 0
@@ -119,6 +119,7 @@ class Train:
         """AU3, behind an AU2 of the RBC that was called."""
         if (au2.kind, au2.feature, au2.number) != ("AU2", 1, self.rbc):
             raise Broken(f"not its AU2: {au2}")
+        self.peers_random = au2.random
         self.keys = self.kmac.session(au2.random, self.own_random)
         self._verify(au2, au2.octets[:13] + self.own_random)
         text = b"\x06" + au2.random + self.own_random

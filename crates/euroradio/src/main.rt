@@ -7,6 +7,7 @@ mod origin;
 mod recorded_wires;
 mod recording;
 mod streams;
+mod system_words;
 mod telling_wires;
 mod told;
 mod watched_cabinet;
@@ -16,6 +17,7 @@ use crate::objects::position_reports;
 use crate::recorded_wires::RecordedWires;
 use crate::recording::{Recording, RecordingSink};
 use crate::streams::stand_ins;
+use crate::system_words::SystemWords;
 use crate::telling_wires::TellingWires;
 use crate::watched_cabinet::WatchedCabinet;
 use er_base::{NoMemory, decimal};
@@ -25,7 +27,6 @@ use er_program::{
 };
 use er_users::{Echo, SafeUser};
 use mio_wires::MioWires;
-use rand::make_rng;
 use rand_chacha::ChaCha20Rng;
 use readiness_loop::MOST_LIVE;
 use std::alloc::Global;
@@ -62,10 +63,11 @@ fn radio_block_centre(words: &[String]) -> Option<u64> {
     }
 }
 
-// A command that runs over wires, with these users. None where there is no memory for the objects, or no seed.
+// A command that runs over wires, with these random words and users. None where there is no memory for the objects.
 fn on_line<K: Sink>(
     rt: HostRuntime,
     words: &[String],
+    randoms: &mut SystemWords<ChaCha20Rng>,
     users: Vec<Box<dyn SafeUser>>,
     sink: &mut K,
 ) -> Option<Ended> {
@@ -80,8 +82,6 @@ fn on_line<K: Sink>(
     let sockets = TellingWires::new(bare, ears, &recording, rt);
     let mut wires = RecordedWires::new(sockets, &recording);
     wires.wires.wires.keep_time(clock.now());
-    let seeded: io::Result<ChaCha20Rng> = make_rng(&rt);
-    let mut randoms = seeded.ok()?;
     let status = run(
         rt.alloc(),
         words,
@@ -89,7 +89,7 @@ fn on_line<K: Sink>(
         &mut lines,
         &mut wires,
         &mut clock,
-        &mut randoms,
+        randoms,
         users,
     );
     // What the last turn told waits still.
@@ -126,6 +126,7 @@ fn keep_memory(alloc: Global) {
 fn serve<K: Sink>(
     rt: HostRuntime,
     words: &[String],
+    randoms: &mut SystemWords<ChaCha20Rng>,
     sink: &mut K,
 ) -> Result<Option<Ended>, NoMemory> {
     let alloc = rt.alloc();
@@ -135,20 +136,21 @@ fn serve<K: Sink>(
         let user: Box<dyn SafeUser> = Box::new(alloc, Echo::new())?;
         users.push(user)?;
     }
-    Ok(on_line(rt, words, users, sink))
+    Ok(on_line(rt, words, randoms, users, sink))
 }
 
 // `call`: the user of an engine says three position reports.
 fn call<K: Sink>(
     rt: HostRuntime,
     words: &[String],
+    randoms: &mut SystemWords<ChaCha20Rng>,
     sink: &mut K,
 ) -> Result<Option<Ended>, NoMemory> {
     let alloc = rt.alloc();
     let user: Box<dyn SafeUser> = Box::new(alloc, position_reports(alloc)?)?;
     let mut users: Vec<Box<dyn SafeUser>> = Vec::with_capacity(alloc, 1)?;
     users.push(user)?;
-    Ok(on_line(rt, words, users, sink))
+    Ok(on_line(rt, words, randoms, users, sink))
 }
 
 // What a command without wires asks for.
@@ -166,16 +168,17 @@ fn off_line<K: Sink>(rt: HostRuntime, words: &[String], sink: &mut K) -> Option<
     })
 }
 
-// What the words ask for. None where the objects can't be made.
+// What the words ask for. None where the objects can't be made, or the system gives no seed.
 fn answered<K: Sink>(rt: HostRuntime, words: &[String], sink: &mut K) -> Option<Ended> {
     let command = command_from(words);
     if !command.needs_wires() {
         return off_line(rt, words, sink);
     }
+    let mut randoms = SystemWords::new(&rt).ok()?;
     if matches!(command, Command::Call { .. }) {
-        call(rt, words, sink).ok()?
+        call(rt, words, &mut randoms, sink).ok()?
     } else {
-        serve(rt, words, sink).ok()?
+        serve(rt, words, &mut randoms, sink).ok()?
     }
 }
 

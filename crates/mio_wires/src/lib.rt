@@ -6,6 +6,9 @@
 
 mod accepting;
 mod faults;
+pub mod laws;
+mod leavers;
+mod leaving;
 mod lines;
 mod moments;
 mod options;

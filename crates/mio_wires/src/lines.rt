@@ -1,18 +1,22 @@
 //! The connections: those that are open, with what happened at them, and those that leave.
 
-ghost use Rattle.std.specs.Prelude.{◌≡◌, ◌==◌, ◌⊎◌, true, length, Ok, IfSome};
+ghost use Rattle.std.specs.Prelude.{◌≡◌, ◌==◌, ◌<◌, ◌+◌, ◌⊎◌, true, Some, [], ◌∷◌, length, Ok, IfSome, IsSome, IsSomeAnd};
 ghost use Rattle.std.specs.IoError.{error_kind};
 ghost use Rattle.std.specs.Io.{ReadsAtMost, WritesAtMost};
+ghost use Rattle.slab.specs.Slab.{get};
+ghost use Rattle.mio_wires.specs.Leaving.{first_until, staying, others};
+ghost use Rattle.mio_wires.specs.Queueing.{Takes, Forgets, IsAdded, behind, told_at_act};
 ghost use Rattle.mio_wires.specs.Standing.{HasRoomForHappening, StandsIn, IsConnectionOpen, HasSlot, IsOfOpen, IsClosed, count};
 ghost use Rattle.mio_wires.specs.Awaiting.{LeavesNothing, AwaitsRoom};
 
+use crate::leavers::Leavers;
 use crate::queue::{Queue, Seen};
 use er_base::NoMemory;
 use mio::event::Event;
 use mio::net::TcpStream;
+use mio::{Events, Token};
 use slab::Slab;
 use std::alloc::Global;
-use std::collections::VecDeque;
 use std::io;
 use std::io::{ErrorKind, Read, Write};
 use std::net::{Shutdown, SocketAddr};
@@ -26,11 +30,10 @@ const MOST_LEAVING: usize = 256;
 // Each connection has a slot, below this, which is its token.
 pub const SLOTS: usize = MOST_CONNECTIONS + MOST_LEAVING;
 
+pub const LISTENER: Token = Token(SLOTS);
+
 // A listener, and two happenings a connection.
 const MOST_SEEN: usize = 2 * MOST_CONNECTIONS + 1;
-
-// How long a connection leaves at the most, in milliseconds.
-const LEAVING_TIME: u64 = 40_000;
 
 // How many octets are read away from one that leaves.
 const MOST_READ_AWAY: usize = 262_144;
@@ -69,16 +72,26 @@ impl Line {
         !self.is_dead && !self.has_ended() && self.stream.shutdown(Shutdown::Write).is_ok()
     }
 
-    // Writes. Where that leaves octets, room is to be told.
-    fn write(&mut self, piece: &[u8]) -> io::Result<usize>
-        ensures bound { WritesAtMost result piece.now }
-        ensures awaits { (result ≡ Ok (length piece.now)) ⊎ (self.new.awaits_room ≡ true) }
+    // Reads, and writes.
+    fn read(&self, into: &mut [u8]) -> io::Result<usize>
+        ensures bound { ReadsAtMost result into.new }
+        ensures length { length into.new ≡ length into.old }
     {
-        let answer = self.stream.write(piece);
-        if !is_whole(&answer, piece.len()) {
-            self.awaits_room = true;
+        if self.is_dead {
+            return Err(gone());
         }
-        answer
+        let mut stream = &self.stream;
+        stream.read(into)
+    }
+
+    fn write(&self, piece: &[u8]) -> io::Result<usize>
+        ensures bound { WritesAtMost result piece.now }
+    {
+        if self.is_dead {
+            return Err(gone());
+        }
+        let mut stream = &self.stream;
+        stream.write(piece)
     }
 
     // Reads away what waits, and whether this is the end: the peer has closed, the connection failed, or too much came.
@@ -110,20 +123,12 @@ pub struct Place {
     slot: usize,
 }
 
-// A connection that leaves, at the latest at this moment.
-#[derive(Clone, Copy)]
-pub struct Leaving {
-    slot: usize,
-    until: u64,
-}
-
 #[derive(Drop)]
 pub struct Lines {
     slots: Slab<Line>,
     // The open connections by their numbers, which rise: the newest stands last.
     places: Vec<Place>,
-    // Those that leave, the one that must be gone first in front.
-    leaving: VecDeque<Leaving>,
+    leaving: Leavers,
     queue: Queue,
 }
 
@@ -133,7 +138,7 @@ impl Lines {
         Ok(Lines {
             slots: Slab::with_capacity(alloc, SLOTS)?,
             places: Vec::with_capacity(alloc, MOST_CONNECTIONS)?,
-            leaving: VecDeque::with_capacity(alloc, MOST_LEAVING)?,
+            leaving: Leavers::with_capacity(alloc, MOST_LEAVING)?,
             queue: Queue::with_capacity(alloc, MOST_SEEN)?,
         })
     }
@@ -187,40 +192,97 @@ impl Lines {
     // The listener is to be tried.
     pub fn try_listener(&mut self)
         ensures stands { HasRoomForHappening self.old.queue → StandsIn self.new.queue Seen.Listener }
+        ensures order { HasRoomForHappening self.old.queue → IsAdded self.old.queue.seen.items Seen.Listener self.new.queue.seen.items }
         ensures places { self.new.places ≡ self.old.places }
     {
         self.queue.add_listener();
     }
 
+    // All that the system tells of the listener and of connections.
+    pub fn hear_all(&mut self, events: &Events)
+        ensures { self.new.places ≡ self.old.places }
+    {
+        for event in events.iter() {
+            if event.token() == LISTENER {
+                self.try_listener();
+            } else {
+                self.hear(event);
+            }
+        }
+    }
+
     // What is told of the connection in a slot: of an open one it comes to stand in the queue, one that leaves is read
     // away from.
-    pub fn hear(&mut self, event: &Event) {
+    fn hear(&mut self, event: &Event)
+        ensures { self.new.places ≡ self.old.places }
+    {
         let slot = event.token().0;
-        let Some(line) = self.slots.get_mut(slot) else {
-            return;
-        };
-        if line.left.is_some() {
-            if line.has_ended() {
-                self.let_go(slot);
-            }
+        if self.leaves(slot) {
+            self.read_away(slot);
             return;
         }
         if event.is_readable() || event.is_read_closed() || event.is_error() {
-            self.queue
-                .add(Seen::Readable(line.number), line.is_readable);
-            line.is_readable = true;
+            self.hear_readable(slot);
         }
-        if event.is_writable() && line.awaits_room {
-            line.awaits_room = false;
-            self.queue
-                .add(Seen::Writable(line.number), line.is_writable);
-            line.is_writable = true;
+        if event.is_writable() {
+            self.hear_writable(slot);
         }
+    }
+
+    // Whether the connection in this slot leaves.
+    fn leaves(&self, slot: usize) -> bool {
+        self.slots.get(slot).is_some_and(|line| line.left.is_some())
+    }
+
+    // The connection in this slot, which leaves, is read away from, and goes where that was the end.
+    fn read_away(&mut self, slot: usize)
+        ensures { self.new.places ≡ self.old.places }
+    {
+        if let Some(line) = self.slots.get_mut(slot) {
+            if line.has_ended() {
+                self.let_go(slot);
+            }
+        }
+    }
+
+    // Octets may wait at the connection in this slot.
+    fn hear_readable(&mut self, slot: usize)
+        ensures stands { HasRoomForHappening self.old.queue → IfSome (get self.old.slots slot) (λ line. StandsIn self.new.queue (Seen.Readable line.number)) }
+        ensures places { self.new.places ≡ self.old.places }
+    {
+        let Some(line) = self.slots.get_mut(slot) else {
+            return;
+        };
+        let seen = Seen::Readable(line.number);
+        let may_stand = line.is_readable;
+        line.is_readable = true;
+        self.queue.add(seen, may_stand);
+    }
+
+    // There is room for writing to the connection in this slot, which is told where somebody waits for it.
+    fn hear_writable(&mut self, slot: usize)
+        ensures stands { HasRoomForHappening self.old.queue → IfSome (get self.old.slots slot) (λ line. line.awaits_room ≡ true → StandsIn self.new.queue (Seen.Writable line.number)) }
+        ensures places { self.new.places ≡ self.old.places }
+    {
+        let Some(line) = self.slots.get_mut(slot) else {
+            return;
+        };
+        if !line.awaits_room {
+            return;
+        }
+        let seen = Seen::Writable(line.number);
+        let may_stand = line.is_writable;
+        line.awaits_room = false;
+        line.is_writable = true;
+        self.queue.add(seen, may_stand);
     }
 
     // Takes the first of what happened, where its connection is still open. It may come to stand in the queue again then.
     pub fn take(&mut self) -> Option<Seen>
-        ensures { IfSome result (IsOfOpen self.old.places.items) }
+        ensures open { IfSome result (IsOfOpen self.old.places.items) }
+        ensures first { IfSome result (λ seen. told_at_act Takes self.old.queue.seen.items ≡ seen ∷ []) }
+        ensures rest { self.new.queue.seen.items ≡ behind Takes self.old.queue.seen.items }
+        ensures places { self.new.places ≡ self.old.places }
     {
         let seen = self.queue.next()?;
         match seen {
@@ -240,22 +302,17 @@ impl Lines {
 
     // The address of the peer of the connection of this number.
     pub fn peer(&self, number: u64) -> Option<SocketAddr> {
-        let slot = self.slot_of(number)?;
-        self.slots.get(slot)?.stream.peer_addr().ok()
+        self.line_of(number)?.1.stream.peer_addr().ok()
     }
 
     // Reads from the connection of this number.
-    pub fn read(&mut self, number: u64, into: &mut [u8]) -> io::Result<usize>
+    pub fn read(&self, number: u64, into: &mut [u8]) -> io::Result<usize>
         ensures bound { ReadsAtMost result into.new }
         ensures length { length into.new ≡ length into.old }
-        ensures queue { self.new.queue ≡ self.old.queue }
     {
-        let Some(slot) = self.slot_of(number) else {
-            return Err(gone());
-        };
-        match self.slots.get_mut(slot) {
-            Some(line) if !line.is_dead => line.stream.read(into),
-            _ => Err(gone()),
+        match self.line_of(number) {
+            Some((_, line)) => line.read(into),
+            None => Err(gone()),
         }
     }
 
@@ -265,18 +322,31 @@ impl Lines {
         ensures awaits { LeavesNothing result (length piece.now) ⊎ AwaitsRoom self.new number }
         ensures queue { self.new.queue ≡ self.old.queue }
     {
-        let Some(slot) = self.slot_of(number) else {
+        let Some((slot, line)) = self.line_of(number) else {
             return Err(gone());
         };
-        match self.slots.get_mut(slot) {
-            Some(line) if !line.is_dead => line.write(piece),
-            _ => Err(gone()),
+        let answer = line.write(piece);
+        if !is_whole(&answer, piece.len()) {
+            self.await_room(slot);
+        }
+        answer
+    }
+
+    // Room for writing to the connection in this slot is to be told.
+    fn await_room(&mut self, slot: usize)
+        ensures awaits { IsSome (get self.old.slots slot) → IsSomeAnd (get self.new.slots slot) (λ line. line.awaits_room ≡ true) }
+        ensures places { self.new.places ≡ self.old.places }
+        ensures queue { self.new.queue ≡ self.old.queue }
+    {
+        if let Some(line) = self.slots.get_mut(slot) {
+            line.awaits_room = true;
         }
     }
 
     // Octets may wait at the connection of this number.
     pub fn tell_readable(&mut self, number: u64)
-        ensures { HasRoomForHappening self.old.queue → StandsIn self.new.queue (Seen.Readable number) }
+        ensures stands { HasRoomForHappening self.old.queue → StandsIn self.new.queue (Seen.Readable number) }
+        ensures order { HasRoomForHappening self.old.queue → IsAdded self.old.queue.seen.items (Seen.Readable number) self.new.queue.seen.items }
     {
         let may_stand = self.mark_readable(number);
         self.queue.add(Seen::Readable(number), may_stand);
@@ -284,7 +354,8 @@ impl Lines {
 
     // There may be room for writing to the connection of this number.
     pub fn tell_writable(&mut self, number: u64)
-        ensures { HasRoomForHappening self.old.queue → StandsIn self.new.queue (Seen.Writable number) }
+        ensures stands { HasRoomForHappening self.old.queue → StandsIn self.new.queue (Seen.Writable number) }
+        ensures order { HasRoomForHappening self.old.queue → IsAdded self.old.queue.seen.items (Seen.Writable number) self.new.queue.seen.items }
     {
         let may_stand = self.mark_writable(number);
         self.queue.add(Seen::Writable(number), may_stand);
@@ -324,6 +395,7 @@ impl Lines {
     pub fn close(&mut self, number: u64, now: u64)
         ensures closed { IsClosed self.new.places.items number }
         ensures room { HasRoomForHappening self.old.queue → HasRoomForHappening self.new.queue }
+        ensures others { self.new.queue.seen.items ≡ behind (Forgets number) self.old.queue.seen.items }
     {
         self.queue.forget(number);
         let slot = self.slot_of(number);
@@ -342,7 +414,9 @@ impl Lines {
     }
 
     // All connections leave.
-    pub fn close_all(&mut self, now: u64) {
+    pub fn close_all(&mut self, now: u64)
+        ensures { self.new.places.items ≡ [] }
+    {
         for _ in 0..self.places.len() {
             if let Some(place) = self.places.pop() {
                 self.leave(place.slot, now);
@@ -352,58 +426,79 @@ impl Lines {
 
     // The connection in this slot says that it sends no more, and goes as soon as its peer has closed too.
     fn leave(&mut self, slot: usize, now: u64)
-        ensures places { self.new.places.items ≡ self.old.places.items }
+        ensures places { self.new.places ≡ self.old.places }
         ensures queue { self.new.queue ≡ self.old.queue }
     {
         let stays = match self.slots.get_mut(slot) {
             Some(line) => line.shuts(),
             None => return,
         };
-        if !stays {
-            let _closed = self.slots.try_remove(slot);
-            return;
-        }
-        if self.leaving.len() >= MOST_LEAVING {
+        if stays && self.leaving.len() >= MOST_LEAVING {
             self.let_first_go();
         }
-        let until = now.saturating_add(LEAVING_TIME);
-        let _room = self.leaving.push_back(Leaving { slot, until });
+        if !stays || !self.leaving.add(slot, now) {
+            let _closed = self.slots.try_remove(slot);
+        }
     }
 
     // Whether a connection leaves.
     pub fn any_leaves(&self) -> bool {
-        !self.leaving.is_empty()
+        self.leaving.len() > 0
     }
 
     // The moment at which one that leaves has to be gone.
-    pub fn first_to_go(&self) -> Option<u64> {
-        Some(self.leaving.front()?.until)
+    pub fn first_to_go(&self) -> Option<u64>
+        ensures { result ≡ first_until self.now.leaving.waits }
+    {
+        self.leaving.first()
     }
 
     // Closes those that have to be gone by this moment.
-    pub fn let_go_by(&mut self, now: u64) {
+    pub fn let_go_by(&mut self, now: u64)
+        ensures leaving { self.new.leaving.waits ≡ staying now self.old.leaving.waits }
+        ensures places { self.new.places ≡ self.old.places }
+        ensures queue { self.new.queue ≡ self.old.queue }
+    {
         for _ in 0..self.leaving.len() {
-            match self.first_to_go() {
-                Some(until) if until <= now => self.let_first_go(),
-                _ => return,
-            }
+            let Some(slot) = self.leaving.take_due(now) else {
+                return;
+            };
+            let _closed = self.slots.try_remove(slot);
         }
     }
 
     // Closes the one that leaves longest.
     pub fn let_first_go(&mut self)
-        ensures places { self.new.places.items ≡ self.old.places.items }
+        ensures places { self.new.places ≡ self.old.places }
         ensures queue { self.new.queue ≡ self.old.queue }
     {
-        if let Some(first) = self.leaving.pop_front() {
-            let _closed = self.slots.try_remove(first.slot);
+        if let Some(slot) = self.leaving.take_first() {
+            let _closed = self.slots.try_remove(slot);
         }
     }
 
     // Closes one that leaves.
-    fn let_go(&mut self, slot: usize) {
-        self.leaving.retain(|leaving| leaving.slot != slot);
+    fn let_go(&mut self, slot: usize)
+        ensures leaving { self.new.leaving.waits ≡ others slot self.old.leaving.waits }
+        ensures places { self.new.places ≡ self.old.places }
+        ensures queue { self.new.queue ≡ self.old.queue }
+    {
+        self.leaving.forget(slot);
         let _closed = self.slots.try_remove(slot);
+    }
+
+    // The connection of this number, and its slot.
+    fn line_of(&self, number: u64) -> Option<(usize, &Line)>
+        ensures number { IfSome result (λ found. found.1.now.number ≡ number) }
+        ensures slot { IfSome result (λ found. (get self.now.slots found.0 ≡ Some found.1.now) × HasSlot self.now.places.items number found.0) }
+    {
+        let slot = self.slot_of(number)?;
+        let line = self.slots.get(slot)?;
+        if line.number == number {
+            Some((slot, line))
+        } else {
+            None
+        }
     }
 
     // The slot of the connection of this number.

@@ -11,21 +11,29 @@ const BETWEEN: i32 = 10;
 
 const TIMES: i32 = 3;
 
+// The octets that the system keeps for a peer that doesn't read, and those that came and weren't read. It takes twice as much for each, what
+// it notes beside the octets among it.
+const ROOM: i32 = 65_536;
+
 /// Sets a socket for frames.
 ///
-/// Small pieces are sent at once, and a peer that is gone without a word is noticed within a minute. What can't be set
-/// stays as it is: the connection works without it. A connection that is accepted is set as its listener is then, by the system.
+/// Small pieces are sent at once, a peer that is gone without a word is noticed within a minute, and the system keeps 65,536 octets each way
+/// at the most. What can't be set stays as it is: the connection works without it. A connection that is accepted is set as its listener is
+/// then, by the system.
 pub fn set_for_frames<S: AsRawFd>(socket: &S) {
     let fd = socket.as_raw_fd();
     let on = octets_of(1);
     let idle = octets_of(IDLE);
     let between = octets_of(BETWEEN);
     let times = octets_of(TIMES);
+    let room = octets_of(ROOM);
     let _at_once = unsafe { c::setsockopt(fd, c::IPPROTO_TCP, c::TCP_NODELAY, &on, 4) };
     let _kept = unsafe { c::setsockopt(fd, c::SOL_SOCKET, c::SO_KEEPALIVE, &on, 4) };
     let _idle = unsafe { c::setsockopt(fd, c::IPPROTO_TCP, c::TCP_KEEPIDLE, &idle, 4) };
     let _between = unsafe { c::setsockopt(fd, c::IPPROTO_TCP, c::TCP_KEEPINTVL, &between, 4) };
     let _times = unsafe { c::setsockopt(fd, c::IPPROTO_TCP, c::TCP_KEEPCNT, &times, 4) };
+    let _sent = unsafe { c::setsockopt(fd, c::SOL_SOCKET, c::SO_SNDBUF, &room, 4) };
+    let _came = unsafe { c::setsockopt(fd, c::SOL_SOCKET, c::SO_RCVBUF, &room, 4) };
 }
 
 // A number as an option's value, which stands in its first four octets.

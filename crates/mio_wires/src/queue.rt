@@ -1,6 +1,8 @@
 //! What happened, in the order in which it is answered.
 
-ghost use Rattle.std.specs.Prelude.{◌≡◌, ◌==◌, true};
+ghost use Rattle.std.specs.Prelude.{◌≡◌, ◌==◌, ◌<◌, not, true};
+ghost use Rattle.std.specs.Option.{option_to_list};
+ghost use Rattle.mio_wires.specs.Queueing.{Takes, Forgets, IsAdded, behind, is_seen_at, told_at_act};
 ghost use Rattle.mio_wires.specs.Standing.{HasRoomForHappening, StandsIn, count};
 
 use er_base::NoMemory;
@@ -17,7 +19,9 @@ pub enum Seen {
 
 impl Seen {
     // Whether it happened at the connection of this number.
-    fn is_at(self, number: u64) -> bool {
+    fn is_at(self, number: u64) -> bool
+        ensures { result ≡ is_seen_at number self }
+    {
         match self {
             Seen::Listener => false,
             Seen::Readable(at) | Seen::Writable(at) => at == number,
@@ -57,16 +61,18 @@ impl Queue {
 
     // Adds the listener at the end, where it doesn't stand here already.
     pub fn add_listener(&mut self)
-        ensures { HasRoomForHappening self.old → StandsIn self.new Seen.Listener }
+        ensures stands { HasRoomForHappening self.old → StandsIn self.new Seen.Listener }
+        ensures order { HasRoomForHappening self.old → IsAdded self.old.seen.items Seen.Listener self.new.seen.items }
     {
         let may_stand = self.is_heard;
         self.is_heard = true;
         self.add(Seen::Listener, may_stand);
     }
 
-    // Adds a happening at the end, where it doesn't stand here already: it is looked for only where it may.
+    // Adds a happening at the end, where it doesn't stand here already: it is looked for only where it may. All that stands here stays, in its order.
     pub fn add(&mut self, seen: Seen, may_stand: bool)
-        ensures { HasRoomForHappening self.old → StandsIn self.new seen }
+        ensures stands { HasRoomForHappening self.old → StandsIn self.new seen }
+        ensures order { HasRoomForHappening self.old → IsAdded self.old.seen.items seen self.new.seen.items }
     {
         if may_stand && self.stands(seen) {
             return;
@@ -81,7 +87,10 @@ impl Queue {
     }
 
     // Takes the first happening.
-    pub fn next(&mut self) -> Option<Seen> {
+    pub fn next(&mut self) -> Option<Seen>
+        ensures first { option_to_list result ≡ told_at_act Takes self.old.seen.items }
+        ensures rest { self.new.seen.items ≡ behind Takes self.old.seen.items }
+    {
         let seen = self.seen.pop_front()?;
         if seen == Seen::Listener {
             self.is_heard = false;
@@ -91,8 +100,13 @@ impl Queue {
 
     // Takes out the happenings of the connection of this number.
     pub fn forget(&mut self, number: u64)
-        ensures { HasRoomForHappening self.old → HasRoomForHappening self.new }
+        ensures room { HasRoomForHappening self.old → HasRoomForHappening self.new }
+        ensures others { self.new.seen.items ≡ behind (Forgets number) self.old.seen.items }
     {
-        self.seen.retain(|seen| !seen.is_at(number));
+        self.seen.retain(
+            |seen| -> bool
+                ensures { result ≡ not (is_seen_at number seen.now) }
+            { !seen.is_at(number) },
+        );
     }
 }

@@ -1,14 +1,17 @@
 //! The sockets, what `mio` reports of them, and nothing of numbers and counts of faults.
 
-ghost use Rattle.std.specs.Prelude.{◌≡◌, ◌<◌, ◌≤◌, ◌+◌, ◌⊎◌, ℕ, length, IfOk, IfSome, IsSome, true, false};
+ghost use Rattle.std.specs.Prelude.{◌≡◌, ◌<◌, ◌≤◌, ◌+◌, ◌⊎◌, ℕ, [], length, IfOk, IfSome, IsSome, IsSomeAnd, true, false};
 ghost use Rattle.std.specs.Duration.{as_nanos};
 ghost use Rattle.std.specs.IoError.{error_kind};
 ghost use Rattle.mio_wires.specs.Standing.{HasRoomForHappening, StandsIn, IsClosed, count};
 ghost use Rattle.mio_wires.specs.Awaiting.{AwaitsRoom};
+ghost use Rattle.mio_wires.specs.Leaving.{first_until};
+ghost use Rattle.mio_wires.specs.Moments.{wires_moment};
+ghost use Rattle.mio_wires.specs.Waiting.{WaitsUntil, earlier};
 
 use crate::accepting::accept;
 use crate::faults::WireFault;
-use crate::lines::{Lines, SLOTS, Start};
+use crate::lines::{LISTENER, Lines, SLOTS, Start};
 use crate::moments::Moments;
 use crate::options::set_for_frames;
 use crate::queue::Seen;
@@ -22,9 +25,6 @@ use std::io::{ErrorKind, Read, Write};
 use std::net::{Net, SocketAddr};
 use std::rt::Clock;
 use std::time::Duration;
-
-// A connection's token is its slot, which is below this.
-const LISTENER: Token = Token(SLOTS);
 
 // An accept that failed is tried again after so many milliseconds.
 const ACCEPT_AGAIN: u64 = 500;
@@ -249,24 +249,22 @@ impl<R: Net + Clock + Drop> Sockets<R> {
     }
 
     // Waits at most so long, and hears of all that happened.
-    fn hear(&mut self, wait: Option<Duration>) -> Result<(), WireFault> {
+    fn hear(&mut self, wait: Option<Duration>) -> Result<(), WireFault>
+        ensures { self.new.lines.places ≡ self.old.lines.places }
+    {
         match &mut self.poll {
             Ok(poll) => poll.poll(&mut self.events, wait)?,
             Err(error) => return Err(WireFault::System(*error)),
         }
-        for event in self.events.iter() {
-            if event.token() == LISTENER {
-                self.lines.try_listener();
-            } else {
-                self.lines.hear(event);
-            }
-        }
+        self.lines.hear_all(&self.events);
         self.do_what_is_due();
         Ok(())
     }
 
     // What comes by time: the listener is tried again, and connections that leave have to be gone.
-    fn do_what_is_due(&mut self) {
+    fn do_what_is_due(&mut self)
+        ensures { self.new.lines.places ≡ self.old.lines.places }
+    {
         if self.again_at.is_none() && !self.lines.any_leaves() {
             return;
         }
@@ -335,7 +333,9 @@ impl<R: Net + Clock + Drop> Sockets<R> {
     }
 
     // Closes what is open, and waits at most so many milliseconds until the peers of all that was closed have closed too.
-    pub fn finish(&mut self, most: u64) {
+    pub fn finish(&mut self, most: u64)
+        ensures { self.new.lines.places.items ≡ [] }
+    {
         let begun = self.now();
         let last = begun.saturating_add(most);
         self.listener = None;
@@ -351,10 +351,11 @@ impl<R: Net + Clock + Drop> Sockets<R> {
         }
     }
 
-    // How long to wait for a happening: not at all where one stands in the queue.
+    // How long to wait for a happening: not at all where one stands in the queue, else until this moment or the first of what is due here.
     fn wait(&mut self, until: Option<u64>) -> Option<Duration>
-        ensures at_once { 0 < count self.old.lines.queue → IsSome result }
-        ensures none { 0 < count self.old.lines.queue → IfSome result (λ wait. as_nanos wait ≡ 0) }
+        ensures at_once { 0 < count self.old.lines.queue → IsSomeAnd result (λ wait. as_nanos wait ≡ 0) }
+        ensures exact { count self.old.lines.queue ≡ 0 → WaitsUntil (earlier until (earlier self.old.again_at (first_until self.old.lines.leaving.waits))) (wires_moment self.new.moments) result }
+        ensures rest { self.new ≡ record self.old { moments = self.new.moments } }
     {
         if !self.lines.is_quiet() {
             return Some(Duration::ZERO);
@@ -366,7 +367,8 @@ impl<R: Net + Clock + Drop> Sockets<R> {
 
     // The moment that it is now.
     fn now(&mut self) -> u64
-        ensures { self.new ≡ record self.old { moments = self.new.moments } }
+        ensures moment { result ≡ wires_moment self.new.moments }
+        ensures rest { self.new ≡ record self.old { moments = self.new.moments } }
     {
         self.moments.now(&self.rt)
     }
@@ -381,7 +383,9 @@ fn made(poll: &io::Result<Poll>) -> Result<&Poll, WireFault> {
 }
 
 // The earlier of two moments, where they are.
-fn earlier(one: Option<u64>, other: Option<u64>) -> Option<u64> {
+fn earlier(one: Option<u64>, other: Option<u64>) -> Option<u64>
+    ensures { result ≡ earlier one other }
+{
     match (one, other) {
         (Some(one), Some(other)) => Some(one.min(other)),
         (one, None) => one,

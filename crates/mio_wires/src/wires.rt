@@ -1,7 +1,9 @@
 //! Wires over sockets: the sockets, and beside them numbers and counts of faults.
 
-ghost use Rattle.std.specs.Prelude.{◌≡◌, IfOk, None};
+ghost use Rattle.std.specs.Prelude.{◌≡◌, ◌≢◌, ℕ, IfOk, None};
+ghost use Rattle.link_trait.specs.Wires.{opened_by_turn};
 ghost use Rattle.mio_wires.specs.Counting.{unused};
+ghost use Rattle.mio_wires.specs.Telling.{told_as_happening};
 
 use crate::faults::WireFault;
 use crate::queue::Seen;
@@ -104,6 +106,20 @@ impl<R: Net + Clock + Drop> MioWires<R> {
     }
 }
 
+// As what a happening is told.
+fn told_as(seen: Seen) -> Happening
+    ensures told { result ≡ told_as_happening seen }
+    ensures no_other { (conn : Conn) → result ≢ Happening.Accepted conn }
+    ensures no_fault { result ≢ Happening.Failed }
+    ensures opened { (n : ℕ) → opened_by_turn result n ≡ n }
+{
+    match seen {
+        Seen::Listener => Happening::Quiet,
+        Seen::Readable(number) => Happening::Readable(Conn(number)),
+        Seen::Writable(number) => Happening::Writable(Conn(number)),
+    }
+}
+
 impl<R: Net + Clock + Drop> Wires for MioWires<R> {
     ghost state = { λ w. record {
       calls = None;
@@ -153,9 +169,8 @@ impl<R: Net + Clock + Drop> Wires for MioWires<R> {
                 }
                 None => Happening::Quiet,
             },
-            Ok(Some(Seen::Readable(number))) => Happening::Readable(Conn(number)),
-            Ok(Some(Seen::Writable(number))) => Happening::Writable(Conn(number)),
-            Ok(_) => Happening::Quiet,
+            Ok(Some(seen)) => told_as(seen),
+            Ok(None) => Happening::Quiet,
             Err(fault) => {
                 self.faults = self.faults.saturating_add(1);
                 self.turn_faults = self.turn_faults.saturating_add(1);

@@ -22,13 +22,16 @@ fn is_set<S: AsRawFd>(socket: &S, level: i32, option: i32, number: i32) -> bool
     status == 0 && value == expected
 }
 
-// Whether small pieces are sent at once, and a peer that is silent for 30 seconds is asked three times in 10 seconds each.
+// Whether small pieces are sent at once, a peer that is silent for 30 seconds is asked three times in 10 seconds each, and the system keeps
+// 65,536 octets each way, for which Linux takes twice as much.
 fn is_set_for_frames<S: AsRawFd>(socket: &S) -> bool {
     is_set(socket, c::IPPROTO_TCP, c::TCP_NODELAY, 1)
         && is_set(socket, c::SOL_SOCKET, c::SO_KEEPALIVE, 1)
         && is_set(socket, c::IPPROTO_TCP, c::TCP_KEEPIDLE, 30)
         && is_set(socket, c::IPPROTO_TCP, c::TCP_KEEPINTVL, 10)
         && is_set(socket, c::IPPROTO_TCP, c::TCP_KEEPCNT, 3)
+        && is_set(socket, c::SOL_SOCKET, c::SO_SNDBUF, 131_072)
+        && is_set(socket, c::SOL_SOCKET, c::SO_RCVBUF, 131_072)
 }
 
 // Whether what a listener accepts is set as it is, and its peer isn't.

@@ -251,7 +251,7 @@ fn waits(rt: HostRuntime, wires: &mut MioWires<HostRuntime>) -> io::Result<bool>
     let is_quiet = wires.turn(Some(5_060)) == Happening::Quiet;
     let took = rt.monotonic()?.saturating_sub(begun).as_millis();
     wires.finish(10);
-    Ok(is_quiet && (60..5_000).contains(&took))
+    Ok(is_quiet && (60..200).contains(&took))
 }
 
 #[test]
