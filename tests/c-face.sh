@@ -142,11 +142,43 @@ document() {
   "$cc" $strict -Wno-unused-variable $include -c -o /dev/null "$work/document.c"
 }
 
+# What a program has of the headers, by each of the languages' editions without a warning of any kind.
+cat > "$work/everything.c" << 'END'
+#include <euroradio_text.h>
+int main(void);
+int main(void) {
+    euroradio_end end = EURORADIO_END_INIT;
+    euroradio_settings settings = EURORADIO_SETTINGS_INIT;
+    euroradio_free(&end);
+    return euroradio_reason_text(1, EURORADIO_WHY_LINE_ENDED % 256) == euroradio_status_text(EURORADIO_MEMORY) || euroradio_key_fault_text(EURORADIO_KEY_HEX) == euroradio_key_field_text(EURORADIO_KEY_FIELD_TO) ||
+           settings.modulo == 0;
+}
+END
+
+without_any_warning() {
+  local edition
+  for edition in c99 c11 c17 c2x; do
+    clang -Weverything -Werror -x c -std=$edition -fsyntax-only -Iinclude "$work/everything.c" || return 1
+  done
+  for edition in c++11 c++14 c++17 c++20; do
+    clang -Weverything -Werror -x c++ -std=$edition -fsyntax-only -Iinclude "$work/everything.c" || return 1
+  done
+}
+
 judge "the C of docs/EMBEDDING.md" document docs/EMBEDDING.md
+# The words with one change.
+altered_text() {
+  sed "$1" include/euroradio_text.h > "$work/altered.h"
+  ! cmp -s include/euroradio_text.h "$work/altered.h" && refused tools/c-header --text "$work/altered.h"
+}
+
 judge "C99 without a warning" compiles "$cc" "$strict"
 judge "C++ without a warning" compiles c++ "-x c++ -std=c++11 -Wall -Wextra -Wpedantic -Werror"
 if command -v clang > /dev/null; then
   judge "C99 without a warning of clang" compiles clang "$strict"
+  judge "the headers without any warning of clang, C99 to C23 and C++11 to C++20" without_any_warning
+else
+  echo "left out: clang, since it isn't installed"
 fi
 for change in 's/uint32_t me, uint32_t peer,/uint32_t me, uint64_t peer,/' 's/uint64_t rb, uint64_t now/uint64_t now, uint64_t rb/' \
   's/uint8_t sub, euroradio_deeds/uint32_t sub, euroradio_deeds/' 's/^int32_t euroradio_tick/uint32_t euroradio_tick/' \
@@ -154,9 +186,12 @@ for change in 's/uint32_t me, uint32_t peer,/uint32_t me, uint64_t peer,/' 's/ui
   's/_NUMBER (-4)/_NUMBER (-5)/' 's/_FULL 4 /_FULL 3 /' 's/    uint8_t zero; .*//' 's/    size_t used; /    uint32_t used; /' \
   '/uint32_t window;/{h;d};/uint32_t credit;/G' 's/ const uint64_t kmac\[3\]/ const uint64_t kmac[2]/' 's/1000000000000000/100000000000000/' 's/200208/200207/' \
   's/    void \*private_end;/    uint64_t private_end;/' 's/    uint64_t kmac\[3\];/    uint64_t kmac[4];/' 's/_VERSION [0-9]*/_VERSION 1/' \
-  's/const uint8_t \*keys,/uint8_t *keys,/'; do
+  's/const uint8_t \*keys,/uint8_t *keys,/' 's/_VERSION_TEXT "[0-9.]*"/_VERSION_TEXT "1.0"/' 's/_KEY_HEX 4/_KEY_HEX 5/' 's/EURORADIO_WHY(3, 1)/EURORADIO_WHY(3, 2)/' \
+  's/(reason) \* 256/(reason) * 100/' 's/ uint64_t key\[3\]/ uint64_t *key/' 's/    size_t other; .*//'; do
   judge "a header altered by $change is refused" altered "$change"
 done
+
+judge "words that were altered are refused" altered_text 's/the line failed/the line ended/'
 
 # ---- programs in C
 
@@ -332,7 +367,7 @@ over_sockets() {
 
 for library in $libraries; do
   judge "$library: the header" header "$library"
-  for name in calls wired threads wiping pair memory; do
+  for name in calls wired texts threads wiping pair memory; do
     try "$library" "$name"
   done
   judge "$library: threads over a pool are built" program_of "$library" threads memory/euroradio_pool.c -O2 -DEURORADIO_POOL_PTHREAD

@@ -155,6 +155,82 @@ static void key_files(void) {
     CHECK(heap_blocks == 0);
 }
 
+/* Which fault is told of each text that is refused: the kind, the field, the entry, and the earlier one of two. */
+static void key_faults(void) {
+#define KEY "[[key]]\nengine = 5\nrbc = 9\nkmac = \"0123456789abcdef23456789abcdef01456789abcdef0123\"\n"
+    static const struct {
+        const char *text;
+        uint32_t kind, field;
+        size_t entry, other;
+    } rows[] = {
+        {"version = 1\n" KEY, 0, 0, 0, 0},
+        {"version = ", EURORADIO_KEY_DOCUMENT, 0, 0, 0},
+        {"", EURORADIO_KEY_FIELD, EURORADIO_KEY_FIELD_VERSION, 0, 0},
+        {"version = 3\n", EURORADIO_KEY_VERSION, 0, 0, 0},
+        {"version = 1\nkey = 5\n", EURORADIO_KEY_FIELD, EURORADIO_KEY_FIELD_KEY, 0, 0},
+        {"version = 1\n" KEY "[[key]]\nrbc = 9\n", EURORADIO_KEY_FIELD, EURORADIO_KEY_FIELD_ENGINE, 2, 0},
+        {"version = 1\n[[key]]\nengine = 5\nrbc = \"9\"\n", EURORADIO_KEY_FIELD, EURORADIO_KEY_FIELD_RBC, 1, 0},
+        {"version = 1\n[[key]]\nengine = 5\nrbc = 9\n", EURORADIO_KEY_FIELD, EURORADIO_KEY_FIELD_KMAC, 1, 0},
+        {"version = 2\n" KEY "to = 5\n", EURORADIO_KEY_FIELD, EURORADIO_KEY_FIELD_FROM, 1, 0},
+        {"version = 2\n" KEY "from = 5\n", EURORADIO_KEY_FIELD, EURORADIO_KEY_FIELD_TO, 1, 0},
+        {"version = 1\n[[key]]\nengine = 5\nrbc = 9\nkmac = \"0123\"\n", EURORADIO_KEY_HEX, 0, 1, 0},
+        {"version = 1\n[[key]]\nengine = 16777216\nrbc = 9\n", EURORADIO_KEY_NUMBER, 0, 1, 0},
+        {"version = 2\n" KEY "from = 6\nto = 5\n", EURORADIO_KEY_RANGE, 0, 1, 0},
+        {"version = 2\n" KEY "from = 0\nto = 5\n" KEY "from = 6\nto = 9\n" KEY "from = 9\nto = 9\n", EURORADIO_KEY_TWICE, 0, 3, 2},
+    };
+#undef KEY
+    size_t i, failing;
+    for (i = 0; i < sizeof rows / sizeof rows[0]; i++) {
+        euroradio_key_fault fault;
+        int32_t wanted = rows[i].kind == 0 ? EURORADIO_OK : EURORADIO_KEYS;
+        memset(&fault, 0x5a, sizeof fault);
+        CHECK(euroradio_key_file((const uint8_t *)rows[i].text, strlen(rows[i].text), &fault) == wanted);
+        CHECK(fault.kind == rows[i].kind && fault.field == rows[i].field);
+        CHECK(fault.entry == rows[i].entry && fault.other == rows[i].other);
+        CHECK(answer_text(rows[i].text, strlen(rows[i].text)) == wanted);
+    }
+    CHECK(heap_blocks == 0);
+
+    /* where memory runs out no fault is told */
+    for (failing = 1; heap_calls >= failing || failing == 1; failing++) {
+        euroradio_key_fault fault;
+        int32_t status;
+        memset(&fault, 0x5a, sizeof fault);
+        heap_reset(failing);
+        status = euroradio_key_file((const uint8_t *)KEY_FILE, sizeof KEY_FILE - 1, &fault);
+        CHECK(status == (heap_calls < failing ? EURORADIO_OK : EURORADIO_MEMORY));
+        CHECK(is_zero(&fault, sizeof fault));
+        CHECK(heap_blocks == 0);
+        if (heap_calls < failing)
+            break;
+    }
+    heap_reset(0);
+}
+
+/* A KMAC of octets: of each eight the first is the most significant. One of zeros is none. */
+static void kmacs(void) {
+    uint8_t octets[24];
+    uint64_t key[3];
+    uint64_t before[3];
+    size_t i;
+    for (i = 0; i < 24; i++)
+        octets[i] = (uint8_t)(KMAC[i / 8] >> (56 - 8 * (i % 8)));
+    CHECK(octets[0] == 0x01 && octets[23] == 0x23);
+    CHECK(euroradio_kmac(octets, key) == EURORADIO_OK);
+    CHECK(memcmp(key, KMAC, sizeof KMAC) == 0);
+    memset(octets, 0, sizeof octets);
+    memset(key, 0x5a, sizeof key);
+    memcpy(before, key, sizeof key);
+    CHECK(euroradio_kmac(octets, key) == EURORADIO_KEYS);
+    CHECK(memcmp(key, before, sizeof key) == 0);
+    for (i = 0; i < 24; i++) {
+        memset(octets, 0, sizeof octets);
+        octets[i] = 1;
+        CHECK(euroradio_kmac(octets, key) == EURORADIO_OK);
+        CHECK(key[i / 8] == UINT64_C(1) << (56 - 8 * (i % 8)) && key[(i / 8 + 1) % 3] == 0 && key[(i / 8 + 2) % 3] == 0);
+    }
+}
+
 static void key_arrays(void) {
     static const struct {
         uint32_t engine, rbc;
@@ -341,6 +417,7 @@ static void handles(void) {
     CHECK(heap_blocks == 0);
     euroradio_free(&end);
     euroradio_free(&end);
+    euroradio_free(NULL);
     judge_closed(&end);
     judge_closed(&moved);
 
@@ -588,6 +665,8 @@ int main(void) {
     faults_of_makers();
     ranges_of_settings();
     key_files();
+    key_faults();
+    kmacs();
     key_arrays();
     keys_are_found();
     allocations_fail();

@@ -114,9 +114,9 @@ pub extern "C" fn euroradio_answer_keys(
     }
 }
 
-/// Gives an end's memory back.
+/// Gives an end's memory back. The header's `euroradio_free` is this, for a pointer that isn't null.
 #[unsafe(no_mangle)]
-pub extern "C" fn euroradio_free(alloc: Global, end: &mut CEnd)
+pub extern "C" fn euroradio_end_free(alloc: Global, end: &mut CEnd)
     ensures held { end_held_in_handle end.new ≡ None }
 {
     if let Some(held) = end.take_held(alloc) {

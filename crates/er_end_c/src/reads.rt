@@ -152,9 +152,9 @@ pub extern "C" fn euroradio_reason(reason: u8, sub: u8, into: &mut [u8]) -> usiz
 /// The version of the library: 100 times the major one, and the minor one.
 #[unsafe(no_mangle)]
 pub extern "C" fn euroradio_version() -> u32
-    ensures { result ≡ 101 }
+    ensures { result ≡ 200 }
 {
-    101
+    200
 }
 
 // Copies what fits, from an index on: how many octets.
