@@ -100,7 +100,7 @@ typedef struct euroradio_end {
 #define EURORADIO_NOT_CONNECTED 2 /* send: the safe connection doesn't stand yet; nothing was sent */
 #define EURORADIO_LENGTH 3        /* send: a message has 1 to 1,023 octets; nothing was sent */
 #define EURORADIO_FULL 4          /* send: 16 messages wait to be sent; nothing was sent */
-#define EURORADIO_NONE 5          /* take: no message waits; deadline: no tick is wanted; released: it isn't */
+#define EURORADIO_NONE 5          /* take: no message waits; deadline: no tick is wanted; released, connected: it isn't */
 #define EURORADIO_CLOSED (-1)     /* the handle holds no end */
 #define EURORADIO_OPEN (-2)       /* the handle holds an end already */
 #define EURORADIO_MOMENT (-3)     /* the moment is above EURORADIO_MOMENT_MOST */
@@ -311,6 +311,11 @@ size_t euroradio_waiting(euroradio_end *end);
 /* Whether and why the end is released, at any time: at OK deeds->released is 1, deeds->reason, sub and by_peer say
  * why, and all else is zero; at NONE it isn't released. No reader of a lock: see THREADS. Answers OK, NONE; CLOSED. */
 int32_t euroradio_released(euroradio_end *end, euroradio_deeds *deeds);
+
+/* Whether the safe connection stands, and with whom, at any time: at OK *peer is the peer's ETCS number; at NONE the
+ * connection doesn't stand yet, or the end is released, and *peer stays as it was. No reader of a lock: see THREADS.
+ * Answers OK, NONE; CLOSED. */
+int32_t euroradio_connected(euroradio_end *end, uint32_t *peer);
 
 /* Copies what a reason and a sub-reason of a release mean, in words of ASCII for people, at most 64 octets, as many
  * as fit: how many. No zero stands behind them; euroradio_reason_text of euroradio_text.h gives the same as a string. */

@@ -34,7 +34,7 @@ static inline const char *euroradio_status_text(int32_t status) {
     case EURORADIO_FULL:
         return "sixteen messages wait; nothing was sent";
     case EURORADIO_NONE:
-        return "no message waits, no tick is wanted, or the end isn't released";
+        return "no message waits, no tick is wanted, the end isn't released, or it isn't connected";
     case EURORADIO_CLOSED:
         return "the handle holds no end";
     case EURORADIO_OPEN:

@@ -361,6 +361,7 @@ static void judge_closed(euroradio_end *end) {
     euroradio_deeds deeds[12];
     euroradio_counts counts;
     uint64_t moment = 77;
+    uint32_t peer = 77;
     uint8_t octets[4] = {1, 2, 3, 4};
     size_t i;
     memset(deeds, 0x5a, sizeof deeds);
@@ -383,6 +384,8 @@ static void judge_closed(euroradio_end *end) {
     CHECK(is_zero(&counts, sizeof counts));
     CHECK(euroradio_deadline(end, &moment) == EURORADIO_CLOSED);
     CHECK(moment == 77);
+    CHECK(euroradio_connected(end, &peer) == EURORADIO_CLOSED);
+    CHECK(peer == 77);
     CHECK(euroradio_out(end, 0, octets, 4) == 0);
     CHECK(euroradio_accepted(end, octets, 4) == 0);
     CHECK(euroradio_taken(end, octets, 4) == 0);
@@ -535,6 +538,36 @@ static void releases(void) {
     CHECK(heap_blocks == 0);
 }
 
+/* Whether an end is connected, and with whom: not before it is, and not behind its release; and the same in between,
+ * whatever happens. */
+static void connections(void) {
+    struct wire wire;
+    euroradio_deeds deeds;
+    uint32_t peer = 77;
+    uint8_t text[3] = {1, 2, 3};
+    CHECK(open_wire(&wire, &usual));
+    CHECK(euroradio_connected(&wire.engine.end, &peer) == EURORADIO_NONE && peer == 77);
+    CHECK(euroradio_connected(&wire.centre.end, &peer) == EURORADIO_NONE && peer == 77);
+    set_up(&wire);
+    CHECK(euroradio_connected(&wire.engine.end, &peer) == EURORADIO_OK && peer == CENTRE);
+    CHECK(euroradio_connected(&wire.centre.end, &peer) == EURORADIO_OK && peer == ENGINE);
+    CHECK(send_text(&wire, &wire.engine, text, 0) == EURORADIO_LENGTH);
+    CHECK(send_text(&wire, &wire.engine, text, sizeof text) == EURORADIO_OK);
+    run(&wire);
+    CHECK(euroradio_tick(&wire.centre.end, MOST + 1, &deeds) == EURORADIO_MOMENT);
+    CHECK(euroradio_tick(&wire.centre.end, wire.now, &deeds) == EURORADIO_OK);
+    peer = 77;
+    CHECK(euroradio_connected(&wire.centre.end, &peer) == EURORADIO_OK && peer == ENGINE);
+    leave(&wire, &wire.engine, 0);
+    peer = 77;
+    CHECK(euroradio_connected(&wire.engine.end, &peer) == EURORADIO_NONE && peer == 77);
+    CHECK(euroradio_connected(&wire.centre.end, &peer) == EURORADIO_OK && peer == ENGINE);
+    run(&wire);
+    CHECK(euroradio_connected(&wire.centre.end, &peer) == EURORADIO_NONE && peer == ENGINE);
+    close_wire(&wire);
+    CHECK(heap_blocks == 0);
+}
+
 /* ---- copies */
 
 static void copies(void) {
@@ -674,6 +707,7 @@ int main(void) {
     moments();
     refusals();
     releases();
+    connections();
     copies();
     counts();
     reasons();

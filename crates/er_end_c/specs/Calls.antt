@@ -1,5 +1,5 @@
 -- Contract: what a call that is an event at an end leaves and answers.
-use Rattle.std.specs.Prelude.{ℕ, ℤ, ◌≡◌, Bool, nat_lt, if◌then◌else◌, List, Option, Some, None}
+use Rattle.std.specs.Prelude.{ℕ, ℤ, ◌≡◌, ◌==◌, Bool, nat_lt, if◌then◌else◌, List, Option, Some, None}
 use Rattle.safety_automaton.specs.Keys.{key_at}
 use Rattle.er_end_model.specs.Steps.{Finds}
 use Rattle.er_end_model.specs.Outcomes.{Outcome}
@@ -73,17 +73,25 @@ finds_in h = key_at (key_entries_of_handle h)
 abbrev pub handle_end_behind_call : HandleCall → Held → KEnd
 handle_end_behind_call call h = kept_end_behind_event (moment_of call) (event_of (finds_in h) call) h.end
 
+-- the outcomes that it tells
 abbrev pub told_at : HandleCall → Held → List Outcome
 told_at call h = tells (moment_of call) (event_of (finds_in h) call) h.end
 
 abbrev pub deeds_at : HandleCall → Held → CDeeds
 deeds_at call h = record (deeds_told (told_at call h)) { used = octet_count_of_call call h.end }
 
+-- with whom the safe connection came to stand last: with the peer that these deeds name, or as before
+abbrev pub peer_noted : CDeeds → Option ℕ → Option ℕ
+peer_noted deeds before = if deeds.connected == 1 then Some deeds.peer else before
+
+abbrev pub held_behind_call : HandleCall → Held → Held
+held_behind_call call h = record (held_with_end h (handle_end_behind_call call h)) { peer = peer_noted (deeds_at call h) h.peer }
+
 -- ---- the call at a handle: at one that holds nothing, and at a late moment, nothing happens
 
 abbrev pub held_after : HandleCall → Option Held → Option Held
 held_after call None = None
-held_after call (Some h) = if is_moment_too_late (moment_of call) then Some h else Some (held_with_end h (handle_end_behind_call call h))
+held_after call (Some h) = if is_moment_too_late (moment_of call) then Some h else Some (held_behind_call call h)
 
 abbrev pub status_after : HandleCall → Option Held → ℤ
 status_after call None = closed_handle

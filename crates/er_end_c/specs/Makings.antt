@@ -54,7 +54,7 @@ abbrev pub key_of : List ℕ → TripleKey
 key_of numbers = record { first = slice_index_or numbers 0 0; second = slice_index_or numbers 1 0; third = slice_index_or numbers 2 0 }
 
 abbrev pub held_made : Opening → Option (List KmacEntry) → Held
-held_made opening entries = record { end = kept_opened opening; keys = entries }
+held_made opening entries = record { end = kept_opened opening; keys = entries; peer = None }
 
 -- what is made of an opening and of what keys say; nothing where they are refused
 abbrev pub made_with : {E : Type 0} → Opening → Result (List KmacEntry) E → Option Held

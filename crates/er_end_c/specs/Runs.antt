@@ -1,5 +1,5 @@
 -- Contract: calls on one handle, one after the other, from the making of its end on, are events of the end model, one after the other.
-use Rattle.std.specs.Prelude.{ℕ, ℤ, ◌≡◌, Bool, true, false, if◌then◌else◌, List, [], ◌∷◌, take, Option}
+use Rattle.std.specs.Prelude.{ℕ, ℤ, ◌≡◌, Bool, true, false, if◌then◌else◌, List, [], ◌∷◌, take, Option, Some, None}
 use Rattle.safety_automaton.specs.Keys.{KmacEntry, key_at}
 use Rattle.er_end_model.specs.Outcomes.{Outcome, ConnectedTo, Accepted, Taken, NothingToTake, Refused, WasReleased, Octets as Sent}
 use Rattle.er_end_model.specs.Steps.{Finds, deadline}
@@ -13,7 +13,7 @@ use Rattle.er_end_c.specs.Statuses.{late_moment}
 use Rattle.er_end_c.specs.Deeds.{no_deeds, deeds_told, status_told, release_deeds, counts_shown}
 use Rattle.er_end_c.specs.Handles.{optional_key_entries, end_held_in_handle}
 use Rattle.er_end_c.specs.Makings.{IsHandleMade}
-use Rattle.er_end_c.specs.Reads.{text_of_held_end, out_of, newest_accepted_message, message_last_taken, none_or, else_, deadline_status, shown_deadline, shown_release_status, shown_release, count_waiting_at_handle, shown_counts}
+use Rattle.er_end_c.specs.Reads.{text_of_held_end, out_of, newest_accepted_message, message_last_taken, none_or, else_, deadline_status, shown_deadline, shown_release_status, shown_release, count_waiting_at_handle, shown_counts, peer_unless_released, connection_status, shown_peer}
 use Rattle.er_end_c.specs.Used.{UsesOctets}
 use Rattle.er_end_c.specs.Calls.{HandleCall, Start, Octets, Send, Take, Release, Tick, Ended, Fault, Stalled, is_moment_too_late, moment_of, DoesHandleCall}
 
@@ -134,6 +134,30 @@ abbrev pub AreAnswered : Finds → List Answered → End → Type 0
 AreAnswered finds [] m = Unit {0}
 AreAnswered finds (a ∷ calls) m = IsAnsweredIf (is_moment_too_late (moment_of a.call)) finds a m × AreAnswered finds calls (model_after finds a m)
 
+-- the peer with which the safe connection came to stand last: the one that these outcomes tell, or the one before
+abbrev pub peer_told : List Outcome → Option ℕ → Option ℕ
+peer_told [] before = before
+peer_told (ConnectedTo peer ∷ outcomes) before = Some peer
+peer_told (Accepted message ∷ outcomes) before = peer_told outcomes before
+peer_told (Taken message ∷ outcomes) before = peer_told outcomes before
+peer_told (NothingToTake ∷ outcomes) before = peer_told outcomes before
+peer_told (Refused refusal ∷ outcomes) before = peer_told outcomes before
+peer_told (WasReleased why ∷ outcomes) before = peer_told outcomes before
+peer_told (Sent octets ∷ outcomes) before = peer_told outcomes before
+
+-- .. behind calls, one after the other
+abbrev pub peer_after : Finds → Answered → End → Option ℕ → Option ℕ
+peer_after finds a m before = if is_moment_too_late (moment_of a.call) then before else peer_told (stepped finds a m).1 before
+
+abbrev pub peer_behind_calls : Finds → List Answered → End → Option ℕ → Option ℕ
+peer_behind_calls finds [] m before = before
+peer_behind_calls finds (a ∷ calls) m before = peer_behind_calls finds calls (model_after finds a m) (peer_after finds a m before)
+
+-- the call that tells with whom the safe connection stands answers that peer, until the end is released
+pub record TellsPeer (end : CEnd) (m : End) (peer : Option ℕ) : Type 0 where
+  pub stands : connection_status (end_held_in_handle end) ≡ none_or (peer_unless_released m.core.released peer)
+  pub named : (before : ℕ) → shown_peer before (end_held_in_handle end) ≡ else_ before (peer_unless_released m.core.released peer)
+
 -- the calls that read answer what the model says of its end
 pub record ReadsAs (end : CEnd) (m : End) : Type 0 where
   pub wanted : deadline_status (end_held_in_handle end) ≡ none_or (deadline model m.core)
@@ -149,3 +173,4 @@ RunsAsModel =
     (opening : Opening) (entries : Option (List KmacEntry)) (calls : List Answered) (first last : CEnd) → IsAllowed opening → IsHandleMade first opening entries → LeadsToHandle calls first last
     → AreAnswered (key_at (optional_key_entries entries)) calls (opened opening)
     × ReadsAs last (model_run (key_at (optional_key_entries entries)) calls (opened opening))
+    × TellsPeer last (model_run (key_at (optional_key_entries entries)) calls (opened opening)) (peer_behind_calls (key_at (optional_key_entries entries)) calls (opened opening) None)

@@ -2,7 +2,8 @@
 
 ghost use Rattle.er_end_c.specs.Ties.{IsTied};
 
-use crate::held::Held;
+use crate::face::CDeeds;
+use crate::held::{Held, peer_noted};
 use crate::slot::Slot;
 use loose_box::Loose;
 use std::alloc::Global;
@@ -24,6 +25,7 @@ pub struct CEnd {
 impl CEnd {
     ghost use Rattle.std.specs.Prelude.{◌≡◌, MatchOption, Some, None};
     ghost use Rattle.er_end_c.specs.Handles.{end_held_in_handle, is_handle_open};
+    ghost use Rattle.er_end_c.specs.Calls.{peer_noted};
 
     /// Takes out what it holds, for the length of a call.
     pub fn take_held(&mut self, alloc: Global) -> Option<Box<Held>>
@@ -45,6 +47,14 @@ impl CEnd {
     {
         self.slot = Slot::of(Loose::of(held));
         self.open = OPEN;
+    }
+
+    /// Puts it in behind an event that came to these deeds.
+    pub fn put_held_behind(&mut self, mut held: Box<Held>, deeds: &CDeeds)
+        ensures { end_held_in_handle self.new ≡ Some (record held.value { peer = peer_noted deeds.now held.value.peer }) }
+    {
+        held.peer = peer_noted(deeds, held.peer);
+        self.put_held(held);
     }
 
     /// Whether it holds an end.

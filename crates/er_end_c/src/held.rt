@@ -5,7 +5,7 @@ ghost use Rattle.er_end.specs.KeptEnds.{after_start, after_octets, after_send, a
 ghost use Rattle.er_end_c.specs.Deeds.{refused_status};
 ghost use Rattle.er_end.specs.Shown.{refusal_view};
 ghost use Rattle.er_end_c.specs.Handles.{held_with_end};
-ghost use Rattle.er_end_c.specs.Calls.{finds_in};
+ghost use Rattle.er_end_c.specs.Calls.{finds_in, peer_noted};
 ghost use Rattle.er_end_c.specs.Shown.{deeds_of, taken_deeds, taken_shown};
 ghost use Rattle.er_base.specs.declared.cause.Cause.TheVariants.{LineEnded, LineFailed, LineStalled};
 
@@ -22,6 +22,8 @@ pub struct Held {
     pub end: End,
     /// The keys that it was made with, where it answers; none where it calls.
     pub keys: Option<KeyStore>,
+    /// The peer with which the safe connection came to stand, below 2^24.
+    pub peer: Option<u32>,
 }
 
 impl Held {
@@ -101,6 +103,17 @@ impl Held {
         ensures deeds { result ≡ deeds_of 0 (after_break LineStalled self.old.end) }
     {
         CDeeds::of_event(0, &self.end.stalled())
+    }
+}
+
+/// The peer with which the safe connection came to stand last, behind an event with these deeds.
+pub fn peer_noted(deeds: &CDeeds, before: Option<u32>) -> Option<u32>
+    ensures { result ≡ peer_noted deeds.now before }
+{
+    if deeds.connected == 1 {
+        Some(deeds.peer)
+    } else {
+        before
     }
 }
 

@@ -159,9 +159,17 @@ fn admitted(
 }
 
 fn boxed(alloc: Global, end: End, keys: Option<KeyStore>) -> Option<Box<Held>>
-    ensures { IfSome result (λ held. held.value ≡ record { end = end; keys = keys }) }
+    ensures { IfSome result (λ held. held.value ≡ record { end = end; keys = keys; peer = None }) }
 {
-    Box::new(alloc, Held { end, keys }).ok()
+    Box::new(
+        alloc,
+        Held {
+            end,
+            keys,
+            peer: None,
+        },
+    )
+    .ok()
 }
 
 fn calling(

@@ -166,6 +166,9 @@ package Euroradio is
    function Is_Released (The_End : in out Handle; Told : out Deeds) return Status
      with Import, Convention => C, External_Name => "euroradio_released";
 
+   function Is_Connected (The_End : in out Handle; Peer : in out Unsigned_32) return Status
+     with Import, Convention => C, External_Name => "euroradio_connected";
+
    function Copy_Reason (Reason, Sub : Unsigned_8; Into : in out Octets; Room : size_t) return size_t
      with Import, Convention => C, External_Name => "euroradio_reason";
 
