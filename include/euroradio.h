@@ -54,12 +54,14 @@
  * made from a signal handler that could have interrupted another.
  *
  * TIME. A moment is in milliseconds since any fixed point of the program's choice, at most EURORADIO_MOMENT_MOST. It
- * should come of a clock that isn't set back: a moment below the last that the end was passed counts as the last. The
- * first and last moments of keys are of the same clock, so where keys have them, use one whose zero they know.
+ * should come of a clock that isn't set back: a moment below the last that the end was passed counts as the last, and
+ * deeds.back tells of it. The first and last moments of keys are of the same clock, so where keys have them, use one
+ * whose zero they know.
  *
  * ERRORS. A status above 0 is an answer of the protocol, one below 0 a fault of the call. Where a call answers a fault,
- * the end is as it was before, and *deeds, where there is one, is all zero. Of several faults the one answered is the
- * first in the order in which the call's comment names them.
+ * the end is as it was before, and *deeds, where there is one, is all zero. So is it where a send is refused or a take
+ * finds none, but for deeds.back. Of several faults the one answered is the first in the order in which the call's
+ * comment names them.
  *
  * NUMBERS. ETCS numbers are below 2^24. No type is an enum or a bool, so that C, C++ and Ada see the same sizes.
  *
@@ -100,7 +102,7 @@ typedef struct euroradio_end {
 #define EURORADIO_NOT_CONNECTED 2 /* send: the safe connection doesn't stand yet; nothing was sent */
 #define EURORADIO_LENGTH 3        /* send: a message has 1 to 1,023 octets; nothing was sent */
 #define EURORADIO_FULL 4          /* send: 16 messages wait to be sent; nothing was sent */
-#define EURORADIO_NONE 5          /* take: no message waits; deadline: no tick is wanted; released, connected: it isn't */
+#define EURORADIO_NONE 5          /* take: no message waits; deadline: no tick is wanted; released, connected: no */
 #define EURORADIO_CLOSED (-1)     /* the handle holds no end */
 #define EURORADIO_OPEN (-2)       /* the handle holds an end already */
 #define EURORADIO_MOMENT (-3)     /* the moment is above EURORADIO_MOMENT_MOST */
@@ -148,7 +150,7 @@ typedef struct euroradio_deeds {
     uint8_t reason;     /* .. for this reason and sub-reason: EURORADIO_WHY; euroradio_text.h has their words */
     uint8_t sub;
     uint8_t by_peer;    /* .. 1 where the peer did it */
-    uint8_t zero;       /* 0 */
+    uint8_t back;       /* 1 where the moment is below one that was passed before: it counts as the last */
 } euroradio_deeds;
 
 /* The frames that the station ignored so far, by their kind. A count stays at its greatest value. */
@@ -262,8 +264,8 @@ int32_t euroradio_start(euroradio_end *end, uint64_t now, euroradio_deeds *deeds
  * MOMENT. */
 int32_t euroradio_octets(euroradio_end *end, uint64_t now, const uint8_t *piece, size_t length, euroradio_deeds *deeds);
 
-/* The user sends a message of 1 to 1,023 octets. Where it is refused nothing changed, and *deeds is zero; of several
- * reasons the first in this order is told. Answers OK, RELEASED, NOT_CONNECTED, LENGTH, FULL; CLOSED, MOMENT. */
+/* The user sends a message of 1 to 1,023 octets. Where it is refused the end is as it was; of several reasons the first
+ * in this order is told. Answers OK, RELEASED, NOT_CONNECTED, LENGTH, FULL; CLOSED, MOMENT. */
 int32_t euroradio_send(euroradio_end *end, uint64_t now, const uint8_t *text, size_t length, euroradio_deeds *deeds);
 
 /* The user takes the oldest message that waits: fetch it by euroradio_taken before the next event. Only what was taken

@@ -460,8 +460,33 @@ static void moments(void) {
     CHECK(wire.engine.connected == CENTRE && wire.centre.connected == ENGINE);
 
     /* a moment that goes back counts as the last, and the last one may be 10^15 */
-    CHECK(euroradio_tick(&wire.engine.end, 0, &deeds[0]) == EURORADIO_OK);
-    CHECK(euroradio_tick(&wire.engine.end, MOST, &deeds[0]) == EURORADIO_OK);
+    CHECK(euroradio_tick(&wire.engine.end, wire.now, &deeds[0]) == EURORADIO_OK && deeds[0].back == 0);
+    CHECK(euroradio_tick(&wire.engine.end, 0, &deeds[0]) == EURORADIO_OK && deeds[0].back == 1);
+    CHECK(euroradio_tick(&wire.engine.end, MOST, &deeds[0]) == EURORADIO_OK && deeds[0].back == 0);
+    CHECK(euroradio_stalled(&wire.engine.end, &deeds[0]) == EURORADIO_OK && deeds[0].back == 0);
+    close_wire(&wire);
+    CHECK(heap_blocks == 0);
+}
+
+/* A moment below one that was passed before, at the making too, is told by each call that has one, and by no fault; one that
+ * was refused as too late was none. */
+static void moments_back(void) {
+    struct wire wire;
+    euroradio_deeds deeds;
+    uint8_t octet = 0x7e;
+    CHECK(open_wire(&wire, &usual));
+    CHECK(euroradio_start(&wire.engine.end, 999, &deeds) == EURORADIO_OK && deeds.back == 1 && deeds.out > 0);
+    CHECK(euroradio_tick(&wire.centre.end, 1000, &deeds) == EURORADIO_OK && deeds.back == 0);
+    CHECK(euroradio_tick(&wire.centre.end, MOST + 1, &deeds) == EURORADIO_MOMENT && deeds.back == 0);
+    CHECK(euroradio_tick(&wire.centre.end, 2000, &deeds) == EURORADIO_OK && deeds.back == 0);
+    CHECK(euroradio_octets(&wire.centre.end, 1999, &octet, 1, &deeds) == EURORADIO_OK && deeds.back == 1 && deeds.used == 1);
+    CHECK(euroradio_take(&wire.centre.end, 1999, &deeds) == EURORADIO_NONE && deeds.back == 1);
+    CHECK(euroradio_take(&wire.centre.end, 2000, &deeds) == EURORADIO_NONE && is_zero(&deeds, sizeof deeds));
+    CHECK(euroradio_send(&wire.centre.end, 1999, &octet, 1, &deeds) == EURORADIO_NOT_CONNECTED && deeds.back == 1);
+    CHECK(euroradio_send(&wire.centre.end, 3000, &octet, 1, &deeds) == EURORADIO_NOT_CONNECTED && is_zero(&deeds, sizeof deeds));
+    CHECK(euroradio_tick(&wire.centre.end, 2999, &deeds) == EURORADIO_OK && deeds.back == 1);
+    CHECK(euroradio_release(&wire.centre.end, 3000, 1, &deeds) == EURORADIO_OK && deeds.back == 0);
+    CHECK(euroradio_ended(&wire.centre.end, &deeds) == EURORADIO_OK && deeds.back == 0);
     close_wire(&wire);
     CHECK(heap_blocks == 0);
 }
@@ -705,6 +730,7 @@ int main(void) {
     allocations_fail();
     handles();
     moments();
+    moments_back();
     refusals();
     releases();
     connections();

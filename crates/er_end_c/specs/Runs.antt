@@ -10,12 +10,12 @@ use Rattle.er_end.specs.Standing.{IsAllowed}
 use Rattle.er_end_c.specs.declared.handle.CEnd.{CEnd}
 use Rattle.er_end_c.specs.declared.face.CDeeds.{CDeeds}
 use Rattle.er_end_c.specs.Statuses.{late_moment}
-use Rattle.er_end_c.specs.Deeds.{no_deeds, deeds_told, status_told, release_deeds, counts_shown}
+use Rattle.er_end_c.specs.Deeds.{no_deeds, deed_flag, deeds_told, status_told, release_deeds, counts_shown}
 use Rattle.er_end_c.specs.Handles.{optional_key_entries, end_held_in_handle}
-use Rattle.er_end_c.specs.Makings.{IsHandleMade}
+use Rattle.er_end_c.specs.Makings.{IsHandleMade, moment_of_opening}
 use Rattle.er_end_c.specs.Reads.{text_of_held_end, out_of, newest_accepted_message, message_last_taken, none_or, else_, deadline_status, shown_deadline, shown_release_status, shown_release, count_waiting_at_handle, shown_counts, peer_unless_released, connection_status, shown_peer}
 use Rattle.er_end_c.specs.Used.{UsesOctets}
-use Rattle.er_end_c.specs.Calls.{HandleCall, Start, Octets, Send, Take, Release, Tick, Ended, Fault, Stalled, is_moment_too_late, moment_of, DoesHandleCall}
+use Rattle.er_end_c.specs.Calls.{HandleCall, Start, Octets, Send, Take, Release, Tick, Ended, Fault, Stalled, is_moment_too_late, moment_of, is_back, last_moment_behind, DoesHandleCall}
 
 -- a call, what it answered, and the texts that could be copied behind it
 pub record Answered : Type 0 where
@@ -117,11 +117,11 @@ is_take Ended = false
 is_take Fault = false
 is_take Stalled = false
 
--- a call answers what the step of the model tells, for the octets that it uses: as its status, as its deeds, and as the texts to be copied, unless it is a send that was
+-- a call answers what the step of the model tells, for the octets that it uses and by whether its moment went back: as its status, as its deeds, and as the texts to be copied, unless it is a send that was
 -- refused, behind which those of the event before may still be copied
 pub record IsAnswered (a : Answered) (told : List Outcome) : Type 0 where
   pub answer : a.status ≡ status_told told
-  pub tells : a.deeds ≡ record (deeds_told told) { used = a.deeds.used }
+  pub tells : a.deeds ≡ record (deeds_told told) { used = a.deeds.used; back = a.deeds.back }
   pub sent : is_send_refused told ≡ false → a.out ≡ octets_told told
   pub came : is_send_refused told ≡ false → a.accepted ≡ accepted_told told
   pub took : is_take a.call ≡ true → a.taken ≡ taken_told told
@@ -129,6 +129,13 @@ pub record IsAnswered (a : Answered) (told : List Outcome) : Type 0 where
 abbrev pub IsAnsweredIf : (late : Bool) → Finds → Answered → End → Type 0
 IsAnsweredIf true finds a m = (a.status ≡ late_moment) × (a.deeds ≡ no_deeds)
 IsAnsweredIf false finds a m = IsAnswered a (stepped finds a m).1 × UsesOctets a.call m a.deeds.used
+
+-- the deeds tell that a moment went back exactly where it is below one that was passed before: as the end was made, or by a call behind that
+abbrev pub TellBack : List Answered → (last : ℕ) → Type 0
+TellBack [] last = Unit {0}
+TellBack (a ∷ calls) last =
+    (a.deeds.back ≡ (if is_moment_too_late (moment_of a.call) then 0 else deed_flag (is_back a.call last)))
+    × TellBack calls (if is_moment_too_late (moment_of a.call) then last else last_moment_behind a.call last)
 
 abbrev pub AreAnswered : Finds → List Answered → End → Type 0
 AreAnswered finds [] m = Unit {0}
@@ -172,5 +179,6 @@ abbrev pub RunsAsModel : Type 0
 RunsAsModel =
     (opening : Opening) (entries : Option (List KmacEntry)) (calls : List Answered) (first last : CEnd) → IsAllowed opening → IsHandleMade first opening entries → LeadsToHandle calls first last
     → AreAnswered (key_at (optional_key_entries entries)) calls (opened opening)
+    × TellBack calls (moment_of_opening opening)
     × ReadsAs last (model_run (key_at (optional_key_entries entries)) calls (opened opening))
     × TellsPeer last (model_run (key_at (optional_key_entries entries)) calls (opened opening)) (peer_behind_calls (key_at (optional_key_entries entries)) calls (opened opening) None)

@@ -57,8 +57,8 @@ pub struct CDeeds {
     pub sub: u8,
     /// 1 where the peer did it.
     pub by_peer: u8,
-    /// 0.
-    pub zero: u8,
+    /// 1 where the moment was below one that was passed before.
+    pub back: u8,
 }
 
 /// The KMAC of an engine and a radio block centre, with its first and its last moment.
@@ -162,6 +162,13 @@ fn flag(holds: bool) -> u32
     if holds { 1 } else { 0 }
 }
 
+/// A moment that went back, as deeds have it.
+pub fn back_flag(holds: bool) -> u8
+    ensures { result ≡ deed_flag holds }
+{
+    if holds { 1 } else { 0 }
+}
+
 fn size_of(text: &Option<&[u8]>) -> usize
     ensures { result ≡ text_size_or_zero (option_map (λ m. m.now) text.now) }
 {
@@ -186,7 +193,7 @@ impl CDeeds {
             reason: 0,
             sub: 0,
             by_peer: 0,
-            zero: 0,
+            back: 0,
         }
     }
 

@@ -1,6 +1,6 @@
 //! An end with its keys, and what each event at it comes to.
 
-ghost use Rattle.std.specs.Prelude.{◌≡◌, None, Some, MatchResult, option_map};
+ghost use Rattle.std.specs.Prelude.{◌≡◌, max, nat_lt, None, Some, MatchResult, option_map};
 ghost use Rattle.er_end.specs.KeptEnds.{after_start, after_octets, after_send, after_take, after_release, after_tick, after_break, used_of, refusal_of_send, waiting_in};
 ghost use Rattle.er_end_c.specs.Deeds.{refused_status};
 ghost use Rattle.er_end.specs.Shown.{refusal_view};
@@ -24,6 +24,8 @@ pub struct Held {
     pub keys: Option<KeyStore>,
     /// The peer with which the safe connection came to stand, below 2^24.
     pub peer: Option<u32>,
+    /// The greatest moment that was passed so far.
+    pub last: Moment,
 }
 
 impl Held {
@@ -115,6 +117,16 @@ pub fn peer_noted(deeds: &CDeeds, before: Option<u32>) -> Option<u32>
     } else {
         before
     }
+}
+
+/// Notes a moment that is passed: whether it is below one that was passed before.
+pub fn passes(last: &mut Moment, now: Moment) -> bool
+    ensures last { last.new ≡ max last.old now }
+    ensures back { result ≡ nat_lt now last.old }
+{
+    let back = now.get() < last.get();
+    *last = last.later(now);
+    back
 }
 
 /// The status of a send that is refused.

@@ -158,8 +158,8 @@ fn admitted(
     }
 }
 
-fn boxed(alloc: Global, end: End, keys: Option<KeyStore>) -> Option<Box<Held>>
-    ensures { IfSome result (λ held. held.value ≡ record { end = end; keys = keys; peer = None }) }
+fn boxed(alloc: Global, end: End, keys: Option<KeyStore>, now: Moment) -> Option<Box<Held>>
+    ensures { IfSome result (λ held. held.value ≡ record { end = end; keys = keys; peer = None; last = now }) }
 {
     Box::new(
         alloc,
@@ -167,6 +167,7 @@ fn boxed(alloc: Global, end: End, keys: Option<KeyStore>) -> Option<Box<Held>>
             end,
             keys,
             peer: None,
+            last: now,
         },
     )
     .ok()
@@ -184,7 +185,7 @@ fn calling(
     ensures { IfSome result (λ held. held.value ≡ held_made (Call settings.now me peer key rb now) None) }
 {
     match End::call(alloc, settings, me.get(), peer.get(), key, rb, now.get()) {
-        Ok(end) => boxed(alloc, end, None),
+        Ok(end) => boxed(alloc, end, None, now),
         Err(_) => None,
     }
 }
@@ -265,7 +266,7 @@ fn with_keys(
     ensures { IfSome result (λ held. held.value ≡ held_made (Answer settings.now me ra now) (Some store)) }
 {
     match End::answer(alloc, settings, me.get(), ra, now.get()) {
-        Ok(end) => boxed(alloc, end, Some(store)),
+        Ok(end) => boxed(alloc, end, Some(store), now),
         Err(_) => None,
     }
 }

@@ -74,7 +74,7 @@ package Euroradio is
       Reason    : Unsigned_8;
       Sub       : Unsigned_8;
       By_Peer   : Unsigned_8;
-      Zero      : Unsigned_8;
+      Back      : Unsigned_8;
    end record with Convention => C;
 
    type Counts is record
