@@ -130,7 +130,8 @@ abbrev pub IsAnsweredIf : (late : Bool) → Finds → Answered → End → Type 
 IsAnsweredIf true finds a m = (a.status ≡ late_moment) × (a.deeds ≡ no_deeds)
 IsAnsweredIf false finds a m = IsAnswered a (stepped finds a m).1 × UsesOctets a.call m a.deeds.used
 
--- the deeds tell that a moment went back exactly where it is below one that was passed before: as the end was made, or by a call behind that
+-- the deeds tell that a moment went back exactly where it is below one that was passed before: as the end was made, or by a call behind that. (A call that compared
+-- with the moment of the call before it alone would tell the first moment behind one that was far too great, and none of those that follow: it is false of that)
 abbrev pub TellBack : List Answered → (last : ℕ) → Type 0
 TellBack [] last = Unit {0}
 TellBack (a ∷ calls) last =
@@ -160,7 +161,8 @@ abbrev pub peer_behind_calls : Finds → List Answered → End → Option ℕ �
 peer_behind_calls finds [] m before = before
 peer_behind_calls finds (a ∷ calls) m before = peer_behind_calls finds calls (model_after finds a m) (peer_after finds a m before)
 
--- the call that tells with whom the safe connection stands answers that peer, until the end is released
+-- the call that tells with whom the safe connection stands answers that peer, until the end is released. (One that asked the deeds of the last call alone would know
+-- no peer behind the next event: `stands` is false of it)
 pub record TellsPeer (end : CEnd) (m : End) (peer : Option ℕ) : Type 0 where
   pub stands : connection_status (end_held_in_handle end) ≡ none_or (peer_unless_released m.core.released peer)
   pub named : (before : ℕ) → shown_peer before (end_held_in_handle end) ≡ else_ before (peer_unless_released m.core.released peer)
