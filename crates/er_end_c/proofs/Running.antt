@@ -24,7 +24,7 @@ use Rattle.er_end_c.proofs.Taking.{last_taken}
 use Rattle.er_end_c.proofs.Using.{uses_octets}
 use Rattle.er_end_c.specs.Used.{UsesOctets}
 use Rattle.hdlc_frames.specs.Laws.{KeptStandsForStream}
-use Rattle.er_end_c.specs.Runs.{Answered, HasTexts, LeadsToHandle, event_used, stepped, model_after, model_run, is_send_refused, octets_told, accepted_told, taken_told, is_take, IsAnsweredIf, AreAnswered, TellBack, peer_told, peer_after, peer_behind_calls, TellsPeer, ReadsAs, RunsAsModel}
+use Rattle.er_end_c.specs.Runs.{Answered, HasTexts, LeadsToHandle, event_used, stepped, model_after, model_run, is_send_refused, octets_told, accepted_told, taken_told, is_take, IsAnsweredIf, AreAnswered, greatest_passed, back_told, TellBack, peer_told, peer_after, peer_behind_calls, TellsPeer, ReadsAs, RunsAsModel}
 
 -- ---- texts
 
@@ -155,14 +155,37 @@ event_same Ended entries h used e u = refl
 event_same Fault entries h used e u = refl
 event_same Stalled entries h used e u = refl
 
+-- moments that were passed, in the words of the law
+greatest_same : (call : HandleCall) (n : ℕ) → last_moment_behind call n ≡ greatest_passed call n
+greatest_same (Start now) n = refl
+greatest_same (Octets now piece) n = refl
+greatest_same (Send now text) n = refl
+greatest_same (Take now) n = refl
+greatest_same (Release now sub) n = refl
+greatest_same (Tick now) n = refl
+greatest_same Ended n = refl
+greatest_same Fault n = refl
+greatest_same Stalled n = refl
+
+back_same : (call : HandleCall) (n : ℕ) → deed_flag (is_back call n) ≡ back_told call n
+back_same (Start now) n = refl
+back_same (Octets now piece) n = refl
+back_same (Send now text) n = refl
+back_same (Take now) n = refl
+back_same (Release now sub) n = refl
+back_same (Tick now) n = refl
+back_same Ended n = refl
+back_same Fault n = refl
+back_same Stalled n = refl
+
 one_at : StepsAlike → KeptStandsForStream → (late : Bool) (entries : List KmacEntry) (a : Answered) (next : CEnd) (m : End) (peer : Option ℕ) (last : ℕ) (h : Held) → key_entries_of_handle h ≡ entries → EndStands h.end m → h.peer ≡ peer → h.last ≡ last
     → end_held_in_handle next ≡ (if late then Some h else Some (held_behind_call a.call h))
     → a.status ≡ (if late then late_moment else status_told (told_at a.call h))
     → a.deeds ≡ (if late then no_deeds else deeds_with_back (is_back a.call h.last) (deeds_at a.call h))
     → HasTexts next a
-    → IsAnsweredIf late (key_at entries) a m × (a.deeds.back ≡ (if late then 0 else deed_flag (is_back a.call last)))
+    → IsAnsweredIf late (key_at entries) a m × (a.deeds.back ≡ (if late then 0 else back_told a.call last))
     × Holds next entries (if late then m else (stepped (key_at entries) a m).0) (if late then peer else peer_told (stepped (key_at entries) a m).1 peer)
-    (if late then last else last_moment_behind a.call last)
+    (if late then last else greatest_passed a.call last)
 one_at steps keeps true entries a next m peer last h e tied named passed there s d t =
     ((s, d), ap (λ (x : CDeeds). x.back) d, record { found = h; there = there; keyed = e; tied = tied; named = named; passed = passed })
 one_at steps keeps false entries a next m peer last h e tied named passed there s d t =
@@ -186,20 +209,20 @@ one_at steps keeps false entries a next m peer last h e tied named passed there 
         },
         subst (λ (n : ℕ). UsesOctets a.call m n) (sym u) (uses_octets keeps a.call k m tied),
       ),
-      w ∙ ap (λ n. deed_flag (is_back a.call n)) passed,
+      w ∙ ap (λ n. deed_flag (is_back a.call n)) passed ∙ back_same a.call last,
       record {
         found = held_behind_call a.call h;
         there = there;
         keyed = e;
         tied = subst (λ (x : Event). EndStands (kept_end_behind_event now ev k) (step_event now x m).0) same p.0;
         named = noted (told_at a.call h) (octet_count_of_call a.call k) h.peer ∙ ap (peer_told (told_at a.call h)) named ∙ ap (λ (x : List Outcome). peer_told x peer) told;
-        passed = ap (last_moment_behind a.call) passed;
+        passed = ap (last_moment_behind a.call) passed ∙ greatest_same a.call last;
       },
     )
 
 one : StepsAlike → KeptStandsForStream → (entries : List KmacEntry) (a : Answered) (first next : CEnd) (m : End) (peer : Option ℕ) (last : ℕ) → Holds first entries m peer last → DoesHandleCall a.call first next a.status a.deeds → HasTexts next a
-    → IsAnsweredIf (is_moment_too_late (moment_of a.call)) (key_at entries) a m × (a.deeds.back ≡ (if is_moment_too_late (moment_of a.call) then 0 else deed_flag (is_back a.call last)))
-    × Holds next entries (model_after (key_at entries) a m) (peer_after (key_at entries) a m peer) (if is_moment_too_late (moment_of a.call) then last else last_moment_behind a.call last)
+    → IsAnsweredIf (is_moment_too_late (moment_of a.call)) (key_at entries) a m × (a.deeds.back ≡ (if is_moment_too_late (moment_of a.call) then 0 else back_told a.call last))
+    × Holds next entries (model_after (key_at entries) a m) (peer_after (key_at entries) a m peer) (if is_moment_too_late (moment_of a.call) then last else greatest_passed a.call last)
 one steps keeps entries a first next m peer last holds does texts =
     one_at steps keeps (is_moment_too_late (moment_of a.call)) entries a next m peer last holds.found holds.keyed holds.tied holds.named holds.passed
     (does.held ∙ ap (held_after a.call) holds.there) (does.answer ∙ ap (status_after a.call) holds.there) (does.tells ∙ ap (deeds_after a.call) holds.there) texts
@@ -241,7 +264,7 @@ run_from steps keeps shows entries (a ∷ calls) first last m peer before holds 
     let next : CEnd = leads.0 in
     let o = one steps keeps entries a first next m peer before holds leads.1 leads.2 in
     let late : Bool = is_moment_too_late (moment_of a.call) in
-    let rest = run_from steps keeps shows entries calls next last (model_after (key_at entries) a m) (peer_after (key_at entries) a m peer) (if late then before else last_moment_behind a.call before) o.2 leads.3 in
+    let rest = run_from steps keeps shows entries calls next last (model_after (key_at entries) a m) (peer_after (key_at entries) a m peer) (if late then before else greatest_passed a.call before) o.2 leads.3 in
     ((o.0, rest.0), (o.1, rest.1), rest.2, rest.3)
 
 pub runs_as_model : MadeStands → StepsAlike → KeptStandsForStream → ShowsAlike → RunsAsModel

@@ -1,5 +1,5 @@
 -- Contract: calls on one handle, one after the other, from the making of its end on, are events of the end model, one after the other.
-use Rattle.std.specs.Prelude.{ℕ, ℤ, ◌≡◌, Bool, true, false, if◌then◌else◌, List, [], ◌∷◌, take, Option, Some, None}
+use Rattle.std.specs.Prelude.{ℕ, ℤ, ◌≡◌, max, nat_lt, Bool, true, false, if◌then◌else◌, List, [], ◌∷◌, take, Option, Some, None}
 use Rattle.safety_automaton.specs.Keys.{KmacEntry, key_at}
 use Rattle.er_end_model.specs.Outcomes.{Outcome, ConnectedTo, Accepted, Taken, NothingToTake, Refused, WasReleased, Octets as Sent}
 use Rattle.er_end_model.specs.Steps.{Finds, deadline}
@@ -10,12 +10,12 @@ use Rattle.er_end.specs.Standing.{IsAllowed}
 use Rattle.er_end_c.specs.declared.handle.CEnd.{CEnd}
 use Rattle.er_end_c.specs.declared.face.CDeeds.{CDeeds}
 use Rattle.er_end_c.specs.Statuses.{late_moment}
-use Rattle.er_end_c.specs.Deeds.{no_deeds, deed_flag, deeds_told, status_told, release_deeds, counts_shown}
+use Rattle.er_end_c.specs.Deeds.{no_deeds, deeds_told, status_told, release_deeds, counts_shown}
 use Rattle.er_end_c.specs.Handles.{optional_key_entries, end_held_in_handle}
 use Rattle.er_end_c.specs.Makings.{IsHandleMade, moment_of_opening}
 use Rattle.er_end_c.specs.Reads.{text_of_held_end, out_of, newest_accepted_message, message_last_taken, none_or, else_, deadline_status, shown_deadline, shown_release_status, shown_release, count_waiting_at_handle, shown_counts, peer_unless_released, connection_status, shown_peer}
 use Rattle.er_end_c.specs.Used.{UsesOctets}
-use Rattle.er_end_c.specs.Calls.{HandleCall, Start, Octets, Send, Take, Release, Tick, Ended, Fault, Stalled, is_moment_too_late, moment_of, is_back, last_moment_behind, DoesHandleCall}
+use Rattle.er_end_c.specs.Calls.{HandleCall, Start, Octets, Send, Take, Release, Tick, Ended, Fault, Stalled, is_moment_too_late, moment_of, DoesHandleCall}
 
 -- a call, what it answered, and the texts that could be copied behind it
 pub record Answered : Type 0 where
@@ -130,13 +130,39 @@ abbrev pub IsAnsweredIf : (late : Bool) → Finds → Answered → End → Type 
 IsAnsweredIf true finds a m = (a.status ≡ late_moment) × (a.deeds ≡ no_deeds)
 IsAnsweredIf false finds a m = IsAnswered a (stepped finds a m).1 × UsesOctets a.call m a.deeds.used
 
+-- the greatest moment that was passed so far, behind a call; three calls pass none
+abbrev pub greatest_passed : HandleCall → (before : ℕ) → ℕ
+greatest_passed (Start now) before = max before now
+greatest_passed (Octets now piece) before = max before now
+greatest_passed (Send now text) before = max before now
+greatest_passed (Take now) before = max before now
+greatest_passed (Release now sub) before = max before now
+greatest_passed (Tick now) before = max before now
+greatest_passed Ended before = before
+greatest_passed Fault before = before
+greatest_passed Stalled before = before
+
+abbrev pub one_if_below : (now greatest : ℕ) → ℕ
+one_if_below now greatest = if nat_lt now greatest then 1 else 0
+
+abbrev pub back_told : HandleCall → (greatest : ℕ) → ℕ
+back_told (Start now) greatest = one_if_below now greatest
+back_told (Octets now piece) greatest = one_if_below now greatest
+back_told (Send now text) greatest = one_if_below now greatest
+back_told (Take now) greatest = one_if_below now greatest
+back_told (Release now sub) greatest = one_if_below now greatest
+back_told (Tick now) greatest = one_if_below now greatest
+back_told Ended greatest = 0
+back_told Fault greatest = 0
+back_told Stalled greatest = 0
+
 -- the deeds tell that a moment went back exactly where it is below one that was passed before: as the end was made, or by a call behind that. (A call that compared
 -- with the moment of the call before it alone would tell the first moment behind one that was far too great, and none of those that follow: it is false of that)
-abbrev pub TellBack : List Answered → (last : ℕ) → Type 0
-TellBack [] last = Unit {0}
-TellBack (a ∷ calls) last =
-    (a.deeds.back ≡ (if is_moment_too_late (moment_of a.call) then 0 else deed_flag (is_back a.call last)))
-    × TellBack calls (if is_moment_too_late (moment_of a.call) then last else last_moment_behind a.call last)
+abbrev pub TellBack : List Answered → (greatest : ℕ) → Type 0
+TellBack [] greatest = Unit {0}
+TellBack (a ∷ calls) greatest =
+    (a.deeds.back ≡ (if is_moment_too_late (moment_of a.call) then 0 else back_told a.call greatest))
+    × TellBack calls (if is_moment_too_late (moment_of a.call) then greatest else greatest_passed a.call greatest)
 
 abbrev pub AreAnswered : Finds → List Answered → End → Type 0
 AreAnswered finds [] m = Unit {0}
