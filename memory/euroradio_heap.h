@@ -8,9 +8,9 @@
  *    given back.
  *  - A failure answers ok = 0. The address isn't null even then, and even where 0 octets were asked for: any non-null
  *    address aligned to `align` will do, since the library doesn't follow it.
- *  - euroradio_call, euroradio_answer, euroradio_answer_keys and euroradio_free call them in the thread that they are
- *    called in, and no other call of the library does. Where a program makes or frees ends in several threads, these
- *    functions must allow it; malloc does.
+ *  - euroradio_call, euroradio_answer, euroradio_answer_keys, euroradio_free and euroradio_key_file call them in the
+ *    thread that they are called in, and no other call of the library does. Where a program makes or frees ends, or
+ *    judges key files, in several threads, these functions must allow it; malloc does.
  *
  * They may fail at any call: the making that wanted the memory gives back what it had and answers EURORADIO_MEMORY.
  */

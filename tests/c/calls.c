@@ -155,6 +155,82 @@ static void key_files(void) {
     CHECK(heap_blocks == 0);
 }
 
+/* Which fault is told of each text that is refused: the kind, the field, the entry, and the earlier one of two. */
+static void key_faults(void) {
+#define KEY "[[key]]\nengine = 5\nrbc = 9\nkmac = \"0123456789abcdef23456789abcdef01456789abcdef0123\"\n"
+    static const struct {
+        const char *text;
+        uint32_t kind, field;
+        size_t entry, other;
+    } rows[] = {
+        {"version = 1\n" KEY, 0, 0, 0, 0},
+        {"version = ", EURORADIO_KEY_DOCUMENT, 0, 0, 0},
+        {"", EURORADIO_KEY_FIELD, EURORADIO_KEY_FIELD_VERSION, 0, 0},
+        {"version = 3\n", EURORADIO_KEY_VERSION, 0, 0, 0},
+        {"version = 1\nkey = 5\n", EURORADIO_KEY_FIELD, EURORADIO_KEY_FIELD_KEY, 0, 0},
+        {"version = 1\n" KEY "[[key]]\nrbc = 9\n", EURORADIO_KEY_FIELD, EURORADIO_KEY_FIELD_ENGINE, 2, 0},
+        {"version = 1\n[[key]]\nengine = 5\nrbc = \"9\"\n", EURORADIO_KEY_FIELD, EURORADIO_KEY_FIELD_RBC, 1, 0},
+        {"version = 1\n[[key]]\nengine = 5\nrbc = 9\n", EURORADIO_KEY_FIELD, EURORADIO_KEY_FIELD_KMAC, 1, 0},
+        {"version = 2\n" KEY "to = 5\n", EURORADIO_KEY_FIELD, EURORADIO_KEY_FIELD_FROM, 1, 0},
+        {"version = 2\n" KEY "from = 5\n", EURORADIO_KEY_FIELD, EURORADIO_KEY_FIELD_TO, 1, 0},
+        {"version = 1\n[[key]]\nengine = 5\nrbc = 9\nkmac = \"0123\"\n", EURORADIO_KEY_HEX, 0, 1, 0},
+        {"version = 1\n[[key]]\nengine = 16777216\nrbc = 9\n", EURORADIO_KEY_NUMBER, 0, 1, 0},
+        {"version = 2\n" KEY "from = 6\nto = 5\n", EURORADIO_KEY_RANGE, 0, 1, 0},
+        {"version = 2\n" KEY "from = 0\nto = 5\n" KEY "from = 6\nto = 9\n" KEY "from = 9\nto = 9\n", EURORADIO_KEY_TWICE, 0, 3, 2},
+    };
+#undef KEY
+    size_t i, failing;
+    for (i = 0; i < sizeof rows / sizeof rows[0]; i++) {
+        euroradio_key_fault fault;
+        int32_t wanted = rows[i].kind == 0 ? EURORADIO_OK : EURORADIO_KEYS;
+        memset(&fault, 0x5a, sizeof fault);
+        CHECK(euroradio_key_file((const uint8_t *)rows[i].text, strlen(rows[i].text), &fault) == wanted);
+        CHECK(fault.kind == rows[i].kind && fault.field == rows[i].field);
+        CHECK(fault.entry == rows[i].entry && fault.other == rows[i].other);
+        CHECK(answer_text(rows[i].text, strlen(rows[i].text)) == wanted);
+    }
+    CHECK(heap_blocks == 0);
+
+    /* where memory runs out no fault is told */
+    for (failing = 1; heap_calls >= failing || failing == 1; failing++) {
+        euroradio_key_fault fault;
+        int32_t status;
+        memset(&fault, 0x5a, sizeof fault);
+        heap_reset(failing);
+        status = euroradio_key_file((const uint8_t *)KEY_FILE, sizeof KEY_FILE - 1, &fault);
+        CHECK(status == (heap_calls < failing ? EURORADIO_OK : EURORADIO_MEMORY));
+        CHECK(is_zero(&fault, sizeof fault));
+        CHECK(heap_blocks == 0);
+        if (heap_calls < failing)
+            break;
+    }
+    heap_reset(0);
+}
+
+/* A KMAC of octets: of each eight the first is the most significant. One of zeros is none. */
+static void kmacs(void) {
+    uint8_t octets[24];
+    uint64_t key[3];
+    uint64_t before[3];
+    size_t i;
+    for (i = 0; i < 24; i++)
+        octets[i] = (uint8_t)(KMAC[i / 8] >> (56 - 8 * (i % 8)));
+    CHECK(octets[0] == 0x01 && octets[23] == 0x23);
+    CHECK(euroradio_kmac(octets, key) == EURORADIO_OK);
+    CHECK(memcmp(key, KMAC, sizeof KMAC) == 0);
+    memset(octets, 0, sizeof octets);
+    memset(key, 0x5a, sizeof key);
+    memcpy(before, key, sizeof key);
+    CHECK(euroradio_kmac(octets, key) == EURORADIO_KEYS);
+    CHECK(memcmp(key, before, sizeof key) == 0);
+    for (i = 0; i < 24; i++) {
+        memset(octets, 0, sizeof octets);
+        octets[i] = 1;
+        CHECK(euroradio_kmac(octets, key) == EURORADIO_OK);
+        CHECK(key[i / 8] == UINT64_C(1) << (56 - 8 * (i % 8)) && key[(i / 8 + 1) % 3] == 0 && key[(i / 8 + 2) % 3] == 0);
+    }
+}
+
 static void key_arrays(void) {
     static const struct {
         uint32_t engine, rbc;
@@ -285,6 +361,7 @@ static void judge_closed(euroradio_end *end) {
     euroradio_deeds deeds[12];
     euroradio_counts counts;
     uint64_t moment = 77;
+    uint32_t peer = 77;
     uint8_t octets[4] = {1, 2, 3, 4};
     size_t i;
     memset(deeds, 0x5a, sizeof deeds);
@@ -307,6 +384,8 @@ static void judge_closed(euroradio_end *end) {
     CHECK(is_zero(&counts, sizeof counts));
     CHECK(euroradio_deadline(end, &moment) == EURORADIO_CLOSED);
     CHECK(moment == 77);
+    CHECK(euroradio_connected(end, &peer) == EURORADIO_CLOSED);
+    CHECK(peer == 77);
     CHECK(euroradio_out(end, 0, octets, 4) == 0);
     CHECK(euroradio_accepted(end, octets, 4) == 0);
     CHECK(euroradio_taken(end, octets, 4) == 0);
@@ -341,6 +420,7 @@ static void handles(void) {
     CHECK(heap_blocks == 0);
     euroradio_free(&end);
     euroradio_free(&end);
+    euroradio_free(NULL);
     judge_closed(&end);
     judge_closed(&moved);
 
@@ -380,8 +460,33 @@ static void moments(void) {
     CHECK(wire.engine.connected == CENTRE && wire.centre.connected == ENGINE);
 
     /* a moment that goes back counts as the last, and the last one may be 10^15 */
-    CHECK(euroradio_tick(&wire.engine.end, 0, &deeds[0]) == EURORADIO_OK);
-    CHECK(euroradio_tick(&wire.engine.end, MOST, &deeds[0]) == EURORADIO_OK);
+    CHECK(euroradio_tick(&wire.engine.end, wire.now, &deeds[0]) == EURORADIO_OK && deeds[0].back == 0);
+    CHECK(euroradio_tick(&wire.engine.end, 0, &deeds[0]) == EURORADIO_OK && deeds[0].back == 1);
+    CHECK(euroradio_tick(&wire.engine.end, MOST, &deeds[0]) == EURORADIO_OK && deeds[0].back == 0);
+    CHECK(euroradio_stalled(&wire.engine.end, &deeds[0]) == EURORADIO_OK && deeds[0].back == 0);
+    close_wire(&wire);
+    CHECK(heap_blocks == 0);
+}
+
+/* A moment below one that was passed before, at the making too, is told by each call that has one, and by no fault; one that
+ * was refused as too late was none. */
+static void moments_back(void) {
+    struct wire wire;
+    euroradio_deeds deeds;
+    uint8_t octet = 0x7e;
+    CHECK(open_wire(&wire, &usual));
+    CHECK(euroradio_start(&wire.engine.end, 999, &deeds) == EURORADIO_OK && deeds.back == 1 && deeds.out > 0);
+    CHECK(euroradio_tick(&wire.centre.end, 1000, &deeds) == EURORADIO_OK && deeds.back == 0);
+    CHECK(euroradio_tick(&wire.centre.end, MOST + 1, &deeds) == EURORADIO_MOMENT && deeds.back == 0);
+    CHECK(euroradio_tick(&wire.centre.end, 2000, &deeds) == EURORADIO_OK && deeds.back == 0);
+    CHECK(euroradio_octets(&wire.centre.end, 1999, &octet, 1, &deeds) == EURORADIO_OK && deeds.back == 1 && deeds.used == 1);
+    CHECK(euroradio_take(&wire.centre.end, 1999, &deeds) == EURORADIO_NONE && deeds.back == 1);
+    CHECK(euroradio_take(&wire.centre.end, 2000, &deeds) == EURORADIO_NONE && is_zero(&deeds, sizeof deeds));
+    CHECK(euroradio_send(&wire.centre.end, 1999, &octet, 1, &deeds) == EURORADIO_NOT_CONNECTED && deeds.back == 1);
+    CHECK(euroradio_send(&wire.centre.end, 3000, &octet, 1, &deeds) == EURORADIO_NOT_CONNECTED && is_zero(&deeds, sizeof deeds));
+    CHECK(euroradio_tick(&wire.centre.end, 2999, &deeds) == EURORADIO_OK && deeds.back == 1);
+    CHECK(euroradio_release(&wire.centre.end, 3000, 1, &deeds) == EURORADIO_OK && deeds.back == 0);
+    CHECK(euroradio_ended(&wire.centre.end, &deeds) == EURORADIO_OK && deeds.back == 0);
     close_wire(&wire);
     CHECK(heap_blocks == 0);
 }
@@ -455,6 +560,36 @@ static void releases(void) {
         CHECK(is_zero(&deeds, sizeof deeds));
         euroradio_free(&end);
     }
+    CHECK(heap_blocks == 0);
+}
+
+/* Whether an end is connected, and with whom: not before it is, and not behind its release; and the same in between,
+ * whatever happens. */
+static void connections(void) {
+    struct wire wire;
+    euroradio_deeds deeds;
+    uint32_t peer = 77;
+    uint8_t text[3] = {1, 2, 3};
+    CHECK(open_wire(&wire, &usual));
+    CHECK(euroradio_connected(&wire.engine.end, &peer) == EURORADIO_NONE && peer == 77);
+    CHECK(euroradio_connected(&wire.centre.end, &peer) == EURORADIO_NONE && peer == 77);
+    set_up(&wire);
+    CHECK(euroradio_connected(&wire.engine.end, &peer) == EURORADIO_OK && peer == CENTRE);
+    CHECK(euroradio_connected(&wire.centre.end, &peer) == EURORADIO_OK && peer == ENGINE);
+    CHECK(send_text(&wire, &wire.engine, text, 0) == EURORADIO_LENGTH);
+    CHECK(send_text(&wire, &wire.engine, text, sizeof text) == EURORADIO_OK);
+    run(&wire);
+    CHECK(euroradio_tick(&wire.centre.end, MOST + 1, &deeds) == EURORADIO_MOMENT);
+    CHECK(euroradio_tick(&wire.centre.end, wire.now, &deeds) == EURORADIO_OK);
+    peer = 77;
+    CHECK(euroradio_connected(&wire.centre.end, &peer) == EURORADIO_OK && peer == ENGINE);
+    leave(&wire, &wire.engine, 0);
+    peer = 77;
+    CHECK(euroradio_connected(&wire.engine.end, &peer) == EURORADIO_NONE && peer == 77);
+    CHECK(euroradio_connected(&wire.centre.end, &peer) == EURORADIO_OK && peer == ENGINE);
+    run(&wire);
+    CHECK(euroradio_connected(&wire.centre.end, &peer) == EURORADIO_NONE && peer == ENGINE);
+    close_wire(&wire);
     CHECK(heap_blocks == 0);
 }
 
@@ -588,13 +723,17 @@ int main(void) {
     faults_of_makers();
     ranges_of_settings();
     key_files();
+    key_faults();
+    kmacs();
     key_arrays();
     keys_are_found();
     allocations_fail();
     handles();
     moments();
+    moments_back();
     refusals();
     releases();
+    connections();
     copies();
     counts();
     reasons();

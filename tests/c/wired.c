@@ -115,7 +115,7 @@ static void noise(unsigned seed) {
         if (round % 5 == 0)
             octets[0] = octets[length - 1] = 0x7e;
         CHECK(euroradio_octets(&side->end, wire.now, octets, length, &deeds) == EURORADIO_OK);
-        CHECK(deeds.used > 0 && deeds.used <= length && deeds.out <= EURORADIO_OUT_MOST && deeds.zero == 0);
+        CHECK(deeds.used > 0 && deeds.used <= length && deeds.out <= EURORADIO_OUT_MOST && deeds.back == 0);
         CHECK(deeds.message <= EURORADIO_MESSAGE_MOST && deeds.connected <= 1 && deeds.released <= 1 && deeds.by_peer <= 1);
         did(&wire, side, &deeds);
         if (round % 100 == 99)

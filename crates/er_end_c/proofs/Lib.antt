@@ -2,4 +2,5 @@ pub mod SlotValues
 pub mod Settled
 pub mod Taking
 pub mod Using
+pub mod Noting
 pub mod Running

@@ -3,7 +3,7 @@ use Rattle.std.proofs.Common.{◌≡◌, ℕ, Bool, true, false, List, [], ◌�
 use Rattle.std.specs.Prelude.{Option, Some, None, if◌then◌else◌, slice_get}
 use Rattle.er_base.specs.declared.release.Release.{Release as Why}
 use Rattle.safety_automaton.specs.Keys.{KmacEntry, key_at}
-use Rattle.er_end_model.specs.Outcomes.{Outcome, SendRefusal}
+use Rattle.er_end_model.specs.Outcomes.{Outcome, SendRefusal, ConnectedTo, Accepted, Taken, NothingToTake, Refused, WasReleased, Octets as Sent}
 use Rattle.er_end_model.specs.Steps.{if_connected, if_accepted, if_released, if_octets, if_taken}
 use Rattle.er_end_model.specs.Ends.{Event, End, opened, step_event, refusal_or_outcomes}
 use Rattle.er_end_model.specs.Ends as event
@@ -15,16 +15,16 @@ use Rattle.er_end_c.specs.declared.handle.CEnd.{CEnd}
 use Rattle.er_end_c.specs.declared.held.Held.{Held}
 use Rattle.er_end_c.specs.declared.face.CDeeds.{CDeeds}
 use Rattle.er_end_c.specs.Statuses.{late_moment}
-use Rattle.er_end_c.specs.Deeds.{no_deeds, deeds_told, status_told, release_deeds, counts_shown}
-use Rattle.er_end_c.specs.Handles.{optional_key_entries, key_entries_of_handle, end_held_in_handle, held_with_end}
-use Rattle.er_end_c.specs.Makings.{held_made}
-use Rattle.er_end_c.specs.Reads.{text_of_held_end, text_or_empty, out_of, newest_accepted_message, message_last_taken, none_or, else_, deadline_status, shown_deadline, shown_release_status, shown_release, count_waiting_at_handle, shown_counts}
-use Rattle.er_end_c.specs.Calls.{HandleCall, Start, Octets, Send, Take, Release, Tick, Ended, Fault, Stalled, is_moment_too_late, moment_of, event_of, octet_count_of_call, finds_in, handle_end_behind_call, told_at, deeds_at, held_after, status_after, deeds_after, DoesHandleCall}
+use Rattle.er_end_c.specs.Deeds.{no_deeds, deed_flag, deeds_told, status_told, release_deeds, counts_shown}
+use Rattle.er_end_c.specs.Handles.{optional_key_entries, key_entries_of_handle, end_held_in_handle}
+use Rattle.er_end_c.specs.Makings.{held_made, moment_of_opening}
+use Rattle.er_end_c.specs.Reads.{text_of_held_end, text_or_empty, out_of, newest_accepted_message, message_last_taken, none_or, else_, deadline_status, shown_deadline, shown_release_status, shown_release, count_waiting_at_handle, shown_counts, peer_unless_released, connection_status, shown_peer}
+use Rattle.er_end_c.specs.Calls.{HandleCall, Start, Octets, Send, Take, Release, Tick, Ended, Fault, Stalled, is_moment_too_late, moment_of, event_of, octet_count_of_call, finds_in, handle_end_behind_call, told_at, deeds_at, deeds_with_back, is_back, last_moment_behind, peer_noted, held_behind_call, held_after, status_after, deeds_after, DoesHandleCall}
 use Rattle.er_end_c.proofs.Taking.{last_taken}
 use Rattle.er_end_c.proofs.Using.{uses_octets}
 use Rattle.er_end_c.specs.Used.{UsesOctets}
 use Rattle.hdlc_frames.specs.Laws.{KeptStandsForStream}
-use Rattle.er_end_c.specs.Runs.{Answered, HasTexts, LeadsToHandle, event_used, stepped, model_after, model_run, is_send_refused, octets_told, accepted_told, taken_told, is_take, IsAnsweredIf, AreAnswered, ReadsAs, RunsAsModel}
+use Rattle.er_end_c.specs.Runs.{Answered, HasTexts, LeadsToHandle, event_used, stepped, model_after, model_run, is_send_refused, octets_told, accepted_told, taken_told, is_take, IsAnsweredIf, AreAnswered, greatest_passed, back_told, TellBack, peer_told, peer_after, peer_behind_calls, TellsPeer, ReadsAs, RunsAsModel}
 
 -- ---- texts
 
@@ -122,12 +122,25 @@ taken_at Stalled h t = absurd (cc t)
 
 -- ---- one call
 
--- a handle holds an end that stands for this one, with these keys
-record Holds (end : CEnd) (entries : List KmacEntry) (m : End) : Type 0 where
+-- a handle holds an end that stands for this one, with these keys and this peer, behind this moment
+record Holds (end : CEnd) (entries : List KmacEntry) (m : End) (peer : Option ℕ) (last : ℕ) : Type 0 where
   found : Held
   there : end_held_in_handle end ≡ Some found
   keyed : key_entries_of_handle found ≡ entries
   tied : EndStands found.end m
+  named : found.peer ≡ peer
+  passed : found.last ≡ last
+
+-- the peer that deeds name is the one that their outcomes tell
+noted : (outcomes : List Outcome) (used : ℕ) (before : Option ℕ) → peer_noted (record (deeds_told outcomes) { used = used }) before ≡ peer_told outcomes before
+noted [] used before = refl
+noted (ConnectedTo peer ∷ outcomes) used before = refl
+noted (Accepted message ∷ outcomes) used before = noted outcomes used before
+noted (Taken message ∷ outcomes) used before = noted outcomes used before
+noted (NothingToTake ∷ outcomes) used before = noted outcomes used before
+noted (Refused refusal ∷ outcomes) used before = noted outcomes used before
+noted (WasReleased why ∷ outcomes) used before = noted outcomes used before
+noted (Sent octets ∷ outcomes) used before = noted outcomes used before
 
 event_same : (call : HandleCall) (entries : List KmacEntry) (h : Held) (used : ℕ) → key_entries_of_handle h ≡ entries → used ≡ octet_count_of_call call h.end
     → standing.event_of h.end (event_of (finds_in h) call) ≡ event_used (key_at entries) call used
@@ -142,16 +155,44 @@ event_same Ended entries h used e u = refl
 event_same Fault entries h used e u = refl
 event_same Stalled entries h used e u = refl
 
-one_at : StepsAlike → KeptStandsForStream → (late : Bool) (entries : List KmacEntry) (a : Answered) (next : CEnd) (m : End) (h : Held) → key_entries_of_handle h ≡ entries → EndStands h.end m
-    → end_held_in_handle next ≡ (if late then Some h else Some (held_with_end h (handle_end_behind_call a.call h)))
+-- moments that were passed, in the words of the law
+greatest_same : (call : HandleCall) (n : ℕ) → last_moment_behind call n ≡ greatest_passed call n
+greatest_same (Start now) n = refl
+greatest_same (Octets now piece) n = refl
+greatest_same (Send now text) n = refl
+greatest_same (Take now) n = refl
+greatest_same (Release now sub) n = refl
+greatest_same (Tick now) n = refl
+greatest_same Ended n = refl
+greatest_same Fault n = refl
+greatest_same Stalled n = refl
+
+back_same : (call : HandleCall) (n : ℕ) → deed_flag (is_back call n) ≡ back_told call n
+back_same (Start now) n = refl
+back_same (Octets now piece) n = refl
+back_same (Send now text) n = refl
+back_same (Take now) n = refl
+back_same (Release now sub) n = refl
+back_same (Tick now) n = refl
+back_same Ended n = refl
+back_same Fault n = refl
+back_same Stalled n = refl
+
+one_at : StepsAlike → KeptStandsForStream → (late : Bool) (entries : List KmacEntry) (a : Answered) (next : CEnd) (m : End) (peer : Option ℕ) (last : ℕ) (h : Held) → key_entries_of_handle h ≡ entries → EndStands h.end m → h.peer ≡ peer → h.last ≡ last
+    → end_held_in_handle next ≡ (if late then Some h else Some (held_behind_call a.call h))
     → a.status ≡ (if late then late_moment else status_told (told_at a.call h))
-    → a.deeds ≡ (if late then no_deeds else deeds_at a.call h)
+    → a.deeds ≡ (if late then no_deeds else deeds_with_back (is_back a.call h.last) (deeds_at a.call h))
     → HasTexts next a
-    → IsAnsweredIf late (key_at entries) a m × Holds next entries (if late then m else (stepped (key_at entries) a m).0)
-one_at steps keeps true entries a next m h e tied there s d t = ((s, d), record { found = h; there = there; keyed = e; tied = tied })
-one_at steps keeps false entries a next m h e tied there s d t =
+    → IsAnsweredIf late (key_at entries) a m × (a.deeds.back ≡ (if late then 0 else back_told a.call last))
+    × Holds next entries (if late then m else (stepped (key_at entries) a m).0) (if late then peer else peer_told (stepped (key_at entries) a m).1 peer)
+    (if late then last else greatest_passed a.call last)
+one_at steps keeps true entries a next m peer last h e tied named passed there s d t =
+    ((s, d), ap (λ (x : CDeeds). x.back) d, record { found = h; there = there; keyed = e; tied = tied; named = named; passed = passed })
+one_at steps keeps false entries a next m peer last h e tied named passed there s d t =
     let k : KEnd = h.end in let now : ℕ = moment_of a.call in let ev : Event = event_of (finds_in h) a.call in
     let u : a.deeds.used ≡ octet_count_of_call a.call k = ap (λ (x : CDeeds). x.used) d in
+    let back : ℕ = deed_flag (is_back a.call h.last) in
+    let w : a.deeds.back ≡ back = ap (λ (x : CDeeds). x.back) d in
     let same = event_same a.call entries h a.deeds.used e u in
     let p = steps now ev k m tied in
     let told : told_at a.call h ≡ (stepped (key_at entries) a m).1 = p.1 ∙ ap (λ (x : Event). (step_event now x m).1) same in
@@ -159,31 +200,37 @@ one_at steps keeps false entries a next m h e tied there s d t =
       (
         record {
           answer = s ∙ ap status_told told;
-          tells = d ∙ ap (λ (x : List Outcome). record (deeds_told x) { used = octet_count_of_call a.call k }) told ∙ ap (λ n. record (deeds_told (stepped (key_at entries) a m).1) { used = n }) (sym u);
+          tells = d ∙ ap (λ (x : List Outcome). record (deeds_told x) { used = octet_count_of_call a.call k; back = back }) told
+              ∙ ap (λ n. record (deeds_told (stepped (key_at entries) a m).1) { used = n; back = back }) (sym u)
+              ∙ ap (λ n. record (deeds_told (stepped (key_at entries) a m).1) { used = a.deeds.used; back = n }) (sym w);
           sent = λ n. t.out_there ∙ ap (text_of_held_end out_of) there ∙ sym (octets_at a.call h (unrefused n)) ∙ ap octets_told told;
           came = λ n. t.accepted_there ∙ ap (text_of_held_end newest_accepted_message) there ∙ sym (accepted_at a.call h (unrefused n)) ∙ ap accepted_told told;
           took = λ n. t.taken_there ∙ ap (text_of_held_end message_last_taken) there ∙ sym (taken_at a.call h n) ∙ ap taken_told told;
         },
         subst (λ (n : ℕ). UsesOctets a.call m n) (sym u) (uses_octets keeps a.call k m tied),
       ),
+      w ∙ ap (λ n. deed_flag (is_back a.call n)) passed ∙ back_same a.call last,
       record {
-        found = held_with_end h (handle_end_behind_call a.call h);
+        found = held_behind_call a.call h;
         there = there;
         keyed = e;
         tied = subst (λ (x : Event). EndStands (kept_end_behind_event now ev k) (step_event now x m).0) same p.0;
+        named = noted (told_at a.call h) (octet_count_of_call a.call k) h.peer ∙ ap (peer_told (told_at a.call h)) named ∙ ap (λ (x : List Outcome). peer_told x peer) told;
+        passed = ap (last_moment_behind a.call) passed ∙ greatest_same a.call last;
       },
     )
 
-one : StepsAlike → KeptStandsForStream → (entries : List KmacEntry) (a : Answered) (first next : CEnd) (m : End) → Holds first entries m → DoesHandleCall a.call first next a.status a.deeds → HasTexts next a
-    → IsAnsweredIf (is_moment_too_late (moment_of a.call)) (key_at entries) a m × Holds next entries (model_after (key_at entries) a m)
-one steps keeps entries a first next m holds does texts =
-    one_at steps keeps (is_moment_too_late (moment_of a.call)) entries a next m holds.found holds.keyed holds.tied
+one : StepsAlike → KeptStandsForStream → (entries : List KmacEntry) (a : Answered) (first next : CEnd) (m : End) (peer : Option ℕ) (last : ℕ) → Holds first entries m peer last → DoesHandleCall a.call first next a.status a.deeds → HasTexts next a
+    → IsAnsweredIf (is_moment_too_late (moment_of a.call)) (key_at entries) a m × (a.deeds.back ≡ (if is_moment_too_late (moment_of a.call) then 0 else back_told a.call last))
+    × Holds next entries (model_after (key_at entries) a m) (peer_after (key_at entries) a m peer) (if is_moment_too_late (moment_of a.call) then last else greatest_passed a.call last)
+one steps keeps entries a first next m peer last holds does texts =
+    one_at steps keeps (is_moment_too_late (moment_of a.call)) entries a next m peer last holds.found holds.keyed holds.tied holds.named holds.passed
     (does.held ∙ ap (held_after a.call) holds.there) (does.answer ∙ ap (status_after a.call) holds.there) (does.tells ∙ ap (deeds_after a.call) holds.there) texts
 
 -- ---- what is read
 
-reads : ShowsAlike → (end : CEnd) (entries : List KmacEntry) (m : End) → Holds end entries m → ReadsAs end m
-reads shows end entries m holds =
+reads : ShowsAlike → (end : CEnd) (entries : List KmacEntry) (m : End) (peer : Option ℕ) (last : ℕ) → Holds end entries m peer last → ReadsAs end m
+reads shows end entries m peer last holds =
     let k : KEnd = holds.found.end in let s = shows k m holds.tied in
     record {
       wanted = ap deadline_status holds.there ∙ ap none_or s.0;
@@ -194,19 +241,33 @@ reads shows end entries m holds =
       counts = ap shown_counts holds.there ∙ ap counts_shown s.4;
     }
 
+tells_peer : ShowsAlike → (end : CEnd) (entries : List KmacEntry) (m : End) (peer : Option ℕ) (last : ℕ) → Holds end entries m peer last → TellsPeer end m peer
+tells_peer shows end entries m peer last holds =
+    let k : KEnd = holds.found.end in let s = shows k m holds.tied in
+    let same : peer_unless_released k.core.released holds.found.peer ≡ peer_unless_released m.core.released peer =
+    ap (λ (why : Option Why). peer_unless_released why holds.found.peer) s.1 ∙ ap (peer_unless_released m.core.released) holds.named in
+    record {
+      stands = ap connection_status holds.there ∙ ap none_or same;
+      named = λ before. ap (shown_peer before) holds.there ∙ ap (else_ before) same;
+    }
+
 -- ---- a run
 
-run_from : StepsAlike → KeptStandsForStream → ShowsAlike → (entries : List KmacEntry) (calls : List Answered) (first last : CEnd) (m : End) → Holds first entries m → LeadsToHandle calls first last
-    → AreAnswered (key_at entries) calls m × ReadsAs last (model_run (key_at entries) calls m)
-run_from steps keeps shows entries [] first last m holds same =
-    (tt, reads shows last entries m (record { found = holds.found; there = same ∙ holds.there; keyed = holds.keyed; tied = holds.tied }))
-run_from steps keeps shows entries (a ∷ calls) first last m holds leads =
+run_from : StepsAlike → KeptStandsForStream → ShowsAlike → (entries : List KmacEntry) (calls : List Answered) (first last : CEnd) (m : End) (peer : Option ℕ) (before : ℕ) → Holds first entries m peer before
+    → LeadsToHandle calls first last
+    → AreAnswered (key_at entries) calls m × TellBack calls before × ReadsAs last (model_run (key_at entries) calls m)
+    × TellsPeer last (model_run (key_at entries) calls m) (peer_behind_calls (key_at entries) calls m peer)
+run_from steps keeps shows entries [] first last m peer before holds same =
+    let here : Holds last entries m peer before = record { found = holds.found; there = same ∙ holds.there; keyed = holds.keyed; tied = holds.tied; named = holds.named; passed = holds.passed } in
+    (tt, tt, reads shows last entries m peer before here, tells_peer shows last entries m peer before here)
+run_from steps keeps shows entries (a ∷ calls) first last m peer before holds leads =
     let next : CEnd = leads.0 in
-    let o = one steps keeps entries a first next m holds leads.1 leads.2 in
-    let rest = run_from steps keeps shows entries calls next last (model_after (key_at entries) a m) o.1 leads.3 in
-    ((o.0, rest.0), rest.1)
+    let o = one steps keeps entries a first next m peer before holds leads.1 leads.2 in
+    let late : Bool = is_moment_too_late (moment_of a.call) in
+    let rest = run_from steps keeps shows entries calls next last (model_after (key_at entries) a m) (peer_after (key_at entries) a m peer) (if late then before else greatest_passed a.call before) o.2 leads.3 in
+    ((o.0, rest.0), (o.1, rest.1), rest.2, rest.3)
 
 pub runs_as_model : MadeStands → StepsAlike → KeptStandsForStream → ShowsAlike → RunsAsModel
 runs_as_model made steps keeps shows opening entries calls first last allowed is leads =
-    run_from steps keeps shows (optional_key_entries entries) calls first last (opened opening)
-    (record { found = held_made opening entries; there = is; keyed = refl; tied = made opening allowed }) leads
+    run_from steps keeps shows (optional_key_entries entries) calls first last (opened opening) None (moment_of_opening opening)
+    (record { found = held_made opening entries; there = is; keyed = refl; tied = made opening allowed; named = refl; passed = refl }) leads

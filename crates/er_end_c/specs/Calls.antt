@@ -1,5 +1,5 @@
 -- Contract: what a call that is an event at an end leaves and answers.
-use Rattle.std.specs.Prelude.{ℕ, ℤ, ◌≡◌, Bool, nat_lt, if◌then◌else◌, List, Option, Some, None}
+use Rattle.std.specs.Prelude.{ℕ, ℤ, ◌≡◌, ◌==◌, max, Bool, true, false, nat_lt, if◌then◌else◌, List, Option, Some, None}
 use Rattle.safety_automaton.specs.Keys.{key_at}
 use Rattle.er_end_model.specs.Steps.{Finds}
 use Rattle.er_end_model.specs.Outcomes.{Outcome}
@@ -9,7 +9,7 @@ use Rattle.er_end.specs.KeptEnds.{KEnd, kept_end_behind_event, tells, used_of}
 use Rattle.er_end_c.specs.declared.handle.CEnd.{CEnd}
 use Rattle.er_end_c.specs.declared.held.Held.{Held}
 use Rattle.er_end_c.specs.declared.face.CDeeds.{CDeeds}
-use Rattle.er_end_c.specs.Deeds.{no_deeds, deeds_told, status_told}
+use Rattle.er_end_c.specs.Deeds.{no_deeds, deed_flag, deeds_told, status_told}
 use Rattle.er_end_c.specs.Statuses.{closed_handle, late_moment}
 use Rattle.er_end_c.specs.Handles.{end_held_in_handle, held_with_end, key_entries_of_handle}
 
@@ -40,6 +40,26 @@ moment_of (Tick now) = now
 moment_of Ended = 0
 moment_of Fault = 0
 moment_of Stalled = 0
+
+-- whether it has one
+abbrev pub has_moment : HandleCall → Bool
+has_moment (Start now) = true
+has_moment (Octets now piece) = true
+has_moment (Send now text) = true
+has_moment (Take now) = true
+has_moment (Release now sub) = true
+has_moment (Tick now) = true
+has_moment Ended = false
+has_moment Fault = false
+has_moment Stalled = false
+
+-- ---- moments that go back, where `last` is the greatest that was passed before
+
+abbrev pub is_back : HandleCall → (last : ℕ) → Bool
+is_back call last = if has_moment call then nat_lt (moment_of call) last else false
+
+abbrev pub last_moment_behind : HandleCall → (last : ℕ) → ℕ
+last_moment_behind call last = if has_moment call then max last (moment_of call) else last
 
 -- the event of the end model, where keys are found so
 abbrev pub event_of : Finds → HandleCall → Event
@@ -73,17 +93,29 @@ finds_in h = key_at (key_entries_of_handle h)
 abbrev pub handle_end_behind_call : HandleCall → Held → KEnd
 handle_end_behind_call call h = kept_end_behind_event (moment_of call) (event_of (finds_in h) call) h.end
 
+-- the outcomes that it tells
 abbrev pub told_at : HandleCall → Held → List Outcome
 told_at call h = tells (moment_of call) (event_of (finds_in h) call) h.end
 
 abbrev pub deeds_at : HandleCall → Held → CDeeds
 deeds_at call h = record (deeds_told (told_at call h)) { used = octet_count_of_call call h.end }
 
+-- .. and whether the moment went back
+abbrev pub deeds_with_back : Bool → CDeeds → CDeeds
+deeds_with_back back deeds = record deeds { back = deed_flag back }
+
+-- with whom the safe connection came to stand last: with the peer that these deeds name, or as before
+abbrev pub peer_noted : CDeeds → Option ℕ → Option ℕ
+peer_noted deeds before = if deeds.connected == 1 then Some deeds.peer else before
+
+abbrev pub held_behind_call : HandleCall → Held → Held
+held_behind_call call h = record (held_with_end h (handle_end_behind_call call h)) { peer = peer_noted (deeds_at call h) h.peer; last = last_moment_behind call h.last }
+
 -- ---- the call at a handle: at one that holds nothing, and at a late moment, nothing happens
 
 abbrev pub held_after : HandleCall → Option Held → Option Held
 held_after call None = None
-held_after call (Some h) = if is_moment_too_late (moment_of call) then Some h else Some (held_with_end h (handle_end_behind_call call h))
+held_after call (Some h) = if is_moment_too_late (moment_of call) then Some h else Some (held_behind_call call h)
 
 abbrev pub status_after : HandleCall → Option Held → ℤ
 status_after call None = closed_handle
@@ -91,7 +123,7 @@ status_after call (Some h) = if is_moment_too_late (moment_of call) then late_mo
 
 abbrev pub deeds_after : HandleCall → Option Held → CDeeds
 deeds_after call None = no_deeds
-deeds_after call (Some h) = if is_moment_too_late (moment_of call) then no_deeds else deeds_at call h
+deeds_after call (Some h) = if is_moment_too_late (moment_of call) then no_deeds else deeds_with_back (is_back call h.last) (deeds_at call h)
 
 pub record DoesHandleCall (call : HandleCall) (old new : CEnd) (status : ℤ) (deeds : CDeeds) : Type 0 where
   pub held : end_held_in_handle new ≡ held_after call (end_held_in_handle old)

@@ -11,7 +11,7 @@ abbrev pub deed_flag : Bool → ℕ
 deed_flag b = if b then 1 else 0
 
 abbrev pub no_deeds : CDeeds
-no_deeds = record { out = 0; used = 0; message = 0; connected = 0; peer = 0; released = 0; reason = 0; sub = 0; by_peer = 0; zero = 0 }
+no_deeds = record { out = 0; used = 0; message = 0; connected = 0; peer = 0; released = 0; reason = 0; sub = 0; by_peer = 0; back = 0 }
 
 -- ---- what outcomes are as deeds
 

@@ -5,6 +5,8 @@ pub mod Ties
 pub mod Handles
 pub mod Calls
 pub mod Makings
+pub mod Kmacs
+pub mod KeyFaults
 pub mod Shown
 pub mod Reads
 pub mod Used

@@ -6,7 +6,7 @@ use Rattle.er_settings.specs.Values.{Settings}
 use Rattle.er_settings.specs.declared.setting_name.SettingName.TheVariants as setting
 use Rattle.er_settings.specs.Ranges.{is_allowed}
 use Rattle.er_settings.specs.Making.{settings_of}
-use Rattle.er_end_model.specs.Ends.{Opening}
+use Rattle.er_end_model.specs.Ends.{Opening, Call, Answer}
 use Rattle.er_end.specs.KeptEnds.{kept_opened}
 use Rattle.er_end_c.specs.declared.face.CSettings.{CSettings}
 use Rattle.er_end_c.specs.declared.face.CKey.{CKey}
@@ -53,8 +53,13 @@ fault_of_handle_making end now are_numbers settings =
 abbrev pub key_of : List ℕ → TripleKey
 key_of numbers = record { first = slice_index_or numbers 0 0; second = slice_index_or numbers 1 0; third = slice_index_or numbers 2 0 }
 
+-- its moment
+abbrev pub moment_of_opening : Opening → ℕ
+moment_of_opening (Call settings me peer kmac rb now) = now
+moment_of_opening (Answer settings me ra now) = now
+
 abbrev pub held_made : Opening → Option (List KmacEntry) → Held
-held_made opening entries = record { end = kept_opened opening; keys = entries }
+held_made opening entries = record { end = kept_opened opening; keys = entries; peer = None; last = moment_of_opening opening }
 
 -- what is made of an opening and of what keys say; nothing where they are refused
 abbrev pub made_with : {E : Type 0} → Opening → Result (List KmacEntry) E → Option Held

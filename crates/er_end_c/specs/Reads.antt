@@ -68,6 +68,23 @@ abbrev pub shown_release : Option Held → CDeeds
 shown_release None = no_deeds
 shown_release (Some h) = release_deeds h.end.core.released
 
+-- with whom the safe connection stands: with the last peer that it came to stand with, until the end is released
+abbrev pub peer_unless_released : {A : Type 0} → Option A → Option ℕ → Option ℕ
+peer_unless_released None peer = peer
+peer_unless_released (Some why) peer = None
+
+abbrev pub peer_of_held_end : Held → Option ℕ
+peer_of_held_end h = peer_unless_released h.end.core.released h.peer
+
+abbrev pub connection_status : Option Held → ℤ
+connection_status None = closed_handle
+connection_status (Some h) = none_or (peer_of_held_end h)
+
+-- the number changes where it stands alone
+abbrev pub shown_peer : (peer : ℕ) → Option Held → ℕ
+shown_peer peer None = peer
+shown_peer peer (Some h) = else_ peer (peer_of_held_end h)
+
 abbrev pub found_status : Option Held → ℤ
 found_status None = closed_handle
 found_status (Some h) = ok

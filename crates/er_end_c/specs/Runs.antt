@@ -1,5 +1,5 @@
 -- Contract: calls on one handle, one after the other, from the making of its end on, are events of the end model, one after the other.
-use Rattle.std.specs.Prelude.{ℕ, ℤ, ◌≡◌, Bool, true, false, if◌then◌else◌, List, [], ◌∷◌, take, Option}
+use Rattle.std.specs.Prelude.{ℕ, ℤ, ◌≡◌, max, nat_lt, Bool, true, false, if◌then◌else◌, List, [], ◌∷◌, take, Option, Some, None}
 use Rattle.safety_automaton.specs.Keys.{KmacEntry, key_at}
 use Rattle.er_end_model.specs.Outcomes.{Outcome, ConnectedTo, Accepted, Taken, NothingToTake, Refused, WasReleased, Octets as Sent}
 use Rattle.er_end_model.specs.Steps.{Finds, deadline}
@@ -12,8 +12,8 @@ use Rattle.er_end_c.specs.declared.face.CDeeds.{CDeeds}
 use Rattle.er_end_c.specs.Statuses.{late_moment}
 use Rattle.er_end_c.specs.Deeds.{no_deeds, deeds_told, status_told, release_deeds, counts_shown}
 use Rattle.er_end_c.specs.Handles.{optional_key_entries, end_held_in_handle}
-use Rattle.er_end_c.specs.Makings.{IsHandleMade}
-use Rattle.er_end_c.specs.Reads.{text_of_held_end, out_of, newest_accepted_message, message_last_taken, none_or, else_, deadline_status, shown_deadline, shown_release_status, shown_release, count_waiting_at_handle, shown_counts}
+use Rattle.er_end_c.specs.Makings.{IsHandleMade, moment_of_opening}
+use Rattle.er_end_c.specs.Reads.{text_of_held_end, out_of, newest_accepted_message, message_last_taken, none_or, else_, deadline_status, shown_deadline, shown_release_status, shown_release, count_waiting_at_handle, shown_counts, peer_unless_released, connection_status, shown_peer}
 use Rattle.er_end_c.specs.Used.{UsesOctets}
 use Rattle.er_end_c.specs.Calls.{HandleCall, Start, Octets, Send, Take, Release, Tick, Ended, Fault, Stalled, is_moment_too_late, moment_of, DoesHandleCall}
 
@@ -117,11 +117,11 @@ is_take Ended = false
 is_take Fault = false
 is_take Stalled = false
 
--- a call answers what the step of the model tells, for the octets that it uses: as its status, as its deeds, and as the texts to be copied, unless it is a send that was
+-- a call answers what the step of the model tells, for the octets that it uses and by whether its moment went back: as its status, as its deeds, and as the texts to be copied, unless it is a send that was
 -- refused, behind which those of the event before may still be copied
 pub record IsAnswered (a : Answered) (told : List Outcome) : Type 0 where
   pub answer : a.status ≡ status_told told
-  pub tells : a.deeds ≡ record (deeds_told told) { used = a.deeds.used }
+  pub tells : a.deeds ≡ record (deeds_told told) { used = a.deeds.used; back = a.deeds.back }
   pub sent : is_send_refused told ≡ false → a.out ≡ octets_told told
   pub came : is_send_refused told ≡ false → a.accepted ≡ accepted_told told
   pub took : is_take a.call ≡ true → a.taken ≡ taken_told told
@@ -130,9 +130,68 @@ abbrev pub IsAnsweredIf : (late : Bool) → Finds → Answered → End → Type 
 IsAnsweredIf true finds a m = (a.status ≡ late_moment) × (a.deeds ≡ no_deeds)
 IsAnsweredIf false finds a m = IsAnswered a (stepped finds a m).1 × UsesOctets a.call m a.deeds.used
 
+-- the greatest moment that was passed so far, behind a call; three calls pass none
+abbrev pub greatest_passed : HandleCall → (before : ℕ) → ℕ
+greatest_passed (Start now) before = max before now
+greatest_passed (Octets now piece) before = max before now
+greatest_passed (Send now text) before = max before now
+greatest_passed (Take now) before = max before now
+greatest_passed (Release now sub) before = max before now
+greatest_passed (Tick now) before = max before now
+greatest_passed Ended before = before
+greatest_passed Fault before = before
+greatest_passed Stalled before = before
+
+abbrev pub one_if_below : (now greatest : ℕ) → ℕ
+one_if_below now greatest = if nat_lt now greatest then 1 else 0
+
+abbrev pub back_told : HandleCall → (greatest : ℕ) → ℕ
+back_told (Start now) greatest = one_if_below now greatest
+back_told (Octets now piece) greatest = one_if_below now greatest
+back_told (Send now text) greatest = one_if_below now greatest
+back_told (Take now) greatest = one_if_below now greatest
+back_told (Release now sub) greatest = one_if_below now greatest
+back_told (Tick now) greatest = one_if_below now greatest
+back_told Ended greatest = 0
+back_told Fault greatest = 0
+back_told Stalled greatest = 0
+
+-- the deeds tell that a moment went back exactly where it is below one that was passed before: as the end was made, or by a call behind that. (A call that compared
+-- with the moment of the call before it alone would tell the first moment behind one that was far too great, and none of those that follow: it is false of that)
+abbrev pub TellBack : List Answered → (greatest : ℕ) → Type 0
+TellBack [] greatest = Unit {0}
+TellBack (a ∷ calls) greatest =
+    (a.deeds.back ≡ (if is_moment_too_late (moment_of a.call) then 0 else back_told a.call greatest))
+    × TellBack calls (if is_moment_too_late (moment_of a.call) then greatest else greatest_passed a.call greatest)
+
 abbrev pub AreAnswered : Finds → List Answered → End → Type 0
 AreAnswered finds [] m = Unit {0}
 AreAnswered finds (a ∷ calls) m = IsAnsweredIf (is_moment_too_late (moment_of a.call)) finds a m × AreAnswered finds calls (model_after finds a m)
+
+-- the peer with which the safe connection came to stand last: the one that these outcomes tell, or the one before
+abbrev pub peer_told : List Outcome → Option ℕ → Option ℕ
+peer_told [] before = before
+peer_told (ConnectedTo peer ∷ outcomes) before = Some peer
+peer_told (Accepted message ∷ outcomes) before = peer_told outcomes before
+peer_told (Taken message ∷ outcomes) before = peer_told outcomes before
+peer_told (NothingToTake ∷ outcomes) before = peer_told outcomes before
+peer_told (Refused refusal ∷ outcomes) before = peer_told outcomes before
+peer_told (WasReleased why ∷ outcomes) before = peer_told outcomes before
+peer_told (Sent octets ∷ outcomes) before = peer_told outcomes before
+
+-- .. behind calls, one after the other
+abbrev pub peer_after : Finds → Answered → End → Option ℕ → Option ℕ
+peer_after finds a m before = if is_moment_too_late (moment_of a.call) then before else peer_told (stepped finds a m).1 before
+
+abbrev pub peer_behind_calls : Finds → List Answered → End → Option ℕ → Option ℕ
+peer_behind_calls finds [] m before = before
+peer_behind_calls finds (a ∷ calls) m before = peer_behind_calls finds calls (model_after finds a m) (peer_after finds a m before)
+
+-- the call that tells with whom the safe connection stands answers that peer, until the end is released. (One that asked the deeds of the last call alone would know
+-- no peer behind the next event: `stands` is false of it)
+pub record TellsPeer (end : CEnd) (m : End) (peer : Option ℕ) : Type 0 where
+  pub stands : connection_status (end_held_in_handle end) ≡ none_or (peer_unless_released m.core.released peer)
+  pub named : (before : ℕ) → shown_peer before (end_held_in_handle end) ≡ else_ before (peer_unless_released m.core.released peer)
 
 -- the calls that read answer what the model says of its end
 pub record ReadsAs (end : CEnd) (m : End) : Type 0 where
@@ -148,4 +207,6 @@ abbrev pub RunsAsModel : Type 0
 RunsAsModel =
     (opening : Opening) (entries : Option (List KmacEntry)) (calls : List Answered) (first last : CEnd) → IsAllowed opening → IsHandleMade first opening entries → LeadsToHandle calls first last
     → AreAnswered (key_at (optional_key_entries entries)) calls (opened opening)
+    × TellBack calls (moment_of_opening opening)
     × ReadsAs last (model_run (key_at (optional_key_entries entries)) calls (opened opening))
+    × TellsPeer last (model_run (key_at (optional_key_entries entries)) calls (opened opening)) (peer_behind_calls (key_at (optional_key_entries entries)) calls (opened opening) None)

@@ -18,7 +18,7 @@ wrong_length = pos 3
 abbrev pub full : ℤ
 full = pos 4
 
--- no message waits, no tick is wanted, the end isn't released
+-- no message waits, no tick is wanted, the end isn't released, it isn't connected
 abbrev pub none : ℤ
 none = pos 5
 

@@ -28,7 +28,7 @@ pub extern "C" fn euroradio_start(
         return status::MOMENT;
     };
     *deeds = held.start(now);
-    end.put_held(held);
+    end.put_held_at(held, now, deeds);
     status::OK
 }
 
@@ -52,7 +52,7 @@ pub extern "C" fn euroradio_octets(
         return status::MOMENT;
     };
     *deeds = held.octets(now, piece);
-    end.put_held(held);
+    end.put_held_at(held, now, deeds);
     status::OK
 }
 
@@ -78,11 +78,11 @@ pub extern "C" fn euroradio_send(
     match held.send(now, text) {
         Ok(told) => {
             *deeds = told;
-            end.put_held(held);
+            end.put_held_at(held, now, deeds);
             status::OK
         }
         Err(refused) => {
-            end.put_held(held);
+            end.put_held_at(held, now, deeds);
             refused_status(refused)
         }
     }
@@ -105,11 +105,11 @@ pub extern "C" fn euroradio_take(alloc: Global, end: &mut CEnd, now: u64, deeds:
     match held.take(now) {
         Some(told) => {
             *deeds = told;
-            end.put_held(held);
+            end.put_held_at(held, now, deeds);
             status::OK
         }
         None => {
-            end.put_held(held);
+            end.put_held_at(held, now, deeds);
             status::NONE
         }
     }
@@ -135,7 +135,7 @@ pub extern "C" fn euroradio_release(
         return status::MOMENT;
     };
     *deeds = held.release(now, sub);
-    end.put_held(held);
+    end.put_held_at(held, now, deeds);
     status::OK
 }
 
@@ -153,7 +153,7 @@ pub extern "C" fn euroradio_tick(alloc: Global, end: &mut CEnd, now: u64, deeds:
         return status::MOMENT;
     };
     *deeds = held.tick(now);
-    end.put_held(held);
+    end.put_held_at(held, now, deeds);
     status::OK
 }
 
@@ -167,7 +167,7 @@ pub extern "C" fn euroradio_ended(alloc: Global, end: &mut CEnd, deeds: &mut CDe
         return status::CLOSED;
     };
     *deeds = held.ended();
-    end.put_held(held);
+    end.put_held_behind(held, deeds);
     status::OK
 }
 
@@ -181,7 +181,7 @@ pub extern "C" fn euroradio_fault(alloc: Global, end: &mut CEnd, deeds: &mut CDe
         return status::CLOSED;
     };
     *deeds = held.fault();
-    end.put_held(held);
+    end.put_held_behind(held, deeds);
     status::OK
 }
 
@@ -195,6 +195,6 @@ pub extern "C" fn euroradio_stalled(alloc: Global, end: &mut CEnd, deeds: &mut C
         return status::CLOSED;
     };
     *deeds = held.stalled();
-    end.put_held(held);
+    end.put_held_behind(held, deeds);
     status::OK
 }

@@ -5,13 +5,15 @@ ghost use Rattle.er_settings.specs.Ranges.{AllAllowed};
 ghost use Rattle.er_end_c.specs.Deeds.{no_deeds, deed_flag, release_deeds, deeds_by_outcome_kind, text_size_or_zero, counts_shown};
 ghost use Rattle.key_store.specs.Lists.{as_entry};
 ghost use Rattle.er_end_c.specs.Makings.{settings_in, entry_shown};
+ghost use Rattle.er_end_c.specs.KeyFaults.{field_number, no_key_fault, key_fault_shown};
 
+use crate::key_fault;
 use des_block::TripleKey;
 use er_base::{MOST_MOMENT, Release};
 use er_end::Deeds;
 use er_settings::Settings;
 use hdlc_station_model::Counts;
-use key_store::KeyEntry;
+use key_store::{FieldName, KeyEntry, KeyFileFault};
 
 /// What both ends agree on.
 #[repr(C)]
@@ -55,8 +57,8 @@ pub struct CDeeds {
     pub sub: u8,
     /// 1 where the peer did it.
     pub by_peer: u8,
-    /// 0.
-    pub zero: u8,
+    /// 1 where the moment was below one that was passed before.
+    pub back: u8,
 }
 
 /// The KMAC of an engine and a radio block centre, with its first and its last moment.
@@ -89,6 +91,20 @@ pub struct CCounts {
     pub aborted: u64,
     /// Frames that the station doesn't expect.
     pub stray: u64,
+}
+
+/// Why a key file is refused. What a kind doesn't have is 0.
+#[repr(C)]
+#[derive(Clone, Copy)]
+pub struct CKeyFault {
+    /// The kind of the fault, one of [`key_fault`](crate::key_fault); 0 where there is none.
+    pub kind: u32,
+    /// The field that is missing or of another type.
+    pub field: u32,
+    /// The entry at fault, counted from 1; 0 is the document itself.
+    pub entry: usize,
+    /// The earlier entry that it has a pair and a moment in common with.
+    pub other: usize,
 }
 
 impl CSettings {
@@ -146,6 +162,13 @@ fn flag(holds: bool) -> u32
     if holds { 1 } else { 0 }
 }
 
+/// A moment that went back, as deeds have it.
+pub fn back_flag(holds: bool) -> u8
+    ensures { result ≡ deed_flag holds }
+{
+    if holds { 1 } else { 0 }
+}
+
 fn size_of(text: &Option<&[u8]>) -> usize
     ensures { result ≡ text_size_or_zero (option_map (λ m. m.now) text.now) }
 {
@@ -170,7 +193,7 @@ impl CDeeds {
             reason: 0,
             sub: 0,
             by_peer: 0,
-            zero: 0,
+            back: 0,
         }
     }
 
@@ -229,6 +252,67 @@ impl CCounts {
             too_long: counts.long,
             aborted: counts.aborted,
             stray: counts.stray,
+        }
+    }
+}
+
+fn number_of_field(name: FieldName) -> u32
+    ensures { result ≡ field_number name }
+{
+    match name {
+        FieldName::Version => key_fault::FIELD_VERSION,
+        FieldName::Key => key_fault::FIELD_KEY,
+        FieldName::Engine => key_fault::FIELD_ENGINE,
+        FieldName::Rbc => key_fault::FIELD_RBC,
+        FieldName::Kmac => key_fault::FIELD_KMAC,
+        FieldName::From => key_fault::FIELD_FROM,
+        FieldName::To => key_fault::FIELD_TO,
+    }
+}
+
+impl CKeyFault {
+    /// No fault.
+    pub fn none() -> CKeyFault
+        ensures { result ≡ no_key_fault }
+    {
+        CKeyFault {
+            kind: 0,
+            field: 0,
+            entry: 0,
+            other: 0,
+        }
+    }
+
+    /// A fault of a key file; none where memory ran out.
+    pub fn of(why: KeyFileFault) -> CKeyFault
+        ensures { result ≡ key_fault_shown why }
+    {
+        match why {
+            KeyFileFault::Document => CKeyFault::of_entry(key_fault::DOCUMENT, 0),
+            KeyFileFault::Version(_) => CKeyFault::of_entry(key_fault::VERSION, 0),
+            KeyFileFault::Field { entry, name } => CKeyFault {
+                field: number_of_field(name),
+                ..CKeyFault::of_entry(key_fault::FIELD, entry)
+            },
+            KeyFileFault::Hex { entry } => CKeyFault::of_entry(key_fault::HEX, entry),
+            KeyFileFault::Number { entry } => CKeyFault::of_entry(key_fault::NUMBER, entry),
+            KeyFileFault::Range { entry } => CKeyFault::of_entry(key_fault::RANGE, entry),
+            KeyFileFault::Twice { first, second } => CKeyFault {
+                other: first,
+                ..CKeyFault::of_entry(key_fault::TWICE, second)
+            },
+            KeyFileFault::NoMemory(_) => CKeyFault::none(),
+        }
+    }
+
+    // A fault of this kind, of one entry alone.
+    fn of_entry(kind: u32, entry: usize) -> CKeyFault
+        ensures { result ≡ record no_key_fault { kind = kind; entry = entry } }
+    {
+        CKeyFault {
+            kind,
+            entry,
+            ..CKeyFault::none()
         }
     }
 }

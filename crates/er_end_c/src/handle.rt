@@ -2,8 +2,10 @@
 
 ghost use Rattle.er_end_c.specs.Ties.{IsTied};
 
-use crate::held::Held;
+use crate::face::{CDeeds, back_flag};
+use crate::held::{Held, passes, peer_noted};
 use crate::slot::Slot;
+use er_base::Moment;
 use loose_box::Loose;
 use std::alloc::Global;
 use std::mem;
@@ -22,8 +24,9 @@ pub struct CEnd {
 }
 
 impl CEnd {
-    ghost use Rattle.std.specs.Prelude.{◌≡◌, MatchOption, Some, None};
+    ghost use Rattle.std.specs.Prelude.{◌≡◌, max, nat_lt, MatchOption, Some, None};
     ghost use Rattle.er_end_c.specs.Handles.{end_held_in_handle, is_handle_open};
+    ghost use Rattle.er_end_c.specs.Calls.{peer_noted, deeds_with_back};
 
     /// Takes out what it holds, for the length of a call.
     pub fn take_held(&mut self, alloc: Global) -> Option<Box<Held>>
@@ -45,6 +48,24 @@ impl CEnd {
     {
         self.slot = Slot::of(Loose::of(held));
         self.open = OPEN;
+    }
+
+    /// Puts it in behind an event that came to these deeds.
+    pub fn put_held_behind(&mut self, mut held: Box<Held>, deeds: &CDeeds)
+        ensures { end_held_in_handle self.new ≡ Some (record held.value { peer = peer_noted deeds.now held.value.peer }) }
+    {
+        held.peer = peer_noted(deeds, held.peer);
+        self.put_held(held);
+    }
+
+    /// The same behind an event at a moment, of which the deeds tell whether it went back.
+    pub fn put_held_at(&mut self, mut held: Box<Held>, now: Moment, deeds: &mut CDeeds)
+        ensures held { end_held_in_handle self.new ≡ Some (record held.value { peer = peer_noted deeds.old held.value.peer; last = max held.value.last now }) }
+        ensures deeds { deeds.new ≡ deeds_with_back (nat_lt now held.value.last) deeds.old }
+    {
+        held.peer = peer_noted(deeds, held.peer);
+        deeds.back = back_flag(passes(&mut held.last, now));
+        self.put_held(held);
     }
 
     /// Whether it holds an end.

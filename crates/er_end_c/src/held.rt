@@ -1,11 +1,11 @@
 //! An end with its keys, and what each event at it comes to.
 
-ghost use Rattle.std.specs.Prelude.{◌≡◌, None, Some, MatchResult, option_map};
+ghost use Rattle.std.specs.Prelude.{◌≡◌, max, nat_lt, None, Some, MatchResult, option_map};
 ghost use Rattle.er_end.specs.KeptEnds.{after_start, after_octets, after_send, after_take, after_release, after_tick, after_break, used_of, refusal_of_send, waiting_in};
 ghost use Rattle.er_end_c.specs.Deeds.{refused_status};
 ghost use Rattle.er_end.specs.Shown.{refusal_view};
 ghost use Rattle.er_end_c.specs.Handles.{held_with_end};
-ghost use Rattle.er_end_c.specs.Calls.{finds_in};
+ghost use Rattle.er_end_c.specs.Calls.{finds_in, peer_noted};
 ghost use Rattle.er_end_c.specs.Shown.{deeds_of, taken_deeds, taken_shown};
 ghost use Rattle.er_base.specs.declared.cause.Cause.TheVariants.{LineEnded, LineFailed, LineStalled};
 
@@ -22,6 +22,10 @@ pub struct Held {
     pub end: End,
     /// The keys that it was made with, where it answers; none where it calls.
     pub keys: Option<KeyStore>,
+    /// The peer with which the safe connection came to stand, below 2^24.
+    pub peer: Option<u32>,
+    /// The greatest moment that was passed so far.
+    pub last: Moment,
 }
 
 impl Held {
@@ -102,6 +106,27 @@ impl Held {
     {
         CDeeds::of_event(0, &self.end.stalled())
     }
+}
+
+/// The peer with which the safe connection came to stand last, behind an event with these deeds.
+pub fn peer_noted(deeds: &CDeeds, before: Option<u32>) -> Option<u32>
+    ensures { result ≡ peer_noted deeds.now before }
+{
+    if deeds.connected == 1 {
+        Some(deeds.peer)
+    } else {
+        before
+    }
+}
+
+/// Notes a moment that is passed: whether it is below one that was passed before.
+pub fn passes(last: &mut Moment, now: Moment) -> bool
+    ensures last { last.new ≡ max last.old now }
+    ensures back { result ≡ nat_lt now last.old }
+{
+    let back = now.get() < last.get();
+    *last = last.later(now);
+    back
 }
 
 /// The status of a send that is refused.

@@ -9,6 +9,8 @@ mod face;
 mod fault;
 mod handle;
 mod held;
+mod key_fault;
+mod keys;
 pub mod laws;
 mod makers;
 mod reads;
@@ -19,10 +21,11 @@ pub use events::{
     euroradio_ended, euroradio_fault, euroradio_octets, euroradio_release, euroradio_send,
     euroradio_stalled, euroradio_start, euroradio_take, euroradio_tick,
 };
-pub use face::{CCounts, CDeeds, CKey, CSettings};
+pub use face::{CCounts, CDeeds, CKey, CKeyFault, CSettings};
 pub use handle::CEnd;
-pub use makers::{euroradio_answer, euroradio_answer_keys, euroradio_call, euroradio_free};
+pub use keys::{euroradio_key_file, euroradio_kmac};
+pub use makers::{euroradio_answer, euroradio_answer_keys, euroradio_call, euroradio_end_free};
 pub use reads::{
-    euroradio_accepted, euroradio_counted, euroradio_deadline, euroradio_out, euroradio_reason,
-    euroradio_released, euroradio_taken, euroradio_version, euroradio_waiting,
+    euroradio_accepted, euroradio_connected, euroradio_counted, euroradio_deadline, euroradio_out,
+    euroradio_reason, euroradio_released, euroradio_taken, euroradio_version, euroradio_waiting,
 };

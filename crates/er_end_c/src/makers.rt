@@ -114,9 +114,9 @@ pub extern "C" fn euroradio_answer_keys(
     }
 }
 
-/// Gives an end's memory back.
+/// Gives an end's memory back. The header's `euroradio_free` is this, for a pointer that isn't null.
 #[unsafe(no_mangle)]
-pub extern "C" fn euroradio_free(alloc: Global, end: &mut CEnd)
+pub extern "C" fn euroradio_end_free(alloc: Global, end: &mut CEnd)
     ensures held { end_held_in_handle end.new ≡ None }
 {
     if let Some(held) = end.take_held(alloc) {
@@ -158,10 +158,19 @@ fn admitted(
     }
 }
 
-fn boxed(alloc: Global, end: End, keys: Option<KeyStore>) -> Option<Box<Held>>
-    ensures { IfSome result (λ held. held.value ≡ record { end = end; keys = keys }) }
+fn boxed(alloc: Global, end: End, keys: Option<KeyStore>, now: Moment) -> Option<Box<Held>>
+    ensures { IfSome result (λ held. held.value ≡ record { end = end; keys = keys; peer = None; last = now }) }
 {
-    Box::new(alloc, Held { end, keys }).ok()
+    Box::new(
+        alloc,
+        Held {
+            end,
+            keys,
+            peer: None,
+            last: now,
+        },
+    )
+    .ok()
 }
 
 fn calling(
@@ -176,7 +185,7 @@ fn calling(
     ensures { IfSome result (λ held. held.value ≡ held_made (Call settings.now me peer key rb now) None) }
 {
     match End::call(alloc, settings, me.get(), peer.get(), key, rb, now.get()) {
-        Ok(end) => boxed(alloc, end, None),
+        Ok(end) => boxed(alloc, end, None, now),
         Err(_) => None,
     }
 }
@@ -257,7 +266,7 @@ fn with_keys(
     ensures { IfSome result (λ held. held.value ≡ held_made (Answer settings.now me ra now) (Some store)) }
 {
     match End::answer(alloc, settings, me.get(), ra, now.get()) {
-        Ok(end) => boxed(alloc, end, Some(store)),
+        Ok(end) => boxed(alloc, end, Some(store), now),
         Err(_) => None,
     }
 }

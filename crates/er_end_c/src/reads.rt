@@ -5,7 +5,7 @@ ghost use Rattle.er_base.specs.ReasonWords.{reason_words};
 ghost use Rattle.er_end.specs.KeptEnds.{waiting_in, deadline_of};
 ghost use Rattle.er_end.specs.Inboxes.{newest_of};
 ghost use Rattle.er_end_c.specs.Handles.{end_held_in_handle};
-ghost use Rattle.er_end_c.specs.Reads.{text_of_held_end, text_or_empty, copied, octets_written_over, out_of, newest_accepted_message, message_last_taken, shown_release, shown_release_status, shown_counts, found_status, count_waiting_at_handle, shown_deadline, deadline_status};
+ghost use Rattle.er_end_c.specs.Reads.{text_of_held_end, text_or_empty, copied, octets_written_over, out_of, newest_accepted_message, message_last_taken, shown_release, shown_release_status, shown_counts, peer_unless_released, connection_status, shown_peer, found_status, count_waiting_at_handle, shown_deadline, deadline_status};
 
 use crate::face::{CCounts, CDeeds};
 use crate::handle::CEnd;
@@ -119,6 +119,36 @@ pub extern "C" fn euroradio_released(alloc: Global, end: &mut CEnd, deeds: &mut 
     }
 }
 
+/// Whether the safe connection stands, and with whom.
+#[unsafe(no_mangle)]
+pub extern "C" fn euroradio_connected(alloc: Global, end: &mut CEnd, peer: &mut u32) -> i32
+    ensures held { end_held_in_handle end.new ≡ end_held_in_handle end.old }
+    ensures answer { result ≡ connection_status (end_held_in_handle end.old) }
+    ensures peer { peer.new ≡ shown_peer peer.old (end_held_in_handle end.old) }
+{
+    let Some(held) = end.take_held(alloc) else {
+        return status::CLOSED;
+    };
+    let found = peer_unless_released(held.end.released(), held.peer);
+    end.put_held(held);
+    match found {
+        Some(number) => {
+            *peer = number;
+            status::OK
+        }
+        None => status::NONE,
+    }
+}
+
+fn peer_unless_released(released: Option<Release>, peer: Option<u32>) -> Option<u32>
+    ensures { result ≡ peer_unless_released released peer }
+{
+    match released {
+        Some(_) => None,
+        None => peer,
+    }
+}
+
 /// The frames that the station ignored so far.
 #[unsafe(no_mangle)]
 pub extern "C" fn euroradio_counted(alloc: Global, end: &mut CEnd, counts: &mut CCounts) -> i32
@@ -152,9 +182,9 @@ pub extern "C" fn euroradio_reason(reason: u8, sub: u8, into: &mut [u8]) -> usiz
 /// The version of the library: 100 times the major one, and the minor one.
 #[unsafe(no_mangle)]
 pub extern "C" fn euroradio_version() -> u32
-    ensures { result ≡ 101 }
+    ensures { result ≡ 200 }
 {
-    101
+    200
 }
 
 // Copies what fits, from an index on: how many octets.

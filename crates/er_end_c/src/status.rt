@@ -10,7 +10,7 @@ pub const NOT_CONNECTED: i32 = 2;
 pub const LENGTH: i32 = 3;
 /// Sixteen messages wait; nothing was sent.
 pub const FULL: i32 = 4;
-/// No message waits, no tick is wanted, or the end isn't released.
+/// No message waits, no tick is wanted, the end isn't released, or it isn't connected.
 pub const NONE: i32 = 5;
 /// The handle holds no end.
 pub const CLOSED: i32 = -1;

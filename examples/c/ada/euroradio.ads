@@ -29,7 +29,7 @@ package Euroradio is
    Bad_Keys      : constant Status := -6;
    No_Memory     : constant Status := -7;
 
-   Version_Of_Binding : constant Unsigned_32 := 101;
+   Version_Of_Binding : constant Unsigned_32 := 200;
    Message_Most       : constant := 1_023;
    Out_Most           : constant := 200_208;
    Waiting_Most       : constant := 15;
@@ -41,6 +41,8 @@ package Euroradio is
    type Octets is array (size_t range <>) of aliased Unsigned_8 with Convention => C;
 
    type Kmac is array (0 .. 2) of Unsigned_64 with Convention => C;
+
+   type Kmac_Octets is array (0 .. 23) of Unsigned_8 with Convention => C;
 
    type Settings is record
       Window : Unsigned_32 := 7;
@@ -72,7 +74,7 @@ package Euroradio is
       Reason    : Unsigned_8;
       Sub       : Unsigned_8;
       By_Peer   : Unsigned_8;
-      Zero      : Unsigned_8;
+      Back      : Unsigned_8;
    end record with Convention => C;
 
    type Counts is record
@@ -83,8 +85,21 @@ package Euroradio is
       Stray     : Unsigned_64;
    end record with Convention => C;
 
+   type Key_Fault is record
+      Kind  : Unsigned_32;
+      Field : Unsigned_32;
+      Item  : size_t;
+      Other : size_t;
+   end record with Convention => C;
+
    function Version return Unsigned_32
      with Import, Convention => C, External_Name => "euroradio_version";
+
+   function Kmac_From (Spelled : Kmac_Octets; Made : in out Kmac) return Status
+     with Import, Convention => C, External_Name => "euroradio_kmac";
+
+   function Judge_Key_File (Key_File : Octets; Length : size_t; Told : out Key_Fault) return Status
+     with Import, Convention => C, External_Name => "euroradio_key_file";
 
    function Call
      (The_End : in out Handle; With_Settings : Settings; Me, Peer : Etcs_Number; Their_Kmac : Kmac;
@@ -102,7 +117,7 @@ package Euroradio is
      with Import, Convention => C, External_Name => "euroradio_answer_keys";
 
    procedure Free (The_End : in out Handle)
-     with Import, Convention => C, External_Name => "euroradio_free";
+     with Import, Convention => C, External_Name => "euroradio_end_free";
 
    function Start (The_End : in out Handle; Now : Moment; Told : out Deeds) return Status
      with Import, Convention => C, External_Name => "euroradio_start";
@@ -150,6 +165,9 @@ package Euroradio is
 
    function Is_Released (The_End : in out Handle; Told : out Deeds) return Status
      with Import, Convention => C, External_Name => "euroradio_released";
+
+   function Is_Connected (The_End : in out Handle; Peer : in out Unsigned_32) return Status
+     with Import, Convention => C, External_Name => "euroradio_connected";
 
    function Copy_Reason (Reason, Sub : Unsigned_8; Into : in out Octets; Room : size_t) return size_t
      with Import, Convention => C, External_Name => "euroradio_reason";

@@ -1,0 +1,20 @@
+use Rattle.std.proofs.Common.{◌≡◌, rules, ap, ◌∙◌}
+use Rattle.std.specs.Prelude.{Some}
+use Rattle.er_end_c.specs.declared.held.Held.{Held}
+use Rattle.er_end_c.specs.Handles.{held_with_end}
+use Rattle.er_end_c.specs.Calls.{Ended, handle_end_behind_call, deeds_at}
+use Rattle.er_end_c.proofs.Noting.{noted_behind}
+use Rattle.er_end_c.proofs.events.euroradio_ended.Goals as goal
+
+pub returns : goal.returns
+returns c =
+    let h : Held = c.in-Some.held.value in
+    let is : c.ended.new.self ≡ held_with_end h (handle_end_behind_call Ended h) = c.ended.ensures.held ∙ ap (λ (x : Held). held_with_end x (handle_end_behind_call Ended x)) c.deref_mut.ensures.value in
+    let deeds : c.ended.result ≡ deeds_at Ended h = search rules in
+    record {
+      does = record {
+        held = c.put_held_behind.ensures ∙ rw c.in-Some.ensures.0 (ap Some (noted_behind Ended h c.ended.new.self c.ended.result is deeds));
+        answer = search rules;
+        tells = search rules;
+      };
+    }

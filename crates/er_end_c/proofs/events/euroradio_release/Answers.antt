@@ -1,0 +1,28 @@
+use Rattle.std.proofs.Common.{◌≡◌, ℕ, rules, ap, ◌∙◌, false}
+use Rattle.std.proofs.lemmas.Bool.{le-ltb}
+use Rattle.std.specs.Prelude.{Some}
+use Rattle.er_end.specs.KeptEnds.{after_release}
+use Rattle.er_end_c.specs.declared.held.Held.{Held}
+use Rattle.er_end_c.specs.Shown.{deeds_of}
+use Rattle.er_end_c.specs.Handles.{held_with_end}
+use Rattle.er_end_c.specs.Calls.{Release, is_moment_too_late, handle_end_behind_call, deeds_at, deeds_with_back, is_back, held_behind_call}
+use Rattle.er_end_c.proofs.Noting.{noted_behind, told_behind, deeds_of_end}
+use Rattle.er_end_c.proofs.events.euroradio_release.Goals as goal
+
+pub returns : goal.returns
+returns c =
+    let h : Held = c.in-Some.held.value in
+    let n : ℕ = c.in-Some-checked.now in
+    let early : is_moment_too_late c.args.now ≡ false = le-ltb 1000000000000000 c.args.now c.in-Some-checked.ensures.1 in
+    let is : c.release.new.self ≡ held_with_end h (handle_end_behind_call (Release n c.args.sub) h) = c.release.ensures.held ∙ ap (λ (x : Held). held_with_end x (handle_end_behind_call (Release n c.args.sub) x)) c.deref_mut.ensures.value in
+    let deeds : c.release.result ≡ deeds_at (Release n c.args.sub) h =
+    c.release.ensures.deeds ∙ ap (λ (x : Held). deeds_of 0 (after_release n c.args.sub x.end)) c.deref_mut.ensures.value ∙ deeds_of_end 0 (after_release n c.args.sub h.end) in
+    record {
+      does = record {
+        held = c.put_held_at.ensures.held
+            ∙ rw (c.in-Some.ensures.0, early) (ap Some (noted_behind (Release n c.args.sub) h c.release.new.self c.release.result is deeds ∙ ap (λ x. held_behind_call (Release x c.args.sub) h) c.in-Some-checked.ensures.0));
+        answer = rw (c.in-Some.ensures.0, early) search rules;
+        tells = c.put_held_at.ensures.deeds
+            ∙ rw (c.in-Some.ensures.0, early) (told_behind (Release n c.args.sub) h c.release.new.self c.release.result is deeds ∙ ap (λ x. deeds_with_back (is_back (Release x c.args.sub) h.last) (deeds_at (Release x c.args.sub) h)) c.in-Some-checked.ensures.0);
+      };
+    }
