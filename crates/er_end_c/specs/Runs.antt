@@ -156,8 +156,9 @@ back_told Ended greatest = 0
 back_told Fault greatest = 0
 back_told Stalled greatest = 0
 
--- the deeds tell that a moment went back exactly where it is below one that was passed before: as the end was made, or by a call behind that. (A call that compared
--- with the moment of the call before it alone would tell the first moment behind one that was far too great, and none of those that follow: it is false of that)
+-- the deeds tell that a moment went back exactly where it is below one that was passed before: as the end was made, or by a call behind that. (A call
+-- that compared with the moment of the call before it alone would tell the first moment behind one that was far too great, and none of those that
+-- follow: it is false of that)
 abbrev pub TellBack : List Answered → (greatest : ℕ) → Type 0
 TellBack [] greatest = Unit {0}
 TellBack (a ∷ calls) greatest =
@@ -187,8 +188,8 @@ abbrev pub peer_behind_calls : Finds → List Answered → End → Option ℕ �
 peer_behind_calls finds [] m before = before
 peer_behind_calls finds (a ∷ calls) m before = peer_behind_calls finds calls (model_after finds a m) (peer_after finds a m before)
 
--- the call that tells with whom the safe connection stands answers that peer, until the end is released. (One that asked the deeds of the last call alone would know
--- no peer behind the next event: `stands` is false of it)
+-- the call that tells with whom the safe connection stands answers that peer, until the end is released. (One that asked the deeds of the last call
+-- alone would know no peer behind the next event: `stands` is false of it)
 pub record TellsPeer (end : CEnd) (m : End) (peer : Option ℕ) : Type 0 where
   pub stands : connection_status (end_held_in_handle end) ≡ none_or (peer_unless_released m.core.released peer)
   pub named : (before : ℕ) → shown_peer before (end_held_in_handle end) ≡ else_ before (peer_unless_released m.core.released peer)
@@ -209,4 +210,5 @@ RunsAsModel =
     → AreAnswered (key_at (optional_key_entries entries)) calls (opened opening)
     × TellBack calls (moment_of_opening opening)
     × ReadsAs last (model_run (key_at (optional_key_entries entries)) calls (opened opening))
-    × TellsPeer last (model_run (key_at (optional_key_entries entries)) calls (opened opening)) (peer_behind_calls (key_at (optional_key_entries entries)) calls (opened opening) None)
+    × TellsPeer last (model_run (key_at (optional_key_entries entries)) calls (opened opening))
+    (peer_behind_calls (key_at (optional_key_entries entries)) calls (opened opening) None)
