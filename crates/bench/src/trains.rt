@@ -4,13 +4,13 @@
 //! round of the record it prints one line of all that was until then: the messages that the live trains heard back, the turns of the loop,
 //! the octets that it wrote to the wires, and those of its journal.
 
-mod outside;
+mod loop_objects;
 mod record;
 mod train;
 mod train_wires;
 
 use crate::numbers::Numbers;
-use crate::trains::outside::{LoopClock, LoopSink};
+use crate::trains::loop_objects::{LoopClock, LoopSink};
 use crate::trains::train::CENTRE;
 use crate::trains::train_wires::TrainWires;
 use er_base::NoMemory;

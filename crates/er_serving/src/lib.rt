@@ -6,13 +6,13 @@
 
 pub mod laws;
 mod line_command;
+mod loop_outside;
 mod looping;
 mod machine_clock;
 mod on_line;
-mod outside;
 mod pair;
 
 pub use line_command::LineCommand;
+pub use loop_outside::Outside;
 pub use machine_clock::MachineClock;
 pub use on_line::run_on_line;
-pub use outside::Outside;

@@ -10,7 +10,7 @@ ghost use Rattle.er_serving.specs.LineWriting.{LoopTold, LoopEnds};
 ghost use Rattle.er_serving.specs.OutsideViews.{KeepsCabinet};
 ghost use Rattle.er_serving.specs.Outsides.{traffic_of};
 
-use crate::outside::Outside;
+use crate::loop_outside::Outside;
 use crate::pair::Pair;
 use des_block::TripleKey;
 use er_base::EtcsNumber;

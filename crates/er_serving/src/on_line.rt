@@ -11,8 +11,8 @@ ghost use Rattle.er_serving.specs.OutsideViews.{KeepsCabinet, AsksOne};
 ghost use Rattle.er_serving.specs.Outsides.{traffic_of};
 
 use crate::line_command::LineCommand;
+use crate::loop_outside::Outside;
 use crate::looping::{call_with, serve_with};
-use crate::outside::Outside;
 use crate::pair::Pair;
 use er_statuses::{Status, Stop, fetched, keys_refused, out_of_memory};
 use er_users::SafeUser;

@@ -4,7 +4,7 @@
 #![tactic(auto)]
 
 #[cfg(test)]
-mod outside;
+mod outside_objects;
 #[cfg(test)]
 mod program_audits;
 #[cfg(test)]
