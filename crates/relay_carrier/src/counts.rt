@@ -33,7 +33,8 @@ fn counted(count: u64, more: bool) -> u64
 
 // The counts where a unit more came.
 fn counted_all(counts: &[u64; KIND_COUNT], kinds: &UnitKinds) -> [u64; KIND_COUNT]
-    ensures { (place : ℕ) → place < 20 → slice_index result place ≡ one_more_if (is_at_place place (Any ∷ kinds_but_any kinds.now)) (slice_index counts.now place) }
+    ensures { (place : ℕ) → place < 20
+        → slice_index result place ≡ one_more_if (is_at_place place (Any ∷ kinds_but_any kinds.now)) (slice_index counts.now place) }
 {
     let mut more = [0; KIND_COUNT];
     'places: for place in 0..KIND_COUNT {
@@ -54,7 +55,8 @@ impl Counts {
 
     /// A unit comes.
     pub fn add(&mut self, kinds: &UnitKinds)
-        ensures { (place : ℕ) → place < 20 → slice_index self.new place ≡ one_more_if (is_at_place place (Any ∷ kinds_but_any kinds.now)) (slice_index self.old place) }
+        ensures { (place : ℕ) → place < 20
+            → slice_index self.new place ≡ one_more_if (is_at_place place (Any ∷ kinds_but_any kinds.now)) (slice_index self.old place) }
     {
         self.of_kinds = counted_all(&self.of_kinds, kinds);
     }

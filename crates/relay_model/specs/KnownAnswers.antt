@@ -75,7 +75,12 @@ unfolding carried given_of_sent is_closed_by loads_of_sent octets_of_loads stand
 octets_put = refl
 
 -- the lines change what those before them left
-pub lost_and_put : Carries (line_that E kind.Sabm 1 Lose ∷ line_that E kind.Sabm 1 (Put (0x00 ∷ [])) ∷ []) E (sabm ++ sabm) ((0x00 ∷ 0x7e ∷ []) ++ sabm)
+pub lost_and_put :
+    Carries
+    (line_that E kind.Sabm 1 Lose ∷ line_that E kind.Sabm 1 (Put (0x00 ∷ [])) ∷ [])
+    E
+    (sabm ++ sabm)
+    ((0x00 ∷ 0x7e ∷ []) ++ sabm)
 unfolding carried given_of_sent is_closed_by loads_of_sent octets_of_loads standing_from parts_from loads_from load_by count_of_kind is_of_kind kinds_in found_in frames_of between_flags all_but_last cut verdict_on verdict_on_content unescaped ends_in_escape checked_part check_number fcs_of fcs_bits dividend remainder divided_once add_front sent_bits low_bits low_number control_of reading parameters_in
 lost_and_put = refl
 
@@ -102,7 +107,12 @@ unfolding carried given_of_sent is_closed_by loads_of_sent octets_of_loads stand
 lose_shared_flag_of_r = refl
 
 -- the second of two frames that share a flag
-pub repeat_shared_flag_of_e : Carries (line_that E kind.Sabm 2 Repeat ∷ []) E (sabm ++ (bare_sabm ++ data_0)) (sabm ++ (bare_sabm ++ (bare_sabm ++ data_0)))
+pub repeat_shared_flag_of_e :
+    Carries
+    (line_that E kind.Sabm 2 Repeat ∷ [])
+    E
+    (sabm ++ (bare_sabm ++ data_0))
+    (sabm ++ (bare_sabm ++ (bare_sabm ++ data_0)))
 unfolding carried given_of_sent is_closed_by loads_of_sent octets_of_loads standing_from parts_from loads_from load_by count_of_kind is_of_kind kinds_in found_in frames_of between_flags all_but_last cut verdict_on verdict_on_content unescaped ends_in_escape checked_part check_number fcs_of fcs_bits dividend remainder divided_once add_front sent_bits low_bits low_number control_of reading parameters_in
 repeat_shared_flag_of_e = refl
 
@@ -111,7 +121,12 @@ unfolding carried given_of_sent is_closed_by loads_of_sent octets_of_loads stand
 repeat_shared_flag_of_r = refl
 
 -- the line for the other side names nothing that came; the place is that of the octet in the unit
-pub alter_of_e : Carries (line_that E kind.Info 1 (Alter 2 0x02) ∷ line_that R kind.Any 1 (Alter 7 0x01) ∷ []) E (sabm ++ data_0) (sabm ++ (0x7e ∷ 0x03 ∷ 0x00 ∷ 0x01 ∷ 0x00 ∷ 0x04 ∷ 0xf0 ∷ 0x00 ∷ 0x01 ∷ 0x80 ∷ 0xff ∷ 0x82 ∷ 0x98 ∷ 0x7e ∷ []))
+pub alter_of_e :
+    Carries
+    (line_that E kind.Info 1 (Alter 2 0x02) ∷ line_that R kind.Any 1 (Alter 7 0x01) ∷ [])
+    E
+    (sabm ++ data_0)
+    (sabm ++ (0x7e ∷ 0x03 ∷ 0x00 ∷ 0x01 ∷ 0x00 ∷ 0x04 ∷ 0xf0 ∷ 0x00 ∷ 0x01 ∷ 0x80 ∷ 0xff ∷ 0x82 ∷ 0x98 ∷ 0x7e ∷ []))
 unfolding carried given_of_sent is_closed_by loads_of_sent octets_of_loads standing_from parts_from loads_from load_by count_of_kind is_of_kind kinds_in found_in frames_of between_flags all_but_last cut verdict_on verdict_on_content unescaped ends_in_escape checked_part check_number fcs_of fcs_bits dividend remainder divided_once add_front sent_bits low_bits low_number control_of reading parameters_in
 alter_of_e = refl
 
@@ -120,21 +135,41 @@ unfolding carried given_of_sent is_closed_by loads_of_sent octets_of_loads stand
 alter_of_r = refl
 
 -- in the order of the file
-pub order_of_lines_of_e : Carries (line_that R kind.Ua 1 (Put (0x7e ∷ [])) ∷ line_that R kind.Any 1 Repeat ∷ line_that R kind.Ua 1 (Alter 1 0xff) ∷ []) E (sabm) (sabm)
+pub order_of_lines_of_e :
+    Carries
+    (line_that R kind.Ua 1 (Put (0x7e ∷ [])) ∷ line_that R kind.Any 1 Repeat ∷ line_that R kind.Ua 1 (Alter 1 0xff) ∷ [])
+    E
+    (sabm)
+    (sabm)
 unfolding carried given_of_sent is_closed_by loads_of_sent octets_of_loads standing_from parts_from loads_from load_by count_of_kind is_of_kind kinds_in found_in frames_of between_flags all_but_last cut verdict_on verdict_on_content unescaped ends_in_escape checked_part check_number fcs_of fcs_bits dividend remainder divided_once add_front sent_bits low_bits low_number control_of reading parameters_in
 order_of_lines_of_e = refl
 
-pub order_of_lines_of_r : Carries (line_that R kind.Ua 1 (Put (0x7e ∷ [])) ∷ line_that R kind.Any 1 Repeat ∷ line_that R kind.Ua 1 (Alter 1 0xff) ∷ []) R (ua ++ ua) ((0x81 ∷ []) ++ (ua ++ (ua ++ ua)))
+pub order_of_lines_of_r :
+    Carries
+    (line_that R kind.Ua 1 (Put (0x7e ∷ [])) ∷ line_that R kind.Any 1 Repeat ∷ line_that R kind.Ua 1 (Alter 1 0xff) ∷ [])
+    R
+    (ua ++ ua)
+    ((0x81 ∷ []) ++ (ua ++ (ua ++ ua)))
 unfolding carried given_of_sent is_closed_by loads_of_sent octets_of_loads standing_from parts_from loads_from load_by count_of_kind is_of_kind kinds_in found_in frames_of between_flags all_but_last cut verdict_on verdict_on_content unescaped ends_in_escape checked_part check_number fcs_of fcs_bits dividend remainder divided_once add_front sent_bits low_bits low_number control_of reading parameters_in
 order_of_lines_of_r = refl
 
 -- each kind counts by itself
-pub kinds_of_e : Carries (line_that E kind.Bad 1 Lose ∷ line_that E kind.Dt 1 Lose ∷ line_that E kind.Other 1 Repeat ∷ []) E (sabm ++ (bad_frame ++ (data_0 ++ (unknown ++ data_1)))) (sabm ++ ((0x7e ∷ 0x7e ∷ []) ++ (unknown ++ (unknown ++ data_1))))
+pub kinds_of_e :
+    Carries
+    (line_that E kind.Bad 1 Lose ∷ line_that E kind.Dt 1 Lose ∷ line_that E kind.Other 1 Repeat ∷ [])
+    E
+    (sabm ++ (bad_frame ++ (data_0 ++ (unknown ++ data_1))))
+    (sabm ++ ((0x7e ∷ 0x7e ∷ []) ++ (unknown ++ (unknown ++ data_1))))
 unfolding carried given_of_sent is_closed_by loads_of_sent octets_of_loads standing_from parts_from loads_from load_by count_of_kind is_of_kind kinds_in found_in frames_of between_flags all_but_last cut verdict_on verdict_on_content unescaped ends_in_escape checked_part check_number fcs_of fcs_bits dividend remainder divided_once add_front sent_bits low_bits low_number control_of reading parameters_in
 kinds_of_e = refl
 
 -- a line behind a close counts; what came behind the unit does not
-pub close_of_e : Carries (line_that E kind.Dt 2 Close ∷ line_that E kind.Dt 2 (Put (0x00 ∷ [])) ∷ []) E (sabm ++ (data_0 ++ (data_1 ++ sabm))) (sabm ++ (data_0 ++ ((0x00 ∷ []) ++ data_1)))
+pub close_of_e :
+    Carries
+    (line_that E kind.Dt 2 Close ∷ line_that E kind.Dt 2 (Put (0x00 ∷ [])) ∷ [])
+    E
+    (sabm ++ (data_0 ++ (data_1 ++ sabm)))
+    (sabm ++ (data_0 ++ ((0x00 ∷ []) ++ data_1)))
 unfolding carried given_of_sent is_closed_by loads_of_sent octets_of_loads standing_from parts_from loads_from load_by count_of_kind is_of_kind kinds_in found_in frames_of between_flags all_but_last cut verdict_on verdict_on_content unescaped ends_in_escape checked_part check_number fcs_of fcs_bits dividend remainder divided_once add_front sent_bits low_bits low_number control_of reading parameters_in
 close_of_e = refl
 

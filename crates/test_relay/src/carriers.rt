@@ -1,5 +1,8 @@
 //! What a carrier gives, whichever way the octets are cut.
 
+ghost use Rattle.std.specs.Prelude.{◌≤◌, length, IfOk};
+ghost use Rattle.relay_script.specs.ScriptRanges.{IsScriptInRange};
+
 use er_base::{NoMemory, Room, Side, octets_of};
 use relay_carrier::Carrier;
 use relay_script::{Script, read};
@@ -25,12 +28,65 @@ relay 1;lose e bad 1;lose e dt 1;repeat e other 1|e|7e013febdf7e7e013febde7e7e01
 relay 1;close e dt 2;put e dt 2 00|e|7e013febdf7e7e0100010004f0000180ff82987e7e0102010004f0000181ffa01a7e7e013febdf7e|7e013febdf7e7e0100010004f0000180ff82987e007e0102010004f0000181ffa01a7e";
 
 // The script of a text in which semicolons stand for LF.
-fn script_of(alloc: Global, text: &str) -> Result<Script, Fail> {
+fn script_of(alloc: Global, text: &str) -> Result<Script, Fail>
+    ensures { IfOk result (λ script. IsScriptInRange script) }
+{
     let mut octets = Vec::new(alloc);
     for octet in text.as_bytes() {
         octets.push(if *octet == b';' { b'\n' } else { *octet })?;
     }
     Ok(read(alloc, octets.as_slice())?)
+}
+
+// Takes octets once, where no line has closed the connection; what is given is added.
+fn take_once(
+    alloc: Global,
+    script: &Script,
+    carrier: &mut Carrier,
+    octets: &[u8],
+    all: &mut Vec<u8>,
+) -> Result<usize, NoMemory>
+    requires { IsScriptInRange script.now }
+    ensures { IfOk result (λ used. used ≤ length octets.now) }
+{
+    if carrier.is_closed() {
+        return Ok(octets.len());
+    }
+    let mut came = Room::with_capacity(alloc, 4_096)?;
+    let mut given = Vec::new(alloc);
+    let taken = carrier.take(alloc, script, 0, octets, &mut came, &mut given)?;
+    all.extend_from_slice(given.as_slice())?;
+    Ok(taken.used)
+}
+
+// Takes a piece whole.
+fn take_all(
+    alloc: Global,
+    script: &Script,
+    carrier: &mut Carrier,
+    piece: &[u8],
+    all: &mut Vec<u8>,
+) -> Result<(), NoMemory>
+    requires { IsScriptInRange script.now }
+{
+    let mut rest = piece;
+    for _ in 0..piece.len() {
+        let used = take_once(alloc, script, carrier, rest, all)?;
+        rest = rest.split_at(used).1;
+    }
+    Ok(())
+}
+
+// The side ends, where no line has closed the connection.
+fn end(alloc: Global, carrier: &mut Carrier, all: &mut Vec<u8>) -> Result<(), NoMemory> {
+    if carrier.is_closed() {
+        return Ok(());
+    }
+    let mut came = Room::with_capacity(alloc, 4_096)?;
+    let mut given = Vec::new(alloc);
+    carrier.end(0, &mut came, &mut given)?;
+    all.extend_from_slice(given.as_slice())?;
+    Ok(())
 }
 
 // All that is given of octets that come so many at a time, what is held in the end with it.
@@ -40,25 +96,15 @@ fn given(
     side: Side,
     octets: &[u8],
     cut: usize,
-) -> Result<Vec<u8>, NoMemory> {
+) -> Result<Vec<u8>, NoMemory>
+    requires { IsScriptInRange script.now }
+{
     let mut carrier = Carrier::new(alloc, side)?;
-    let mut came = Room::with_capacity(alloc, 4_096)?;
-    let mut given = Vec::new(alloc);
     let mut all = Vec::new(alloc);
     for piece in octets.chunks(cut.max(1)) {
-        let mut rest = piece;
-        for _ in 0..piece.len() {
-            if !rest.is_empty() && !carrier.is_closed() {
-                let taken = carrier.take(alloc, script, 0, rest, &mut came, &mut given)?;
-                rest = rest.split_at(taken.used).1;
-                all.extend_from_slice(given.as_slice())?;
-            }
-        }
+        take_all(alloc, script, &mut carrier, piece, &mut all)?;
     }
-    if !carrier.is_closed() {
-        carrier.end(0, &mut came, &mut given)?;
-        all.extend_from_slice(given.as_slice())?;
-    }
+    end(alloc, &mut carrier, &mut all)?;
     Ok(all)
 }
 
@@ -104,6 +150,15 @@ fn long_run(alloc: Global, zeros: usize) -> Result<Vec<u8>, NoMemory> {
     Ok(octets)
 }
 
+// The same with a flag in the place of what stands behind the flag that follows the zeros.
+fn lost_behind(alloc: Global, zeros: usize) -> Result<Vec<u8>, NoMemory> {
+    let mut octets = Vec::new(alloc);
+    octets.push(0x7e)?;
+    octets.resize(zeros.saturating_add(1), 0)?;
+    octets.extend_from_slice(&[0x7e, 0x7e])?;
+    Ok(octets)
+}
+
 // Whether the first unit behind a run is that which closes it, or the SABM behind it.
 fn loses(alloc: Global, zeros: usize, text: &str, wanted: &[u8], cut: usize) -> Result<bool, Fail> {
     let script = script_of(alloc, text)?;
@@ -117,10 +172,7 @@ fn longest_unit(rt: HostRuntime) -> Result<(), Fail> {
     let unit = [0x7e, 0x01, 0x3f, 0xeb, 0xdf, 0x7e];
     assert!(rt; loses(rt.alloc(), 4_094, "relay 1;lose e bad 1", &unit, 4_096)?);
     assert!(rt; loses(rt.alloc(), 4_094, "relay 1;lose e bad 1", &unit, 7)?);
-    let run = long_run(rt.alloc(), 4_095)?;
-    let mut kept = Vec::new(rt.alloc());
-    kept.extend_from_slice(&run.as_slice()[..4_097])?;
-    kept.push(0x7e)?;
+    let kept = lost_behind(rt.alloc(), 4_095)?;
     assert!(rt;
         loses(
             rt.alloc(),
