@@ -20,7 +20,7 @@ use Rattle.er_end_c.specs.Reads.{none_or, deadline_status, shown_deadline, shown
 
 -- all of them 0
 abbrev nothing : CDeeds
-nothing = record { out = 0; used = 0; message = 0; connected = 0; peer = 0; released = 0; reason = 0; sub = 0; by_peer = 0; zero = 0 }
+nothing = record { out = 0; used = 0; message = 0; connected = 0; peer = 0; released = 0; reason = 0; sub = 0; by_peer = 0; back = 0 }
 
 -- the peer released for reason 4, sub-reason 6; the end for reason 0, sub-reason 7
 abbrev by_peer : Release
