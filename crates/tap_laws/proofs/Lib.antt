@@ -10,6 +10,7 @@ pub mod KeysTell
 pub mod Alone
 pub mod Pairs
 pub mod Tapped
+pub mod InText
 pub mod Told
 pub mod Deciding
 pub mod Genuine

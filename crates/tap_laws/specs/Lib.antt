@@ -6,6 +6,7 @@ pub mod OneEnd
 pub mod OwnRecordings
 pub mod Pairs
 pub mod Worlds
+pub mod InText
 pub mod AnyLine
 pub mod Macs
 pub mod Genuine

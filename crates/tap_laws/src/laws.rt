@@ -5,6 +5,7 @@ ghost use Rattle.tap_laws.specs.Progress.{LiveSides, SidesProgress};
 ghost use Rattle.tap_laws.specs.Runs.{EndsAreRuns};
 ghost use Rattle.tap_laws.specs.LawsBelow.{LawsOfOneEnd, LawsOfTwoEnds};
 ghost use Rattle.tap_laws.specs.OneEnd.{AcceptedIsGood};
+ghost use Rattle.tap_laws.specs.InText.{SidesAreInText, TextFindsAccepted};
 ghost use Rattle.tap_laws.specs.OwnRecordings.{OwnRecordingIsGood};
 ghost use Rattle.tap_laws.specs.Pairs.{PairsAudited};
 ghost use Rattle.tap_laws.specs.Worlds.{AuditFindsAccepted};
@@ -92,6 +93,16 @@ pub fn audit_finds_accepted()
 {
     drill_laws::laws::stacks_run();
     pairs_audited();
+}
+
+/// The text of an audit has the lines of each side of each link that its tap opens, those of the items and verdicts of which the laws here speak. So what
+/// is found of what both ends accepted is printed.
+pub fn audit_text_finds_accepted()
+    ensures sides { SidesAreInText }
+    ensures accepted { TextFindsAccepted }
+{
+    tap_model::laws::audit_has_all_links();
+    audit_finds_accepted();
 }
 
 /// Every list of steps of a world, each link of level full at modulo 8, whatever its line does, and every such tap of it: at an end beside which the tap
