@@ -69,8 +69,8 @@ left_by IsEvent behind before = behind
 left_by IsLate behind before = before
 left_by IsMisused behind before = before
 
--- a start is due at an end that calls, until it was started. (A library that refused a start at a connected end alone would answer the second of two
--- starts with OK: `AreAnswered` is false of that)
+-- a start is due at an end that calls, until it was started. (A library that took no note of a start would answer the second of two with OK, and one that
+-- took a start at a late moment for done would refuse the one behind it: `AreAnswered` is false of both)
 abbrev pub is_start_due_at : Opening → Bool
 is_start_due_at (Call settings me peer kmac rb now) = true
 is_start_due_at (Answer settings me ra now) = false

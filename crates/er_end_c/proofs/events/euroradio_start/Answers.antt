@@ -2,7 +2,6 @@ use Rattle.std.proofs.Common.{◌≡◌, ℕ, rules, sym, ap, ◌∙◌, true, f
 use Rattle.std.proofs.lemmas.Bool.{le-ltb}
 use Rattle.std.specs.Prelude.{Some}
 use Rattle.er_end_c.specs.declared.held.Held.{Held}
-use Rattle.er_end_c.specs.Handles.{held_with_end}
 use Rattle.er_end_c.specs.Calls.{Start, is_moment_too_late, held_behind_event, deeds_at, deeds_with_back, is_back, held_behind_call}
 use Rattle.er_end_c.proofs.Noting.{noted_behind, told_behind}
 use Rattle.er_end_c.proofs.events.euroradio_start.Goals as goal
