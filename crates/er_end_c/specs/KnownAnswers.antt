@@ -1,9 +1,10 @@
--- Known answers, worked out by hand from the comments of the header for C: each deed, each status, and what stands against making an end.
-use Rattle.std.specs.Prelude.{ℕ, pos, negsuc, ◌≡◌, Bool, true, false, List, [], ◌∷◌, Some, None, Ok, Err, refl}
+-- Known answers, worked out by hand from the comments of the header for C: each deed, each status, what stands against making an end or starting it,
+-- KMACs of octets and faults of key files.
+use Rattle.std.specs.Prelude.{ℕ, ℤ, pos, negsuc, ◌≡◌, Bool, true, false, List, [], ◌∷◌, Some, None, Ok, Err, refl}
 use Rattle.std.proofs.Common.{inl, inr}
 use Rattle.er_base.specs.declared.release.Release.{Release}
 use Rattle.hdlc_station_model.specs.declared.counts.Counts.{Counts}
-use Rattle.er_end_model.specs.Outcomes.{ConnectedTo, Accepted, Taken, NothingToTake, Refused, WasReleased, Octets, RefusedReleased, RefusedNotConnected, RefusedLength, RefusedFull}
+use Rattle.er_end_model.specs.Outcomes.{Outcome, ConnectedTo, Accepted, Taken, NothingToTake, Refused, WasReleased, Octets, RefusedReleased, RefusedNotConnected, RefusedLength, RefusedFull}
 use Rattle.er_settings.specs.Values.{Settings}
 use Rattle.des_block.specs.declared.triple_key.TripleKey.{TripleKey}
 use Rattle.er_base.specs.Octets.{number_in}
@@ -91,6 +92,24 @@ pub of_other_events :
     × (status_told [] ≡ pos 0)
     × (status_told (ConnectedTo 9 ∷ Accepted three_octets ∷ WasReleased by_peer ∷ Octets two_octets ∷ []) ≡ pos 0)
 of_other_events = (refl, refl, refl, refl)
+
+abbrev is_fault : ℤ → Bool
+is_fault (pos n) = false
+is_fault (negsuc n) = true
+
+-- whatever an event tells, its status is no fault's: so -1, -3 and -8 are answered where they are due alone
+pub of_all_events : (told : List Outcome) → is_fault (status_told told) ≡ false
+of_all_events [] = refl
+of_all_events (ConnectedTo peer ∷ outcomes) = of_all_events outcomes
+of_all_events (Accepted message ∷ outcomes) = of_all_events outcomes
+of_all_events (Taken message ∷ outcomes) = of_all_events outcomes
+of_all_events (NothingToTake ∷ outcomes) = refl
+of_all_events (Refused (RefusedReleased why) ∷ outcomes) = refl
+of_all_events (Refused RefusedNotConnected ∷ outcomes) = refl
+of_all_events (Refused (RefusedLength found) ∷ outcomes) = refl
+of_all_events (Refused (RefusedFull waiting) ∷ outcomes) = refl
+of_all_events (WasReleased why ∷ outcomes) = of_all_events outcomes
+of_all_events (Octets octets ∷ outcomes) = of_all_events outcomes
 
 -- at a handle that holds no end
 pub of_closed_handles :
