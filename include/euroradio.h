@@ -110,6 +110,7 @@ typedef struct euroradio_end {
 #define EURORADIO_SETTING (-5)    /* a setting is out of its range */
 #define EURORADIO_KEYS (-6)       /* the key file, the array of keys or the octets of a KMAC are refused */
 #define EURORADIO_MEMORY (-7)     /* memory ran out */
+#define EURORADIO_START (-8)      /* start: the end was started before, or it answers */
 
 #define EURORADIO_MESSAGE_MOST 1023                  /* octets of a message */
 #define EURORADIO_OUT_MOST 200208                    /* octets that one event sends, at most */
@@ -255,7 +256,8 @@ static inline void euroradio_free(euroradio_end *end) {
         euroradio_end_free(end);
 }
 
-/* An end that calls begins: call it once, before all other events. Answers OK, CLOSED, MOMENT. */
+/* An end that calls begins: call it once, before all other events. A second start, and one of an end that answers, are
+ * faults; a start that was answered with MOMENT is none. Answers OK, CLOSED, MOMENT, START. */
 int32_t euroradio_start(euroradio_end *end, uint64_t now, euroradio_deeds *deeds);
 
 /* Octets come from the line. They are used up to the first that closes a frame, all where none does: do what *deeds

@@ -49,6 +49,8 @@ static inline const char *euroradio_status_text(int32_t status) {
         return "the keys are refused";
     case EURORADIO_MEMORY:
         return "memory ran out";
+    case EURORADIO_START:
+        return "a start that is misused: the end was started before, or it answers";
     default:
         return "a status that this version does not have";
     }

@@ -491,6 +491,62 @@ static void moments_back(void) {
     CHECK(heap_blocks == 0);
 }
 
+/* A start that is misused: no deed, not that of a moment that goes back either, and the end is as if the call hadn't been. */
+static void judge_misused(euroradio_end *end, uint64_t now) {
+    euroradio_deeds deeds;
+    uint8_t sent_before[300], sent_after[300];
+    uint64_t before = 77, after = 77;
+    int32_t wants = euroradio_deadline(end, &before);
+    size_t count = euroradio_out(end, 0, sent_before, sizeof sent_before);
+    memset(&deeds, 0x5a, sizeof deeds);
+    CHECK(euroradio_start(end, now, &deeds) == EURORADIO_START);
+    CHECK(is_zero(&deeds, sizeof deeds));
+    memset(&deeds, 0x5a, sizeof deeds);
+    CHECK(euroradio_start(end, MOST + 1, &deeds) == EURORADIO_MOMENT);
+    CHECK(is_zero(&deeds, sizeof deeds));
+    CHECK(euroradio_deadline(end, &after) == wants && before == after);
+    CHECK(euroradio_out(end, 0, sent_after, sizeof sent_after) == count && memcmp(sent_before, sent_after, count) == 0);
+}
+
+/* An end that calls is started once, and one that answers never, at whatever point they are. */
+static void starts(void) {
+    struct wire wire;
+    euroradio_end end = EURORADIO_END_INIT;
+    euroradio_deeds deeds;
+    uint32_t peer = 77;
+    CHECK(open_wire(&wire, &usual));
+    judge_misused(&wire.centre.end, wire.now);
+    judge_misused(&wire.centre.end, 0);
+    judge_misused(&wire.centre.end, MOST);
+    CHECK(euroradio_tick(&wire.centre.end, wire.now, &deeds) == EURORADIO_OK && deeds.back == 0);
+
+    /* neither a late moment nor a call of another kind takes the start */
+    CHECK(euroradio_start(&wire.engine.end, MOST + 1, &deeds) == EURORADIO_MOMENT);
+    CHECK(euroradio_tick(&wire.engine.end, wire.now, &deeds) == EURORADIO_OK && deeds.out == 0);
+    CHECK(euroradio_start(&wire.engine.end, wire.now, &deeds) == EURORADIO_OK && deeds.out > 0);
+    judge_misused(&wire.engine.end, wire.now);
+    did(&wire, &wire.engine, &deeds);
+    judge_misused(&wire.engine.end, wire.now + 500);
+    run(&wire);
+    CHECK(wire.engine.connected == CENTRE && wire.centre.connected == ENGINE);
+    judge_misused(&wire.engine.end, wire.now);
+    judge_misused(&wire.centre.end, wire.now);
+    CHECK(euroradio_connected(&wire.engine.end, &peer) == EURORADIO_OK && peer == CENTRE);
+    leave(&wire, &wire.engine, 0);
+    run(&wire);
+    judge_misused(&wire.engine.end, wire.now);
+    judge_misused(&wire.centre.end, wire.now);
+    close_wire(&wire);
+
+    /* an end that was released before it was started has its one start, which sends nothing */
+    CHECK(make(CALL, &end, &usual, ENGINE, 0) == EURORADIO_OK);
+    CHECK(euroradio_ended(&end, &deeds) == EURORADIO_OK && deeds.released == 1);
+    CHECK(euroradio_start(&end, 0, &deeds) == EURORADIO_OK && is_zero(&deeds, sizeof deeds));
+    judge_misused(&end, 0);
+    euroradio_free(&end);
+    CHECK(heap_blocks == 0);
+}
+
 static void refusals(void) {
     struct wire wire;
     euroradio_deeds deeds;
@@ -731,6 +787,7 @@ int main(void) {
     handles();
     moments();
     moments_back();
+    starts();
     refusals();
     releases();
     connections();

@@ -26,7 +26,7 @@ static void reasons(void) {
 static void statuses(void) {
     static const int32_t all[] = {EURORADIO_OK,     EURORADIO_RELEASED, EURORADIO_NOT_CONNECTED, EURORADIO_LENGTH,  EURORADIO_FULL,
                                   EURORADIO_NONE,   EURORADIO_CLOSED,   EURORADIO_OPEN,          EURORADIO_MOMENT,  EURORADIO_NUMBER,
-                                  EURORADIO_SETTING, EURORADIO_KEYS,    EURORADIO_MEMORY};
+                                  EURORADIO_SETTING, EURORADIO_KEYS,    EURORADIO_MEMORY,        EURORADIO_START};
     size_t i, k;
     for (i = 0; i < sizeof all / sizeof all[0]; i++) {
         CHECK(strlen(euroradio_status_text(all[i])) > 0);

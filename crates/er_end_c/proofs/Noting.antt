@@ -9,17 +9,16 @@ use Rattle.er_end_c.specs.declared.held.Held.{Held}
 use Rattle.er_end_c.specs.declared.face.CDeeds.{CDeeds}
 use Rattle.er_end_c.specs.Deeds.{deeds_told, deeds_by_outcome_kind}
 use Rattle.er_end_c.specs.Shown.{deeds_of}
-use Rattle.er_end_c.specs.Handles.{held_with_end}
-use Rattle.er_end_c.specs.Calls.{HandleCall, handle_end_behind_call, deeds_at, deeds_with_back, is_back, peer_noted, last_moment_behind, held_behind_call}
+use Rattle.er_end_c.specs.Calls.{HandleCall, held_behind_event, deeds_at, deeds_with_back, is_back, peer_noted, last_moment_behind, held_behind_call}
 
-pub noted_behind : (call : HandleCall) (before behind : Held) (deeds : CDeeds) → behind ≡ held_with_end before (handle_end_behind_call call before) → deeds ≡ deeds_at call before
+pub noted_behind : (call : HandleCall) (before behind : Held) (deeds : CDeeds) → behind ≡ held_behind_event call before → deeds ≡ deeds_at call before
     → record behind { peer = peer_noted deeds behind.peer; last = last_moment_behind call behind.last } ≡ held_behind_call call before
 noted_behind call before behind deeds e d =
     ap (λ (h : Held). record h { peer = peer_noted deeds h.peer; last = last_moment_behind call h.last }) e
-    ∙ ap (λ (x : CDeeds). record (held_with_end before (handle_end_behind_call call before)) { peer = peer_noted x before.peer; last = last_moment_behind call before.last }) d
+    ∙ ap (λ (x : CDeeds). record (held_behind_event call before) { peer = peer_noted x before.peer; last = last_moment_behind call before.last }) d
 
 -- .. and the deeds tell whether its moment went back
-pub told_behind : (call : HandleCall) (before behind : Held) (deeds : CDeeds) → behind ≡ held_with_end before (handle_end_behind_call call before) → deeds ≡ deeds_at call before
+pub told_behind : (call : HandleCall) (before behind : Held) (deeds : CDeeds) → behind ≡ held_behind_event call before → deeds ≡ deeds_at call before
     → deeds_with_back (is_back call behind.last) deeds ≡ deeds_with_back (is_back call before.last) (deeds_at call before)
 told_behind call before behind deeds e d =
     ap (λ (h : Held). deeds_with_back (is_back call h.last) deeds) e ∙ ap (deeds_with_back (is_back call before.last)) d

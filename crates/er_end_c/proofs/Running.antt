@@ -1,11 +1,11 @@
 -- A call is a step of the end model, and so is a run of calls.
 use Rattle.std.proofs.Common.{◌≡◌, ℕ, Bool, true, false, List, [], ◌∷◌, ◌++◌, take, refl, sym, ap, ◌∙◌, subst}
-use Rattle.std.specs.Prelude.{Option, Some, None, if◌then◌else◌, slice_get}
+use Rattle.std.specs.Prelude.{ℤ, Option, Some, None, if◌then◌else◌, slice_get}
 use Rattle.er_base.specs.declared.release.Release.{Release as Why}
 use Rattle.safety_automaton.specs.Keys.{KmacEntry, key_at}
 use Rattle.er_end_model.specs.Outcomes.{Outcome, SendRefusal, ConnectedTo, Accepted, Taken, NothingToTake, Refused, WasReleased, Octets as Sent}
 use Rattle.er_end_model.specs.Steps.{if_connected, if_accepted, if_released, if_octets, if_taken}
-use Rattle.er_end_model.specs.Ends.{Event, End, opened, step_event, refusal_or_outcomes}
+use Rattle.er_end_model.specs.Ends.{Opening, Call, Answer, Event, End, opened, step_event, refusal_or_outcomes}
 use Rattle.er_end_model.specs.Ends as event
 use Rattle.er_end.specs.Inboxes.{newest_of, first_in}
 use Rattle.er_end.specs.KeptEnds.{KEnd, kept_end_behind_event, told_by, used_of, refusal_of_send, after_send, waiting_in}
@@ -14,17 +14,17 @@ use Rattle.er_end.specs.Standing as standing
 use Rattle.er_end_c.specs.declared.handle.CEnd.{CEnd}
 use Rattle.er_end_c.specs.declared.held.Held.{Held}
 use Rattle.er_end_c.specs.declared.face.CDeeds.{CDeeds}
-use Rattle.er_end_c.specs.Statuses.{late_moment}
+use Rattle.er_end_c.specs.Statuses.{late_moment, misused_start}
 use Rattle.er_end_c.specs.Deeds.{no_deeds, deed_flag, deeds_told, status_told, release_deeds, counts_shown}
 use Rattle.er_end_c.specs.Handles.{optional_key_entries, key_entries_of_handle, end_held_in_handle}
-use Rattle.er_end_c.specs.Makings.{held_made, moment_of_opening}
+use Rattle.er_end_c.specs.Makings.{held_made, is_start_awaited_at, moment_of_opening}
 use Rattle.er_end_c.specs.Reads.{text_of_held_end, text_or_empty, out_of, newest_accepted_message, message_last_taken, none_or, else_, deadline_status, shown_deadline, shown_release_status, shown_release, count_waiting_at_handle, shown_counts, peer_unless_released, connection_status, shown_peer}
-use Rattle.er_end_c.specs.Calls.{HandleCall, Start, Octets, Send, Take, Release, Tick, Ended, Fault, Stalled, is_moment_too_late, moment_of, event_of, octet_count_of_call, finds_in, handle_end_behind_call, told_at, deeds_at, deeds_with_back, is_back, last_moment_behind, peer_noted, held_behind_call, held_after, status_after, deeds_after, DoesHandleCall}
+use Rattle.er_end_c.specs.Calls.{HandleCall, Start, Octets, Send, Take, Release, Tick, Ended, Fault, Stalled, is_moment_too_late, moment_of, event_of, octet_count_of_call, finds_in, handle_end_behind_call, told_at, deeds_at, deeds_with_back, is_back, is_start_misused, start_awaited_behind, last_moment_behind, peer_noted, held_behind_call, held_after, status_after, deeds_after, DoesHandleCall}
 use Rattle.er_end_c.proofs.Taking.{last_taken}
 use Rattle.er_end_c.proofs.Using.{uses_octets}
 use Rattle.er_end_c.specs.Used.{UsesOctets}
 use Rattle.hdlc_frames.specs.Laws.{KeptStandsForStream}
-use Rattle.er_end_c.specs.Runs.{Answered, HasTexts, LeadsToHandle, event_used, stepped, model_after, model_run, is_send_refused, octets_told, accepted_told, taken_told, is_take, IsAnsweredIf, AreAnswered, greatest_passed, back_told, TellBack, peer_told, peer_after, peer_behind_calls, TellsPeer, ReadsAs, RunsAsModel}
+use Rattle.er_end_c.specs.Runs.{Answered, HasTexts, LeadsToHandle, Reception, IsEvent, IsLate, IsMisused, received_on_time, received, left_by, is_start_due_at, is_due_behind, is_due_after, event_used, stepped, model_after, model_run, is_send_refused, octets_told, accepted_told, taken_told, is_take, IsAnsweredAs, AreAnswered, greatest_passed, back_told, TellBack, peer_told, peer_after, peer_behind_calls, TellsPeer, ReadsAs, RunsAsModel}
 
 -- ---- texts
 
@@ -122,14 +122,15 @@ taken_at Stalled h t = absurd (cc t)
 
 -- ---- one call
 
--- a handle holds an end that stands for this one, with these keys and this peer, behind this moment
-record Holds (end : CEnd) (entries : List KmacEntry) (m : End) (peer : Option ℕ) (last : ℕ) : Type 0 where
+-- a handle holds an end that stands for this one, with these keys and this peer, behind this moment, at which a start is due or isn't
+record Holds (end : CEnd) (entries : List KmacEntry) (m : End) (peer : Option ℕ) (last : ℕ) (is_due : Bool) : Type 0 where
   found : Held
   there : end_held_in_handle end ≡ Some found
   keyed : key_entries_of_handle found ≡ entries
   tied : EndStands found.end m
   named : found.peer ≡ peer
   passed : found.last ≡ last
+  due : found.awaits_start ≡ is_due
 
 -- the peer that deeds name is the one that their outcomes tell
 noted : (outcomes : List Outcome) (used : ℕ) (before : Option ℕ) → peer_noted (record (deeds_told outcomes) { used = used }) before ≡ peer_told outcomes before
@@ -178,17 +179,77 @@ back_same Ended n = refl
 back_same Fault n = refl
 back_same Stalled n = refl
 
-one_at : StepsAlike → KeptStandsForStream → (late : Bool) (entries : List KmacEntry) (a : Answered) (next : CEnd) (m : End) (peer : Option ℕ) (last : ℕ) (h : Held) → key_entries_of_handle h ≡ entries → EndStands h.end m → h.peer ≡ peer → h.last ≡ last
-    → end_held_in_handle next ≡ (if late then Some h else Some (held_behind_call a.call h))
-    → a.status ≡ (if late then late_moment else status_told (told_at a.call h))
-    → a.deeds ≡ (if late then no_deeds else deeds_with_back (is_back a.call h.last) (deeds_at a.call h))
+-- starts, in the words of the law
+due_same : (call : HandleCall) (b : Bool) → start_awaited_behind call b ≡ is_due_behind call b
+due_same (Start now) b = refl
+due_same (Octets now piece) b = refl
+due_same (Send now text) b = refl
+due_same (Take now) b = refl
+due_same (Release now sub) b = refl
+due_same (Tick now) b = refl
+due_same Ended b = refl
+due_same Fault b = refl
+due_same Stalled b = refl
+
+due_at : (opening : Opening) → is_start_awaited_at opening ≡ is_start_due_at opening
+due_at (Call settings me peer kmac rb now) = refl
+due_at (Answer settings me ra now) = refl
+
+-- what a call is received as, where its faults are tried one by one
+left_on_time : {A : Type 0} → (call : HandleCall) (b : Bool) (behind before : A)
+    → (if is_start_misused call b then before else behind) ≡ left_by (received_on_time call b) behind before
+left_on_time (Start now) true behind before = refl
+left_on_time (Start now) false behind before = refl
+left_on_time (Octets now piece) b behind before = refl
+left_on_time (Send now text) b behind before = refl
+left_on_time (Take now) b behind before = refl
+left_on_time (Release now sub) b behind before = refl
+left_on_time (Tick now) b behind before = refl
+left_on_time Ended b behind before = refl
+left_on_time Fault b behind before = refl
+left_on_time Stalled b behind before = refl
+
+left : {A : Type 0} → (late : Bool) (call : HandleCall) (b : Bool) (behind before : A)
+    → (if late then before else if is_start_misused call b then before else behind) ≡ left_by (if late then IsLate else received_on_time call b) behind before
+left true call b behind before = refl
+left false call b behind before = left_on_time call b behind before
+
+abbrev status_as : Reception → ℤ → ℤ
+status_as IsEvent s = s
+status_as IsLate s = late_moment
+status_as IsMisused s = misused_start
+
+status_on_time : (call : HandleCall) (b : Bool) (s : ℤ) → (if is_start_misused call b then misused_start else s) ≡ status_as (received_on_time call b) s
+status_on_time (Start now) true s = refl
+status_on_time (Start now) false s = refl
+status_on_time (Octets now piece) b s = refl
+status_on_time (Send now text) b s = refl
+status_on_time (Take now) b s = refl
+status_on_time (Release now sub) b s = refl
+status_on_time (Tick now) b s = refl
+status_on_time Ended b s = refl
+status_on_time Fault b s = refl
+status_on_time Stalled b s = refl
+
+status_left : (late : Bool) (call : HandleCall) (b : Bool) (s : ℤ)
+    → (if late then late_moment else if is_start_misused call b then misused_start else s) ≡ status_as (if late then IsLate else received_on_time call b) s
+status_left true call b s = refl
+status_left false call b s = status_on_time call b s
+
+one_at : StepsAlike → KeptStandsForStream → (r : Reception) (entries : List KmacEntry) (a : Answered) (next : CEnd) (m : End) (peer : Option ℕ) (last : ℕ) (is_due : Bool) (h : Held) → key_entries_of_handle h ≡ entries → EndStands h.end m
+    → h.peer ≡ peer → h.last ≡ last → h.awaits_start ≡ is_due
+    → end_held_in_handle next ≡ left_by r (Some (held_behind_call a.call h)) (Some h)
+    → a.status ≡ status_as r (status_told (told_at a.call h))
+    → a.deeds ≡ left_by r (deeds_with_back (is_back a.call h.last) (deeds_at a.call h)) no_deeds
     → HasTexts next a
-    → IsAnsweredIf late (key_at entries) a m × (a.deeds.back ≡ (if late then 0 else back_told a.call last))
-    × Holds next entries (if late then m else (stepped (key_at entries) a m).0) (if late then peer else peer_told (stepped (key_at entries) a m).1 peer)
-    (if late then last else greatest_passed a.call last)
-one_at steps keeps true entries a next m peer last h e tied named passed there s d t =
-    ((s, d), ap (λ (x : CDeeds). x.back) d, record { found = h; there = there; keyed = e; tied = tied; named = named; passed = passed })
-one_at steps keeps false entries a next m peer last h e tied named passed there s d t =
+    → IsAnsweredAs r (key_at entries) a m × (a.deeds.back ≡ left_by r (back_told a.call last) 0)
+    × Holds next entries (left_by r (stepped (key_at entries) a m).0 m) (left_by r (peer_told (stepped (key_at entries) a m).1 peer) peer)
+    (left_by r (greatest_passed a.call last) last) (left_by r (is_due_behind a.call is_due) is_due)
+one_at steps keeps IsLate entries a next m peer last is_due h e tied named passed due there s d t =
+    ((s, d), ap (λ (x : CDeeds). x.back) d, record { found = h; there = there; keyed = e; tied = tied; named = named; passed = passed; due = due })
+one_at steps keeps IsMisused entries a next m peer last is_due h e tied named passed due there s d t =
+    ((s, d), ap (λ (x : CDeeds). x.back) d, record { found = h; there = there; keyed = e; tied = tied; named = named; passed = passed; due = due })
+one_at steps keeps IsEvent entries a next m peer last is_due h e tied named passed due there s d t =
     let k : KEnd = h.end in let now : ℕ = moment_of a.call in let ev : Event = event_of (finds_in h) a.call in
     let u : a.deeds.used ≡ octet_count_of_call a.call k = ap (λ (x : CDeeds). x.used) d in
     let back : ℕ = deed_flag (is_back a.call h.last) in
@@ -217,20 +278,37 @@ one_at steps keeps false entries a next m peer last h e tied named passed there 
         tied = subst (λ (x : Event). EndStands (kept_end_behind_event now ev k) (step_event now x m).0) same p.0;
         named = noted (told_at a.call h) (octet_count_of_call a.call k) h.peer ∙ ap (peer_told (told_at a.call h)) named ∙ ap (λ (x : List Outcome). peer_told x peer) told;
         passed = ap (last_moment_behind a.call) passed ∙ greatest_same a.call last;
+        due = ap (start_awaited_behind a.call) due ∙ due_same a.call is_due;
       },
     )
 
-one : StepsAlike → KeptStandsForStream → (entries : List KmacEntry) (a : Answered) (first next : CEnd) (m : End) (peer : Option ℕ) (last : ℕ) → Holds first entries m peer last → DoesHandleCall a.call first next a.status a.deeds → HasTexts next a
-    → IsAnsweredIf (is_moment_too_late (moment_of a.call)) (key_at entries) a m × (a.deeds.back ≡ (if is_moment_too_late (moment_of a.call) then 0 else back_told a.call last))
-    × Holds next entries (model_after (key_at entries) a m) (peer_after (key_at entries) a m peer) (if is_moment_too_late (moment_of a.call) then last else greatest_passed a.call last)
-one steps keeps entries a first next m peer last holds does texts =
-    one_at steps keeps (is_moment_too_late (moment_of a.call)) entries a next m peer last holds.found holds.keyed holds.tied holds.named holds.passed
-    (does.held ∙ ap (held_after a.call) holds.there) (does.answer ∙ ap (status_after a.call) holds.there) (does.tells ∙ ap (deeds_after a.call) holds.there) texts
+one : StepsAlike → KeptStandsForStream → (entries : List KmacEntry) (a : Answered) (first next : CEnd) (m : End) (peer : Option ℕ) (last : ℕ) (is_due : Bool) → Holds first entries m peer last is_due
+    → DoesHandleCall a.call first next a.status a.deeds → HasTexts next a
+    → IsAnsweredAs (received a.call is_due) (key_at entries) a m × (a.deeds.back ≡ left_by (received a.call is_due) (back_told a.call last) 0)
+    × Holds next entries (model_after (key_at entries) a is_due m) (peer_after (key_at entries) a is_due m peer) (left_by (received a.call is_due) (greatest_passed a.call last) last)
+    (is_due_after a.call is_due)
+one steps keeps entries a first next m peer last is_due holds does texts =
+    let h : Held = holds.found in let late : Bool = is_moment_too_late (moment_of a.call) in
+    one_at steps keeps (received a.call is_due) entries a next m peer last is_due h holds.keyed holds.tied holds.named holds.passed holds.due
+    (
+    does.held ∙ ap (held_after a.call) holds.there ∙ left late a.call h.awaits_start (Some (held_behind_call a.call h)) (Some h)
+    ∙ ap (λ (b : Bool). left_by (received a.call b) (Some (held_behind_call a.call h)) (Some h)) holds.due
+    )
+    (
+    does.answer ∙ ap (status_after a.call) holds.there ∙ status_left late a.call h.awaits_start (status_told (told_at a.call h))
+    ∙ ap (λ (b : Bool). status_as (received a.call b) (status_told (told_at a.call h))) holds.due
+    )
+    (
+    does.tells ∙ ap (deeds_after a.call) holds.there
+    ∙ left late a.call h.awaits_start (deeds_with_back (is_back a.call h.last) (deeds_at a.call h)) no_deeds
+    ∙ ap (λ (b : Bool). left_by (received a.call b) (deeds_with_back (is_back a.call h.last) (deeds_at a.call h)) no_deeds) holds.due
+    )
+    texts
 
 -- ---- what is read
 
-reads : ShowsAlike → (end : CEnd) (entries : List KmacEntry) (m : End) (peer : Option ℕ) (last : ℕ) → Holds end entries m peer last → ReadsAs end m
-reads shows end entries m peer last holds =
+reads : ShowsAlike → (end : CEnd) (entries : List KmacEntry) (m : End) (peer : Option ℕ) (last : ℕ) (is_due : Bool) → Holds end entries m peer last is_due → ReadsAs end m
+reads shows end entries m peer last is_due holds =
     let k : KEnd = holds.found.end in let s = shows k m holds.tied in
     record {
       wanted = ap deadline_status holds.there ∙ ap none_or s.0;
@@ -241,8 +319,8 @@ reads shows end entries m peer last holds =
       counts = ap shown_counts holds.there ∙ ap counts_shown s.4;
     }
 
-tells_peer : ShowsAlike → (end : CEnd) (entries : List KmacEntry) (m : End) (peer : Option ℕ) (last : ℕ) → Holds end entries m peer last → TellsPeer end m peer
-tells_peer shows end entries m peer last holds =
+tells_peer : ShowsAlike → (end : CEnd) (entries : List KmacEntry) (m : End) (peer : Option ℕ) (last : ℕ) (is_due : Bool) → Holds end entries m peer last is_due → TellsPeer end m peer
+tells_peer shows end entries m peer last is_due holds =
     let k : KEnd = holds.found.end in let s = shows k m holds.tied in
     let same : peer_unless_released k.core.released holds.found.peer ≡ peer_unless_released m.core.released peer =
     ap (λ (why : Option Why). peer_unless_released why holds.found.peer) s.1 ∙ ap (peer_unless_released m.core.released) holds.named in
@@ -253,21 +331,21 @@ tells_peer shows end entries m peer last holds =
 
 -- ---- a run
 
-run_from : StepsAlike → KeptStandsForStream → ShowsAlike → (entries : List KmacEntry) (calls : List Answered) (first last : CEnd) (m : End) (peer : Option ℕ) (before : ℕ) → Holds first entries m peer before
+run_from : StepsAlike → KeptStandsForStream → ShowsAlike → (entries : List KmacEntry) (calls : List Answered) (first last : CEnd) (m : End) (peer : Option ℕ) (before : ℕ) (is_due : Bool) → Holds first entries m peer before is_due
     → LeadsToHandle calls first last
-    → AreAnswered (key_at entries) calls m × TellBack calls before × ReadsAs last (model_run (key_at entries) calls m)
-    × TellsPeer last (model_run (key_at entries) calls m) (peer_behind_calls (key_at entries) calls m peer)
-run_from steps keeps shows entries [] first last m peer before holds same =
-    let here : Holds last entries m peer before = record { found = holds.found; there = same ∙ holds.there; keyed = holds.keyed; tied = holds.tied; named = holds.named; passed = holds.passed } in
-    (tt, tt, reads shows last entries m peer before here, tells_peer shows last entries m peer before here)
-run_from steps keeps shows entries (a ∷ calls) first last m peer before holds leads =
+    → AreAnswered (key_at entries) calls is_due m × TellBack calls is_due before × ReadsAs last (model_run (key_at entries) calls is_due m)
+    × TellsPeer last (model_run (key_at entries) calls is_due m) (peer_behind_calls (key_at entries) calls is_due m peer)
+run_from steps keeps shows entries [] first last m peer before is_due holds same =
+    let here : Holds last entries m peer before is_due = record { found = holds.found; there = same ∙ holds.there; keyed = holds.keyed; tied = holds.tied; named = holds.named; passed = holds.passed; due = holds.due } in
+    (tt, tt, reads shows last entries m peer before is_due here, tells_peer shows last entries m peer before is_due here)
+run_from steps keeps shows entries (a ∷ calls) first last m peer before is_due holds leads =
     let next : CEnd = leads.0 in
-    let o = one steps keeps entries a first next m peer before holds leads.1 leads.2 in
-    let late : Bool = is_moment_too_late (moment_of a.call) in
-    let rest = run_from steps keeps shows entries calls next last (model_after (key_at entries) a m) (peer_after (key_at entries) a m peer) (if late then before else greatest_passed a.call before) o.2 leads.3 in
+    let o = one steps keeps entries a first next m peer before is_due holds leads.1 leads.2 in
+    let rest = run_from steps keeps shows entries calls next last (model_after (key_at entries) a is_due m) (peer_after (key_at entries) a is_due m peer)
+    (left_by (received a.call is_due) (greatest_passed a.call before) before) (is_due_after a.call is_due) o.2 leads.3 in
     ((o.0, rest.0), (o.1, rest.1), rest.2, rest.3)
 
 pub runs_as_model : MadeStands → StepsAlike → KeptStandsForStream → ShowsAlike → RunsAsModel
 runs_as_model made steps keeps shows opening entries calls first last allowed is leads =
-    run_from steps keeps shows (optional_key_entries entries) calls first last (opened opening) None (moment_of_opening opening)
-    (record { found = held_made opening entries; there = is; keyed = refl; tied = made opening allowed; named = refl; passed = refl }) leads
+    run_from steps keeps shows (optional_key_entries entries) calls first last (opened opening) None (moment_of_opening opening) (is_start_due_at opening)
+    (record { found = held_made opening entries; there = is; keyed = refl; tied = made opening allowed; named = refl; passed = refl; due = due_at opening }) leads

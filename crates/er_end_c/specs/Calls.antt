@@ -1,5 +1,5 @@
 -- Contract: what a call that is an event at an end leaves and answers.
-use Rattle.std.specs.Prelude.{ℕ, ℤ, ◌≡◌, ◌==◌, max, Bool, true, false, nat_lt, if◌then◌else◌, List, Option, Some, None}
+use Rattle.std.specs.Prelude.{ℕ, ℤ, ◌≡◌, ◌==◌, max, Bool, true, false, not, nat_lt, if◌then◌else◌, List, Option, Some, None}
 use Rattle.safety_automaton.specs.Keys.{key_at}
 use Rattle.er_end_model.specs.Steps.{Finds}
 use Rattle.er_end_model.specs.Outcomes.{Outcome}
@@ -10,7 +10,7 @@ use Rattle.er_end_c.specs.declared.handle.CEnd.{CEnd}
 use Rattle.er_end_c.specs.declared.held.Held.{Held}
 use Rattle.er_end_c.specs.declared.face.CDeeds.{CDeeds}
 use Rattle.er_end_c.specs.Deeds.{no_deeds, deed_flag, deeds_told, status_told}
-use Rattle.er_end_c.specs.Statuses.{closed_handle, late_moment}
+use Rattle.er_end_c.specs.Statuses.{closed_handle, late_moment, misused_start}
 use Rattle.er_end_c.specs.Handles.{end_held_in_handle, held_with_end, key_entries_of_handle}
 
 -- a call that is an event at an end, with what it was passed
@@ -61,6 +61,31 @@ is_back call last = if has_moment call then nat_lt (moment_of call) last else fa
 abbrev pub last_moment_behind : HandleCall → (last : ℕ) → ℕ
 last_moment_behind call last = if has_moment call then max last (moment_of call) else last
 
+-- ---- starts: an end that calls awaits one, until it is started; an end that answers awaits none
+
+-- a start that is misused: none is awaited
+abbrev pub is_start_misused : HandleCall → (awaits_start : Bool) → Bool
+is_start_misused (Start now) awaits_start = not awaits_start
+is_start_misused (Octets now piece) awaits_start = false
+is_start_misused (Send now text) awaits_start = false
+is_start_misused (Take now) awaits_start = false
+is_start_misused (Release now sub) awaits_start = false
+is_start_misused (Tick now) awaits_start = false
+is_start_misused Ended awaits_start = false
+is_start_misused Fault awaits_start = false
+is_start_misused Stalled awaits_start = false
+
+abbrev pub start_awaited_behind : HandleCall → (awaits_start : Bool) → Bool
+start_awaited_behind (Start now) awaits_start = false
+start_awaited_behind (Octets now piece) awaits_start = awaits_start
+start_awaited_behind (Send now text) awaits_start = awaits_start
+start_awaited_behind (Take now) awaits_start = awaits_start
+start_awaited_behind (Release now sub) awaits_start = awaits_start
+start_awaited_behind (Tick now) awaits_start = awaits_start
+start_awaited_behind Ended awaits_start = awaits_start
+start_awaited_behind Fault awaits_start = awaits_start
+start_awaited_behind Stalled awaits_start = awaits_start
+
 -- the event of the end model, where keys are found so
 abbrev pub event_of : Finds → HandleCall → Event
 event_of finds (Start now) = model.Start
@@ -108,22 +133,35 @@ deeds_with_back back deeds = record deeds { back = deed_flag back }
 abbrev pub peer_noted : CDeeds → Option ℕ → Option ℕ
 peer_noted deeds before = if deeds.connected == 1 then Some deeds.peer else before
 
-abbrev pub held_behind_call : HandleCall → Held → Held
-held_behind_call call h = record (held_with_end h (handle_end_behind_call call h)) { peer = peer_noted (deeds_at call h) h.peer; last = last_moment_behind call h.last }
+-- what the event changes: the end, and that a start isn't awaited behind one
+abbrev pub held_behind_event : HandleCall → Held → Held
+held_behind_event call h = record (held_with_end h (handle_end_behind_call call h)) { awaits_start = start_awaited_behind call h.awaits_start }
 
--- ---- the call at a handle: at one that holds nothing, and at a late moment, nothing happens
+abbrev pub held_behind_call : HandleCall → Held → Held
+held_behind_call call h = record (held_behind_event call h) { peer = peer_noted (deeds_at call h) h.peer; last = last_moment_behind call h.last }
+
+-- ---- the call at a handle: at one that holds nothing, at a late moment, and at a start that is misused, nothing happens
 
 abbrev pub held_after : HandleCall → Option Held → Option Held
 held_after call None = None
-held_after call (Some h) = if is_moment_too_late (moment_of call) then Some h else Some (held_behind_call call h)
+held_after call (Some h) =
+    if is_moment_too_late (moment_of call) then Some h
+    else if is_start_misused call h.awaits_start then Some h
+    else Some (held_behind_call call h)
 
 abbrev pub status_after : HandleCall → Option Held → ℤ
 status_after call None = closed_handle
-status_after call (Some h) = if is_moment_too_late (moment_of call) then late_moment else status_told (told_at call h)
+status_after call (Some h) =
+    if is_moment_too_late (moment_of call) then late_moment
+    else if is_start_misused call h.awaits_start then misused_start
+    else status_told (told_at call h)
 
 abbrev pub deeds_after : HandleCall → Option Held → CDeeds
 deeds_after call None = no_deeds
-deeds_after call (Some h) = if is_moment_too_late (moment_of call) then no_deeds else deeds_with_back (is_back call h.last) (deeds_at call h)
+deeds_after call (Some h) =
+    if is_moment_too_late (moment_of call) then no_deeds
+    else if is_start_misused call h.awaits_start then no_deeds
+    else deeds_with_back (is_back call h.last) (deeds_at call h)
 
 pub record DoesHandleCall (call : HandleCall) (old new : CEnd) (status : ℤ) (deeds : CDeeds) : Type 0 where
   pub held : end_held_in_handle new ≡ held_after call (end_held_in_handle old)

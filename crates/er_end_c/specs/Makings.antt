@@ -1,5 +1,5 @@
 -- Contract: what the makers of an end answer and leave.
-use Rattle.std.specs.Prelude.{ℕ, ℤ, ◌≡◌, ◌==◌, ◌&&◌, ◌||◌, ◌^◌, min, nat_lt, Bool, not, if◌then◌else◌, List, Option, Some, None, Result, Ok, Err, ◌⊎◌, slice_index_or}
+use Rattle.std.specs.Prelude.{ℕ, ℤ, ◌≡◌, ◌==◌, ◌&&◌, ◌||◌, ◌^◌, min, nat_lt, Bool, true, false, not, if◌then◌else◌, List, Option, Some, None, Result, Ok, Err, ◌⊎◌, slice_index_or}
 use Rattle.des_block.specs.declared.triple_key.TripleKey.{TripleKey}
 use Rattle.safety_automaton.specs.Keys.{KmacEntry}
 use Rattle.er_settings.specs.Values.{Settings}
@@ -58,8 +58,14 @@ abbrev pub moment_of_opening : Opening → ℕ
 moment_of_opening (Call settings me peer kmac rb now) = now
 moment_of_opening (Answer settings me ra now) = now
 
+-- an end that calls is to be started
+abbrev pub is_start_awaited_at : Opening → Bool
+is_start_awaited_at (Call settings me peer kmac rb now) = true
+is_start_awaited_at (Answer settings me ra now) = false
+
 abbrev pub held_made : Opening → Option (List KmacEntry) → Held
-held_made opening entries = record { end = kept_opened opening; keys = entries; peer = None; last = moment_of_opening opening }
+held_made opening entries =
+    record { end = kept_opened opening; keys = entries; peer = None; last = moment_of_opening opening; awaits_start = is_start_awaited_at opening }
 
 -- what is made of an opening and of what keys say; nothing where they are refused
 abbrev pub made_with : {E : Type 0} → Opening → Result (List KmacEntry) E → Option Held

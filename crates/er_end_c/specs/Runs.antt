@@ -4,12 +4,12 @@ use Rattle.safety_automaton.specs.Keys.{KmacEntry, key_at}
 use Rattle.er_end_model.specs.Outcomes.{Outcome, ConnectedTo, Accepted, Taken, NothingToTake, Refused, WasReleased, Octets as Sent}
 use Rattle.er_end_model.specs.Steps.{Finds, deadline}
 use Rattle.er_end_model.specs.Layers.{model}
-use Rattle.er_end_model.specs.Ends.{Opening, Event, End, opened, step_event}
+use Rattle.er_end_model.specs.Ends.{Opening, Call, Answer, Event, End, opened, step_event}
 use Rattle.er_end_model.specs.Ends as event
 use Rattle.er_end.specs.Standing.{IsAllowed}
 use Rattle.er_end_c.specs.declared.handle.CEnd.{CEnd}
 use Rattle.er_end_c.specs.declared.face.CDeeds.{CDeeds}
-use Rattle.er_end_c.specs.Statuses.{late_moment}
+use Rattle.er_end_c.specs.Statuses.{late_moment, misused_start}
 use Rattle.er_end_c.specs.Deeds.{no_deeds, deeds_told, status_told, release_deeds, counts_shown}
 use Rattle.er_end_c.specs.Handles.{optional_key_entries, end_held_in_handle}
 use Rattle.er_end_c.specs.Makings.{IsHandleMade, moment_of_opening}
@@ -37,6 +37,58 @@ abbrev pub LeadsToHandle : List Answered → CEnd → CEnd → Type 0
 LeadsToHandle [] first last = end_held_in_handle last ≡ end_held_in_handle first
 LeadsToHandle (a ∷ calls) first last = (next : CEnd) × DoesHandleCall a.call first next a.status a.deeds × HasTexts next a × LeadsToHandle calls next last
 
+-- ---- how a call is received
+
+-- as an event; as a fault, since its moment is above 10 ^ 15; as a fault, since it is a start and none is due
+pub data Reception : Type 0 where
+  IsEvent : Reception
+  IsLate : Reception
+  IsMisused : Reception
+
+abbrev pub start_received : (is_due : Bool) → Reception
+start_received true = IsEvent
+start_received false = IsMisused
+
+abbrev pub received_on_time : HandleCall → (is_due : Bool) → Reception
+received_on_time (Start now) is_due = start_received is_due
+received_on_time (Octets now piece) is_due = IsEvent
+received_on_time (Send now text) is_due = IsEvent
+received_on_time (Take now) is_due = IsEvent
+received_on_time (Release now sub) is_due = IsEvent
+received_on_time (Tick now) is_due = IsEvent
+received_on_time Ended is_due = IsEvent
+received_on_time Fault is_due = IsEvent
+received_on_time Stalled is_due = IsEvent
+
+abbrev pub received : HandleCall → (is_due : Bool) → Reception
+received call is_due = if is_moment_too_late (moment_of call) then IsLate else received_on_time call is_due
+
+-- what an event leaves; behind a fault it is what it was before
+abbrev pub left_by : {A : Type 0} → Reception → (behind before : A) → A
+left_by IsEvent behind before = behind
+left_by IsLate behind before = before
+left_by IsMisused behind before = before
+
+-- a start is due at an end that calls, until it was started. (A library that took no note of a start would answer the second of two with OK, and one that
+-- took a start at a late moment for done would refuse the one behind it: `AreAnswered` is false of both)
+abbrev pub is_start_due_at : Opening → Bool
+is_start_due_at (Call settings me peer kmac rb now) = true
+is_start_due_at (Answer settings me ra now) = false
+
+abbrev pub is_due_behind : HandleCall → (is_due : Bool) → Bool
+is_due_behind (Start now) is_due = false
+is_due_behind (Octets now piece) is_due = is_due
+is_due_behind (Send now text) is_due = is_due
+is_due_behind (Take now) is_due = is_due
+is_due_behind (Release now sub) is_due = is_due
+is_due_behind (Tick now) is_due = is_due
+is_due_behind Ended is_due = is_due
+is_due_behind Fault is_due = is_due
+is_due_behind Stalled is_due = is_due
+
+abbrev pub is_due_after : HandleCall → (is_due : Bool) → Bool
+is_due_after call is_due = left_by (received call is_due) (is_due_behind call is_due) is_due
+
 -- ---- in the end model
 
 -- the event that a call is; octets are those that it used
@@ -54,13 +106,13 @@ event_used finds Stalled used = event.Stalled
 abbrev pub stepped : Finds → Answered → End → End × List Outcome
 stepped finds a m = step_event (moment_of a.call) (event_used finds a.call a.deeds.used) m
 
--- the end behind a call; nothing happens at a moment above 10 ^ 15
-abbrev pub model_after : Finds → Answered → End → End
-model_after finds a m = if is_moment_too_late (moment_of a.call) then m else (stepped finds a m).0
+-- the end behind a call
+abbrev pub model_after : Finds → Answered → (is_due : Bool) → End → End
+model_after finds a is_due m = left_by (received a.call is_due) (stepped finds a m).0 m
 
-abbrev pub model_run : Finds → List Answered → End → End
-model_run finds [] m = m
-model_run finds (a ∷ calls) m = model_run finds calls (model_after finds a m)
+abbrev pub model_run : Finds → List Answered → (is_due : Bool) → End → End
+model_run finds [] is_due m = m
+model_run finds (a ∷ calls) is_due m = model_run finds calls (is_due_after a.call is_due) (model_after finds a is_due m)
 
 -- a send was refused
 abbrev pub is_send_refused : List Outcome → Bool
@@ -126,9 +178,10 @@ pub record IsAnswered (a : Answered) (told : List Outcome) : Type 0 where
   pub came : is_send_refused told ≡ false → a.accepted ≡ accepted_told told
   pub took : is_take a.call ≡ true → a.taken ≡ taken_told told
 
-abbrev pub IsAnsweredIf : (late : Bool) → Finds → Answered → End → Type 0
-IsAnsweredIf true finds a m = (a.status ≡ late_moment) × (a.deeds ≡ no_deeds)
-IsAnsweredIf false finds a m = IsAnswered a (stepped finds a m).1 × UsesOctets a.call m a.deeds.used
+abbrev pub IsAnsweredAs : Reception → Finds → Answered → End → Type 0
+IsAnsweredAs IsEvent finds a m = IsAnswered a (stepped finds a m).1 × UsesOctets a.call m a.deeds.used
+IsAnsweredAs IsLate finds a m = (a.status ≡ late_moment) × (a.deeds ≡ no_deeds)
+IsAnsweredAs IsMisused finds a m = (a.status ≡ misused_start) × (a.deeds ≡ no_deeds)
 
 -- the greatest moment that was passed so far, behind a call; three calls pass none
 abbrev pub greatest_passed : HandleCall → (before : ℕ) → ℕ
@@ -159,15 +212,16 @@ back_told Stalled greatest = 0
 -- the deeds tell that a moment went back exactly where it is below one that was passed before: as the end was made, or by a call behind that. (A call
 -- that compared with the moment of the call before it alone would tell the first moment behind one that was far too great, and none of those that
 -- follow: it is false of that)
-abbrev pub TellBack : List Answered → (greatest : ℕ) → Type 0
-TellBack [] greatest = Unit {0}
-TellBack (a ∷ calls) greatest =
-    (a.deeds.back ≡ (if is_moment_too_late (moment_of a.call) then 0 else back_told a.call greatest))
-    × TellBack calls (if is_moment_too_late (moment_of a.call) then greatest else greatest_passed a.call greatest)
+abbrev pub TellBack : List Answered → (is_due : Bool) → (greatest : ℕ) → Type 0
+TellBack [] is_due greatest = Unit {0}
+TellBack (a ∷ calls) is_due greatest =
+    (a.deeds.back ≡ left_by (received a.call is_due) (back_told a.call greatest) 0)
+    × TellBack calls (is_due_after a.call is_due) (left_by (received a.call is_due) (greatest_passed a.call greatest) greatest)
 
-abbrev pub AreAnswered : Finds → List Answered → End → Type 0
-AreAnswered finds [] m = Unit {0}
-AreAnswered finds (a ∷ calls) m = IsAnsweredIf (is_moment_too_late (moment_of a.call)) finds a m × AreAnswered finds calls (model_after finds a m)
+abbrev pub AreAnswered : Finds → List Answered → (is_due : Bool) → End → Type 0
+AreAnswered finds [] is_due m = Unit {0}
+AreAnswered finds (a ∷ calls) is_due m =
+    IsAnsweredAs (received a.call is_due) finds a m × AreAnswered finds calls (is_due_after a.call is_due) (model_after finds a is_due m)
 
 -- the peer with which the safe connection came to stand last: the one that these outcomes tell, or the one before
 abbrev pub peer_told : List Outcome → Option ℕ → Option ℕ
@@ -181,12 +235,13 @@ peer_told (WasReleased why ∷ outcomes) before = peer_told outcomes before
 peer_told (Sent octets ∷ outcomes) before = peer_told outcomes before
 
 -- .. behind calls, one after the other
-abbrev pub peer_after : Finds → Answered → End → Option ℕ → Option ℕ
-peer_after finds a m before = if is_moment_too_late (moment_of a.call) then before else peer_told (stepped finds a m).1 before
+abbrev pub peer_after : Finds → Answered → (is_due : Bool) → End → Option ℕ → Option ℕ
+peer_after finds a is_due m before = left_by (received a.call is_due) (peer_told (stepped finds a m).1 before) before
 
-abbrev pub peer_behind_calls : Finds → List Answered → End → Option ℕ → Option ℕ
-peer_behind_calls finds [] m before = before
-peer_behind_calls finds (a ∷ calls) m before = peer_behind_calls finds calls (model_after finds a m) (peer_after finds a m before)
+abbrev pub peer_behind_calls : Finds → List Answered → (is_due : Bool) → End → Option ℕ → Option ℕ
+peer_behind_calls finds [] is_due m before = before
+peer_behind_calls finds (a ∷ calls) is_due m before =
+    peer_behind_calls finds calls (is_due_after a.call is_due) (model_after finds a is_due m) (peer_after finds a is_due m before)
 
 -- the call that tells with whom the safe connection stands answers that peer, until the end is released. (One that asked the deeds of the last call
 -- alone would know no peer behind the next event: `stands` is false of it)
@@ -207,8 +262,8 @@ pub record ReadsAs (end : CEnd) (m : End) : Type 0 where
 abbrev pub RunsAsModel : Type 0
 RunsAsModel =
     (opening : Opening) (entries : Option (List KmacEntry)) (calls : List Answered) (first last : CEnd) → IsAllowed opening → IsHandleMade first opening entries → LeadsToHandle calls first last
-    → AreAnswered (key_at (optional_key_entries entries)) calls (opened opening)
-    × TellBack calls (moment_of_opening opening)
-    × ReadsAs last (model_run (key_at (optional_key_entries entries)) calls (opened opening))
-    × TellsPeer last (model_run (key_at (optional_key_entries entries)) calls (opened opening))
-    (peer_behind_calls (key_at (optional_key_entries entries)) calls (opened opening) None)
+    → AreAnswered (key_at (optional_key_entries entries)) calls (is_start_due_at opening) (opened opening)
+    × TellBack calls (is_start_due_at opening) (moment_of_opening opening)
+    × ReadsAs last (model_run (key_at (optional_key_entries entries)) calls (is_start_due_at opening) (opened opening))
+    × TellsPeer last (model_run (key_at (optional_key_entries entries)) calls (is_start_due_at opening) (opened opening))
+    (peer_behind_calls (key_at (optional_key_entries entries)) calls (is_start_due_at opening) (opened opening) None)

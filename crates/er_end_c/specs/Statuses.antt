@@ -22,8 +22,8 @@ full = pos 4
 abbrev pub none : ℤ
 none = pos 5
 
--- -1 to -7: the handle holds no end; it holds one already; the moment is above 10 ^ 15; an ETCS number is not below 2 ^ 24; a setting is
--- out of its range; the keys are refused; memory ran out
+-- -1 to -8: the handle holds no end; it holds one already; the moment is above 10 ^ 15; an ETCS number is not below 2 ^ 24; a setting is
+-- out of its range; the keys are refused; memory ran out; a start that is misused: the end was started before, or it answers
 abbrev pub closed_handle : ℤ
 closed_handle = negsuc 0
 
@@ -44,3 +44,6 @@ wrong_keys = negsuc 5
 
 abbrev pub no_memory : ℤ
 no_memory = negsuc 6
+
+abbrev pub misused_start : ℤ
+misused_start = negsuc 7

@@ -9,7 +9,7 @@ use crate::status;
 use er_base::Moment;
 use std::alloc::Global;
 
-/// An end that calls begins.
+/// An end that calls begins, once.
 #[unsafe(no_mangle)]
 pub extern "C" fn euroradio_start(
     alloc: Global,
@@ -27,6 +27,10 @@ pub extern "C" fn euroradio_start(
         end.put_held(held);
         return status::MOMENT;
     };
+    if !held.awaits_start {
+        end.put_held(held);
+        return status::START;
+    }
     *deeds = held.start(now);
     end.put_held_at(held, now, deeds);
     status::OK

@@ -1,6 +1,6 @@
 //! An end with its keys, and what each event at it comes to.
 
-ghost use Rattle.std.specs.Prelude.{◌≡◌, max, nat_lt, None, Some, MatchResult, option_map};
+ghost use Rattle.std.specs.Prelude.{◌≡◌, max, nat_lt, false, None, Some, MatchResult, option_map};
 ghost use Rattle.er_end.specs.KeptEnds.{after_start, after_octets, after_send, after_take, after_release, after_tick, after_break, used_of, refusal_of_send, waiting_in};
 ghost use Rattle.er_end_c.specs.Deeds.{refused_status};
 ghost use Rattle.er_end.specs.Shown.{refusal_view};
@@ -26,14 +26,17 @@ pub struct Held {
     pub peer: Option<u32>,
     /// The greatest moment that was passed so far.
     pub last: Moment,
+    /// Whether it calls and wasn't started yet.
+    pub awaits_start: bool,
 }
 
 impl Held {
     /// The end begins.
     pub fn start(&mut self, now: Moment) -> CDeeds
-        ensures held { self.new ≡ held_with_end self.old (after_start now self.old.end) }
+        ensures held { self.new ≡ record (held_with_end self.old (after_start now self.old.end)) { awaits_start = false } }
         ensures deeds { result ≡ deeds_of 0 (after_start now self.old.end) }
     {
+        self.awaits_start = false;
         CDeeds::of_event(0, &self.end.start(now.get()))
     }
 

@@ -158,8 +158,14 @@ fn admitted(
     }
 }
 
-fn boxed(alloc: Global, end: End, keys: Option<KeyStore>, now: Moment) -> Option<Box<Held>>
-    ensures { IfSome result (λ held. held.value ≡ record { end = end; keys = keys; peer = None; last = now }) }
+fn boxed(
+    alloc: Global,
+    end: End,
+    keys: Option<KeyStore>,
+    now: Moment,
+    awaits_start: bool,
+) -> Option<Box<Held>>
+    ensures { IfSome result (λ held. held.value ≡ record { end = end; keys = keys; peer = None; last = now; awaits_start = awaits_start }) }
 {
     Box::new(
         alloc,
@@ -168,6 +174,7 @@ fn boxed(alloc: Global, end: End, keys: Option<KeyStore>, now: Moment) -> Option
             keys,
             peer: None,
             last: now,
+            awaits_start,
         },
     )
     .ok()
@@ -185,7 +192,7 @@ fn calling(
     ensures { IfSome result (λ held. held.value ≡ held_made (Call settings.now me peer key rb now) None) }
 {
     match End::call(alloc, settings, me.get(), peer.get(), key, rb, now.get()) {
-        Ok(end) => boxed(alloc, end, None, now),
+        Ok(end) => boxed(alloc, end, None, now, true),
         Err(_) => None,
     }
 }
@@ -266,7 +273,7 @@ fn with_keys(
     ensures { IfSome result (λ held. held.value ≡ held_made (Answer settings.now me ra now) (Some store)) }
 {
     match End::answer(alloc, settings, me.get(), ra, now.get()) {
-        Ok(end) => boxed(alloc, end, Some(store), now),
+        Ok(end) => boxed(alloc, end, Some(store), now, false),
         Err(_) => None,
     }
 }

@@ -26,3 +26,5 @@ pub const SETTING: i32 = -5;
 pub const KEYS: i32 = -6;
 /// Memory ran out.
 pub const MEMORY: i32 = -7;
+/// A start that is misused: the end was started before, or it answers.
+pub const START: i32 = -8;

@@ -28,6 +28,7 @@ package Euroradio is
    Bad_Setting   : constant Status := -5;
    Bad_Keys      : constant Status := -6;
    No_Memory     : constant Status := -7;
+   Bad_Start     : constant Status := -8;
 
    Version_Of_Binding : constant Unsigned_32 := 200;
    Message_Most       : constant := 1_023;
