@@ -68,16 +68,16 @@ def unfetched(folder, words):
     os.chmod(secret, 0o600)
 
 
-def grammar(folder, name, command, before, letters):
-    """Runs a command on each text of a table of tests/grammar: the line and the word of its first fault."""
+def grammar(folder, name, command, before, letters, status=3, place="line", least=100):
+    """Runs a command on each text of a table of tests/grammar: what its last line says behind the place, as the line and the word of its first fault."""
     with open(os.path.join(os.path.dirname(os.path.abspath(__file__)), "grammar", name), encoding="ascii") as table:
         rows = [row.split("|", 1) for row in table.read().splitlines() if not row.startswith("#")]
     path = os.path.join(folder, name)
     for fault, text in rows:
         with open(path, "w", newline="") as file:
             file.write("".join(letters.get(letter, letter) for letter in text.replace("\\r", "\r")))
-        run([command, *before, path], 3, f"! line {fault}\n", [f"{path}: "], f" of {text[:60]!r}")
-    check(len(rows) > 100, f"the table {name} has {len(rows)} rows")
+        run([command, *before, path], status, f"! {place} {fault}\n", [f"{path}: "], f" of {text[:60]!r}")
+    check(len(rows) >= least, f"the table {name} has {len(rows)} rows")
 
 
 def bounds(folder, command, before, rows):
@@ -277,6 +277,7 @@ def key_files(folder):
             file.write(text if isinstance(text, bytes) else text.encode())
         for words in (["migrate", path], ["audit", path, good], ["audit", path, good, "ends"], ["replay", path, good], ["check", path, good], ["serve", path, "127.0.0.1:0", "9", "0"], ["call", path, "127.0.0.1:1", "5", "9", "0"]):
             run(words, 4, f"! keys {fault}\n", [f"{path}: ", *told], f" of {text[:60]!r}")
+    grammar(folder, "keys.txt", "migrate", [], {"K": K, "@": "[[key]]", ";": "\n"}, 4, "keys", 40)
     hints(folder, good)
     unfetched(folder, ["migrate", "FILE"])
     unfetched(folder, ["serve", "FILE", "127.0.0.1:0", "9", "0"])

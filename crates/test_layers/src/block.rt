@@ -1,24 +1,13 @@
-//! Known answers, outside vectors, and the two bodies side by side.
+//! Vectors of other implementations, for the body over tables and the plain one.
 
-use des_block::{ChainingValue, KeySchedule, TripleKey, TripleSchedule, decipher, encipher, plain};
+use des_block::{KeySchedule, TripleKey, decipher, encipher, plain};
 use std::test::Fail;
 
-// Keys, blocks and what DES makes of them, that have stood in print for long.
-const KNOWN: [(u64, u64, u64); 4] = [
-    (
-        0x1334_5779_9bbc_dff1,
-        0x0123_4567_89ab_cdef,
-        0x85e8_1354_0f0a_b405,
-    ),
-    (0x0e32_9232_ea6d_0d73, 0x8787_8787_8787_8787, 0),
-    (0, 0, 0x8ca6_4de9_c1b1_23a7),
-    (u64::MAX, u64::MAX, 0x7359_b216_3e4e_dc58),
-];
-
-// Made by Python's package `cryptography` 48.0.0 (OpenSSL 3), TripleDES in mode ECB with one key three times;
+// Keys, blocks and what DES makes of them. Made by Python's package `cryptography` 48.0.0 (OpenSSL 3), TripleDES in mode ECB with one key three times;
 // keys and blocks are the first eight octets of the SHA-256 of `key0`, `block0` and so on. Together they read
 // each of the 512 entries of the boxes; row 1, column 3 of S3 is read by the last alone.
-const OUTSIDE: [(u64, u64, u64); 25] = [
+// The last four have stood in print for long.
+const OUTSIDE: [(u64, u64, u64); 29] = [
     (
         0xa819_408c_e501_0ca2,
         0x3da2_892d_3782_3d92,
@@ -144,28 +133,25 @@ const OUTSIDE: [(u64, u64, u64); 25] = [
         0xaae4_dea4_ea0a_d008,
         0xd03b_aedb_ed73_4caf,
     ),
+    (
+        0x1334_5779_9bbc_dff1,
+        0x0123_4567_89ab_cdef,
+        0x85e8_1354_0f0a_b405,
+    ),
+    (0x0e32_9232_ea6d_0d73, 0x8787_8787_8787_8787, 0),
+    (0, 0, 0x8ca6_4de9_c1b1_23a7),
+    (u64::MAX, u64::MAX, 0x7359_b216_3e4e_dc58),
 ];
 
-// Whether both bodies make the answer of the block, and the block of the answer.
-fn is_known(key: u64, block: u64, answer: u64) -> bool {
-    encipher(key, block) == answer
-        && decipher(key, answer) == block
-        && plain::encipher(key, block) == answer
-        && plain::decipher(key, answer) == block
-}
-
-#[test]
-fn known_answers(rt: HostRuntime) {
-    for (key, block, answer) in KNOWN {
-        assert!(rt; is_known(key, block, answer), "{block}");
-    }
-}
-
+// Whether each body makes the answer of the block, and the block of the answer.
 fn is_made(key: u64, block: u64, answer: u64) -> bool {
     let schedule = KeySchedule::new(key);
     schedule.encipher(block) == answer
         && schedule.decipher(answer) == block
+        && encipher(key, block) == answer
+        && decipher(key, answer) == block
         && plain::encipher(key, block) == answer
+        && plain::decipher(key, answer) == block
 }
 
 #[test]
@@ -173,40 +159,6 @@ fn outside_vectors(rt: HostRuntime) {
     for (key, block, answer) in OUTSIDE {
         assert!(rt; is_made(key, block, answer), "{block}");
     }
-}
-
-fn agree(key: u64, block: u64) -> bool {
-    encipher(key, block) == plain::encipher(key, block)
-        && decipher(key, block) == plain::decipher(key, block)
-}
-
-// Each block is what became of the one before, and now and then the key too.
-#[test]
-fn both_bodies_agree(rt: HostRuntime) {
-    let mut key = 0x1334_5779_9bbc_dff1;
-    let mut block = 0;
-    for i in 0..4000u16 {
-        assert!(rt; agree(key, block), "block {i}");
-        block = encipher(key, block);
-        if i % 16 == 0 {
-            key ^= block;
-        }
-    }
-}
-
-fn are_values(key: TripleKey) -> bool {
-    let copy = key;
-    key == copy && key != TripleKey { third: 2, ..key }
-}
-
-#[test]
-fn triple_keys_are_values(rt: HostRuntime) {
-    let key = TripleKey {
-        first: 1,
-        second: 2,
-        third: 3,
-    };
-    assert!(rt; are_values(key));
 }
 
 #[test]
@@ -219,35 +171,4 @@ fn triple_keys_print_no_key(rt: HostRuntime) -> Result<(), Fail> {
     let printed = format!(in rt.alloc(); "{key:?}")?;
     assert!(rt; printed.as_str() == "TripleKey(..)");
     Ok(())
-}
-
-// The three steps one after another.
-fn are_three_steps(schedule: &TripleSchedule, three: &TripleKey, block: u64) -> bool {
-    let inner = decipher(three.second, encipher(three.first, block));
-    schedule.encipher(block) == encipher(three.third, inner) && schedule.key() == *three
-}
-
-// Two blocks chained by hand.
-fn is_chained(schedule: &TripleSchedule, key: u64, block: u64) -> bool {
-    let mut value = ChainingValue::zero();
-    value.chain(schedule.first(), block);
-    value.chain(schedule.first(), key);
-    value.block() == encipher(key, encipher(key, block) ^ key)
-}
-
-fn steps(key: u64, block: u64) -> bool {
-    let three = TripleKey {
-        first: key,
-        second: block,
-        third: key ^ block,
-    };
-    let schedule = TripleSchedule::new(&three);
-    are_three_steps(&schedule, &three, block) && is_chained(&schedule, key, block)
-}
-
-#[test]
-fn steps_one_by_one(rt: HostRuntime) {
-    for (key, block, _) in OUTSIDE {
-        assert!(rt; steps(key, block));
-    }
 }

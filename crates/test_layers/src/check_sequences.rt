@@ -35,22 +35,15 @@ const OTHERS: [u16; 300] = [
     0x9ccf, 0x87d4, 0x02bd, 0x4173, 0x3a55, 0x156e, 0x2e00, 0x3a26, 0x0b58, 0x3c0b, 0x23cd, 0x967f,
 ];
 
+// The check value that is printed with this sequence, and the contents of a frame.
 #[test]
 fn check_value_of_the_nine_digits(rt: HostRuntime) {
-    assert_eq!(rt; fcs(b"123456789"), 0x906e);
-    assert_eq!(rt; fcs_by_octets(b"123456789"), 0x906e);
-    assert_eq!(rt; fcs_by_bits(b"123456789"), 0x906e);
-    let mut running = Running::new();
-    running.add(b"1234");
-    running.add(b"");
-    running.add(b"56789");
-    assert_eq!(rt; running.value(), 0x906e);
-}
-
-#[test]
-fn no_octets(rt: HostRuntime) {
-    assert_eq!(rt; fcs(b""), 0);
-    assert_eq!(rt; Running::new().value(), 0);
+    let digits = b"123456789";
+    let is_printed = fcs(digits) == 0x906e
+        && fcs_by_octets(digits) == 0x906e
+        && fcs_by_bits(digits) == 0x906e;
+    let is_intact = is_intact(&[0x01, 0x3f, 0xeb, 0xdf]) && !is_intact(&[0x01, 0x3f, 0xdf, 0xeb]);
+    assert!(rt; is_printed && is_intact && check_octets(0x01, &[0x3f]) == [0xeb, 0xdf]);
 }
 
 #[test]
@@ -71,15 +64,4 @@ fn agrees_with_another_implementation(rt: HostRuntime) {
         running.add(&string[count / 3..]);
         assert_eq!(rt; running.value(), *other);
     }
-}
-
-// The content of the frame 7e013febdf7e, and what becomes of it.
-#[test]
-fn contents(rt: HostRuntime) {
-    assert_eq!(rt; check_octets(0x01, &[0x3f]), [0xeb, 0xdf]);
-    assert!(rt; is_intact(&[0x01, 0x3f, 0xeb, 0xdf]));
-    assert!(rt; !is_intact(&[0x01, 0x3f, 0xea, 0xdf]));
-    assert!(rt; !is_intact(&[0x01, 0x3f, 0xdf, 0xeb]));
-    assert!(rt; !is_intact(&[0x01]));
-    assert_eq!(rt; fcs(&[0x01, 0x3f, 0xeb, 0xdf]), 0x0f47);
 }

@@ -6,8 +6,6 @@
 #[cfg(test)]
 mod base;
 #[cfg(test)]
-mod base_line;
-#[cfg(test)]
 mod bit_frames;
 #[cfg(test)]
 mod block;
@@ -28,10 +26,6 @@ mod macs;
 #[cfg(test)]
 mod network_blocks;
 #[cfg(test)]
-mod outside_objects;
-#[cfg(test)]
-mod outside_wires;
-#[cfg(test)]
 mod queues;
 #[cfg(test)]
 mod safety;
@@ -40,11 +34,7 @@ mod sapdus;
 #[cfg(test)]
 mod scenarios;
 #[cfg(test)]
-mod selective_stations;
-#[cfg(test)]
 mod settings;
-#[cfg(test)]
-mod station_words;
 #[cfg(test)]
 mod stations;
 #[cfg(test)]

@@ -2,7 +2,7 @@ ghost use Rattle.sapdu.specs.SpellingLaws.{HasUserOctets, HasNumber};
 ghost use Rattle.sapdu.specs.Reading.{view};
 
 use er_base::{NoMemory, Room, decimal, octets_of};
-use sapdu::{MOST_OCTETS, SaPdu, SealedText, is_message, laws, peers_di, read, write_into};
+use sapdu::{MOST_OCTETS, SaPdu, laws, read, write_into};
 use std::alloc::Global;
 use std::test::Fail;
 
@@ -22,10 +22,6 @@ const DT: &[u8] = b"\x0A\x61\x62\x21\x22\x23\x24\x25\x26\x27\x28";
 
 const DI: &[u8] = b"\x11\x04\x01";
 
-const RA: u64 = 0x1112_1314_1516_1718;
-
-const RB: u64 = 0x0102_0304_0506_0708;
-
 const MAC: u64 = 0x2122_2324_2526_2728;
 
 // Whether the octets are read as this SaPDU, and it is written as these octets.
@@ -42,81 +38,27 @@ fn is_spelled(alloc: Global, octets: &[u8], pdu: &SaPdu, flag: bool) -> Result<b
     Ok(out.held() == octets)
 }
 
-fn spells_set_ups(alloc: Global) -> Result<bool, NoMemory> {
+#[test]
+fn reads_and_writes_each_kind(rt: HostRuntime) -> Result<(), Fail> {
+    let (alloc, user) = (rt.alloc(), b"ab");
     let au1 = SaPdu::Au1 {
         id: 5,
         feature: 1,
-        rb: RB,
+        rb: 0x0102_0304_0506_0708,
     };
     let au2 = SaPdu::Au2 {
         id: 9,
         feature: 1,
-        ra: RA,
+        ra: 0x1112_1314_1516_1718,
         mac: MAC,
     };
-    let spells_au1 = is_spelled(alloc, AU1, &au1, false)?;
-    let spells_au2 = is_spelled(alloc, AU2, &au2, true)?;
-    let spells_au3 = is_spelled(alloc, AU3, &SaPdu::Au3 { mac: MAC }, false)?;
-    let spells_ar = is_spelled(alloc, AR, &SaPdu::Ar { mac: MAC }, true)?;
-    Ok(spells_au1 && spells_au2 && spells_au3 && spells_ar)
-}
-
-fn spells_messages(alloc: Global) -> Result<bool, NoMemory> {
-    let user = b"ab";
-    let spells_dt = is_spelled(alloc, DT, &SaPdu::Dt { user, mac: MAC }, false)?;
-    let spells_di = is_spelled(alloc, DI, &SaPdu::Di { reason: 4, sub: 1 }, true)?;
-    Ok(spells_dt && spells_di)
-}
-
-#[test]
-fn reads_and_writes_each_kind(rt: HostRuntime) -> Result<(), Fail> {
-    assert!(rt; spells_set_ups(rt.alloc())?);
-    assert!(rt; spells_messages(rt.alloc())?);
+    assert!(rt; is_spelled(alloc, AU1, &au1, false)?);
+    assert!(rt; is_spelled(alloc, AU2, &au2, true)?);
+    assert!(rt; is_spelled(alloc, AU3, &SaPdu::Au3 { mac: MAC }, false)?);
+    assert!(rt; is_spelled(alloc, AR, &SaPdu::Ar { mac: MAC }, true)?);
+    assert!(rt; is_spelled(alloc, DT, &SaPdu::Dt { user, mac: MAC }, false)?);
+    assert!(rt; is_spelled(alloc, DI, &SaPdu::Di { reason: 4, sub: 1 }, true)?);
     Ok(())
-}
-
-fn seals_au2() -> bool {
-    let au2 = SaPdu::Au2 {
-        id: 9,
-        feature: 1,
-        ra: RA,
-        mac: MAC,
-    };
-    let text = SealedText::new(&au2, true, 5, 0, RB);
-    let octets =
-        b"\x00\x18\x00\x00\x05\x25\x00\x00\x09\x01\x11\x12\x13\x14\x15\x16\x17\x18\x01\x02\x03\x04\x05\x06\x07\x08";
-    text.octets() == octets.as_slice()
-}
-
-fn seals_dt() -> bool {
-    let user = b"ab";
-    let dt = SaPdu::Dt { user, mac: MAC };
-    let text = SealedText::new(&dt, false, 9, RA, RB);
-    text.octets() == b"\x00\x06\x00\x00\x09\x0Aab".as_slice()
-}
-
-#[test]
-fn seals_texts(rt: HostRuntime) {
-    assert!(rt; seals_au2());
-    assert!(rt; seals_dt());
-}
-
-fn tells_messages() -> bool {
-    let user = [7; 1024];
-    !is_message(&[]) && is_message(&[7]) && is_message(&user[..1023]) && !is_message(&user)
-}
-
-fn tells_disconnections() -> bool {
-    peers_di(DI, true) == Some((4, 1))
-        && peers_di(DI, false).is_none()
-        && peers_di(AU3, false).is_none()
-        && peers_di(&DI[..2], true).is_none()
-}
-
-#[test]
-fn tells_messages_and_disconnections(rt: HostRuntime) {
-    assert!(rt; tells_messages());
-    assert!(rt; tells_disconnections());
 }
 
 // A header, how many octets there are, each like it, and what is wrong with them, if anything.
@@ -144,30 +86,20 @@ ff 1|Kind(255)
 0a 1032|
 10 3|";
 
-// The octets of a row, of which there are at most 1100.
-fn octets_like(alloc: Global, row: &str) -> Result<Vec<u8>, Fail> {
-    let (header, count) = row.split_once(' ').ok_or("no count")?;
+// Whether so many octets, at most 1,100 and each like the header, are read so.
+fn is_read_so(alloc: Global, row: &str) -> Result<bool, Fail> {
+    let (header, row) = row.split_once(' ').ok_or("no count")?;
+    let (count, fault) = row.split_once('|').ok_or("no fault")?;
     let mut octets = Vec::new(alloc);
     octets_of(header.as_bytes(), &mut octets)?;
     let header = octets.first().copied().unwrap_or(0);
     let count = decimal(count.as_bytes()).ok_or("no count")?.min(1_100);
-    octets.clear();
     octets.resize(count as usize, header)?;
-    Ok(octets)
-}
-
-// What is wrong with octets, or nothing.
-fn fault_of(alloc: Global, octets: &[u8]) -> Result<String, Fail> {
-    match read(octets) {
-        Ok(_) => Ok(String::new(alloc)),
-        Err(fault) => Ok(format!(in alloc; "{fault:?}")?),
-    }
-}
-
-fn is_read_so(alloc: Global, row: &str) -> Result<bool, Fail> {
-    let (octets, fault) = row.split_once('|').ok_or("no fault")?;
-    let octets = octets_like(alloc, octets)?;
-    Ok(fault_of(alloc, octets.as_slice())?.as_str() == fault)
+    let shown = match read(octets.as_slice()) {
+        Ok(_) => String::new(alloc),
+        Err(fault) => format!(in alloc; "{fault:?}")?,
+    };
+    Ok(shown.as_str() == fault)
 }
 
 #[test]

@@ -1,16 +1,15 @@
-//! Stations with go-back: rows worked out by hand.
+//! Stations with go-back: rows worked out by hand. Stations with selective reject begin.
 
-ghost use Rattle.std.specs.Prelude.{◌≤◌};
+ghost use Rattle.std.specs.Prelude.{◌≤◌, IfOk};
 ghost use Rattle.er_base.specs.Stored.{HasRoom};
+ghost use Rattle.er_settings.specs.Ranges.{AllAllowed};
 
-use crate::station_words::{
-    ROOM, settings_of, tell_counts, tell_deadline, tell_full, tell_octets, tell_payload,
-    tell_release,
-};
-use er_base::{Room, decimal, octets_of};
+use er_base::{Release, Room, decimal, decimal_word, hex_word, octets_of};
+use er_settings::Settings;
 use er_settings::laws::allowed_are_bounded;
-use hdlc_balanced::{Full, LinkDeed, Station};
-use hdlc_frames::{Deframer, Found, Frame};
+use hdlc_balanced::{Counts, Full, LinkDeed, Station};
+use hdlc_frames::{Found, Frame};
+use hdlc_selective::SelectiveStation;
 use std::alloc::Global;
 use std::test::Fail;
 
@@ -57,6 +56,21 @@ S frames before UA are stray|calling 8 7|s f0101 f0105 f0109 n f0173|7e013febdf7
 DISC, DM, UA and FRMR before SABM are stray|called 8 7|f0153 f031f f0373 f0397 n f013f|;;;;0 0 0 0 4 ;up 7e017383577e ;
 close in Setting|calling 8 7|s c|7e013febdf7e ;7e015381767e ;
 SABM at a calling station|calling 8 7|s f0173 f033f|7e013febdf7e ;up ;R 1 3 7e031f59cd7e ;";
+
+// The octets of room that a call of a station wants at the most: 62 frames, twice the greatest window, and one. A clause says 130032.
+const ROOM: usize = 63 * 2064;
+
+// Settings by the words of the modulo and the window.
+fn settings_of(modulo: &str, window: &str) -> Result<Settings, Fail>
+    ensures { IfOk result (λ settings. AllAllowed settings) }
+{
+    let window = decimal(window.as_bytes()).ok_or("window")?;
+    if modulo == "128" {
+        Ok(Settings::extended(window, 15, 128, 1_000, 5, 40_000)?)
+    } else {
+        Ok(Settings::new(window, 15, 128, 1_000, 5, 40_000)?)
+    }
+}
 
 // A station, of whose window the room for a call is known.
 #[derive(Drop)]
@@ -149,7 +163,10 @@ impl Played {
         }
         match self.station.hand(0, payload, out) {
             Ok(()) => Ok(()),
-            Err(Full { waiting }) => tell_full(waiting, told),
+            Err(Full { waiting }) => {
+                told.extend_from_slice(b"full ")?;
+                tell_number(waiting as u64, told)
+            }
         }
     }
 
@@ -173,15 +190,6 @@ impl Played {
         let deed = self.station.receive(0, &found, out);
         tell(&deed, told)
     }
-
-    // Whether a payload of flags and escapes alone is read back.
-    fn carries(&mut self, out: &mut Room) -> bool
-        requires { HasRoom out.old 130032 }
-    {
-        let mut payload = [0x7e; 1026];
-        payload[..513].fill(0x7d);
-        self.station.hand(0, &payload, out) == Ok(()) && is_first_payload(out.held(), &payload)
-    }
 }
 
 // What is no frame.
@@ -199,7 +207,9 @@ fn tell(deed: &LinkDeed<'_>, told: &mut Vec<u8>) -> Result<(), Fail> {
         told.extend_from_slice(b"up ")?;
     }
     if let Some(payload) = deed.payload {
-        tell_payload(payload, told)?;
+        told.extend_from_slice(b"took ")?;
+        hex_word(payload, told)?;
+        told.push(b' ')?;
     }
     if let Some(release) = deed.released {
         tell_release(release, told)?;
@@ -207,30 +217,62 @@ fn tell(deed: &LinkDeed<'_>, told: &mut Vec<u8>) -> Result<(), Fail> {
     Ok(())
 }
 
-// Whether octets are one frame of the first payload that is handed down.
-fn is_first_payload(octets: &[u8], payload: &[u8]) -> bool {
-    let mut deframer = Deframer::new();
-    let (used, found) = deframer.feed(octets);
-    let Some(Found::Frame(frame)) = found else {
-        return false;
-    };
-    used == octets.len() && frame.address == 0x01 && frame.body.split_first() == Some((&0, payload))
+// A number.
+fn tell_number(number: u64, told: &mut Vec<u8>) -> Result<(), Fail> {
+    decimal_word(number, told)?;
+    told.push(b' ')?;
+    Ok(())
 }
 
-// What the events of a row tell and write.
-fn told_of(alloc: Global, making: &str, events: &str) -> Result<Vec<u8>, Fail> {
+// Why a station was released.
+fn tell_release(release: Release, told: &mut Vec<u8>) -> Result<(), Fail> {
+    told.extend_from_slice(b"R ")?;
+    tell_number(release.reason as u64, told)?;
+    tell_number(release.sub as u64, told)
+}
+
+// The frames that were ignored, by their kind.
+fn tell_counts(counts: &Counts, told: &mut Vec<u8>) -> Result<(), Fail> {
+    tell_number(counts.bad_fcs, told)?;
+    tell_number(counts.short, told)?;
+    tell_number(counts.long, told)?;
+    tell_number(counts.aborted, told)?;
+    tell_number(counts.stray, told)
+}
+
+// The moment at which a station wants a tick.
+fn tell_deadline(deadline: Option<u64>, told: &mut Vec<u8>) -> Result<(), Fail> {
+    if let Some(moment) = deadline {
+        return tell_number(moment, told);
+    }
+    told.extend_from_slice(b"none ")?;
+    Ok(())
+}
+
+// The frames that were written, a word each: flags stand between them alone.
+fn tell_octets(octets: &[u8], told: &mut Vec<u8>) -> Result<(), Fail> {
+    let mut inside = false;
+    for octet in octets {
+        hex_word(&[*octet], told)?;
+        if *octet == 0x7e {
+            if inside {
+                told.push(b' ')?;
+            }
+            inside = !inside;
+        }
+    }
+    Ok(())
+}
+
+// Whether the events of a row tell and write what they must.
+fn is_told(alloc: Global, row: &str) -> Result<bool, Fail> {
+    let (making, row) = row.split_once('|').ok_or("making")?;
+    let (events, expected) = row.split_once('|').ok_or("events")?;
     let mut station = made(alloc, making)?;
     let mut told = Vec::new(alloc);
     for word in events.split(' ') {
         station.event(alloc, word.as_bytes(), &mut told)?;
     }
-    Ok(told)
-}
-
-fn is_told(alloc: Global, row: &str) -> Result<bool, Fail> {
-    let (making, row) = row.split_once('|').ok_or("making")?;
-    let (events, expected) = row.split_once('|').ok_or("events")?;
-    let told = told_of(alloc, making, events)?;
     Ok(told.as_slice() == expected.as_bytes())
 }
 
@@ -244,12 +286,12 @@ fn rows(rt: HostRuntime) -> Result<(), Fail> {
 }
 
 #[test]
-fn flags_and_escapes_are_carried(rt: HostRuntime) -> Result<(), Fail> {
-    let mut station = made(rt.alloc(), "calling 8 7")?;
-    let mut told = Vec::new(rt.alloc());
-    station.event(rt.alloc(), b"s", &mut told)?;
-    station.event(rt.alloc(), b"f0173", &mut told)?;
-    let mut out = Room::with_capacity(rt.alloc(), ROOM)?;
-    assert!(rt; station.carries(&mut out));
+fn a_selective_station_begins(rt: HostRuntime) -> Result<(), Fail> {
+    let settings = Settings::new(4, 15, 128, 1_000, 5, 40_000)?;
+    let mut out = Room::with_capacity(rt.alloc(), 2064)?;
+    SelectiveStation::called(rt.alloc(), &settings)?.start(0, &mut out);
+    assert!(rt; out.held().is_empty());
+    SelectiveStation::calling(rt.alloc(), &settings)?.start(0, &mut out);
+    assert!(rt; out.held() == b"\x7E\x01\x3F\xEB\xDF\x7E".as_slice());
     Ok(())
 }

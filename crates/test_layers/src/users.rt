@@ -11,49 +11,24 @@ fn is_said(replies: &Replies, count: usize, last: &[u8], leaving: Option<u8>) ->
 }
 
 #[test]
-fn eight_texts_are_said_and_the_newest_leave_counts(rt: HostRuntime) -> Result<(), Fail> {
-    let mut replies = Replies::new(rt.alloc())?;
-    assert!(rt; is_said(&replies, 0, b"", None));
-    assert!(rt; !replies.say(b""));
-    assert!(rt; !replies.say(&[7; 1_024]));
-    assert!(rt; replies.say(&[7; 1_023]));
-    for _ in 0..7 {
-        assert!(rt; replies.say(b"text"));
-    }
-    assert!(rt; !replies.say(b"ninth"));
-    replies.leave(1);
-    replies.leave(2);
-    assert!(rt; is_said(&replies, 8, b"text", Some(2)));
-    replies.clear();
-    assert!(rt; is_said(&replies, 0, b"", None));
-    assert!(rt; replies.say(b"again"));
-    assert!(rt; is_said(&replies, 1, b"again", None));
-    Ok(())
-}
-
-#[test]
 fn each_kind_says_its_own(rt: HostRuntime) -> Result<(), Fail> {
     let mut texts = Vec::new(rt.alloc());
     texts.push(Vec::from_slice(rt.alloc(), b"one")?)?;
     texts.push(Vec::from_slice(rt.alloc(), b"two")?)?;
     let mut out = Replies::new(rt.alloc())?;
-    let (mut echo, mut tally, mut silent) = (Echo::new(), Tally::new(), Silent::new());
     let mut lister = Lister::new(texts);
     lister.connected(5, &mut out);
     assert!(rt; is_said(&out, 2, b"two", None));
-    for (count, leave) in [(b"1", None), (b"2", Some(0)), (b"3", None)] {
-        out.clear();
-        lister.message(b"text", &mut out);
-        assert!(rt; is_said(&out, 0, b"", leave));
-        out.clear();
-        tally.message(b"text", &mut out);
-        assert!(rt; is_said(&out, 1, count, None));
-    }
+    lister.message(b"text", &mut out);
+    lister.message(b"text", &mut out);
+    assert!(rt; is_said(&out, 2, b"two", Some(0)));
     out.clear();
-    silent.message(b"text", &mut out);
-    assert!(rt; is_said(&out, 0, b"", None));
-    out.clear();
-    echo.message(b"text", &mut out);
+    Echo::new().message(b"text", &mut out);
+    Silent::new().message(b"none", &mut out);
     assert!(rt; is_said(&out, 1, b"text", None));
+    let mut tally = Tally::new();
+    tally.message(b"text", &mut out);
+    tally.message(b"text", &mut out);
+    assert!(rt; is_said(&out, 3, b"2", None));
     Ok(())
 }
