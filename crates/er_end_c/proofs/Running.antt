@@ -197,7 +197,7 @@ due_at (Answer settings me ra now) = refl
 
 -- what a call is received as, where its faults are tried one by one
 left_on_time : {A : Type 0} → (call : HandleCall) (b : Bool) (behind before : A)
-    → (if is_start_misused call b then before else behind) ≡ left_by (received_on_time call b) behind before
+    → (if is_start_misused call b then before else behind) ≡ left_by (reception_on_time call b) behind before
 left_on_time (Start now) true behind before = refl
 left_on_time (Start now) false behind before = refl
 left_on_time (Octets now piece) b behind before = refl
@@ -210,7 +210,7 @@ left_on_time Fault b behind before = refl
 left_on_time Stalled b behind before = refl
 
 left : {A : Type 0} → (late : Bool) (call : HandleCall) (b : Bool) (behind before : A)
-    → (if late then before else if is_start_misused call b then before else behind) ≡ left_by (if late then IsLate else received_on_time call b) behind before
+    → (if late then before else if is_start_misused call b then before else behind) ≡ left_by (if late then IsLate else reception_on_time call b) behind before
 left true call b behind before = refl
 left false call b behind before = left_on_time call b behind before
 
@@ -219,7 +219,7 @@ status_as IsEvent s = s
 status_as IsLate s = late_moment
 status_as IsMisused s = misused_start
 
-status_on_time : (call : HandleCall) (b : Bool) (s : ℤ) → (if is_start_misused call b then misused_start else s) ≡ status_as (received_on_time call b) s
+status_on_time : (call : HandleCall) (b : Bool) (s : ℤ) → (if is_start_misused call b then misused_start else s) ≡ status_as (reception_on_time call b) s
 status_on_time (Start now) true s = refl
 status_on_time (Start now) false s = refl
 status_on_time (Octets now piece) b s = refl
@@ -232,7 +232,7 @@ status_on_time Fault b s = refl
 status_on_time Stalled b s = refl
 
 status_left : (late : Bool) (call : HandleCall) (b : Bool) (s : ℤ)
-    → (if late then late_moment else if is_start_misused call b then misused_start else s) ≡ status_as (if late then IsLate else received_on_time call b) s
+    → (if late then late_moment else if is_start_misused call b then misused_start else s) ≡ status_as (if late then IsLate else reception_on_time call b) s
 status_left true call b s = refl
 status_left false call b s = status_on_time call b s
 

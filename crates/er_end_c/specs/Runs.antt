@@ -45,20 +45,20 @@ pub data Reception : Type 0 where
   IsLate : Reception
   IsMisused : Reception
 
-abbrev pub start_received : (is_due : Bool) → Reception
-start_received true = IsEvent
-start_received false = IsMisused
+abbrev pub reception_of_start : (is_due : Bool) → Reception
+reception_of_start true = IsEvent
+reception_of_start false = IsMisused
 
-abbrev pub received_on_time : HandleCall → (is_due : Bool) → Reception
-received_on_time (Start now) is_due = start_received is_due
-received_on_time (Octets now piece) is_due = IsEvent
-received_on_time (Send now text) is_due = IsEvent
-received_on_time (Take now) is_due = IsEvent
-received_on_time (Release now sub) is_due = IsEvent
-received_on_time (Tick now) is_due = IsEvent
-received_on_time Ended is_due = IsEvent
-received_on_time Fault is_due = IsEvent
-received_on_time Stalled is_due = IsEvent
+abbrev pub reception_on_time : HandleCall → (is_due : Bool) → Reception
+reception_on_time (Start now) is_due = reception_of_start is_due
+reception_on_time (Octets now piece) is_due = IsEvent
+reception_on_time (Send now text) is_due = IsEvent
+reception_on_time (Take now) is_due = IsEvent
+reception_on_time (Release now sub) is_due = IsEvent
+reception_on_time (Tick now) is_due = IsEvent
+reception_on_time Ended is_due = IsEvent
+reception_on_time Fault is_due = IsEvent
+reception_on_time Stalled is_due = IsEvent
 
 abbrev pub reception_of_call : HandleCall → (is_due : Bool) → Reception
 reception_of_call call is_due = if is_moment_too_late (moment_of call) then IsLate else received_on_time call is_due
