@@ -24,7 +24,7 @@ use Rattle.er_end_c.proofs.Taking.{last_taken}
 use Rattle.er_end_c.proofs.Using.{uses_octets}
 use Rattle.er_end_c.specs.Used.{UsesOctets}
 use Rattle.hdlc_frames.specs.Laws.{KeptStandsForStream}
-use Rattle.er_end_c.specs.Runs.{Answered, HasTexts, LeadsToHandle, Reception, IsEvent, IsLate, IsMisused, received_on_time, reception_of_call, left_by, is_start_due_at, is_due_behind, is_due_after, event_used, stepped, model_after, model_run, is_send_refused, octets_told, accepted_told, taken_told, is_take, IsAnsweredAs, AreAnswered, greatest_passed, back_told, TellBack, peer_told, peer_after, peer_behind_calls, TellsPeer, ReadsAs, RunsAsModel}
+use Rattle.er_end_c.specs.Runs.{Answered, HasTexts, LeadsToHandle, Reception, IsEvent, IsLate, IsMisused, reception_on_time, reception_of, left_by, is_start_due_at, is_due_behind, is_due_after, event_used, stepped, model_after, model_run, is_send_refused, octets_told, accepted_told, taken_told, is_take, IsAnsweredAs, AreAnswered, greatest_passed, back_told, TellBack, peer_told, peer_after, peer_behind_calls, TellsPeer, ReadsAs, RunsAsModel}
 
 -- ---- texts
 
@@ -284,24 +284,24 @@ one_at steps keeps IsEvent entries a next m peer last is_due h e tied named pass
 
 one : StepsAlike → KeptStandsForStream → (entries : List KmacEntry) (a : Answered) (first next : CEnd) (m : End) (peer : Option ℕ) (last : ℕ) (is_due : Bool) → Holds first entries m peer last is_due
     → DoesHandleCall a.call first next a.status a.deeds → HasTexts next a
-    → IsAnsweredAs (reception_of_call a.call is_due) (key_at entries) a m × (a.deeds.back ≡ left_by (reception_of_call a.call is_due) (back_told a.call last) 0)
-    × Holds next entries (model_after (key_at entries) a is_due m) (peer_after (key_at entries) a is_due m peer) (left_by (reception_of_call a.call is_due) (greatest_passed a.call last) last)
+    → IsAnsweredAs (reception_of a.call is_due) (key_at entries) a m × (a.deeds.back ≡ left_by (reception_of a.call is_due) (back_told a.call last) 0)
+    × Holds next entries (model_after (key_at entries) a is_due m) (peer_after (key_at entries) a is_due m peer) (left_by (reception_of a.call is_due) (greatest_passed a.call last) last)
     (is_due_after a.call is_due)
 one steps keeps entries a first next m peer last is_due holds does texts =
     let h : Held = holds.found in let late : Bool = is_moment_too_late (moment_of a.call) in
-    one_at steps keeps (reception_of_call a.call is_due) entries a next m peer last is_due h holds.keyed holds.tied holds.named holds.passed holds.due
+    one_at steps keeps (reception_of a.call is_due) entries a next m peer last is_due h holds.keyed holds.tied holds.named holds.passed holds.due
     (
     does.held ∙ ap (held_after a.call) holds.there ∙ left late a.call h.awaits_start (Some (held_behind_call a.call h)) (Some h)
-    ∙ ap (λ (b : Bool). left_by (reception_of_call a.call b) (Some (held_behind_call a.call h)) (Some h)) holds.due
+    ∙ ap (λ (b : Bool). left_by (reception_of a.call b) (Some (held_behind_call a.call h)) (Some h)) holds.due
     )
     (
     does.answer ∙ ap (status_after a.call) holds.there ∙ status_left late a.call h.awaits_start (status_told (told_at a.call h))
-    ∙ ap (λ (b : Bool). status_as (reception_of_call a.call b) (status_told (told_at a.call h))) holds.due
+    ∙ ap (λ (b : Bool). status_as (reception_of a.call b) (status_told (told_at a.call h))) holds.due
     )
     (
     does.tells ∙ ap (deeds_after a.call) holds.there
     ∙ left late a.call h.awaits_start (deeds_with_back (is_back a.call h.last) (deeds_at a.call h)) no_deeds
-    ∙ ap (λ (b : Bool). left_by (reception_of_call a.call b) (deeds_with_back (is_back a.call h.last) (deeds_at a.call h)) no_deeds) holds.due
+    ∙ ap (λ (b : Bool). left_by (reception_of a.call b) (deeds_with_back (is_back a.call h.last) (deeds_at a.call h)) no_deeds) holds.due
     )
     texts
 
@@ -342,7 +342,7 @@ run_from steps keeps shows entries (a ∷ calls) first last m peer before is_due
     let next : CEnd = leads.0 in
     let o = one steps keeps entries a first next m peer before is_due holds leads.1 leads.2 in
     let rest = run_from steps keeps shows entries calls next last (model_after (key_at entries) a is_due m) (peer_after (key_at entries) a is_due m peer)
-    (left_by (reception_of_call a.call is_due) (greatest_passed a.call before) before) (is_due_after a.call is_due) o.2 leads.3 in
+    (left_by (reception_of a.call is_due) (greatest_passed a.call before) before) (is_due_after a.call is_due) o.2 leads.3 in
     ((o.0, rest.0), (o.1, rest.1), rest.2, rest.3)
 
 pub runs_as_model : MadeStands → StepsAlike → KeptStandsForStream → ShowsAlike → RunsAsModel

@@ -26,7 +26,7 @@ use Rattle.er_end_c.specs.Makings.{are_allowed, is_number, fault_of_handle_makin
 use Rattle.er_end_c.specs.Reads.{none_or, deadline_status, shown_deadline, shown_release_status, shown_release, connection_status, shown_peer, found_status}
 use Rattle.er_end_c.specs.Kmacs.{kmac_status, kmac_written}
 use Rattle.er_end_c.specs.KeyFaults.{field_number, key_fault_shown, JudgesKeyFile}
-use Rattle.er_end_c.specs.Runs.{IsEvent, IsLate, IsMisused, reception_of_call, is_start_due_at, is_due_after}
+use Rattle.er_end_c.specs.Runs.{IsEvent, IsLate, IsMisused, reception_of, is_start_due_at, is_due_after}
 
 -- ---- deeds
 
@@ -186,10 +186,10 @@ of_misused_starts = ((λ h e. rw e refl), (λ h e. rw e refl), (λ h e. rw e ref
 pub of_receptions :
     ((settings : Settings) → is_start_due_at (event.Call settings 5 9 kmac 77 40) ≡ true)
     × ((settings : Settings) → is_start_due_at (event.Answer settings 9 77 40) ≡ false)
-    × (reception_of_call (Start 40) true ≡ IsEvent)
-    × (reception_of_call (Start 40) false ≡ IsMisused)
-    × (reception_of_call (Start 1000000000000001) false ≡ IsLate)
-    × (reception_of_call (Tick 40) false ≡ IsEvent)
+    × (reception_of (Start 40) true ≡ IsEvent)
+    × (reception_of (Start 40) false ≡ IsMisused)
+    × (reception_of (Start 1000000000000001) false ≡ IsLate)
+    × (reception_of (Tick 40) false ≡ IsEvent)
     × (is_due_after (Start 40) true ≡ false)
     × (is_due_after (Start 1000000000000001) true ≡ true)
     × (is_due_after (Tick 40) true ≡ true)

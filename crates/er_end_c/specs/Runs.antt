@@ -60,8 +60,8 @@ reception_on_time Ended is_due = IsEvent
 reception_on_time Fault is_due = IsEvent
 reception_on_time Stalled is_due = IsEvent
 
-abbrev pub reception_of_call : HandleCall → (is_due : Bool) → Reception
-reception_of_call call is_due = if is_moment_too_late (moment_of call) then IsLate else received_on_time call is_due
+abbrev pub reception_of : HandleCall → (is_due : Bool) → Reception
+reception_of call is_due = if is_moment_too_late (moment_of call) then IsLate else reception_on_time call is_due
 
 -- what an event leaves; behind a fault it is what it was before
 abbrev pub left_by : {A : Type 0} → Reception → (behind before : A) → A
@@ -87,7 +87,7 @@ is_due_behind Fault is_due = is_due
 is_due_behind Stalled is_due = is_due
 
 abbrev pub is_due_after : HandleCall → (is_due : Bool) → Bool
-is_due_after call is_due = left_by (reception_of_call call is_due) (is_due_behind call is_due) is_due
+is_due_after call is_due = left_by (reception_of call is_due) (is_due_behind call is_due) is_due
 
 -- ---- in the end model
 
@@ -108,7 +108,7 @@ stepped finds a m = step_event (moment_of a.call) (event_used finds a.call a.dee
 
 -- the end behind a call
 abbrev pub model_after : Finds → Answered → (is_due : Bool) → End → End
-model_after finds a is_due m = left_by (reception_of_call a.call is_due) (stepped finds a m).0 m
+model_after finds a is_due m = left_by (reception_of a.call is_due) (stepped finds a m).0 m
 
 abbrev pub model_run : Finds → List Answered → (is_due : Bool) → End → End
 model_run finds [] is_due m = m
@@ -215,13 +215,13 @@ back_told Stalled greatest = 0
 abbrev pub TellBack : List Answered → (is_due : Bool) → (greatest : ℕ) → Type 0
 TellBack [] is_due greatest = Unit {0}
 TellBack (a ∷ calls) is_due greatest =
-    (a.deeds.back ≡ left_by (reception_of_call a.call is_due) (back_told a.call greatest) 0)
-    × TellBack calls (is_due_after a.call is_due) (left_by (reception_of_call a.call is_due) (greatest_passed a.call greatest) greatest)
+    (a.deeds.back ≡ left_by (reception_of a.call is_due) (back_told a.call greatest) 0)
+    × TellBack calls (is_due_after a.call is_due) (left_by (reception_of a.call is_due) (greatest_passed a.call greatest) greatest)
 
 abbrev pub AreAnswered : Finds → List Answered → (is_due : Bool) → End → Type 0
 AreAnswered finds [] is_due m = Unit {0}
 AreAnswered finds (a ∷ calls) is_due m =
-    IsAnsweredAs (reception_of_call a.call is_due) finds a m × AreAnswered finds calls (is_due_after a.call is_due) (model_after finds a is_due m)
+    IsAnsweredAs (reception_of a.call is_due) finds a m × AreAnswered finds calls (is_due_after a.call is_due) (model_after finds a is_due m)
 
 -- the peer with which the safe connection came to stand last: the one that these outcomes tell, or the one before
 abbrev pub peer_told : List Outcome → Option ℕ → Option ℕ
@@ -236,7 +236,7 @@ peer_told (Sent octets ∷ outcomes) before = peer_told outcomes before
 
 -- .. behind calls, one after the other
 abbrev pub peer_after : Finds → Answered → (is_due : Bool) → End → Option ℕ → Option ℕ
-peer_after finds a is_due m before = left_by (reception_of_call a.call is_due) (peer_told (stepped finds a m).1 before) before
+peer_after finds a is_due m before = left_by (reception_of a.call is_due) (peer_told (stepped finds a m).1 before) before
 
 abbrev pub peer_behind_calls : Finds → List Answered → (is_due : Bool) → End → Option ℕ → Option ℕ
 peer_behind_calls finds [] is_due m before = before
