@@ -1,9 +1,6 @@
 use des_block::TripleKey;
-use er_base::EtcsNumber;
 use er_end::End;
 use er_settings::Settings;
-use safety_automaton::PairKey;
-use session_keys::Kmac;
 use std::test::Fail;
 
 const KEY: TripleKey = TripleKey {
@@ -12,19 +9,20 @@ const KEY: TripleKey = TripleKey {
     third: 0x456789abcdef0123,
 };
 
-// The set-up frame of the link, and its answer.
+// The set-up frame of the link.
 const SABM: &[u8] = b"\x7E\x01\x3F\xEB\xDF\x7E";
 
-const UA: &[u8] = b"\x7E\x01\x73\x83\x57\x7E";
+#[test]
+fn an_end_that_calls_begins(rt: HostRuntime) -> Result<(), Fail> {
+    let settings = Settings::usual();
+    let mut end = End::call(rt.alloc(), &settings, 5, 9, KEY, 0x0102030405060708, 0)?;
+    assert!(rt; end.start(0).out == SABM);
+    Ok(())
+}
 
 #[test]
-fn ends_set_their_link_up(rt: HostRuntime) -> Result<(), Fail> {
-    let settings = Settings::usual();
-    let mut caller = End::call(rt.alloc(), &settings, 5, 9, KEY, 0x0102030405060708, 0)?;
-    assert!(rt; caller.start(0).out == SABM);
-    let mut answerer = End::answer(rt.alloc(), &settings, 9, 0x1122334455667788, 0)?;
-    let keys = PairKey::new(EtcsNumber::new(5), EtcsNumber::new(9), Kmac::new(KEY));
-    let (_, deeds) = answerer.octets(&keys, 0, SABM);
-    assert!(rt; deeds.out == UA);
+fn an_end_that_answers_waits(rt: HostRuntime) -> Result<(), Fail> {
+    let end = End::answer(rt.alloc(), &Settings::usual(), 9, 0x1122334455667788, 0)?;
+    assert!(rt; end.deadline().is_some());
     Ok(())
 }

@@ -16,19 +16,23 @@ fn each_kind_says_its_own(rt: HostRuntime) -> Result<(), Fail> {
     texts.push(Vec::from_slice(rt.alloc(), b"one")?)?;
     texts.push(Vec::from_slice(rt.alloc(), b"two")?)?;
     let mut out = Replies::new(rt.alloc())?;
+    let (mut echo, mut tally, mut silent) = (Echo::new(), Tally::new(), Silent::new());
     let mut lister = Lister::new(texts);
     lister.connected(5, &mut out);
     assert!(rt; is_said(&out, 2, b"two", None));
-    lister.message(b"text", &mut out);
-    lister.message(b"text", &mut out);
-    assert!(rt; is_said(&out, 2, b"two", Some(0)));
+    for (count, leave) in [(b"1", None), (b"2", Some(0)), (b"3", None)] {
+        out.clear();
+        lister.message(b"text", &mut out);
+        assert!(rt; is_said(&out, 0, b"", leave));
+        out.clear();
+        tally.message(b"text", &mut out);
+        assert!(rt; is_said(&out, 1, count, None));
+    }
     out.clear();
-    Echo::new().message(b"text", &mut out);
-    Silent::new().message(b"none", &mut out);
+    silent.message(b"text", &mut out);
+    assert!(rt; is_said(&out, 0, b"", None));
+    out.clear();
+    echo.message(b"text", &mut out);
     assert!(rt; is_said(&out, 1, b"text", None));
-    let mut tally = Tally::new();
-    tally.message(b"text", &mut out);
-    tally.message(b"text", &mut out);
-    assert!(rt; is_said(&out, 3, b"2", None));
     Ok(())
 }
