@@ -9,7 +9,7 @@ pub fn parts_are_sent()
     ensures { PartsAreSent }
 {}
 
-/// Units don't depend on how octets were read. Refuses that a unit ends with a read.
+/// Units don't depend on how octets were read: the cut goes on from where the side stands.
 pub fn units_go_on()
     ensures { UnitsGoOn }
 {}
@@ -41,7 +41,7 @@ pub fn given_begins()
     ensures { GivenBegins }
 {}
 
-/// What is given goes on from where the side stands and the units that came. Refuses that units are counted from the newest read.
+/// What is given goes on from where the side stands and the units that came.
 pub fn loads_go_on()
     ensures { LoadsGoOn }
 {}
