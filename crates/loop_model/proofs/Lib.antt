@@ -43,3 +43,9 @@ pub mod Visitings
 pub mod Sequencing
 pub mod Orderwise
 pub mod Sequenced
+pub mod Rounds
+pub mod Handling
+pub mod Sharing
+pub mod TurnedAway
+pub mod Alone
+pub mod AloneDialling

@@ -15,17 +15,20 @@ use Rattle.er_trace.specs.declared.event.Event.{Event}
 use Rattle.er_trace.specs.declared.event.Event.TheVariants as event
 use Rattle.er_users.specs.Users.{Mind, mind_of, Echo, Lister, Silent, Connected, Message, said}
 use Rattle.er_users.specs.Users as user
-use Rattle.link_trait.specs.Wires.{Call, Turns, Reads, Writes, Closes, Gave, End, taken_of, given_of}
+use Rattle.link_trait.specs.Wires.{Call, Dials, Turns, Reads, Writes, Closes, Gave, End, taken_of, given_of}
 use Rattle.link_trait.specs.declared.wires.Happening.{Happening}
 use Rattle.link_trait.specs.declared.wires.Happening.TheVariants as happening
 use Rattle.link_trait.specs.declared.wires.WriteAnswer.TheVariants as write
 use Rattle.loop_model.specs.Ends.{ModelEnd, model_ends, used_behind}
 use Rattle.loop_model.specs.Journals.{JournalEntry}
+use Rattle.loop_model.specs.Deeds.{Printing, Calling}
 use Rattle.loop_model.specs.Outs.{Out, part_for_each_answer, acts, exactly}
-use Rattle.loop_model.specs.Sessions.{most_output, octets_in, heard_by_user, refused_in, refusal_heard, noted, nothing_said, end_after, outcomes_of_given_event, joined, fed, dealt, takes_all, handled, poured, pours}
+use Rattle.loop_model.specs.Sessions.{Sends, Leaves, replies, most_output, octets_in, heard_by_user, refused_in, refusal_heard, noted, nothing_said, end_after, outcomes_of_given_event, joined, fed, dealt, takes_all, handled, poured, pours}
 use Rattle.loop_model.specs.Visits.{most_read, is_due, Met, nothing_met, writes_once, writes, session_behind_writing, session_kept_or_closed, rests, read_once, served, visited}
-use Rattle.loop_model.specs.Loops.{Plan, next_user, other_users, visit_at, swept, Course, Turn, beginning, before, until, accepted, happened, readied, went, run}
-use Rattle.loop_model.specs.Parts.{of}
+use Rattle.loop_model.specs.Loops.{Plan, next_user, other_users, begun, visit_at, swept, Course, Turn, beginning, before, until, accepted, happened, readied, went, run}
+use Rattle.loop_model.specs.Parts.{session_of_connection, of, calls_at, opened_in}
+use Rattle.loop_model.specs.Points.{user_of}
+use Rattle.loop_model.specs.Alone.{own_happening, own_ticks, own_turns, own_users, own_words, deeds_on}
 
 -- ---- the words
 
@@ -92,9 +95,54 @@ some_calls =
     Writes 1 (1 ∷ 2 ∷ 3 ∷ []) (write.Some 2) ∷ Reads 1 4096 2 (Gave (7 ∷ 8 ∷ [])) ∷ Writes 2 (9 ∷ []) (write.Some 1) ∷ Writes 1 (3 ∷ []) write.NotNow
     ∷ Writes 1 (3 ∷ []) write.Failed ∷ Reads 1 4096 0 End ∷ Writes 1 (3 ∷ []) (write.Some 1) ∷ Closes 1 ∷ []
 
-pub of_calls : (given_of 1 some_calls ≡ 1 ∷ 2 ∷ 3 ∷ []) × (taken_of 1 some_calls ≡ 7 ∷ 8 ∷ []) × (given_of 2 some_calls ≡ 9 ∷ [])
-unfolding given_of taken_of
-of_calls = (refl, refl, refl)
+pub of_calls :
+    (given_of 1 some_calls ≡ 1 ∷ 2 ∷ 3 ∷ []) × (taken_of 1 some_calls ≡ 7 ∷ 8 ∷ []) × (given_of 2 some_calls ≡ 9 ∷ [])
+    × (calls_at 2 some_calls ≡ Writes 2 (9 ∷ []) (write.Some 1) ∷ [])
+unfolding given_of taken_of calls_at
+of_calls = (refl, refl, refl, refl)
+
+-- a dial and an accept open a connection, other turns don't
+pub of_openings :
+    opened_in (Dials [] (Some 4) ∷ Turns None (happening.Accepted (record { 0 = 5 })) ∷ Turns None (happening.Readable (record { 0 = 5 })) ∷ Closes 5 ∷ [])
+    ≡ 4 ∷ 5 ∷ []
+unfolding opened_in
+of_openings = refl
+
+-- the session of a connection is the one with its number
+pub of_sessions : {E : Type 0} (one other : E)
+    → (session_of_connection 2 (begun 1 one (listing 1) ∷ begun 2 other (listing 2) ∷ []) ≡ Some (begun 2 other (listing 2)))
+    × (session_of_connection 3 (begun 1 one (listing 1) ∷ begun 2 other (listing 2) ∷ []) ≡ None)
+unfolding session_of_connection
+of_sessions one other = (refl, refl)
+
+-- a user's texts are sent in their order, and then it leaves
+pub of_replies : replies (record { mind = listing 1; texts = (1 ∷ []) ∷ (2 ∷ []) ∷ []; leave = Some 3 }) ≡ Sends (1 ∷ []) ∷ Sends (2 ∷ []) ∷ Leaves 3 ∷ []
+of_replies = refl
+
+-- what is the second connection's own: what happens at it and at no connection, what is met at it, the user and the word that it finds
+abbrev opened : (conn word : ℕ) → JournalEntry
+opened conn word = record { moment = 0; conn = conn; event = event.Answer 9 word; outcomes = [] }
+
+abbrev declined : ℕ → JournalEntry
+declined conn = record { moment = 0; conn = conn; event = event.Full 256; outcomes = [] }
+
+pub of_own :
+    (own_happening 2 (happening.Readable (record { 0 = 2 })) ≡ happening.Readable (record { 0 = 2 }))
+    × (own_happening 2 (happening.Writable (record { 0 = 1 })) ≡ happening.Quiet)
+    × (own_happening 2 (happening.Accepted (record { 0 = 3 })) ≡ happening.Quiet)
+    × (own_happening 2 happening.Ended ≡ happening.Ended)
+    × (own_ticks 2 (nothing_met ∷ record nothing_met { waits = 5 } ∷ []) (1 ∷ 2 ∷ 3 ∷ []) ≡ record nothing_met { waits = 5 } ∷ [])
+    × (own_users (user_of 2 (opened 1 7 ∷ declined 3 ∷ opened 2 8 ∷ []) (listing 1 ∷ listing 2 ∷ listing 3 ∷ [])) ≡ listing 2 ∷ [])
+    × ((words : Stream) → own_words 2 (opened 1 7 ∷ declined 3 ∷ opened 2 8 ∷ opened 4 9 ∷ []) words ≡ (next_u64 words).1)
+unfolding own_ticks own_words user_of
+of_own = (refl, refl, refl, refl, refl, refl, λ words. refl)
+
+-- its lines and the calls at it stand in their one order
+pub of_deeds :
+    deeds_on 2 (Calling (Turns None happening.Quiet) ∷ Printing (ticked 1 2) ∷ Calling (Closes 1) ∷ Printing (ticked 1 1) ∷ Calling (Closes 2) ∷ [])
+    ≡ Printing (ticked 1 2) ∷ Calling (Closes 2) ∷ []
+unfolding deeds_on
+of_deeds = refl
 
 -- ---- one whole loop
 
@@ -149,3 +197,16 @@ pub of_loop : (words : Stream)
     × ((served_so words).state.loop.sessions ≡ [])
 unfolding run went readied happened accepted before until swept visit_at visited served read_once rests session_kept_or_closed session_behind_writing writes writes_once acts exactly pours poured handled takes_all dealt fed joined end_after outcomes_of_given_event part_for_each_answer used_behind said hand_waiting_tpdus eight frames_of between_flags all_but_last cut verdict_on verdict_on_content checked_part check_number unescaped ends_in_escape spelling escaped escaped_octet content_of control_of fcs_of fcs_bits dividend remainder divided_once add_front sent_bits low_bits low_number
 of_loop words = (refl, refl, refl)
+
+-- what of it comes to a loop with the first connection alone, and with the second
+pub of_own_turns : (words : Stream)
+    → let c = beginning (mind_of Echo [] ∷ mind_of Echo [] ∷ []) words in
+    (own_turns 1 plan c turns
+    ≡ turn_at 0 (happening.Accepted (record { 0 = 1 })) nothing_met ∷ turn_at 1 happening.Quiet nothing_met
+    ∷ turn_at 2 (happening.Readable (record { 0 = 1 })) (record writing { waits = 6; reading = Gave sabm }) ∷ turn_at 3 happening.Quiet nothing_met
+    ∷ record (turn_at 40000 happening.Quiet nothing_met) { sweeps = record { ticks = writing ∷ []; closings = [] } } ∷ [])
+    × (own_turns 2 plan c turns
+    ≡ turn_at 0 happening.Quiet nothing_met ∷ turn_at 1 (happening.Accepted (record { 0 = 2 })) nothing_met ∷ turn_at 2 happening.Quiet nothing_met
+    ∷ turn_at 3 (happening.Readable (record { 0 = 2 })) (record nothing_met { reading = End }) ∷ turn_at 40000 happening.Quiet nothing_met ∷ [])
+unfolding run went readied happened accepted before until swept visit_at visited served read_once rests session_kept_or_closed session_behind_writing writes writes_once acts exactly pours poured handled takes_all dealt fed joined end_after outcomes_of_given_event part_for_each_answer used_behind said hand_waiting_tpdus eight frames_of between_flags all_but_last cut verdict_on verdict_on_content checked_part check_number unescaped ends_in_escape spelling escaped escaped_octet content_of control_of fcs_of fcs_bits dividend remainder divided_once add_front sent_bits low_bits low_number own_turns own_ticks
+of_own_turns words = (refl, refl)

@@ -30,4 +30,6 @@ pub mod Told
 pub mod Speeches
 pub mod Orderly
 pub mod Orderings
+pub mod Alone
+pub mod Handled
 pub mod KnownAnswers

@@ -1,5 +1,7 @@
 //! What holds of the loop, whatever the outside answers, as facts that a caller can cite.
 
+ghost use Rattle.loop_model.specs.Alone.{ConnectionsStandAlone, DialStandsAlone};
+ghost use Rattle.loop_model.specs.Handled.{HappeningsAreHandled};
 ghost use Rattle.loop_model.specs.Points.{OctetsAreHeard, UsersReply};
 ghost use Rattle.loop_model.specs.Expiries.{ClosingsAreInTime};
 ghost use Rattle.loop_model.specs.Faulted.{FaultsAreTold};
@@ -238,4 +240,18 @@ pub fn ends()
 pub fn order()
     ensures kept { OrderIsKept }
     ensures opening { OpeningIsKept }
+{}
+
+/// What a loop that serves prints of a connection and does at it is what a loop does to which that connection comes alone, at the same moments: its
+/// lines, the octets that it is given, what its user hears. All that others change is which user and which random word it finds, and whether it is turned
+/// away since 256 are live. So two loops do the same of it where what of the outside is its own is the same.
+pub fn alone()
+    ensures serving { ConnectionsStandAlone }
+    ensures dialling { DialStandsAlone }
+{}
+
+/// A loop asks for one happening a turn, in the order in which they are told, and what it does of it is done before it asks for the next: of what is told with
+/// k others before it the connection is visited, or opened, in turn k + 1, unless the loop halted before.
+pub fn handled()
+    ensures { HappeningsAreHandled }
 {}
