@@ -49,3 +49,4 @@ pub mod Sharing
 pub mod TurnedAway
 pub mod Alone
 pub mod AloneDialling
+pub mod Sizing

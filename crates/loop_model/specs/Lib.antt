@@ -32,4 +32,5 @@ pub mod Orderly
 pub mod Orderings
 pub mod Alone
 pub mod Handled
+pub mod Sizes
 pub mod KnownAnswers

@@ -2,6 +2,7 @@
 
 ghost use Rattle.loop_model.specs.Alone.{ConnectionsStandAlone, DialStandsAlone};
 ghost use Rattle.loop_model.specs.Handled.{HappeningsAreHandled};
+ghost use Rattle.loop_model.specs.Sizes.{ReadsAreSized};
 ghost use Rattle.loop_model.specs.Points.{OctetsAreHeard, UsersReply};
 ghost use Rattle.loop_model.specs.Expiries.{ClosingsAreInTime};
 ghost use Rattle.loop_model.specs.Faulted.{FaultsAreTold};
@@ -93,9 +94,10 @@ pub fn faults_told()
     ensures { FaultsAreTold }
 {}
 
-/// Before a turn nothing is read. Behind it a connection is read from once, exactly where it is readable, live and not released.
+/// Before a turn nothing is read. Behind it a connection is read from once, exactly where it is readable, live and not released. A read asks for 4,096 octets.
 pub fn reads()
-    ensures { OneReadATurn }
+    ensures once { OneReadATurn }
+    ensures sized { ReadsAreSized }
 {}
 
 /// No turn follows one that ended or failed. The loop halts as ended exactly where its last turn ended, and fails exactly where that
