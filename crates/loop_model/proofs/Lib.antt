@@ -50,3 +50,4 @@ pub mod TurnedAway
 pub mod Alone
 pub mod AloneDialling
 pub mod Sizing
+pub mod Placing

@@ -33,4 +33,5 @@ pub mod Orderings
 pub mod Alone
 pub mod Handled
 pub mod Sizes
+pub mod Failures
 pub mod KnownAnswers

@@ -20,4 +20,5 @@ AreSized (call ∷ calls) = IsSized call × AreSized calls
 -- each of a loop does. A loop that asks for less where many connections are live doesn't meet it
 pub record ReadsAreSized : Type 0 where
   pub serving : (plan : Plan) (c : Course ModelEnd) (turns : List Turn) → AreSized (run model_ends plan c turns).calls
-  pub dialling : (plan : Plan) (caller : Caller) (c : Course ModelEnd) (address : List ℕ) (a : Dialled) → AreSized (dials model_ends plan caller c address a).calls
+  pub dialling : (plan : Plan) (caller : Caller) (c : Course ModelEnd) (address : List ℕ) (a : Dialled)
+      → AreSized (dials model_ends plan caller c address a).calls

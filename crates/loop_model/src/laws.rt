@@ -3,6 +3,7 @@
 ghost use Rattle.loop_model.specs.Alone.{ConnectionsStandAlone, DialStandsAlone};
 ghost use Rattle.loop_model.specs.Handled.{HappeningsAreHandled};
 ghost use Rattle.loop_model.specs.Sizes.{ReadsAreSized};
+ghost use Rattle.loop_model.specs.Failures.{FaultsAreInPlace};
 ghost use Rattle.loop_model.specs.Points.{OctetsAreHeard, UsersReply};
 ghost use Rattle.loop_model.specs.Expiries.{ClosingsAreInTime};
 ghost use Rattle.loop_model.specs.Faulted.{FaultsAreTold};
@@ -89,9 +90,11 @@ pub fn faults()
     ensures { FaultsHaveFailed }
 {}
 
-/// A connection has one event `fault`, where a read or a write of it failed and its events before hadn't released it; it has none elsewhere.
+/// A connection has one event `fault`, where a read or a write of it failed and its events before hadn't released it; it has none elsewhere. It stands
+/// directly behind the read or the write that failed; behind a write that failed of a released connection comes its close.
 pub fn faults_told()
-    ensures { FaultsAreTold }
+    ensures one { FaultsAreTold }
+    ensures place { FaultsAreInPlace }
 {}
 
 /// Before a turn nothing is read. Behind it a connection is read from once, exactly where it is readable, live and not released. A read asks for 4,096 octets.
