@@ -98,7 +98,7 @@ line 5: a frame that is none: not one frame from flag to flag
 line 7: a frame that is none: not one frame from flag to flag
 status 1"
 judge "frames that are drawn beside them" "$(grep -c 'class="frame' "$work/bad-charts/link-1.svg") $(grep -c 'class="frame' "$work/bad-charts/link-2.svg")" "2 2"
-judge "a text that is none" "$(echo 'a letter' | tools/chart 2>&1; echo "status $?")" "line 1: no line of a drill's text, a trace or a tap: a; nothing behind it is read
+judge "a text that is none" "$(echo 'a letter' | tools/chart 2>&1; echo "status $?")" "line 1: no line of a drill's text, a trace, a tap or what a relay prints: a; nothing behind it is read
 status 1"
 head -5 "$work/lossy-session.txt" > "$work/cut"
 told=$(tools/chart --drill "$work/lossy-session.drill" 1 < "$work/cut" 2>&1 > "$work/cut.svg")
