@@ -21,11 +21,12 @@ COUNT, SEED = 200, 1
 MOST_SECONDS = 30
 LONGEST = 9000
 # The words of each tool; {} is the drill file that belongs to the text.
-WORDS = [("tap", []), ("tap", ["--engine", "5", "--rbc", "9", "1"]), ("pcap", []), ("chart", ["--html"]), ("chart", ["--html", "--drill", "{}"]), ("chart", ["1"]),
+WORDS = [("tap", []), ("tap", ["--engine", "5", "--rbc", "9", "1"]), ("tap", ["--sent"]), ("pcap", []), ("chart", ["--html"]), ("chart", ["--html", "--drill", "{}"]), ("chart", ["1"]),
          ("recording", ["--whole"]), ("recording", ["--events", "1"])]
 ODD_WORDS = [b"", b"-", b"-1", b"0", b"1", b"4", b"65", b"255", b"18446744073709551615", b"18446744073709551616", b"9" * 5000, b"1" + b"0" * 15, b"x", b"\xb2", b"7e", b"7e0",
              b"7e7e", b"7d7e", b"7e013febdf7e", b"00" * 1100, b"\x1b[2J", b"\0", b"\xff\xfe", b"e", b"r", b"octets", b"frame", b"released", b"connected", b"forged", b"full",
-             b"unserved", b"call", b"answer", b"passes", b"end", b"trace", b"tap", b"!", b">", b"<", b"tick", b"ended", b"none", b"taken", b"refused", b"overfull", b"up", b"local"]
+             b"unserved", b"call", b"answer", b"passes", b"end", b"trace", b"tap", b"!", b">", b"<", b"tick", b"ended", b"none", b"taken", b"refused", b"overfull", b"up", b"local",
+             b"relay", b"open", b"closed"]
 
 
 # A recording of `serve` with connections that were turned away, one that began before it, and its end.
@@ -39,6 +40,31 @@ TURNED_AWAY = b"""trace 1 7 15 128 1000 5 40000
 < 1 released 1 7 local
 > 13 4 octets 7e01
 ! wires
+"""
+
+
+# What a relay prints: a frame that is lost, one that is late, one that comes twice, one that is altered, and one that is put before another.
+RELAYED = b"""relay 1
+> 1796000000000 1 open
+> 1796000000010 1 e 7e013febdf7e
+< 1796000000010 1 e 7e
+> 1796000001012 1 e 7e013febdf7e
+< 1796000001012 1 e 7e013febdf7e
+> 1796000001013 1 r 7e017383577e
+< 1796000001013 1 r 7e017383577e7e017383577e
+> 1796000001014 1 e 7e0100010009ef0000000120c0010742000005010102030405060708f7007e
+< 1796000001314 1 e 7e0100010009ef0000000120c0010742000005010102030405060708f7007e
+> 1796000001315 1 r 7e0320010009df0001000120c0010725000009011122334455667788bd1745640dd6c19468f17e
+< 1796000001315 1 r 7e0320010009df0001010120c0010725000009011122334455667788bd1745640dd6c19468f17e
+> 1796000002018 1 e 7e0100010009ef0000000120c0010742000005010102030405060708f7007e
+< 1796000002018 1 e 7e0111aa7e7e0100010009ef0000000120c0010742000005010102030405060708f7007e
+> 1796000002020 2 open
+> 1796000002021 2 r 7e01
+< 1796000002021 2 r 7e01
+> 1796000002021 2 end r
+< 1796000002022 2 closed
+> 1796000002320 1 end e
+< 1796000002321 1 closed
 """
 
 
@@ -123,7 +149,7 @@ def fault_printed(printed, name):
 
 def texts():
     """(a text, the drill file that belongs to it or nothing) of each kind, from the rows of the tests and the examples."""
-    found = [(TURNED_AWAY, os.devnull)] * 4
+    found = [(TURNED_AWAY, os.devnull)] * 4 + [(RELAYED, os.devnull)] * 8
     for path in sorted(glob.glob(os.path.join(TOP, "tests/rows/*/stdout"))):
         folder = os.path.dirname(path)
         with open(path, "rb") as file:
