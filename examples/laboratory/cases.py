@@ -3,14 +3,20 @@
 A case without a play has this program's `call` (for a device that answers as a radio block centre) or `serve` (for one that calls as a train) as its peer, under a
 relay whose script is given; any other has a play of plays.py, which does what no honest end does.
 """
+import sys
+import textwrap
 from dataclasses import dataclass, field
 from functools import partial
 from typing import Callable, Optional
 
-import plays
-from bench import CENTRE, TRAIN
-from judging import (answers_disc, confirms_the_disconnect, count_of_sessions, disconnects, keeps_its_credit, keeps_its_window, leaves_the_link, refuses_the_link,
-                     rejects_once, releases, says_back, sends_again_at_once, tries_again, waits_t1, waits_while_busy, whole, whole_at_last, whole_but_the_release)
+sys.dont_write_bytecode = True
+
+# The first of these tells where the tools are.
+from bench import CENTRE, TRAIN  # noqa: E402
+import plays  # noqa: E402
+from judging import (answers_disc, confirms_the_disconnect, count_of_sessions, disconnects, keeps_its_credit, keeps_its_window, leaves_the_link,  # noqa: E402
+                     refuses_the_link, rejects_once, releases, says_back, sends_again_at_once, tries_again, waits_t1, waits_while_busy, whole, whole_at_last,
+                     whole_but_the_release)
 
 
 @dataclass(frozen=True)
@@ -159,3 +165,18 @@ CASES = (
          train=(releases("3.2"), count_of_sessions(2))),
 )
 BY_NAME = {each.name: each for each in CASES}
+
+
+def printed():
+    """The table in lines: each rule, and below it the cases that try it, with the role of the device where it is one alone."""
+    rules = {}
+    for each in CASES:
+        role = "" if len(each.wanted) == 2 else f" ({next(iter(each.wanted))})"
+        rules.setdefault(each.rule, []).append(each.name + role)
+    for (section, words), names in rules.items():
+        yield f"{section}: {words}"
+        yield from textwrap.wrap(", ".join(names), 110, initial_indent="    ", subsequent_indent="    ", break_on_hyphens=False)
+
+
+if __name__ == "__main__":
+    print("\n".join(printed()))

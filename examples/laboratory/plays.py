@@ -134,7 +134,7 @@ def unconfirmed(stage, count):
         line.until(lambda end: False, stage.pause)
         line.end.confirms = True
         line.send(line.end.response(0x01))
-        line.until(lambda end: len(end.heard) >= count, stage.patience)
+        line.until(lambda end: len(end.heard) >= count or end.state == "gone", stage.patience)
         finish(stage, line)
 
 
@@ -146,7 +146,7 @@ def untaken(stage, count, credit):
         line.until(lambda end: False, stage.pause)
         line.end.takes = True
         line.send(line.end.acknowledgement())
-        line.until(lambda end: len(end.heard) >= count, stage.patience)
+        line.until(lambda end: len(end.heard) >= count or end.state == "gone", stage.patience)
         finish(stage, line)
 
 
@@ -158,7 +158,7 @@ def busy(stage):
         line.until(lambda end: False, stage.pause)
         line.end.confirms = True
         line.send(line.end.response(0x01))
-        line.until(lambda end: len(end.heard) >= 1, stage.patience)
+        line.until(lambda end: len(end.heard) >= 1 or end.state == "gone", stage.patience)
         finish(stage, line)
 
 
@@ -176,13 +176,13 @@ def rejected(stage):
 
 
 def with_a_gap(stage):
-    """Of four messages leaves out the frame of the first, gives the others, and then all four."""
+    """Of four messages leaves out the frame of the first and gives the others; what the device asks for by REJ comes, and so all four."""
     with connected(stage) as line:
         frames = [line.end.say(bytes([65 + place]) * 20) for place in range(4)]
         line.send(b"".join(frames[1:]))
-        line.until(lambda end: False, stage.pause)
-        line.send(b"".join(frames))
-        line.until(lambda end: len(end.heard) >= 4, stage.patience)
+        line.until(lambda end: end.acknowledged == end.sent or end.state == "gone", stage.patience)
+        if stage.role == "centre" and stage.echoes:
+            line.until(lambda end: len(end.heard) >= 4, stage.patience)
         finish(stage, line)
 
 
