@@ -138,10 +138,11 @@ def against_designs(judge, laboratory):
         os.makedirs(design.work)
         refusal = design.write_copy()
         compiled = quick.Quick(design.work, design.copy)
+        compiled.tell = lambda what, holds, said, more="", name=name: None if holds else print(f"{name}: {what}: {said}\n{more}")
         program = None if refusal else compiled.unproved("-O1")
         judge.same(f"{name} applies and compiles: {refusal}", program is not None, True)
         if program:
-            found = laboratory.of_program(name, program)
+            found = laboratory.of_program(f"cases-{name}", program)
             judge.same(name, {case for case, (verdict, _, _) in found.items() if verdict != PASSED}, wanted)
         shutil.rmtree(design.work, ignore_errors=True)
 

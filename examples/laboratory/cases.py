@@ -104,7 +104,7 @@ CASES = (
     case("lost-rr-of-the-centre", *ONCE, "lose r rr 1", both=WHOLE),
     case("lost-message-and-its-rej", *T1, "lose e dt 2", "lose r rej 1", both=WHOLE),
     case("lost-three-in-a-row", *T1, "lose e dt 1", "lose e dt 2", "lose e dt 3", both=WHOLE),
-    case("lost-dr", "Releases", "the link was disconnected: DISC, DM or FRMR", "lose e dr 1", centre=(whole_but_the_release, answers_disc), train=(whole_but_the_release,)),
+    case("lost-dr", "Releases", "the link was disconnected: DISC, DM or FRMR", "lose e dr 1", both=(whole_but_the_release,)),
     case("lost-disc", "Releases", "released by the user", "lose e disc 1", both=WHOLE),
     # ---- repeated, delayed, altered
     case("repeated-sabm", *ONCE, "repeat e sabm 1", both=WHOLE),

@@ -1,8 +1,10 @@
 """The laboratory's options, and the runs of its cases: so many are played at once, and each test looks at its own."""
 import concurrent.futures
 import os
+import re
 import sys
 import tempfile
+import tomllib
 
 import pytest
 
@@ -44,31 +46,46 @@ def pytest_generate_tests(metafunc):
 
 
 def pytest_configure(config):
-    if not (roles_of(config) or config.option.collectonly or config.option.help):
+    if config.option.collectonly or config.option.help:
+        return
+    if not roles_of(config):
         raise pytest.UsageError("where is the device? --device HOST:PORT, where it answers as a radio block centre; --trigger or --listen, where it calls as a train")
+    for name in ("--device", "--listen"):
+        if not re.fullmatch(r"\S+:[0-9]{1,5}|None", str(config.getoption(name))):
+            raise pytest.UsageError(f"{name} {config.getoption(name)}: HOST:PORT is wanted")
+    bench_of(config)
 
 
 def kmac_of(keys, engine, rbc):
     """The KMAC of a pair in a key file."""
-    import tomllib
-    with open(keys, "rb") as file:
-        found = [entry["kmac"] for entry in tomllib.load(file).get("key", []) if (entry.get("engine"), entry.get("rbc")) == (engine, rbc)]
+    try:
+        with open(keys, "rb") as file:
+            entries = tomllib.load(file).get("key", [])
+    except (OSError, ValueError) as why:
+        raise pytest.UsageError(f"{keys}: {why}") from None
+    found = [entry["kmac"] for entry in entries if (entry.get("engine"), entry.get("rbc")) == (engine, rbc)]
     if not found:
         raise pytest.UsageError(f"{keys}: no key of engine {engine} and radio block centre {rbc}")
     return bytes.fromhex(found[-1])
 
 
-@pytest.fixture(scope="session")
-def bench(request):
+def bench_of(config):
     """The bench with the device that the options tell."""
-    option = request.config.getoption
+    option = config.getoption
     keys = option("--keys") or os.path.join(benches.TOP, "examples/recorded-session.keys")
     program = option("--program") or next((path for path in (os.path.join(benches.TOP, name) for name in PROGRAMS) if os.access(path, os.X_OK)), None)
-    if program is None:
-        raise pytest.UsageError("there is no program: `bash tests/program.sh` makes one, or --program names it")
+    if program is None or not os.access(program, os.X_OK):
+        raise pytest.UsageError(f"{program or 'there is no program'}: `bash tests/program.sh` makes one, or --program names it")
     device = benches.Device(option("--device"), option("--listen") or "127.0.0.1:0", option("--trigger"), option("--engine"), option("--rbc"),
                             kmac_of(keys, option("--engine"), option("--rbc")), option("--t1"), option("--n2"), option("--window"), not option("--no-echo"))
-    return benches.Bench(os.path.abspath(program), device, os.path.abspath(keys), option("--folder") or tempfile.mkdtemp(prefix="laboratory-"))
+    return benches.Bench(os.path.abspath(program), device, os.path.abspath(keys), option("--folder"))
+
+
+@pytest.fixture(scope="session")
+def bench(request):
+    made = bench_of(request.config)
+    made.folder = made.folder or tempfile.mkdtemp(prefix="laboratory-")
+    return made
 
 
 @pytest.fixture(scope="session")
