@@ -43,31 +43,6 @@ TURNED_AWAY = b"""trace 1 7 15 128 1000 5 40000
 """
 
 
-# What a relay prints: a frame that is lost, one that is late, one that comes twice, one that is altered, and one that is put before another.
-RELAYED = b"""relay 1
-> 1796000000000 1 open
-> 1796000000010 1 e 7e013febdf7e
-< 1796000000010 1 e 7e
-> 1796000001012 1 e 7e013febdf7e
-< 1796000001012 1 e 7e013febdf7e
-> 1796000001013 1 r 7e017383577e
-< 1796000001013 1 r 7e017383577e7e017383577e
-> 1796000001014 1 e 7e0100010009ef0000000120c0010742000005010102030405060708f7007e
-< 1796000001314 1 e 7e0100010009ef0000000120c0010742000005010102030405060708f7007e
-> 1796000001315 1 r 7e0320010009df0001000120c0010725000009011122334455667788bd1745640dd6c19468f17e
-< 1796000001315 1 r 7e0320010009df0001010120c0010725000009011122334455667788bd1745640dd6c19468f17e
-> 1796000002018 1 e 7e0100010009ef0000000120c0010742000005010102030405060708f7007e
-< 1796000002018 1 e 7e0111aa7e7e0100010009ef0000000120c0010742000005010102030405060708f7007e
-> 1796000002020 2 open
-> 1796000002021 2 r 7e01
-< 1796000002021 2 r 7e01
-> 1796000002021 2 end r
-< 1796000002022 2 closed
-> 1796000002320 1 end e
-< 1796000002321 1 closed
-"""
-
-
 def tool(name):
     """A tool as a module."""
     loader = importlib.machinery.SourceFileLoader(f"{name}_tool", os.path.join(TOP, "tools", name))
@@ -149,7 +124,9 @@ def fault_printed(printed, name):
 
 def texts():
     """(a text, the drill file that belongs to it or nothing) of each kind, from the rows of the tests and the examples."""
-    found = [(TURNED_AWAY, os.devnull)] * 4 + [(RELAYED, os.devnull)] * 8
+    with open(os.path.join(TOP, "tests/chart/relayed.printed"), "rb") as file:
+        relayed = file.read()
+    found = [(TURNED_AWAY, os.devnull)] * 4 + [(relayed, os.devnull)] * 8
     for path in sorted(glob.glob(os.path.join(TOP, "tests/rows/*/stdout"))):
         folder = os.path.dirname(path)
         with open(path, "rb") as file:
