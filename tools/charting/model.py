@@ -94,6 +94,7 @@ class Chart:
     moments: List[Tuple[int, str]] = field(default_factory=list)
     first_moment: Optional[int] = None
     newest_moment: Optional[int] = None
+    shown_moment: Optional[int] = None
     used: set = field(default_factory=set)
 
     @property
@@ -128,15 +129,17 @@ class Chart:
         self.used.update(OTHER)
 
     def moment(self, moment):
-        """It is this moment in the next row: it is shown where it is another one, counted from the first, with the time behind the one before."""
+        """It is this moment in the next row: it is shown where it is another one, counted from the first, with the time behind the one that is shown before."""
         if moment is None or moment == self.newest_moment:
             return
-        if self.first_moment is None:
-            self.first_moment, words = moment, "0 ms"
+        if self.moments and self.moments[-1][0] == self.rows:
+            self.moments.pop()
         else:
-            words = f"{moment - self.first_moment:,} ms {moment - self.newest_moment:+,}"
+            self.shown_moment = self.newest_moment
+        self.first_moment = moment if self.first_moment is None else self.first_moment
+        since = "" if self.shown_moment is None else f" {moment - self.shown_moment:+,}"
         self.newest_moment = moment
-        self.moments.append((self.rows, words))
+        self.moments.append((self.rows, f"{moment - self.first_moment:,} ms{since}"))
 
     def times(self):
         """How long T1 of each side ran, as its frames that come again tell, in order."""

@@ -27,11 +27,12 @@ class Drawer:
     def draw(self):
         came = {id(item) for item in self.link.came}
         for item in sorted(self.link.items + self.link.came, key=lambda item: item.line):
+            if item.kind == sources.OCTETS and id(item) not in came:
+                self._given(item)
+                continue
             self.chart.moment(item.moment)
             if id(item) in came:
                 self._came(item)
-            elif item.kind == sources.OCTETS:
-                self._given(item)
             elif item.kind == sources.EVENT:
                 self.chart.note(item.side, item.word, labels.event_words(item.word, item.words, item.octets), told=False, line=item.line)
             else:
@@ -64,17 +65,23 @@ class Drawer:
         elif len(frames) == 1 and len(item.octets) == len(came.octets):
             self._altered(came, flight, item, frames[0])
         else:
-            self._lost(flight, item, frames)
+            self._lost(came, flight, item, frames)
 
-    def _row(self, flight):
-        """The row in which something becomes of a frame: its own, where nothing stands behind it."""
-        return flight.row if flight.row == self.chart.last else self.chart.place(LINE)
+    def _row(self, flight, came, item):
+        """The row in which something becomes of a frame: its own, where nothing stands behind it and no time has passed."""
+        if flight.row == self.chart.last and item.moment - came.moment < LEAST_DELAY:
+            return flight.row
+        return self._new_row(item)
+
+    def _new_row(self, item):
+        self.chart.moment(item.moment)
+        return self.chart.place(LINE)
 
     def _arrived(self, came, flight, item, frames, own):
         """The frame of this place among those that were given is the one that came."""
         for other in frames[:own]:
             self._put(item, other)
-        flight.end, flight.fate = self._row(flight), TAKEN
+        flight.end, flight.fate = self._row(flight, came, item), TAKEN
         if item.moment - came.moment >= LEAST_DELAY:
             flight.marks.append(Mark(flight.end, DELAY, f"{item.moment - came.moment:,} ms later"))
         for other in frames[own + 1:]:
@@ -85,24 +92,24 @@ class Drawer:
 
     def _copied(self, flight, item):
         flight.marks.append(Mark(flight.end, REPEAT, "repeated"))
-        row = self.chart.place(LINE)
+        row = self._new_row(item)
         self.chart.flights.append(Flight(flight.side, flight.octets, row, flight.label, flight.kind, item.line, COPY, TAKEN, row, again=True, faulty=flight.faulty))
 
     def _altered(self, came, flight, item, found):
         places = [str(place) for place, pair in enumerate(zip(came.octets, item.octets), 1) if pair[0] != pair[1]]
         words, _ = labels.frame_words(found, "full")
-        flight.end, flight.fate = self._row(flight), TAKEN
+        flight.end, flight.fate = self._row(flight, came, item), TAKEN
         flight.faulty = found.fault is not None
         flight.marks.append(Mark(flight.end, CHANGE, f"octet {', '.join(places)} altered: {words}"))
 
-    def _lost(self, flight, item, frames):
-        flight.end, flight.fate = self._row(flight), LOST
+    def _lost(self, came, flight, item, frames):
+        flight.end, flight.fate = self._row(flight, came, item), LOST
         flight.marks.append(Mark(flight.end, LOSS, "lost"))
         for other in frames:
             self._put(item, other)
 
     def _put(self, item, seen):
-        row = self.chart.place(LINE)
+        row = self._new_row(item)
         words, kind = labels.frame_words(seen, "full")
         octets = labels.spelled(seen.frame, item.octets)
         self.chart.flights.append(Flight(item.side, octets, row, words, kind, item.line, PUT, TAKEN, row, faulty=seen.fault is not None))
