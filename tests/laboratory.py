@@ -50,9 +50,10 @@ class Laboratory:
     def run(self, name, words, only=None, at_once=AT_ONCE):
         """(the verdict of each case, what was said of it, its folder) by its name, as the JUnit report has them."""
         report, folder = (os.path.join(self.work, f"{name}{end}") for end in (".xml", ""))
-        chosen = [f"test_device.py::test_device[{case}]" for case in sorted(only)] if only else []
-        run = subprocess.run([*self.pytest, *chosen, "-q", "--junitxml", report, "--program", self.program, "--keys", self.keys, "--folder", folder, "--at-once", at_once, *words],
-                             cwd=LABORATORY, capture_output=True, text=True, check=False, env={**os.environ, "PYTHONDONTWRITEBYTECODE": "1"})
+        chosen = [f"test_device.py::test_device[{case}]" for case in sorted(only)] if only else ["."]
+        told = {"junitxml": report, "program": self.program, "keys": self.keys, "folder": folder, "at-once": at_once, **words}
+        run = subprocess.run([*self.pytest, *chosen, "-q", *(f"--{name}={value}" for name, value in told.items())], cwd=LABORATORY, capture_output=True, text=True, check=False,
+                             env={**os.environ, "PYTHONDONTWRITEBYTECODE": "1"})
         if not os.path.exists(report):
             print(run.stdout[-2000:] + run.stderr[-2000:])
             return {}
@@ -66,7 +67,7 @@ class Laboratory:
             serve = subprocess.Popen([device, "serve", keys or self.keys, f"127.0.0.1:{port}", "9", "-"], stdin=subprocess.DEVNULL, stdout=out, stderr=subprocess.DEVNULL)
         try:
             is_listened_at(port)
-            yield ["--device", f"127.0.0.1:{port}"]
+            yield {"device": f"127.0.0.1:{port}"}
         finally:
             serve.terminate()
             serve.wait()
@@ -74,7 +75,7 @@ class Laboratory:
     def of_program(self, name, device):
         """The verdicts of all cases against a program in both roles. One that fails is tried once more by itself, since times are those of a busy machine."""
         with self.serving(device) as served:
-            words = [*served, "--trigger", f"{device} call {self.keys} {{address}} 5 9 -"]
+            words = {**served, "trigger": f"{device} call {self.keys} {{address}} 5 9 -"}
             found = self.run(name, words)
             doubtful = {case for case, (verdict, _, _) in found.items() if verdict != PASSED}
             return {**found, **(self.run(f"{name}-again", words, doubtful, "2") if doubtful and len(doubtful) < len(found) / 2 else {})}
@@ -106,7 +107,10 @@ def table(judge):
 
 def against_own(judge, laboratory):
     """All cases pass against this repository's own `serve` and `call`."""
-    for case, (verdict, said, _) in sorted(laboratory.of_program("own", laboratory.program).items()):
+    import cases
+    found = laboratory.of_program("own", laboratory.program)
+    judge.same("each case was played in each of its roles", len(found), sum(len(each.wanted) for each in cases.CASES))
+    for case, (verdict, said, _) in sorted(found.items()):
         judge.same(f"{case}: {said}", verdict, PASSED)
 
 
@@ -123,8 +127,8 @@ def against_others(judge, laboratory):
             judge.same(f"what it leaves, {name}", file.read(len(begin)), begin)
             continue
         judge.same(f"what it leaves, {name}", "nothing", "a file")
-    nobody = laboratory.run("nobody", ["--device", f"127.0.0.1:{free_port()}"], {"set-up-centre"})
-    silent = laboratory.run("silent", ["--trigger", "true", "--t1", "100"], {"other-safety-feature-train"})
+    nobody = laboratory.run("nobody", {"device": f"127.0.0.1:{free_port()}"}, {"set-up-centre"})
+    silent = laboratory.run("silent", {"trigger": "true", "t1": 100}, {"other-safety-feature-train"})
     for name, found in (("a device that isn't there", nobody), ("a device that never calls", silent)):
         judge.same(f"{name}: {found}", [verdict for verdict, _, _ in found.values()], [INCONCLUSIVE])
 
