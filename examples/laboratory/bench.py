@@ -5,6 +5,7 @@ A device that answers as a radio block centre is dialled by the relay; one that 
 """
 import contextlib
 import os
+import re
 import shlex
 import socket
 import subprocess
@@ -221,9 +222,18 @@ class _Playing:
         text = self._printed()
         if " open\n" not in text:
             raise Inconclusive("no connection came to the relay")
-        first = [line for line in text.split("\n") if line[:1] in "<>"][1:2]
-        if self.run.role == CENTRE and first and first[0].endswith(" end r"):
+        if self.run.role == CENTRE and " end r\n" in text and not re.search(r"^> [0-9]+ [0-9]+ r ", text, re.M) and not answers(self.device.address):
             raise Inconclusive("the device doesn't answer at its address")
+
+
+def answers(address):
+    """Whether somebody takes a connection at this address."""
+    host, _, port = address.rpartition(":")
+    try:
+        socket.create_connection((host, int(port)), timeout=5).close()
+    except OSError:
+        return False
+    return True
 
 
 def is_listened_at(port, seconds=10):
