@@ -59,10 +59,12 @@ judge "the name of a chart" "$(cat "$work/names")" "$work/alone/link-4.svg"
 compare text-alone "$work/alone"
 tools/chart --folder "$work/trace" < examples/recorded-session.trace > "$work/names"
 compare recorded-session "$work/trace"
-# what a relay printed: a frame that is lost, one that is late, one that comes twice, one that is altered, and one that is put before another
-told=$(tools/chart --folder "$work/relayed" tests/chart/relayed.printed 2>&1 > "$work/names")
+# what a relay printed: a frame that is lost, one that is late, one that comes twice, one that is altered, and one that is put before another; and a whole call
+told=$(tools/chart --folder "$work/relay-text" tests/chart/relay-text.printed 2>&1 > "$work/names")
 judge "what is told of what a relay printed" "$told" "line 17: a frame that isn't closed, not drawn"
-compare relayed "$work/relayed"
+compare relay-text "$work/relay-text"
+tools/chart --folder "$work/relayed-call" examples/relayed-call.printed > "$work/names"
+compare relayed-call "$work/relayed-call"
 # a tap in which a frame is cut in two, a check sequence is wrong, and two frames share a flag
 cat > "$work/tap" << 'TEXT'
 tap 1

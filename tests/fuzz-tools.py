@@ -124,7 +124,7 @@ def fault_printed(printed, name):
 
 def texts():
     """(a text, the drill file that belongs to it or nothing) of each kind, from the rows of the tests and the examples."""
-    with open(os.path.join(TOP, "tests/chart/relayed.printed"), "rb") as file:
+    with open(os.path.join(TOP, "tests/chart/relay-text.printed"), "rb") as file:
         relayed = file.read()
     found = [(TURNED_AWAY, os.devnull)] * 4 + [(relayed, os.devnull)] * 8
     for path in sorted(glob.glob(os.path.join(TOP, "tests/rows/*/stdout"))):
