@@ -195,36 +195,39 @@ def says_back(*texts):
     return check
 
 
-def tries_again(look):
-    """The device sends its oldest frame again each time that T1 has run, N2 times, and then ends the link by DISC."""
+def times_of(look):
+    """How long T1 of the device ran, each time that its oldest frame comes again for that, and until the DISC with which it then ends the link."""
     timer, times, last = timing.Timer(), [], None
     for what, side, moment, seen in look.last.events:
         if (what, side) == ("got", look.peer):
             timer.heard(seen, moment)
         elif (what, side) == ("sent", look.own):
             ran = timer.sent(seen, moment)
-            times += [] if ran is None else [ran]
-            last = moment if ran is not None else last
-            if seen.control and seen.control.name == "DISC" and last is not None:
-                times.append(moment - last)
-    fit = [LEAST_T1 * look.device.t1 <= ran <= MOST_T1 * look.device.t1 for ran in times]
-    if len(times) != look.device.n2 + 1:
-        return f"T1 ran {len(times)} times, where {look.device.n2} times again and then a DISC are wanted: {times} ms"
-    return None if all(fit) else f"T1 ran for {times} ms, where {look.device.t1} are wanted"
+            if ran is not None:
+                times, last = [*times, ran], moment
+            elif last is not None and seen.control and seen.control.name == "DISC":
+                return times, moment - last
+    return times, None
+
+
+def is_t1(look, ran):
+    return LEAST_T1 * look.device.t1 <= ran <= MOST_T1 * look.device.t1
+
+
+def tries_again(look):
+    """The device sends its oldest frame again each time that T1 has run, N2 times, and then ends the link by DISC."""
+    times, until_disc = times_of(look)
+    if len(times) != look.device.n2 or until_disc is None:
+        return f"{len(times)} times came a frame again{'' if until_disc is not None else ', and no DISC'}, where {look.device.n2} times and then a DISC are wanted: {times} ms"
+    return None if all(is_t1(look, ran) for ran in [*times, until_disc]) else f"T1 ran for {[*times, until_disc]} ms, where {look.device.t1} are wanted"
 
 
 def waits_t1(look):
     """A frame of the device that was lost comes again once T1 has run, and not before."""
-    timer, times = timing.Timer(), []
-    for what, side, moment, seen in look.last.events:
-        if (what, side) == ("got", look.peer):
-            timer.heard(seen, moment)
-        elif (what, side) == ("sent", look.own):
-            ran = timer.sent(seen, moment)
-            times += [] if ran is None else [ran]
+    times, _ = times_of(look)
     if not times:
         return "no frame of the device came again since T1 expired"
-    return None if all(LEAST_T1 * look.device.t1 <= ran <= MOST_T1 * look.device.t1 for ran in times) else f"T1 ran for {times} ms, where {look.device.t1} are wanted"
+    return None if all(is_t1(look, ran) for ran in times) else f"T1 ran for {times} ms, where {look.device.t1} are wanted"
 
 
 def keeps_its_window(look):
