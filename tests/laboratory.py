@@ -96,8 +96,8 @@ def table(judge):
     """Each case names a rule that stands in its section of docs/FORMATS.md, and a script that can be read."""
     import cases
     with open(os.path.join(TOP, "docs/FORMATS.md"), encoding="utf-8") as file:
-        sections = dict(part.split("\n", 1) for part in re.split(r"^## ", file.read(), flags=re.M)[1:])
-    plain = {name: " ".join(text.split()) for name, text in sections.items()}
+        texts = dict(part.split("\n", 1) for part in re.split(r"^## ", file.read(), flags=re.M)[1:])
+    plain = {name: " ".join(text.split()) for name, text in texts.items()}
     judge.none("rules that docs/FORMATS.md has not", [each.name for each in cases.CASES if each.rule[1] not in plain.get(each.rule[0], "")])
     judge.same("the names are different", len(cases.BY_NAME), len(cases.CASES))
     judge.same("the count of cases", len(cases.CASES) >= LEAST_CASES, True)
