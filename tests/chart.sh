@@ -1,6 +1,6 @@
 #!/usr/bin/env bash
-# tools/chart: the charts of three drills of examples/ beside their files, of a drill's text by itself, of the recorded session and of a tap are
-# compared with those under tests/chart/; steps are held against what each step prints; then bad input, 10,000 frames, and the page. Takes the built
+# tools/chart: the charts of three drills of examples/ beside their files, of a drill's text by itself, of the recorded session, of what a relay printed and
+# of a tap are compared with those under tests/chart/; steps are held against what each step prints; then bad input, 10,000 frames, and the page. Takes the built
 # program as it is, or the one that PROGRAM names. `tests/chart.sh --store` writes the charts anew, to be read before they are committed.
 # Closes with 'N passed, M failed'.
 set -u
@@ -59,6 +59,12 @@ judge "the name of a chart" "$(cat "$work/names")" "$work/alone/link-4.svg"
 compare text-alone "$work/alone"
 tools/chart --folder "$work/trace" < examples/recorded-session.trace > "$work/names"
 compare recorded-session "$work/trace"
+# what a relay printed: a frame that is lost, one that is late, one that comes twice, one that is altered, and one that is put before another; and a whole call
+told=$(tools/chart --folder "$work/relay-text" tests/chart/relay-text.printed 2>&1 > "$work/names")
+judge "what is told of what a relay printed" "$told" "line 17: a frame that isn't closed, not drawn"
+compare relay-text "$work/relay-text"
+tools/chart --folder "$work/relayed-call" examples/relayed-call.printed > "$work/names"
+compare relayed-call "$work/relayed-call"
 # a tap in which a frame is cut in two, a check sequence is wrong, and two frames share a flag
 cat > "$work/tap" << 'TEXT'
 tap 1
@@ -98,7 +104,7 @@ line 5: a frame that is none: not one frame from flag to flag
 line 7: a frame that is none: not one frame from flag to flag
 status 1"
 judge "frames that are drawn beside them" "$(grep -c 'class="frame' "$work/bad-charts/link-1.svg") $(grep -c 'class="frame' "$work/bad-charts/link-2.svg")" "2 2"
-judge "a text that is none" "$(echo 'a letter' | tools/chart 2>&1; echo "status $?")" "line 1: no line of a drill's text, a trace or a tap: a; nothing behind it is read
+judge "a text that is none" "$(echo 'a letter' | tools/chart 2>&1; echo "status $?")" "line 1: no line of a drill's text, a trace, a tap or what a relay prints: a; nothing behind it is read
 status 1"
 head -5 "$work/lossy-session.txt" > "$work/cut"
 told=$(tools/chart --drill "$work/lossy-session.drill" 1 < "$work/cut" 2>&1 > "$work/cut.svg")

@@ -21,11 +21,12 @@ COUNT, SEED = 200, 1
 MOST_SECONDS = 30
 LONGEST = 9000
 # The words of each tool; {} is the drill file that belongs to the text.
-WORDS = [("tap", []), ("tap", ["--engine", "5", "--rbc", "9", "1"]), ("pcap", []), ("chart", ["--html"]), ("chart", ["--html", "--drill", "{}"]), ("chart", ["1"]),
+WORDS = [("tap", []), ("tap", ["--engine", "5", "--rbc", "9", "1"]), ("tap", ["--sent"]), ("pcap", []), ("chart", ["--html"]), ("chart", ["--html", "--drill", "{}"]), ("chart", ["1"]),
          ("recording", ["--whole"]), ("recording", ["--events", "1"])]
 ODD_WORDS = [b"", b"-", b"-1", b"0", b"1", b"4", b"65", b"255", b"18446744073709551615", b"18446744073709551616", b"9" * 5000, b"1" + b"0" * 15, b"x", b"\xb2", b"7e", b"7e0",
              b"7e7e", b"7d7e", b"7e013febdf7e", b"00" * 1100, b"\x1b[2J", b"\0", b"\xff\xfe", b"e", b"r", b"octets", b"frame", b"released", b"connected", b"forged", b"full",
-             b"unserved", b"call", b"answer", b"passes", b"end", b"trace", b"tap", b"!", b">", b"<", b"tick", b"ended", b"none", b"taken", b"refused", b"overfull", b"up", b"local"]
+             b"unserved", b"call", b"answer", b"passes", b"end", b"trace", b"tap", b"!", b">", b"<", b"tick", b"ended", b"none", b"taken", b"refused", b"overfull", b"up", b"local",
+             b"relay", b"open", b"closed"]
 
 
 # A recording of `serve` with connections that were turned away, one that began before it, and its end.
@@ -123,7 +124,9 @@ def fault_printed(printed, name):
 
 def texts():
     """(a text, the drill file that belongs to it or nothing) of each kind, from the rows of the tests and the examples."""
-    found = [(TURNED_AWAY, os.devnull)] * 4
+    with open(os.path.join(TOP, "tests/chart/relay-text.printed"), "rb") as file:
+        relayed = file.read()
+    found = [(TURNED_AWAY, os.devnull)] * 4 + [(relayed, os.devnull)] * 8
     for path in sorted(glob.glob(os.path.join(TOP, "tests/rows/*/stdout"))):
         folder = os.path.dirname(path)
         with open(path, "rb") as file:

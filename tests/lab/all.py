@@ -12,6 +12,7 @@ import decoder_tests  # noqa: E402
 import product_tests  # noqa: E402
 import recorded_tests  # noqa: E402
 import recording_tests  # noqa: E402
+import relay_tests  # noqa: E402
 import sources_tests  # noqa: E402
 import tap_tests  # noqa: E402
 import vector_tests  # noqa: E402
@@ -28,6 +29,7 @@ def main():
     recording_tests.run(judge)
     command_tests.run(judge)
     tap_tests.run(judge)
+    relay_tests.run(judge)
     built = os.access(program, os.X_OK)
     judge.same(f"{program} is built", built, True)
     if built:

@@ -133,7 +133,7 @@ def bad_input(judge):
     judge.same("octets before the first flag", (said, status, len(capture.packets)), (["line 1: 2 octets before the first flag, left out"], 1, 1))
     capture, said, status = captured(b"\0\1\2\n\xff")
     judge.same("no text", (said, status, capture.interfaces), (
-        ["line 1: no line of a drill's text, a trace or a tap: \\x00\\x01\\x02; nothing behind it is read"], 1, []))
+        ["line 1: no line of a drill's text, a trace, a tap or what a relay prints: \\x00\\x01\\x02; nothing behind it is read"], 1, []))
     judge.same("nothing", captured("")[1:], (["line 1: no line"], 1))
 
 

@@ -14,7 +14,7 @@ SENT, COPY, PUT = "sent", "copy", "put"
 # What becomes of it: given to the other end, lost, still on the line at the end; or the text doesn't tell.
 TAKEN, LOST, WAITS, UNTOLD = "taken", "lost", "waits", "untold"
 # What the line does to a frame that waits on it.
-LOSS, REPEAT, CHANGE = "loss", "repeat", "change"
+LOSS, REPEAT, CHANGE, DELAY = "loss", "repeat", "change", "delay"
 
 
 @dataclass(slots=True)
@@ -31,7 +31,8 @@ class Flight:
     """A frame on the line, in the direction of the end `side`.
 
     `label` says what it carries, `kind` the same without numbers; `again` that the end sent it before, `faulty` that the other end can't take it
-    as it is. `row` is where it begins, `end` where it arrives or ends. `line` is its line of the text.
+    as it is. `row` is where it begins, `end` where it arrives or ends. `line` is its line of the text. `after` tells how many milliseconds T1 ran where that is
+    why it comes again.
     """
 
     side: str
@@ -45,6 +46,7 @@ class Flight:
     end: Optional[int] = None
     again: bool = False
     faulty: bool = False
+    after: Optional[int] = None
     marks: List[Mark] = field(default_factory=list)
 
     @property
@@ -90,6 +92,9 @@ class Chart:
     notes: List[Note] = field(default_factory=list)
     bands: List[Band] = field(default_factory=list)
     moments: List[Tuple[int, str]] = field(default_factory=list)
+    first_moment: Optional[int] = None
+    newest_moment: Optional[int] = None
+    shown_moment: Optional[int] = None
     used: set = field(default_factory=set)
 
     @property
@@ -122,3 +127,20 @@ class Chart:
         """Adds a line across."""
         self.bands.append(Band(self.place(LINE), word, text))
         self.used.update(OTHER)
+
+    def moment(self, moment):
+        """It is this moment in the next row: it is shown where it is another one, counted from the first, with the time behind the one that is shown before."""
+        if moment is None or moment == self.newest_moment:
+            return
+        if self.moments and self.moments[-1][0] == self.rows:
+            self.moments.pop()
+        else:
+            self.shown_moment = self.newest_moment
+        self.first_moment = moment if self.first_moment is None else self.first_moment
+        since = "" if self.shown_moment is None else f" {moment - self.shown_moment:+,}"
+        self.newest_moment = moment
+        self.moments.append((self.rows, f"{moment - self.first_moment:,} ms{since}"))
+
+    def times(self):
+        """How long T1 of each side ran, as its frames that come again tell, in order."""
+        return {side: [flight.after for flight in self.flights if flight.side == side and flight.after is not None] for side in OTHER}

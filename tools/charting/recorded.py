@@ -1,9 +1,9 @@
-"""Charts of a text by itself: what a drill prints, a trace or recording, a tap.
+"""Charts of a text by itself: what a drill prints, a trace or recording, a tap; what a relay prints is drawn by `relayed`.
 
 What a drill prints tells when an end sent a frame, and not whether it came: that the line lost or repeated one is a step of the drill file. A
 connection of a trace tells what came to its own end and what that end sent. A tap tells what came to both.
 """
-from decoding import conversation, framing, sources
+from decoding import conversation, framing, sources, timing
 
 from . import labels
 from .model import LINE, OTHER, TAKEN, UNTOLD, Chart, Flight
@@ -69,16 +69,14 @@ class Drawer:
         self.link, self.kind = link, kind
         self.chart = Chart(link.name, SOURCES[kind], recorded=link.role)
         self.decoder = Decoder(link.level, whole=kind == sources.DRILL)
-        self.moment = None
+        self.timer = timing.Timer()
         self.open_side = None  # the end whose event is being told: what it tells may share the row of that event
         name_end(self.chart, "e", link.engine)
         name_end(self.chart, "r", link.rbc)
 
     def draw(self):
         for item in self.link.items:
-            if item.moment is not None and item.moment != self.moment:
-                self.moment = item.moment
-                self.chart.moments.append((self.chart.rows, f"{item.moment:,} ms"))
+            self.chart.moment(item.moment)
             if item.kind == sources.OCTETS:
                 self._octets(item)
             elif item.side is None or item.word == "tick":
@@ -97,7 +95,8 @@ class Drawer:
         came = self.kind == sources.TAP or item.own is False
         share = not came and item.side == self.open_side
         flights = self.decoder.flights(item)
-        for _, flight in flights:
+        for seen, flight in flights:
+            flight.after = self._after(seen, item)
             flight.row = flight.end = self.chart.place(LINE, share)
             flight.fate = TAKEN if came else UNTOLD
             self.chart.flights.append(flight)
@@ -105,6 +104,12 @@ class Drawer:
             self.open_side = None
         elif came:
             self.open_side = OTHER[item.side]
+
+    def _after(self, seen, item):
+        """How long T1 of the recorded end ran, where a frame that it sends comes again for that."""
+        if seen is None or item.moment is None or item.own is None:
+            return None
+        return self.timer.sent(seen, item.moment) if item.own else self.timer.heard(seen, item.moment, self.decoder.talk.modulo)
 
     def _outcome(self, item):
         share = item.side == self.open_side
@@ -148,9 +153,9 @@ def name_end(chart, side, number):
         chart.ends[side] = f"{'engine' if side == 'e' else 'RBC'} {number}"
 
 
-def charts_of(reading):
+def charts_of(reading, drawers=()):
     """(a chart of each link or connection of a text, in order; the lines that are told as bad)."""
-    drawers = [Drawer(link, reading.kind) for link in reading.links]
+    drawers = drawers or [Drawer(link, reading.kind) for link in reading.links]
     charts = [drawer.draw() for drawer in drawers]
     for note in reading.notes:
         named = [chart for chart in charts if note.words[:1] == ("overfull",) and chart.name == "link " + "".join(note.words[1:2])]

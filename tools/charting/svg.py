@@ -3,18 +3,21 @@
 A frame leaves its end on a level line, under what it carries. Where it is given over at once the line goes straight to the other end; where it
 waited it sinks in the middle, which stands for the line between the ends, down to the row in which it arrived. So no line crosses a text.
 """
+import datetime
 from dataclasses import dataclass
 from xml.sax.saxutils import escape
 
 from decoding.sources import printable
 
 from .folding import folds_of
-from .model import CHANGE, LOSS, LOST, OTHER, PUT, REPEAT, SENT, TAKEN, UNTOLD, WAITS
+from .model import CHANGE, DELAY, LOSS, LOST, OTHER, PUT, REPEAT, SENT, TAKEN, UNTOLD, WAITS
 
 NOTES, HALF, GUTTER, NUMBERS = 228, 282, 64, 40
-ROW, FOLD, TOP, FOOT = 22, 34, 92, 44
+ROW, FOLD, TOP, FOOT, TIMES = 22, 34, 92, 44, 18
 LABEL, MARKED, NOTED = 50, 45, 32
 SIGN = {"e": 1, "r": -1}
+# A moment from 1971 on is taken as one of a clock that counts from 1970; a calendar ends before moments do.
+LEAST_OF_CLOCKS, MOST_OF_CALENDARS = 31_536_000_000, 253_402_300_799_999
 
 STYLE = """
 text{font:12px Arial,Helvetica,'Liberation Sans',sans-serif;fill:#111}
@@ -114,7 +117,7 @@ class Drawing:
     def lines(self, style=True):
         """The text of the SVG, piece by piece; `style` False leaves the style out, for a page that has it."""
         self.places = []
-        width, height = self.at.width, self.at.bottom + FOOT
+        width, height = self.at.width, self.at.bottom + FOOT + (TIMES if self._times() else 0)
         yield f'<svg xmlns="http://www.w3.org/2000/svg" id="{self.id}" width="{width}" height="{height}" viewBox="0 0 {width} {height}">'
         if style:
             yield f"<style>{STYLE}</style>"
@@ -132,16 +135,34 @@ class Drawing:
             if note.row not in self.folded:
                 yield self._note(note)
         yield from self._legend()
+        if self._times():
+            yield text(self.at.margin, self.at.bottom + FOOT, self._times(), "small")
         yield "</svg>"
+
+    def _times(self):
+        """What T1 of each end is, as far as frames that come again tell it."""
+        found = [(self.chart.ends[side], times) for side, times in self.chart.times().items() if times]
+        spans = [f"{name} {min(times):,} ms" if min(times) == max(times) else f"{name} {min(times):,} to {max(times):,} ms" for name, times in found]
+        return "" if not spans else "T1 by the frames that come again: " + ", ".join(f"{span} ({len(times)})" for span, (_, times) in zip(spans, found))
 
     def _heading(self):
         chart = self.chart
         yield text(12, 24, f"{chart.name}: {chart.ends['e']} and {chart.ends['r']}", "title")
-        yield text(12, 42, chart.source, "source")
+        yield text(12, 42, chart.source + self._begin(), "source")
         for side in "er":
             x = self.at.ends[side]
             yield f'<rect class="end" x="{x - 80}" y="{TOP - 36}" width="160" height="22" rx="3"/>'
             yield text(x, TOP - 21, chart.ends[side] + (" (recorded)" if side == chart.recorded else ""), "name")
+
+    def _begin(self):
+        """When the first moment was, where that isn't 0: in UTC where the moments count from 1970."""
+        first = self.chart.first_moment
+        if not first:
+            return ""
+        if first < LEAST_OF_CLOCKS:
+            return f" Its first moment is {first:,} ms."
+        at = datetime.datetime(1970, 1, 1) + datetime.timedelta(milliseconds=min(first, MOST_OF_CALENDARS))
+        return f" Its first moment is {at:%Y-%m-%d %H:%M:%S}.{first % 1000:03} UTC."
 
     def _lifeline(self, side):
         """A thin line; a bar while the end is up or connected; dotted behind its release."""
@@ -212,11 +233,19 @@ class Drawing:
         yield f'<path d="{self._path(flight)}"/>' + self._tip(flight)
         for mark in flight.marks:
             yield self._mark(flight, mark)
-        yield self._label(flight) + "</g>"
+        yield self._label(flight) + self._timer(flight) + "</g>"
 
     def _title(self, flight):
         whence = f"line {flight.line}, " if flight.line is not None else ""
-        return f"{whence}from {flight.side}: {flight.label}\n{flight.octets.hex()}"
+        timer = "" if flight.after is None else f"\nsent again after T1 had run for {flight.after:,} ms"
+        return f"{whence}from {flight.side}: {flight.label}{timer}\n{flight.octets.hex()}"
+
+    def _timer(self, flight):
+        """How long T1 ran before a frame that comes again, where its row is free for it."""
+        if flight.after is None or any(mark.row == flight.row for mark in flight.marks):
+            return ""
+        other = OTHER[flight.side]
+        return text(self.at.near(other) - SIGN[other] * 4, self.y(flight.row) - 5, f"T1 ran {flight.after:,} ms", "small", self._anchor(other))
 
     def _path(self, flight):
         """The way of a frame: level, down through the middle, level."""
@@ -262,7 +291,7 @@ class Drawing:
     def _mark(self, flight, mark):
         """What the line did to a frame: a sign in the middle and a word in the other end's half."""
         x, y, other = self.at.middle, self.y(mark.row), OTHER[flight.side]
-        sign = {LOSS: "", REPEAT: _ring(x, y), CHANGE: f'<path class="sign" d="M{x} {y - 6}l6 6l-6 6l-6 -6z"/>'}[mark.what]
+        sign = {LOSS: "", DELAY: "", REPEAT: _ring(x, y), CHANGE: f'<path class="sign" d="M{x} {y - 6}l6 6l-6 6l-6 -6z"/>'}[mark.what]
         lower = 4 if mark.what == LOSS else -5
         return sign + text(self.at.near(other) - SIGN[other] * 4, y + lower, cut(mark.text, MARKED), "mark", self._anchor(other))
 

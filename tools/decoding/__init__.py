@@ -10,7 +10,8 @@ It is written from the standards' tables, apart from the proved program, so that
 | transport | TPDUs of class 2 and the messages cut into DT TPDUs: ITU-T X.224, clause 13 |
 | safety | SaPDUs: UNISIG SUBSET-037, the safety layer |
 | conversation | all of these over the frames of a link, both directions |
-| sources | texts: what a drill prints, a trace or recording, a tap |
+| sources | texts: what a drill prints, a trace or recording, a tap, what a relay prints |
+| timing | how long T1 of a station ran, by the moments of frames: ISO/IEC 13239, time-out recovery |
 | bits | what `euroradio bits` prints of each direction of a synchronous line |
 | captures | reads captures in the formats pcapng and pcap, and writes those in pcapng |
 | datalinks | what stands below TCP in a captured packet: link types, VLAN tags, IPv4 and IPv6 |

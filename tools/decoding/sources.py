@@ -1,10 +1,11 @@
-"""Texts in which frames of links are recorded: what a drill prints, a trace or recording, a tap.
+"""Texts in which frames of links are recorded: what a drill prints, a trace or recording, a tap, what a relay prints.
 
 | Text | First line | Lines with octets |
 |---|---|---|
 | what a drill prints | `N S ..` | `N S frame HEX`, where the drill file has `set show 1`: S sent it |
 | trace or recording | `trace 1 ..` | `> M C octets HEX`: the end of connection C got it at moment M; `< C octets HEX`: it sent it |
 | tap | `tap 1` | `octets N S HEX`: S sent it and the other end got it |
+| what a relay prints | `relay 1` | `> M N S HEX`: it came from S on connection N at moment M; `< M N S HEX`: it was given to the other end in its place |
 
 A line that is none of its text's is named with its number, and reading goes on behind it; but where the first line shows no kind of text, or is a
 faulty header of one, reading ends there. Words that are quoted have their control octets escaped.
@@ -20,7 +21,7 @@ EVENT = "event"
 OUTCOME = "outcome"
 OTHER = {"e": "r", "r": "e"}
 
-DRILL, TRACE, TAP = "drill", "trace", "tap"
+DRILL, TRACE, TAP, RELAY = "drill", "trace", "tap", "relay"
 LAST_MOMENT = 10 ** 15
 # How captures of the formats pcapng and pcap begin.
 CAPTURES = ("\n\r\r\n", "\xd4\xc3\xb2\xa1", "\xa1\xb2\xc3\xd4", "\x4d\x3c\xb2\xa1", "\xa1\xb2\x3c\x4d")
@@ -88,11 +89,13 @@ class Link:
 
     `role` is the side of a connection's own end; `engine` and `rbc` are ETCS numbers where they are told; `moment` is that of a tap's link. A
     connection that is `away` was turned away: it got no end, and has no other line. A link that is `wired` is that of a real line, of level full.
+    Of a connection that was relayed `items` has what the ends got, and `came` what came from them.
     """
 
     kind: str
     number: int
     items: List[Item] = field(default_factory=list)
+    came: List[Item] = field(default_factory=list)
     role: Optional[str] = None
     engine: Optional[int] = None
     rbc: Optional[int] = None
@@ -124,7 +127,7 @@ class Link:
 
 @dataclass
 class Reading:
-    """A text that was read: its kind (DRILL, TRACE, TAP, or None where no line is one of these), its links in the order in which they come
+    """A text that was read: its kind (DRILL, TRACE, TAP, RELAY, or None where no line is one of these), its links in the order in which they come
     up, its settings where it tells them, the lines that speak of the whole text (`! overfull ..`), and its bad lines."""
 
     kind: Optional[str] = None
@@ -167,13 +170,25 @@ def _reader_for(words, reading):
     """The reader of the kind of text that this line begins."""
     if words[0] == "tap":
         return _TapReader(reading)
+    if words[0] == "relay":
+        return _RelayReader(reading)
     if words[0] == "trace" or words[0] in (">", "<"):
         return _TraceReader(reading)
     if words[0] == "!" or len(words) > 1 and words[0].isdigit() and words[1] in ("e", "r", "passes", "end"):
         return _DrillReader(reading)
     if words[0] == "drill":
         raise NoHeader("the steps of a drill; what `euroradio drill` prints of them is wanted")
-    raise NoHeader(f"no line of a drill's text, a trace or a tap: {words[0][:40]}")
+    raise NoHeader(f"no line of a drill's text, a trace, a tap or what a relay prints: {words[0][:40]}")
+
+
+def take_what_came(reading):
+    """Of connections that were relayed takes what came from the ends in the place of what they got. Answers what is told where it can't."""
+    if reading.kind != RELAY:
+        return ["what was sent and what was got are told apart by a relay alone"] if reading.kind else []
+    for link in reading.links:
+        link.items = [item for item in link.items if item.kind != OCTETS] + link.came
+        link.items.sort(key=lambda item: item.line)
+    return []
 
 
 def decimal(word, most=2 ** 64 - 1):
@@ -409,3 +424,50 @@ class _TapReader(_Reader):
         if link not in self.by_number:
             self.reading.bad.append(BadLine(number, f"link {link} wasn't opened by a line before"))
         self.link(link).items.append(Item(number, OCTETS, side, "octets", (), octets))
+
+
+class _RelayReader(_Reader):
+    """What a relay prints. Its ends are told by the sides, so a connection has no end of its own."""
+
+    kind = "connection"
+
+    def __init__(self, reading):
+        super().__init__(reading)
+        reading.kind = RELAY
+
+    def line(self, number, words):
+        if not self.begun:
+            self.begun = True
+            if words != ["relay", "1"]:
+                raise NoHeader("no header of what a relay prints: `relay 1` is wanted; what it prints, and not its script, is read")
+            return
+        if words[0] not in (">", "<"):
+            raise BadWord(f"no line that a relay prints: {words[0][:40]}")
+        if len(words) < 4:
+            raise BadWord("a line that a relay prints without its words")
+        moment, conn, told = decimal(words[1], LAST_MOMENT), decimal(words[2]), words[3:]
+        if told == ["open"] and words[0] == ">":
+            self._open(number, moment, conn)
+        elif told == ["closed"] and words[0] == "<":
+            self._link(number, conn).items.append(Item(number, OUTCOME, None, "closed", (), b"", moment))
+        elif told[0] == "end" and words[0] == ">" and len(told) == 2:
+            self._link(number, conn).items.append(Item(number, EVENT, side_of(told[1]), "ended", (), b"", moment))
+        elif len(told) == 2:
+            item = Item(number, OCTETS, side_of(told[0]), "octets", (), octets_of(told[1]), moment)
+            link = self._link(number, conn)
+            (link.came if words[0] == ">" else link.items).append(item)
+        else:
+            raise BadWord(f"no words of a line that a relay prints: {' '.join(told)[:40]}")
+
+    def _open(self, number, moment, conn):
+        if conn in self.by_number:
+            raise BadWord(f"connection {conn} is opened twice")
+        link = self.link(conn)
+        link.wired = True
+        link.items.append(Item(number, OUTCOME, None, "open", (), b"", moment))
+
+    def _link(self, number, conn):
+        if conn not in self.by_number:
+            self.reading.bad.append(BadLine(number, f"connection {conn} wasn't opened by a line before"))
+            self.link(conn).wired = True
+        return self.by_number[conn]
