@@ -95,10 +95,14 @@ pub(crate) fn ends_of_streams(rt: HostRuntime, words: &[String], ended: &Ended, 
     let Command::Audit { ends: false, .. } = command_from(words) else {
         return;
     };
-    if ended.status.0 != 0 || ends.is_empty() {
+    if ended.status.0 != 0 {
         return;
     }
-    let _ = StdoutSink::new(rt.stderr()).write(ends);
+    if ends.is_empty() {
+        return;
+    }
+    let mut sink = StdoutSink::new(rt.stderr());
+    let _ = sink.write(ends);
 }
 
 // The file that a command reads besides keys.

@@ -111,16 +111,21 @@ bare_cc_block = 0x01 ∷ 0x00 ∷ 0x09 ∷ 0xdf ∷ 0x00 ∷ 0x01 ∷ 0x00 ∷ 0
 
 -- an AU2 of radio block centre 9; a DT with number 0 that ends a message, in one block
 abbrev au2 : List ℕ
-au2 = 0x25 ∷ 0x00 ∷ 0x00 ∷ 0x09 ∷ 0x01 ∷ 0x11 ∷ 0x22 ∷ 0x33 ∷ 0x44 ∷ 0x55 ∷ 0x66 ∷ 0x77 ∷ 0x88 ∷ 0x01 ∷ 0x02 ∷ 0x03 ∷ 0x04 ∷ 0x05 ∷ 0x06 ∷ 0x07 ∷ 0x08 ∷ []
+au2 =
+    0x25 ∷ 0x00 ∷ 0x00 ∷ 0x09 ∷ 0x01 ∷ 0x11 ∷ 0x22 ∷ 0x33 ∷ 0x44 ∷ 0x55 ∷ 0x66 ∷ 0x77 ∷ 0x88
+    ∷ 0x01 ∷ 0x02 ∷ 0x03 ∷ 0x04 ∷ 0x05 ∷ 0x06 ∷ 0x07 ∷ 0x08 ∷ []
 
 abbrev dt_block : List ℕ → List ℕ
 dt_block user = 0x01 ∷ 0x00 ∷ 0x04 ∷ 0xf0 ∷ 0x00 ∷ 0x01 ∷ 0x80 ∷ user
 
-pub says_nothing_first : hears R (ua ∷ Frame 0x03 (0x00 ∷ bare_cc_block) ∷ Frame 0x03 (0x02 ∷ dt_block au2) ∷ []) ≡ record { texts = [] ∷ au2 ∷ []; parting = None }
+pub says_nothing_first :
+    hears R (ua ∷ Frame 0x03 (0x00 ∷ bare_cc_block) ∷ Frame 0x03 (0x02 ∷ dt_block au2) ∷ []) ≡ record { texts = [] ∷ au2 ∷ []; parting = None }
 unfolding heard_of in_sequence before_end behind_opening frames_read control_of tpdus_from pdus_in reading parameters_in texts_from
 says_nothing_first = refl
 
-pub later_au2 : (first_number ra_in ([] ∷ au2 ∷ []) ≡ None) × (audit_verdict_on_item known R 1 (Ok (Au2 9 1 0x1122334455667788 7, true)) ≡ Unexpected)
+pub later_au2 :
+    (first_number ra_in ([] ∷ au2 ∷ []) ≡ None)
+    × (audit_verdict_on_item known R 1 (Ok (Au2 9 1 0x1122334455667788 7, true)) ≡ Unexpected)
 unfolding audit_verdict_on_item
 later_au2 = (refl, refl)
 
