@@ -1,6 +1,6 @@
 //! An ear that counts what comes to it, and keeps why it hears no more.
 
-ghost use Rattle.std.specs.Prelude.{ℕ, ◌≡◌, ◌<◌, ◌+◌, List, ◌++◌, ◌∷◌, [], None, Some, is_some, option_map};
+ghost use Rattle.std.specs.Prelude.{ℕ, ◌≡◌, ◌+◌, List, ◌++◌, ◌∷◌, [], None, Some, is_some, option_map};
 ghost use Rattle.hdlc_frames.specs.Framing as framing;
 ghost use Rattle.hdlc_frames.specs.Framing.{Verdict, frames_of};
 ghost use Rattle.hdlc_frames.specs.Shown.{verdict_of_octets_found};
@@ -194,8 +194,6 @@ impl CountedEar {
         ensures texts { self.new.texts ≡ count_brought result self.old.texts }
         ensures frames { self.new.frames ≡ self.old.frames }
         ensures side { self.new.ear.side ≡ self.old.ear.side }
-        ensures count { self.old.ear.ear.count < 8 }
-        ensures dts { self.old.ear.ear.dts < 128 }
     {
         let outcome = self.ear.read(address, control, information);
         self.note(outcome)
@@ -218,6 +216,7 @@ impl CountedEar {
         let Some((control, information)) = control(frame.body) else {
             return false;
         };
+        self.ear.numbers_are_kept();
         self.read(frame.address, control, information)
     }
 

@@ -146,6 +146,14 @@ impl Ear {
         self.gap
     }
 
+    /// Numbers are kept modulo 8 and 128.
+    pub fn numbers_are_kept(&self)
+        ensures count { self.now.ear.count < 8 }
+        ensures dts { self.now.ear.dts < 128 }
+    {
+        let _count = self.count;
+    }
+
     /// Lends the newest text.
     pub fn text(&self) -> &[u8]
         ensures { result.now ≡ self.now.text }
@@ -159,8 +167,6 @@ impl Ear {
         ensures turn { turned result self.new
             ≡ frame_turn self.old.side self.old.ear self.old.gap (record { address = address; control = control; information = information.now }) }
         ensures side { self.new.side ≡ self.old.side }
-        ensures count { self.old.ear.count < 8 }
-        ensures dts { self.old.ear.dts < 128 }
     {
         if !self.opened {
             if opens(self.side, address, control, information) {

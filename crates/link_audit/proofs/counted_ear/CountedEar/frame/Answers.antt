@@ -26,11 +26,11 @@ pub returns-clause-items : goal.returns-clause-items
 returns-clause-items c =
     rw (sym c.self.view_is) (λ verdicts.
     read_items c.hearing_turns.ensures _ (sym c.is_some.ensures ∙ c.if-is_some.false) _ _ verdicts c.in-Some.control c.in-Some.information.now (sym c.in-Some.ensures.value)
-    c.read.ensures.count c.read.ensures.dts c.read.result c.read.new.self (c.read.ensures.items verdicts))
+    c.numbers_are_kept.ensures.count c.numbers_are_kept.ensures.dts c.read.result c.read.new.self (c.read.ensures.items verdicts))
 
 pub returns-clause-told : goal.returns-clause-told
 returns-clause-told c =
     rw (sym c.self.view_is) (λ verdicts.
     read_told c.hearing_turns.ensures _ (sym c.is_some.ensures ∙ c.if-is_some.false) _ _ verdicts c.in-Some.control c.in-Some.information.now (sym c.in-Some.ensures.value)
-    c.read.ensures.count c.read.ensures.dts c.read.result c.read.new.self (c.read.ensures.items verdicts) (c.read.ensures.end verdicts) c.read.ensures.texts
+    c.numbers_are_kept.ensures.count c.numbers_are_kept.ensures.dts c.read.result c.read.new.self (c.read.ensures.items verdicts) (c.read.ensures.end verdicts) c.read.ensures.texts
     (c.read.ensures.frames ∙ c.saturating_add-self-inside.ensures))
