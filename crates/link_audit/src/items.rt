@@ -65,7 +65,7 @@ impl<'t> Items<'t> {
 
     /// How far the side was heard, and why no further: what is left of its stream is gone through.
     pub fn end(self) -> Told
-        ensures { result ≡ self.told }
+        ensures { result ≡ self.entry.told }
     {
         self.stream.end()
     }

@@ -120,8 +120,8 @@ fn write_side<S: Sink>(
     sink: &mut S,
 ) -> Result<(), AuditFault>
     ensures writes { Writes (S.state sink.old).held (S.state sink.new).held (S.state sink.old).faults (S.state sink.new).faults
-        (side_with_end ends link side known.now items) result }
-    ensures told { OnOk result (told.new.items ≡ told.old.items ++ line_text (told_words link side items.told)) }
+        (side_with_end ends link side known.now items.entry) result }
+    ensures told { OnOk result (told.new.items ≡ told.old.items ++ line_text (told_words link side items.entry.told)) }
     ensures later { (S.state sink.old).faults ≤ (S.state sink.new).faults }
 {
     write_items(known, link, side, &mut items, line, sink)?;

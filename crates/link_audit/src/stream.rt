@@ -104,7 +104,7 @@ impl<'t> Stream<'t> {
 
     /// What is told of the stream, once all that is left of it is gone through.
     pub fn end(self) -> Told
-        ensures { result ≡ told_left self }
+        ensures { result ≡ told_left self.entry }
     {
         hdlc_frames::laws::kept_stands_for_stream();
         let Stream {
