@@ -21,7 +21,7 @@ pub information_turns : (outcome : TextOutcome) (side : Side) (k : Ear) (held : 
     → held ≡ (joining.block_step k.held information).0 → (joining.block_step k.held information).1 ≡ Ok (Some tpdu)
     → text_turned outcome now ≡ text_turn k.dts k.begun (reading tpdu)
     → turned (it.Counted outcome)
-        (record { side = side; ear = record k { count = (k.count + 1) % 8; held = held; dts = now.dts; begun = now.begun }; gap = false; text = now.text })
+    (record { side = side; ear = record k { count = (k.count + 1) % 8; held = held; dts = now.dts; begun = now.begun }; gap = false; text = now.text })
     ≡ turn_at_information k information
 information_turns outcome side k held now information tpdu is answer e =
     rw (is, answer)

@@ -113,12 +113,7 @@ pub fn put_item(
 }
 
 /// Appends the line of a side's end.
-pub fn put_end(
-    link: u8,
-    side: Side,
-    told: &Told,
-    out: &mut Vec<u8>,
-) -> Result<(), NoMemory>
+pub fn put_end(link: u8, side: Side, told: &Told, out: &mut Vec<u8>) -> Result<(), NoMemory>
     ensures { OnOk result (out.new.items ≡ out.old.items ++ line_text (told_words link side told.now)) }
 {
     let words = [
