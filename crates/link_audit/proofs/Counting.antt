@@ -1,13 +1,12 @@
 -- What is told of a stream stays the same, frame by frame, and what is heard goes on by the texts that frames bring.
 use Rattle.std.proofs.Common.{arith, ◌≡◌, ℕ, ◌+◌, ◌<◌, Bool, true, false, List, [], ◌∷◌, ◌++◌, length, Option, Some, None, is_some, refl, sym, ap, ◌∙◌}
 use Rattle.std.specs.Option.{option_to_list}
-use Rattle.er_base.specs.declared.side.Side.{Side}
 use Rattle.hdlc_frames.specs.declared.controls.Control.{Control}
 use Rattle.hdlc_frames.specs.Framing.{Verdict, Frame, BadFcs, TooShort, TooLong, Aborted}
 use Rattle.hdlc_frames.specs.ControlOctets.{control_of}
 use Rattle.tap_model.specs.declared.end_cause.EndCause.{EndCause}
 use Rattle.tap_model.specs.declared.end_cause.EndCause.TheVariants.{Dr}
-use Rattle.tap_model.specs.Hearing.{ReadFrame, frames_read, items}
+use Rattle.tap_model.specs.Hearing.{frames_read, items}
 use Rattle.tap_model.specs.Ears.{HearingTurns}
 use Rattle.tap_model.specs.Ends.{StreamEnd, is_frame, frames_among, end_from, stream_end}
 use Rattle.link_audit.specs.declared.frame_outcome.FrameOutcome.{FrameOutcome}

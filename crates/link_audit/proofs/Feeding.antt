@@ -1,5 +1,5 @@
 -- What the octets up to the first that closes a frame come to, the next line, and the end of the lines.
-use Rattle.std.proofs.Common.{arith, ◌≡◌, ℕ, ◌+◌, ◌<◌, ◌==◌, Bool, true, false, List, [], ◌∷◌, ◌++◌, length, take, drop, Option, Some, None, is_some, refl, sym, ap, ◌∙◌, subst, append_assoc, append-nil, eqb-true}
+use Rattle.std.proofs.Common.{arith, ◌≡◌, ℕ, ◌+◌, ◌==◌, Bool, true, false, List, [], ◌∷◌, ◌++◌, length, take, drop, Option, Some, None, is_some, refl, sym, ap, ◌∙◌, subst, append_assoc, append-nil, eqb-true}
 use Rattle.std.proofs.lemmas.List.{take-append-drop}
 use Rattle.std.specs.Option.{option_to_list}
 use Rattle.er_base.specs.declared.side.Side.{Side}
@@ -12,9 +12,8 @@ use Rattle.tap_model.specs.Hearing.{frames_read, items, heard}
 use Rattle.tap_model.specs.Ears.{new_ear, hearing_of_frames, HearingTurns}
 use Rattle.tap_model.specs.Ends.{frames_among, stream_end}
 use Rattle.tap_model.specs.Lines as lines
-use Rattle.link_audit.specs.declared.told.Told.{Told}
 use Rattle.link_audit.specs.Turns.{KEar}
-use Rattle.link_audit.specs.Counts.{kept_count, counted_end, told_of_stream, KCountedEar, new_counted_ear, items_of_rest, items_behind, told_behind, with_brought, items_where_found, told_where_found}
+use Rattle.link_audit.specs.Counts.{counted_end, told_of_stream, KCountedEar, new_counted_ear, items_of_rest, items_behind, told_behind, with_brought, items_where_found, told_where_found}
 use Rattle.link_audit.specs.Streams.{KStream, octets_left, verdicts_left, items_left, told_left, pending}
 use Rattle.link_audit.proofs.Counting.{told_same, found_items, found_told, no_items}
 

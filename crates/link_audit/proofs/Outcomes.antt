@@ -1,5 +1,5 @@
 -- How a stream ends, by what the code makes of a frame.
-use Rattle.std.proofs.Common.{◌≡◌, ℕ, ◌+◌, ◌%◌, ◌==◌, Bool, true, false, not, if◌then◌else◌, List, [], ◌∷◌, ◌++◌, length, nat_lt, Option, Some, None, Result, Ok, Err, refl, sym, ap, subst, ◌∙◌}
+use Rattle.std.proofs.Common.{◌≡◌, ℕ, ◌+◌, ◌%◌, ◌==◌, Bool, true, false, not, if◌then◌else◌, List, [], ◌∷◌, ◌++◌, length, nat_lt, Option, Some, None, Result, Ok, Err, refl, sym, ap, ◌∙◌}
 use Rattle.std.specs.Prelude.{◌&&◌, ◌||◌}
 use Rattle.std.proofs.lemmas.List.{length-append}
 use Rattle.er_base.specs.declared.side.Side.{Side}
@@ -16,7 +16,7 @@ use Rattle.tap_model.specs.declared.end_cause.EndCause.{EndCause}
 use Rattle.tap_model.specs.declared.end_cause.EndCause.TheVariants.{Disc, Dm, Number, Long, Dr}
 use Rattle.tap_model.specs.Hearing.{ReadFrame, read_as, address_of_side, Sort, Carries, SetsUp, Agrees, Disconnects, Leaves, Passes, sort_of, is_link_opening, ends, is_end, has_number}
 use Rattle.tap_model.specs.Ears.{Ear, open_ear}
-use Rattle.tap_model.specs.Ends.{ReceiverState, receiver_at_opening, FrameOutcome, PassedOver, Counted, CountedLast, LinkEnded, StreamEnd, frames_among, outcome_at_pdu, outcome_at_block, outcome_at_piece, outcome_at_sort, outcome_of_verdict, behind_outcome, end_from, opens_link_of, stream_end}
+use Rattle.tap_model.specs.Ends.{ReceiverState, receiver_at_opening, FrameOutcome, PassedOver, Counted, CountedLast, LinkEnded, frames_among, outcome_at_pdu, outcome_at_block, outcome_at_piece, outcome_at_sort, outcome_of_verdict, behind_outcome, end_from, opens_link_of, stream_end}
 use Rattle.link_audit.specs.Turns.{TextTurn, Waits, Tells, Closes, Stops, text_turn, FrameTurn, PassesOver, Counts, CountsText, CountsLastText, CountsLast, EndsLink, turn_at_text, turn_at_joined, turn_at_information, link_end_cause, is_information, frame_turn_where, frame_turn}
 use Rattle.link_audit.specs.Counts.{receiver_state_of, end_where, end_at_turn}
 

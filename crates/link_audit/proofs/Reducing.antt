@@ -16,7 +16,7 @@ use Rattle.tap_model.specs.declared.end_cause.EndCause.{EndCause}
 use Rattle.tap_model.specs.declared.end_cause.EndCause.TheVariants.{Number, Long}
 use Rattle.tap_model.specs.Hearing.{ReadFrame, read_as, frames_read, address_of_side, Sort, Carries, SetsUp, Agrees, Disconnects, Leaves, Passes, sort_of, is_link_opening, ends, has_number, is_next, in_sequence, before_end, pdus_in, tpdus_from, Hearing, silence, with_text, texts_from, items}
 use Rattle.tap_model.specs.Ears.{Ear, open_ear, hears_if, hearing_of_frames, TapFrameTurn, GoesOn, Says, Parts, Ends, turn_at_pdu, turn_at_block, turn_at_piece, turn_if, turn_of_tap_frame, behind_turn, HearingTurns}
-use Rattle.link_audit.specs.Turns.{TextTurn, Stops, Tells, Waits, text_turn, FrameTurn, PassesOver, Counts, CountsText, CountsLastText, CountsLast, EndsLink, turn_at_text, turn_at_joined, turn_at_information, link_end_cause, is_information, frame_turn_where, frame_turn}
+use Rattle.link_audit.specs.Turns.{Stops, Tells, Waits, text_turn, FrameTurn, PassesOver, Counts, CountsText, CountsLastText, CountsLast, EndsLink, turn_at_text, turn_at_joined, turn_at_information, link_end_cause, is_information, frame_turn_where, frame_turn}
 use Rattle.link_audit.specs.Counts.{items_heard_of, items_at_turn}
 
 -- numbers modulo 8 and 128

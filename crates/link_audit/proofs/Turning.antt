@@ -1,5 +1,5 @@
 -- What the information of a frame comes to, by the code's answer and by what it keeps then.
-use Rattle.std.proofs.Common.{◌≡◌, ℕ, ◌+◌, ◌%◌, false, List, Some, Ok, refl, ap}
+use Rattle.std.proofs.Common.{◌≡◌, ℕ, ◌+◌, ◌%◌, false, List, Some, Ok, ap}
 use Rattle.er_base.specs.declared.side.Side.{Side}
 use Rattle.t70_header.specs.Joining as joining
 use Rattle.x224_tpdu.specs.Function.{reading}

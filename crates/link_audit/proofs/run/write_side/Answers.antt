@@ -1,5 +1,5 @@
 -- The end behind the items.
-use Rattle.std.proofs.Common.{List, ℕ, ◌++◌, ap, ◌∙◌}
+use Rattle.std.proofs.Common.{◌++◌, ap, ◌∙◌}
 use Rattle.std.proofs.lemmas.Result.{err_from_is_err_and, on_ok_weaker}
 use Rattle.er_base.specs.LineTexts.{line_text}
 use Rattle.link_audit.specs.declared.told.Told.{Told}

@@ -1,5 +1,5 @@
 -- Behind the end, a frame whose control can't be read, and one that was read.
-use Rattle.std.proofs.Common.{refl, sym, ◌∙◌}
+use Rattle.std.proofs.Common.{sym, ◌∙◌}
 use Rattle.link_audit.proofs.Counting.{over_items, over_told, unread_items, unread_told, read_items, read_told}
 use Rattle.link_audit.proofs.counted_ear.CountedEar.frame.Goals as goal
 

@@ -1,5 +1,5 @@
 -- What the frame came to, and what is kept then.
-use Rattle.std.proofs.Common.{◌≡◌, refl, sym, ap, ◌∙◌, None}
+use Rattle.std.proofs.Common.{◌≡◌, sym, ap, ◌∙◌, None}
 use Rattle.link_audit.specs.Turns.{KEar, FrameTurn}
 use Rattle.link_audit.specs.Counts.{KCountedEar, counted_end, items_at_turn, end_at_turn}
 use Rattle.link_audit.proofs.Counting.{came_items, came_end, came_texts, came_frames, came_ear}

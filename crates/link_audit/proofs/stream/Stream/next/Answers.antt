@@ -1,5 +1,5 @@
 -- The next piece, the end of the lines, and the end of the link.
-use Rattle.std.proofs.Common.{◌≡◌, [], List, ℕ, refl, sym, ap, subst, ◌∙◌, eqb-true}
+use Rattle.std.proofs.Common.{◌≡◌, [], refl, sym, ap, subst, ◌∙◌, eqb-true}
 use Rattle.link_audit.specs.Streams.{KStream, items_left, told_left}
 use Rattle.link_audit.proofs.Feeding.{piece_items, piece_told, none_left, over_left, no_octets}
 use Rattle.link_audit.proofs.stream.Stream.next.Goals as goal
