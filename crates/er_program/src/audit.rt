@@ -31,12 +31,13 @@ fn not_audited<K: Sink>(alloc: Global, fault: AuditFault, sink: &mut K) -> Resul
     }
 }
 
-// Audits a tap that was read.
+// Audits a tap that was read, and gives back what is told of ends.
 fn audit_lines<K: Sink>(
     alloc: Global,
     with_ends: bool,
     store: &KeyStore,
     tap: &Tap,
+    told: &mut Vec<u8>,
     sink: &mut K,
 ) -> Result<Status, Stop>
     requires { CanBeRead tap.now }
@@ -44,18 +45,19 @@ fn audit_lines<K: Sink>(
         (K.state sink.old).held (K.state sink.new).held (K.state sink.old).faults (K.state sink.new).faults result }
     ensures sink_count { (K.state sink.old).faults ≤ (K.state sink.new).faults }
 {
-    match audit(alloc, store, tap, with_ends, sink) {
+    match audit(alloc, store, tap, with_ends, told, sink) {
         Ok(()) => Ok(Status(0)),
         Err(fault) => not_audited(alloc, fault, sink),
     }
 }
 
-/// The octets of the tap's file.
+/// The octets of the tap's file. What is told of ends is given back.
 pub fn audit_file<K: Sink>(
     alloc: Global,
     with_ends: bool,
     store: &KeyStore,
     octets: &[u8],
+    told: &mut Vec<u8>,
     sink: &mut K,
 ) -> Result<Status, Stop>
     ensures ends { EndsOne (IsTapAnswer with_ends store.now (tap_of octets.now)) (BeginsTap with_ends store.now (tap_of octets.now))
@@ -63,7 +65,7 @@ pub fn audit_file<K: Sink>(
     ensures sink_count { (K.state sink.old).faults ≤ (K.state sink.new).faults }
 {
     match read(alloc, octets) {
-        Ok(tap) => audit_lines(alloc, with_ends, store, &tap, sink),
+        Ok(tap) => audit_lines(alloc, with_ends, store, &tap, told, sink),
         Err(TextFault::At { line, why }) => out_of_form(alloc, line, why, sink),
         Err(TextFault::NoMemory(want)) => Err(Stop::NoMemory(want)),
     }

@@ -36,12 +36,13 @@ pub fn told_line<K: Sink>(
     last(status, line.as_slice(), sink)
 }
 
-// The octets of the file.
+// The octets of the file. What an audit tells of ends is given back.
 fn work_on<K: Sink>(
     alloc: Global,
     work: Work,
     store: &KeyStore,
     octets: &[u8],
+    told: &mut Vec<u8>,
     sink: &mut K,
 ) -> Result<Status, Stop>
     ensures ends { EndsOne (IsOfWork work store.now octets.now) (BeginsOfWork work store.now octets.now)
@@ -51,7 +52,7 @@ fn work_on<K: Sink>(
     match work {
         Work::Replay => replay_file(alloc, store, octets, sink),
         Work::Check => check_file(alloc, store, octets, sink),
-        Work::Audit { ends } => audit_file(alloc, ends, store, octets, sink),
+        Work::Audit { ends } => audit_file(alloc, ends, store, octets, told, sink),
     }
 }
 
@@ -62,6 +63,7 @@ fn work_named<F: Cabinet, K: Sink>(
     store: &KeyStore,
     name: &str,
     cabinet: &mut F,
+    told: &mut Vec<u8>,
     sink: &mut K,
 ) -> Result<Status, Stop>
     ensures ends { EndsOne (IsSecondFileAnswer (IsOfWork work) store.now name.now (F.state cabinet.new).files (F.state cabinet.old).faults
@@ -75,7 +77,7 @@ fn work_named<F: Cabinet, K: Sink>(
     ensures sink_count { (K.state sink.old).faults ≤ (K.state sink.new).faults }
 {
     match fetched(alloc, name, cabinet, sink) {
-        Ok(octets) => work_on(alloc, work, store, octets.as_slice(), sink),
+        Ok(octets) => work_on(alloc, work, store, octets.as_slice(), told, sink),
         Err(ended) => ended,
     }
 }
@@ -87,6 +89,7 @@ fn work_with<F: Cabinet, K: Sink>(
     octets: &[u8],
     name: &str,
     cabinet: &mut F,
+    told: &mut Vec<u8>,
     sink: &mut K,
 ) -> Result<Status, Stop>
     ensures ends { EndsOne (IsAnswerBehindKeys (IsOfWork work) (keys_of octets.now) name.now (F.state cabinet.new).files
@@ -100,18 +103,20 @@ fn work_with<F: Cabinet, K: Sink>(
     ensures sink_count { (K.state sink.old).faults ≤ (K.state sink.new).faults }
 {
     match KeyStore::from_bytes(alloc, octets) {
-        Ok(store) => work_named(alloc, work, &store, name, cabinet, sink),
+        Ok(store) => work_named(alloc, work, &store, name, cabinet, told, sink),
         Err(fault) => keys_refused(alloc, fault, sink),
     }
 }
 
-/// Fetches the key file and then, where it is good, the file of the second name, and does with it what is asked for.
+/// Fetches the key file and then, where it is good, the file of the second name, and does with it what is asked for. An audit appends to `told` what
+/// it tells of ends, whether they are asked for or not.
 pub fn keyed_run<F: Cabinet, K: Sink>(
     alloc: Global,
     work: Work,
     keys: &str,
     name: &str,
     cabinet: &mut F,
+    told: &mut Vec<u8>,
     sink: &mut K,
 ) -> Result<Status, Stop>
     ensures ends { EndsCommand (command_of_work work keys.now name.now) (F.state cabinet.new).files (F.state cabinet.old).faults (F.state cabinet.new).faults
@@ -124,7 +129,7 @@ pub fn keyed_run<F: Cabinet, K: Sink>(
     ensures sink_count { (K.state sink.old).faults ≤ (K.state sink.new).faults }
 {
     match fetched(alloc, keys, cabinet, sink) {
-        Ok(octets) => work_with(alloc, work, octets.as_slice(), name, cabinet, sink),
+        Ok(octets) => work_with(alloc, work, octets.as_slice(), name, cabinet, told, sink),
         Err(ended) => ended,
     }
 }

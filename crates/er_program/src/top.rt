@@ -66,6 +66,7 @@ fn answered<F: Cabinet, K: Sink>(
     alloc: Global,
     command: &Command<'_>,
     cabinet: &mut F,
+    told: &mut Vec<u8>,
     sink: &mut K,
 ) -> Result<Status, Stop>
     requires off_line { needs_wires (command_view command.now) ≡ false }
@@ -84,13 +85,13 @@ fn answered<F: Cabinet, K: Sink>(
         Command::Bits { name } => bits_run(alloc, name, cabinet, sink),
         Command::Migrate { keys } => migrate_run(alloc, keys, cabinet, sink),
         Command::Replay { keys, trace } => {
-            keyed_run(alloc, Work::Replay, keys, trace, cabinet, sink)
+            keyed_run(alloc, Work::Replay, keys, trace, cabinet, told, sink)
         }
         Command::Check { keys, trace } => {
-            keyed_run(alloc, Work::Check, keys, trace, cabinet, sink)
+            keyed_run(alloc, Work::Check, keys, trace, cabinet, told, sink)
         }
         Command::Audit { keys, tap, ends } => {
-            keyed_run(alloc, Work::Audit { ends }, keys, tap, cabinet, sink)
+            keyed_run(alloc, Work::Audit { ends }, keys, tap, cabinet, told, sink)
         }
         Command::Bulk { seed, count } => bulk_run(alloc, seed, count, sink),
         Command::Serve { .. } | Command::Call { .. } => unreachable!(),
@@ -102,6 +103,7 @@ fn ran<F: Cabinet, K: Sink>(
     alloc: Global,
     command: &Command<'_>,
     cabinet: &mut F,
+    told: &mut Vec<u8>,
     sink: &mut K,
 ) -> Status
     requires off_line { needs_wires (command_view command.now) ≡ false }
@@ -115,18 +117,20 @@ fn ran<F: Cabinet, K: Sink>(
     ensures sink_count { (K.state sink.old).faults ≤ (K.state sink.new).faults }
 {
     drill_laws::laws::holds();
-    match answered(alloc, command, cabinet, sink) {
+    match answered(alloc, command, cabinet, told, sink) {
         Ok(status) => status,
         Err(Stop::Sink) => Status(5),
         Err(Stop::NoMemory(want)) => out_of_memory(want, sink),
     }
 }
 
-/// Does what a command asks for that needs no wires, and answers with what status the program is to end, as [`run`] does.
+/// Does what a command asks for that needs no wires, and answers with what status the program is to end, as [`run`] does. An audit that reads its tap to
+/// the end appends to `told` the line of each stream's end, whether these are printed or not.
 pub fn run_off_line<F: Cabinet, K: Sink>(
     alloc: Global,
     command: &Command<'_>,
     cabinet: &mut F,
+    told: &mut Vec<u8>,
     sink: &mut K,
 ) -> Status
     requires off_line { needs_wires (command_view command.now) ≡ false }
@@ -134,7 +138,7 @@ pub fn run_off_line<F: Cabinet, K: Sink>(
     ensures run { (g : GivenToLoop) (rest : Traffic) → IsRun (command_view command.now) g (beside rest F.Cabinet K.Sink cabinet.old sink.old)
         (beside rest F.Cabinet K.Sink cabinet.new sink.new) result.0 }
 {
-    ran(alloc, command, cabinet, sink)
+    ran(alloc, command, cabinet, told, sink)
 }
 
 // What `serve` or `call` asks for.
@@ -205,7 +209,13 @@ fn dispatched<F: Cabinet, K: Sink, W: Wires, C: Clock, R: Rng>(
     if command.needs_wires() {
         ran_on_line(alloc, command, users, outside)
     } else {
-        run_off_line(alloc, command, outside.cabinet, outside.sink)
+        run_off_line(
+            alloc,
+            command,
+            outside.cabinet,
+            &mut Vec::new(alloc),
+            outside.sink,
+        )
     }
 }
 

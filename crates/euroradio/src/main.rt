@@ -153,14 +153,19 @@ fn call<K: Sink>(
     Ok(on_line(rt, words, randoms, users, sink))
 }
 
-// What a command without wires asks for.
-fn off_line<K: Sink>(rt: HostRuntime, words: &[String], sink: &mut K) -> Option<Ended> {
+// What a command without wires asks for; what an audit tells of ends is given back.
+fn off_line<K: Sink>(
+    rt: HostRuntime,
+    words: &[String],
+    ends: &mut Vec<u8>,
+    sink: &mut K,
+) -> Option<Ended> {
     let command = command_from(words);
     if command.needs_wires() {
         return None;
     }
     let mut cabinet = FileCabinet::new(rt);
-    let status = run_off_line(rt.alloc(), &command, &mut cabinet, sink);
+    let status = run_off_line(rt.alloc(), &command, &mut cabinet, ends, sink);
     Some(Ended {
         status,
         file: cabinet.why(),
@@ -169,10 +174,15 @@ fn off_line<K: Sink>(rt: HostRuntime, words: &[String], sink: &mut K) -> Option<
 }
 
 // What the words ask for. None where the objects can't be made, or the system gives no seed.
-fn answered<K: Sink>(rt: HostRuntime, words: &[String], sink: &mut K) -> Option<Ended> {
+fn answered<K: Sink>(
+    rt: HostRuntime,
+    words: &[String],
+    ends: &mut Vec<u8>,
+    sink: &mut K,
+) -> Option<Ended> {
     let command = command_from(words);
     if !command.needs_wires() {
-        return off_line(rt, words, sink);
+        return off_line(rt, words, ends, sink);
     }
     let mut randoms = SystemWords::new(&rt).ok()?;
     if matches!(command, Command::Call { .. }) {
@@ -186,7 +196,8 @@ fn answered<K: Sink>(rt: HostRuntime, words: &[String], sink: &mut K) -> Option<
 fn status_of(rt: HostRuntime, words: &[String]) -> Status {
     told::hints(rt, words);
     let mut sink = LastLine::new(StdoutSink::new(io::writer(&rt)));
-    let ended = match answered(rt, words, &mut sink) {
+    let mut ends = Vec::new(rt.alloc());
+    let ended = match answered(rt, words, &mut ends, &mut sink) {
         Some(ended) => ended,
         None => Ended {
             status: unmade(&mut sink),
@@ -195,7 +206,7 @@ fn status_of(rt: HostRuntime, words: &[String]) -> Status {
         },
     };
     told::ended(rt, words, &ended, sink.line());
-    told::ends_of_streams(rt, words, &ended);
+    told::ends_of_streams(rt, words, &ended, ends.as_slice());
     ended.status
 }
 

@@ -3,7 +3,7 @@
 use crate::ended::Ended;
 use er_base::{NoMemory, Release};
 use er_program::{Command, FileFault, MOST_FILE_OCTETS, StdoutSink, command_from};
-use link_audit::tell_ends;
+use link_trait::Sink;
 use std::alloc::Global;
 use std::fmt::Write;
 use std::fs;
@@ -90,25 +90,19 @@ pub(crate) fn ended(rt: HostRuntime, words: &[String], ended: &Ended, last: &[u8
 }
 
 /// How far each stream of a tap was heard, and why no further, behind an audit that printed what was heard alone: the lines that the word `ends`
-/// has it print.
-pub(crate) fn ends_of_streams(rt: HostRuntime, words: &[String], ended: &Ended) {
-    let Command::Audit {
-        tap,
-        ends: false,
-        ..
-    } = command_from(words)
-    else {
+/// has it print, as the audit gave them back.
+pub(crate) fn ends_of_streams(rt: HostRuntime, words: &[String], ended: &Ended, ends: &[u8]) {
+    let Command::Audit { ends: false, .. } = command_from(words) else {
         return;
     };
     if ended.status.0 != 0 {
         return;
     }
-    let Some(octets) = octets_again(rt, tap) else {
+    if ends.is_empty() {
         return;
-    };
-    if let Ok(tap) = er_tap::read(rt.alloc(), octets.as_slice()) {
-        let _ = tell_ends(rt.alloc(), &tap, &mut StdoutSink::new(rt.stderr()));
     }
+    let mut sink = StdoutSink::new(rt.stderr());
+    let _ = sink.write(ends);
 }
 
 // The file that a command reads besides keys.

@@ -6,4 +6,5 @@ mod Written
 mod Places
 mod Printed
 mod Marking
-mod Striding
+mod Outcomes
+mod Counting

@@ -1,5 +1,5 @@
 -- The texts of items, sides and links, one part more.
-use Rattle.std.proofs.Common.{arith, ◌≡◌, ◌≤◌, ◌<◌, ◌+◌, ◌-◌, ℕ, zero, suc, Bool, true, false, List, [], ◌∷◌, ◌++◌, length, drop, slice_get, Option, Some, None, Result, Ok, Err, refl, ◌∙◌, ap, subst, append-nil}
+use Rattle.std.proofs.Common.{arith, ◌≡◌, ◌≤◌, ◌<◌, ◌+◌, ◌-◌, ℕ, zero, suc, Bool, true, false, List, [], ◌∷◌, ◌++◌, length, drop, slice_get, Option, Some, None, Result, Ok, Err, refl, sym, ◌∙◌, ap, subst, append-nil, append_assoc}
 use Rattle.std.proofs.lemmas.List.{length-append}
 use Rattle.er_base.specs.declared.side.Side.{Side}
 use Rattle.er_base.specs.declared.side.Side.TheVariants.{E, R}
@@ -11,16 +11,18 @@ use Rattle.tap_model.specs.Audits.{WritesOf}
 use Rattle.tap_model.specs.declared.audit_fault.AuditFault.{AuditFault}
 use Rattle.tap_model.specs.declared.audit_fault.AuditFault.TheVariants.{NoLink, LinkTwice, Sink, NoMemory}
 use Rattle.link_trait.specs.Outside.{Grew, GrewPart}
-use Rattle.tap_model.specs.Lines.{TapOpening, fault_of_tap_lines, tap_opening_of_link}
+use Rattle.tap_model.specs.Lines.{TapOpening, fault_of_tap_lines, tap_opening_of_link, stream_of}
 use Rattle.tap_model.specs.Ends.{stream_end}
-use Rattle.tap_model.specs.EndTexts.{words_of_stream, link_text_asked, links_text_asked, text_of_audit, ends_of_link, ends_of_links}
+use Rattle.tap_model.specs.EndTexts.{words_of_stream, end_text, link_text_asked, links_text_asked, text_of_audit, ends_of_link, ends_of_links}
 use Rattle.tap_model.specs.Hearing.{heard, items}
 use Rattle.tap_model.specs.Texts.{item_words, side_text, judged_at, link_text, links_text}
 use Rattle.link_audit.specs.declared.openings.Openings.{Openings}
 use Rattle.link_audit.specs.Openings.{opening_at, links_opened, ends_opened}
 use Rattle.hdlc_frames.specs.Framing.{frames_of}
-use Rattle.link_audit.specs.Strides.{kept_count, told_of_stream, told_words}
-use Rattle.link_audit.specs.Writes.{Writes, side_with_end}
+use Rattle.link_audit.specs.declared.told.Told.{Told}
+use Rattle.link_audit.specs.Counts.{told_of_stream, told_words}
+use Rattle.link_audit.specs.Streams.{KItems}
+use Rattle.link_audit.specs.Writes.{Writes, end_line, side_with_end}
 use Rattle.link_audit.proofs.Places.{judged_late}
 
 -- ---- a line
@@ -73,32 +75,40 @@ module _ (n : ℕ) (known : Known) (side : Side) where
   side_none place [] is = refl
   side_none place (first ∷ items) is = absurd cc
 
--- by what is known
-pub side_by : (ends : Bool) (lines : List TapLine) (n : ℕ) (side : Side) (known k : Known) → known ≡ k → side_with_end ends lines n side known ≡ side_with_end ends lines n side k
-side_by ends lines n side known k same = rw same refl
-
--- and by what is heard
-pub side_heard : (n : ℕ) (side : Side) (known : Known) (all heard : List (List ℕ)) → all ≡ heard → side_text n side (judged_from known side 0 all) ≡ side_text n side (judged_from known side 0 heard)
-side_heard n side known all heard same = rw same refl
-
 -- ---- the end of a side
 
 -- the words of what is told
-pub words_told : (n : ℕ) (side : Side) (stream : List ℕ)
-    → told_words n side (told_of_stream side stream) (kept_count (length (items (heard side stream)))) ≡ words_of_stream n side stream
+words_told : (n : ℕ) (side : Side) (stream : List ℕ) → told_words n side (told_of_stream side stream) ≡ words_of_stream n side stream
 words_told n side stream =
     let none : 0 + (stream_end side (frames_of stream)).heard ≡ (stream_end side (frames_of stream)).heard = omega arith in
     rw none refl
 
--- how many items there are, one by one
-pub counted_more : (count : ℕ) (items : List (List ℕ)) (item : List ℕ) → slice_get items 0 ≡ Some item
-    → kept_count (kept_count (count + 1) + length (drop 1 items)) ≡ kept_count (count + length items)
-counted_more count [] item is = absurd cc
-counted_more count (first ∷ items) item is = omega arith
+module _ (lines : List TapLine) (n : ℕ) (side : Side) (told : Told) (is : told ≡ told_of_stream side (stream_of n side lines)) where
+  told_line : line_text (told_words n side told) ≡ end_text true lines n side
+  told_line = ap (λ (t : Told). line_text (told_words n side t)) is ∙ ap (λ (words : List (List ℕ)). line_text words) (words_told n side (stream_of n side lines))
 
-pub counted_all : (count all : ℕ) (items : List (List ℕ)) → slice_get items 0 ≡ None → kept_count (count + length items) ≡ kept_count all → kept_count count ≡ kept_count all
-counted_all count all [] is same = let none : count + 0 ≡ count = omega arith in rw none at same
-counted_all count all (first ∷ items) is same = absurd cc
+  told_asked : (ends : Bool) → end_line ends n side told ≡ end_text ends lines n side
+  told_asked false = refl
+  told_asked true = told_line
+
+-- a side by what is known and heard of it
+pub side_told : (ends : Bool) (lines : List TapLine) (n : ℕ) (side : Side) (known k : Known) (all : KItems) → known ≡ k
+    → all.left ≡ items (heard side (stream_of n side lines)) → all.told ≡ told_of_stream side (stream_of n side lines)
+    → side_with_end ends n side known all
+    ≡ side_text n side (judged_from k side 0 (items (heard side (stream_of n side lines)))) ++ end_text ends lines n side
+side_told ends lines n side known k all same left told =
+    rw (same, left) (ap (λ (t : List ℕ). side_text n side (judged_from k side 0 (items (heard side (stream_of n side lines)))) ++ t) (told_asked lines n side all.told told ends))
+
+-- the ends of both sides, one behind the other
+pub link_told : (lines : List TapLine) (n : ℕ) (of_e of_r : Told) (old mid new : List ℕ)
+    → of_e ≡ told_of_stream E (stream_of n E lines) → of_r ≡ told_of_stream R (stream_of n R lines)
+    → mid ≡ old ++ line_text (told_words n E of_e) → new ≡ mid ++ line_text (told_words n R of_r)
+    → new ≡ old ++ (end_text true lines n E ++ end_text true lines n R)
+link_told lines n of_e of_r old mid new e r first second =
+    second
+    ∙ ap (λ (t : List ℕ). mid ++ t) (told_line lines n R of_r r)
+    ∙ ap (λ (t : List ℕ). t ++ end_text true lines n R) (first ∙ ap (λ (t : List ℕ). old ++ t) (told_line lines n E of_e e))
+    ∙ append_assoc old (end_text true lines n E) (end_text true lines n R)
 
 -- ---- all links
 
@@ -126,7 +136,7 @@ opened_by_lines ends finds lines o same n (suc count) least most =
     (ap (λ (t : List ℕ). link_text_asked ends finds lines n (tap_opening_of_link n lines) ++ t) (opened_by_lines ends finds lines o same (n + 1) count (omega arith) (omega arith)))
 
 -- the ends alone
-pub ends_more : (lines : List TapLine) (o : Openings) (n : ℕ) → n ≤ 64
+ends_more : (lines : List TapLine) (o : Openings) (n : ℕ) → n ≤ 64
     → ends_opened lines o n (65 - n) ≡ ends_of_link lines n (opening_at o n) ++ ends_opened lines o (n + 1) (65 - (n + 1))
 unfolding ends_opened
 ends_more lines o n most =
@@ -134,11 +144,23 @@ ends_more lines o n most =
     let next : 65 - (n + 1) ≡ 64 - n = omega arith in
     rw (here, next) refl
 
-pub ends_none : (lines : List TapLine) (o : Openings) (n : ℕ) → 64 < n → ends_opened lines o n (65 - n) ≡ []
+ends_none : (lines : List TapLine) (o : Openings) (n : ℕ) → 64 < n → ends_opened lines o n (65 - n) ≡ []
 unfolding ends_opened
 ends_none lines o n past =
     let none : 65 - n ≡ zero = omega (arith, past) in
     rw none refl
+
+-- what was told so far, and what is told yet
+pub ends_told : (lines : List TapLine) (o : Openings) (n : ℕ) (old new all : List ℕ) → n ≤ 64 → new ≡ old ++ ends_of_link lines n (opening_at o n)
+    → old ++ ends_opened lines o n (65 - n) ≡ all → new ++ ends_opened lines o (n + 1) (65 - (n + 1)) ≡ all
+ends_told lines o n old new all most more was =
+    ap (λ (t : List ℕ). t ++ ends_opened lines o (n + 1) (65 - (n + 1))) more
+    ∙ append_assoc old (ends_of_link lines n (opening_at o n)) (ends_opened lines o (n + 1) (65 - (n + 1)))
+    ∙ ap (λ (t : List ℕ). old ++ t) (sym (ends_more lines o n most))
+    ∙ was
+
+pub all_told : (lines : List TapLine) (o : Openings) (n : ℕ) (old all : List ℕ) → 64 < n → old ++ ends_opened lines o n (65 - n) ≡ all → old ≡ all
+all_told lines o n old all past was = sym (append-nil old) ∙ ap (λ (t : List ℕ). old ++ t) (sym (ends_none lines o n past)) ∙ was
 
 pub ends_by_lines : (lines : List TapLine) (o : Openings) → ((n : ℕ) → 1 ≤ n → n ≤ 64 → opening_at o n ≡ tap_opening_of_link n lines)
     → (n count : ℕ) → 1 ≤ n → n + count ≤ 65 → ends_opened lines o n count ≡ ends_of_links lines n count

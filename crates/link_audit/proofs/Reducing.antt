@@ -1,16 +1,33 @@
--- By numbers modulo 8 and 128 the same is heard, and what a deframer found comes to what its frames do.
-use Rattle.std.proofs.Common.{arith, ◌≡◌, ℕ, ◌+◌, ◌%◌, ◌==◌, Bool, true, false, not, if◌then◌else◌, List, [], ◌∷◌, ◌++◌, length, nat_lt, Option, Some, None, refl, sym, ap, ◌∙◌}
-use Rattle.std.specs.Option.{option_to_list}
-use Rattle.std.proofs.Math.Nat.{mod-mod}
+-- By the code's numbers, modulo 8 and 128, the same is heard.
+use Rattle.std.proofs.Common.{arith, ◌≡◌, ℕ, ◌+◌, ◌<◌, ◌%◌, ◌==◌, Bool, true, false, not, if◌then◌else◌, List, [], ◌∷◌, ◌++◌, length, nat_lt, Option, Some, None, Result, Ok, Err, refl, sym, ap, ◌∙◌}
+use Rattle.std.specs.Prelude.{◌&&◌}
+use Rattle.std.proofs.Math.Nat.{mod-mod, mod-eq_of_lt}
 use Rattle.er_base.specs.declared.side.Side.{Side}
+use Rattle.er_base.specs.Sides.{other}
 use Rattle.hdlc_frames.specs.declared.controls.Control.{Control}
-use Rattle.hdlc_frames.specs.Framing.{Verdict, Frame, BadFcs, TooShort, TooLong, Aborted}
+use Rattle.hdlc_frames.specs.Framing.{Verdict, Frame}
 use Rattle.hdlc_frames.specs.ControlOctets.{control_of}
+use Rattle.t70_header.specs.Joining as joining
+use Rattle.x224_tpdu.specs.declared.fault.TpFault.{TpFault}
 use Rattle.x224_tpdu.specs.Spelling.{TransportPdu, connection_request, connection_confirm, disconnect_request, disconnect_confirm, data_tpdu, acknowledgement, tpdu_error}
+use Rattle.x224_tpdu.specs.Function.{reading}
 use Rattle.sapdu.specs.Messages.{most_octets}
-use Rattle.tap_model.specs.Hearing.{ReadFrame, read_as, frames_read, Sort, Carries, SetsUp, Agrees, Disconnects, Leaves, Passes, sort_of, has_number, is_next, in_sequence, before_end, pdus_in, tpdus_from, Hearing, silence, with_text, texts_from}
-use Rattle.tap_model.specs.Ears.{Ear, hears_if, hearing_of_frames, TapFrameTurn, GoesOn, Says, Parts, Ends, turn_of_tap_frame, behind_turn, HearingTurns}
-use Rattle.link_audit.specs.Turns.{reduced, reduced_turn, frames_found, turn_at_frames}
+use Rattle.tap_model.specs.declared.end_cause.EndCause.{EndCause}
+use Rattle.tap_model.specs.declared.end_cause.EndCause.TheVariants.{Number, Long}
+use Rattle.tap_model.specs.Hearing.{ReadFrame, read_as, frames_read, address_of_side, Sort, Carries, SetsUp, Agrees, Disconnects, Leaves, Passes, sort_of, is_link_opening, ends, has_number, is_next, in_sequence, before_end, pdus_in, tpdus_from, Hearing, silence, with_text, texts_from, items}
+use Rattle.tap_model.specs.Ears.{Ear, open_ear, hears_if, hearing_of_frames, TapFrameTurn, GoesOn, Says, Parts, Ends, turn_at_pdu, turn_at_block, turn_at_piece, turn_if, turn_of_tap_frame, behind_turn, HearingTurns}
+use Rattle.link_audit.specs.Turns.{Stops, Tells, Waits, text_turn, FrameTurn, PassesOver, Counts, CountsText, CountsLastText, CountsLast, EndsLink, turn_at_text, turn_at_joined, turn_at_information, link_end_cause, is_information, frame_turn_where, frame_turn}
+use Rattle.link_audit.specs.Counts.{items_heard_of, items_at_turn}
+
+-- numbers modulo 8 and 128
+abbrev reduced : Ear → Ear
+reduced k = record k { count = k.count % 8; dts = k.dts % 128 }
+
+abbrev reduced_turn : TapFrameTurn → TapFrameTurn
+reduced_turn (GoesOn next) = GoesOn (reduced next)
+reduced_turn (Says text next) = Says text (reduced next)
+reduced_turn (Parts text) = Parts text
+reduced_turn Ends = Ends
 
 -- ---- I frames
 
@@ -78,22 +95,122 @@ reduced_behind side (Says text next) fs = ap (with_text text) (sym (reduced_hear
 reduced_behind side (Parts text) fs = refl
 reduced_behind side Ends fs = refl
 
--- ---- what a deframer found
+-- ---- what a frame comes to
 
-module _ (turns : HearingTurns) where
-  one_read : (side : Side) (k : Ear) (address : ℕ) (read : Option (Control × List ℕ)) (fs : List ReadFrame)
-      → hearing_of_frames side k (read_as address read ++ fs) ≡ behind_turn (turn_at_frames side k (read_as address read)) (λ next. hearing_of_frames side next fs)
-  one_read side k address None fs = refl
-  one_read side k address (Some read) fs =
-      turns.goes_on side k (record { address = address; control = read.0; information = read.1 }) fs
-      ∙ reduced_behind side (turn_of_tap_frame side k (record { address = address; control = read.0; information = read.1 })) fs
+abbrev tap_turn : FrameTurn → TapFrameTurn
+tap_turn (PassesOver next gap) = GoesOn next
+tap_turn (Counts next gap) = GoesOn next
+tap_turn (CountsText text next gap) = Says text next
+tap_turn (CountsLastText text) = Parts text
+tap_turn (CountsLast why) = Ends
+tap_turn (EndsLink why) = Ends
 
-  pub found_hears : (side : Side) (k : Ear) (found : Option Verdict) (verdicts : List Verdict)
-      → hearing_of_frames side k (frames_read (option_to_list found ++ verdicts)) ≡ behind_turn (turn_at_frames side k (frames_found found)) (λ next. hearing_of_frames side next (frames_read verdicts))
+module _ (k : Ear) (few : k.count < 8) (low : k.dts < 128) where
+  same : reduced k ≡ k
+  same = rw (mod-eq_of_lt few, mod-eq_of_lt low) refl
+
+  -- one more counts, with these octets held
+  abbrev counting : List ℕ → Ear
+  counting held = record k { count = k.count + 1; held = held }
+
+  abbrev counted : List ℕ → Ear
+  counted held = record k { count = (k.count + 1) % 8; held = held }
+
+  counted_same : (held : List ℕ) → reduced (counting held) ≡ counted held
+  counted_same held = ap (λ (dts : ℕ). record k { count = (k.count + 1) % 8; held = held; dts = dts }) (mod-eq_of_lt low)
+
+  data_turns : (held : List ℕ) (number long last : Bool) (text : List ℕ)
+      → reduced_turn (
+      if not number then Ends
+      else if long then Ends
+      else if last then Says text (record (counting held) { dts = k.dts + 1; begun = [] })
+      else GoesOn (record (counting held) { dts = k.dts + 1; begun = text }))
+      ≡ tap_turn (turn_at_text (counted held) (
+      if not number then Stops Number
+      else if long then Stops Long
+      else if last then Tells text ((k.dts + 1) % 128) []
+      else Waits ((k.dts + 1) % 128) text))
+  data_turns held false long last text = refl
+  data_turns held true true last text = refl
+  data_turns held true false true text = refl
+  data_turns held true false false text = refl
+
+  pdu_turns : (held : List ℕ) (read : Result TransportPdu TpFault)
+      → reduced_turn (turn_at_pdu (counting held) read) ≡ tap_turn (turn_at_text (counted held) (text_turn k.dts k.begun read))
+  pdu_turns held (Ok (connection_request credit dst src size user)) = ap (Says user) (counted_same held)
+  pdu_turns held (Ok (connection_confirm credit dst src size user)) = ap (Says user) (counted_same held)
+  pdu_turns held (Ok (disconnect_request dst src reason user)) = refl
+  pdu_turns held (Ok (disconnect_confirm dst src)) = refl
+  pdu_turns held (Ok (data_tpdu dst last number user)) =
+      ap (λ (m : ℕ). reduced_turn (
+      if not (number == m) then Ends
+      else if nat_lt most_octets (length (k.begun ++ user)) then Ends
+      else if last then Says (k.begun ++ user) (record (counting held) { dts = k.dts + 1; begun = [] })
+      else GoesOn (record (counting held) { dts = k.dts + 1; begun = k.begun ++ user }))) (mod-eq_of_lt low)
+      ∙ data_turns held (number == k.dts) (nat_lt most_octets (length (k.begun ++ user))) last (k.begun ++ user)
+  pdu_turns held (Ok (acknowledgement credit dst number)) = ap GoesOn (counted_same held)
+  pdu_turns held (Ok (tpdu_error dst cause)) = refl
+  pdu_turns held (Err fault) = refl
+
+  block_turns : (held : List ℕ) (answer : joining.BlockJoiningResult) → reduced_turn (turn_at_block (counting held) answer) ≡ tap_turn (turn_at_joined (counted held) answer)
+  block_turns held (Ok None) = ap GoesOn (counted_same held)
+  block_turns held (Ok (Some tpdu)) = pdu_turns held (reading tpdu)
+  block_turns held (Err fault) = refl
+
+  -- by the tests on a frame: behind the opening
+  open_turns : (over to number carries gap : Bool) (cause : EndCause) (information : List ℕ)
+      → reduced_turn (if over then Ends else if to && number then turn_at_piece k information else GoesOn k)
+      ≡ tap_turn (
+      if over then EndsLink cause
+      else if not to then PassesOver k gap
+      else if number then turn_at_information k information
+      else PassesOver k (if carries then true else gap))
+  open_turns true to number carries gap cause information = refl
+  open_turns false false number carries gap cause information = ap GoesOn same
+  open_turns false true false carries gap cause information = ap GoesOn same
+  open_turns false true true carries gap cause information =
+      block_turns (joining.block_step k.held information).0 (joining.block_step k.held information).1
+
+  -- and before it
+  shut_turns : (opens gap : Bool) → reduced_turn (if opens then GoesOn open_ear else GoesOn k) ≡ tap_turn (if opens then PassesOver open_ear false else PassesOver k gap)
+  shut_turns true gap = refl
+  shut_turns false gap = ap GoesOn same
+
+  by_opened : (opened : Bool) (side : Side) (gap : Bool) (f : ReadFrame) → reduced_turn (turn_if opened side k f) ≡ tap_turn (frame_turn_where opened side k gap f)
+  by_opened true side gap f =
+      open_turns (ends side f) (f.address == address_of_side (other side)) (has_number k.count (sort_of f.control)) (is_information (sort_of f.control)) gap
+      (link_end_cause (sort_of f.control)) f.information
+  by_opened false side gap f = shut_turns (is_link_opening side f) gap
+
+  frame_turns : (side : Side) (gap : Bool) (f : ReadFrame) → reduced_turn (turn_of_tap_frame side k f) ≡ tap_turn (frame_turn side k gap f)
+  unfolding turn_of_tap_frame frame_turn
+  frame_turns side gap f = by_opened k.opened side gap f
+
+-- ---- what is heard of it
+
+turn_heard : (side : Side) (turn : FrameTurn) (verdicts : List Verdict)
+    → items (behind_turn (tap_turn turn) (λ next. hearing_of_frames side next (frames_read verdicts))) ≡ items_at_turn side turn verdicts
+turn_heard side (PassesOver next gap) verdicts = refl
+turn_heard side (Counts next gap) verdicts = refl
+turn_heard side (CountsText text next gap) verdicts = refl
+turn_heard side (CountsLastText text) verdicts = refl
+turn_heard side (CountsLast why) verdicts = refl
+turn_heard side (EndsLink why) verdicts = refl
+
+module _ (turns : HearingTurns) (side : Side) (k : Ear) (address : ℕ) (body : List ℕ) (verdicts : List Verdict) where
+  -- of a frame whose control can't be read
+  pub unread_heard : control_of 8 body ≡ None → items_heard_of side k (Frame address body ∷ verdicts) ≡ items_heard_of side k verdicts
   unfolding frames_read
-  found_hears side k None verdicts = refl
-  found_hears side k (Some (Frame address body)) verdicts = one_read side k address (control_of 8 body) (frames_read verdicts)
-  found_hears side k (Some BadFcs) verdicts = refl
-  found_hears side k (Some TooShort) verdicts = refl
-  found_hears side k (Some TooLong) verdicts = refl
-  found_hears side k (Some Aborted) verdicts = refl
+  unread_heard none = ap (λ (read : Option (Control × List ℕ)). items (hearing_of_frames side k (read_as address read ++ frames_read verdicts))) none
+
+  -- of one that was read
+  pub read_heard : (gap : Bool) (control : Control) (information : List ℕ) → k.count < 8 → k.dts < 128 → control_of 8 body ≡ Some (control, information)
+      → items_heard_of side k (Frame address body ∷ verdicts)
+      ≡ items_at_turn side (frame_turn side k gap (record { address = address; control = control; information = information })) verdicts
+  unfolding frames_read
+  read_heard gap control information few low is =
+      let f : ReadFrame = record { address = address; control = control; information = information } in
+      ap (λ (read : Option (Control × List ℕ)). items (hearing_of_frames side k (read_as address read ++ frames_read verdicts))) is
+      ∙ ap items (turns.goes_on side k f (frames_read verdicts) ∙ reduced_behind side (turn_of_tap_frame side k f) (frames_read verdicts))
+      ∙ ap (λ (turn : TapFrameTurn). items (behind_turn turn (λ next. hearing_of_frames side next (frames_read verdicts)))) (frame_turns k few low side gap f)
+      ∙ turn_heard side (frame_turn side k gap f) verdicts

@@ -45,6 +45,14 @@ writes_then a b c f g h xs ys (Err (LinkTwice line n)) later p q = absurd q
 writes_then a b c f g h xs ys (Err Sink) later p q = (part_then a b c xs ys p q.0, rose_later f g h later q.1)
 writes_then a b c f g h xs ys (Err (NoMemory want)) later p q = part_then a b c xs ys p q
 
+-- the same text in other words
+pub writes_as : (before now : Option (List ℕ)) (f g : ℕ) (text other : List ℕ) (result : Result (Unit {0}) AuditFault) → text ≡ other → Writes before now f g text result
+    → Writes before now f g other result
+writes_as before now f g text other result is w = subst (λ (t : List ℕ). Writes before now f g t result) is w
+
+pub grew_as : (before now : Option (List ℕ)) (text other : List ℕ) → text ≡ other → Grew before now text → Grew before now other
+grew_as before now text other is w = subst (λ (t : List ℕ). Grew before now t) is w
+
 -- what wasn't written wholly is a beginning of all
 pub writes_part : (a b : Option (List ℕ)) (f g : ℕ) (xs ys : List ℕ) (fault : AuditFault) → Writes a b f g xs (Err fault) → Writes a b f g (xs ++ ys) (Err fault)
 writes_part a b f g xs ys (NoLink line n) q = absurd q

@@ -4,4 +4,4 @@ pub mod Openings
 pub mod Judging
 pub mod Writes
 pub mod Marks
-pub mod Strides
+pub mod Counts

@@ -1,19 +1,24 @@
 -- Representation: how the parts of an audit are written; no claim rests on it.
-use Rattle.std.specs.Prelude.{ℕ, ◌≤◌, Bool, List, ◌++◌, Option, Result, Ok, Err}
+use Rattle.std.specs.Prelude.{ℕ, ◌≤◌, Bool, true, false, List, [], ◌++◌, Option, Result, Ok, Err}
 use Rattle.er_base.specs.declared.side.Side.{Side}
-use Rattle.er_tap.specs.declared.tap_line.TapLine.{TapLine}
-use Rattle.tap_model.specs.EndTexts.{end_text}
-use Rattle.tap_model.specs.Hearing.{heard, items}
-use Rattle.tap_model.specs.Lines.{stream_of}
+use Rattle.er_base.specs.LineTexts.{line_text}
 use Rattle.tap_model.specs.Texts.{side_text}
 use Rattle.tap_model.specs.Verdicts.{Known, judged_from}
+use Rattle.link_audit.specs.declared.told.Told.{Told}
+use Rattle.link_audit.specs.Counts.{told_words}
+use Rattle.link_audit.specs.Streams.{KItems}
 use Rattle.link_trait.specs.Outside.{Grew, GrewPart, Rose}
 use Rattle.tap_model.specs.declared.audit_fault.AuditFault.{AuditFault}
 use Rattle.tap_model.specs.declared.audit_fault.AuditFault.TheVariants.{NoLink, LinkTwice, Sink, NoMemory}
 
+-- the line of a side's end, where ends are asked for
+abbrev pub end_line : (ends : Bool) → ℕ → Side → Told → List ℕ
+end_line false n side told = []
+end_line true n side told = line_text (told_words n side told)
+
 -- the lines of a side, and that of its end where ends are asked for
-abbrev pub side_with_end : (ends : Bool) → List TapLine → ℕ → Side → Known → List ℕ
-side_with_end ends lines n side known = side_text n side (judged_from known side 0 (items (heard side (stream_of n side lines)))) ++ end_text ends lines n side
+abbrev pub side_with_end : (ends : Bool) → ℕ → Side → Known → KItems → List ℕ
+side_with_end ends n side known k = side_text n side (judged_from known side 0 k.left) ++ end_line ends n side k.told
 
 -- a text was written, or a beginning of it
 abbrev pub Writes : (before now : Option (List ℕ)) → (f g : ℕ) → (text : List ℕ) → Result (Unit {0}) AuditFault → Type 0

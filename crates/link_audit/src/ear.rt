@@ -1,18 +1,16 @@
 //! The ear of a stream's receiver.
 
-ghost use Rattle.std.specs.Prelude.{◌≡◌, ◌<◌, true, option_map};
-ghost use Rattle.hdlc_frames.specs.Framing as framing;
-ghost use Rattle.hdlc_frames.specs.Shown.{verdict_of_octets_found};
-ghost use Rattle.tap_model.specs.Hearing.{address_of_side, sort_of, has_number, is_link_opening, ends, read_frame};
-ghost use Rattle.tap_model.specs.Ears.{new_ear, turn_of_tap_frame, turn_at_piece};
-ghost use Rattle.link_audit.specs.Turns.{turned, reduced_turn, frames_found, turn_at_frames};
+ghost use Rattle.std.specs.Prelude.{◌≡◌, ◌<◌};
+ghost use Rattle.tap_model.specs.Hearing.{address_of_side, sort_of, has_number, is_link_opening, ends};
+ghost use Rattle.link_audit.specs.Turns.{new_receiver, is_information, link_end_cause, turned, frame_turn};
 
+use crate::frame_outcome::{FrameOutcome, TextOutcome};
 use crate::texts::Texts;
-use crate::turned::Turned;
 use er_base::Side;
-use hdlc_frames::{Control, Found, Frame, control};
+use hdlc_frames::Control;
 use std::marker::Model;
 use t70_header::Joiner;
+use tap_model::EndCause;
 
 /// The address of the engine's side (ISO/IEC 13239).
 const CALLING: u8 = 0x03;
@@ -27,6 +25,8 @@ pub struct Ear {
     count: u8,
     joiner: Joiner,
     texts: Texts,
+    // whether an I frame came since the last one that counted, and didn't count
+    gap: bool,
 }
 
 impl Model for Ear {
@@ -38,14 +38,15 @@ impl Model for Ear {
     ghost view = { λ e. record {
       side = e.side;
       ear = record { opened = e.opened; count = e.count; held = e.joiner; dts = e.texts.dts; begun = e.texts.begun };
+      gap = e.gap;
       text = e.texts.text;
     } };
 
-    ghost invariant = { λ e. (e.count < 8) × (e.texts.dts < 128) × IsFresh e.opened e.count e.joiner e.texts.dts e.texts.begun };
+    ghost invariant = { λ e. (e.count < 8) × (e.texts.dts < 128) × IsFresh e.opened e.count e.joiner e.texts.dts e.texts.begun e.gap };
 }
 
-/// The address of a side.
-pub fn address_of(side: Side) -> u8
+// The address of a side.
+fn address_of(side: Side) -> u8
     ensures { result ≡ address_of_side side }
 {
     match side {
@@ -54,8 +55,8 @@ pub fn address_of(side: Side) -> u8
     }
 }
 
-/// Whether a frame opens the link: the set-up frame of the engine's side, which has no information, or the agreement of the other.
-pub fn opens(side: Side, address: u8, control: Control, information: &[u8]) -> bool
+// Whether a frame opens the link: the set-up frame of the engine's side, which has no information, or the agreement of the other.
+fn opens(side: Side, address: u8, control: Control, information: &[u8]) -> bool
     ensures { result ≡ is_link_opening side (record { address = address; control = control; information = information.now }) }
 {
     if address != CALLED {
@@ -79,8 +80,28 @@ fn ends(side: Side, address: u8, control: Control, information: &[u8]) -> bool
     }
 }
 
-/// Whether this is an I frame with this number.
-pub fn has_number(count: u8, control: Control) -> bool
+// For which cause a frame that ends the link does.
+fn cause_of_end(control: Control) -> EndCause
+    ensures { result ≡ link_end_cause (sort_of control) }
+{
+    match control {
+        Control::Disc { .. } => EndCause::Disc,
+        _ => EndCause::Dm,
+    }
+}
+
+// Whether this is an I frame.
+fn is_information(control: Control) -> bool
+    ensures { result ≡ is_information (sort_of control) }
+{
+    match control {
+        Control::Info { .. } => true,
+        _ => false,
+    }
+}
+
+// Whether this is an I frame with this number.
+fn has_number(count: u8, control: Control) -> bool
     ensures { result ≡ has_number count (sort_of control) }
 {
     match control {
@@ -92,8 +113,7 @@ pub fn has_number(count: u8, control: Control) -> bool
 impl Ear {
     /// An ear that heard nothing of this side yet.
     pub fn new(side: Side) -> Ear
-        ensures side { result.side ≡ side }
-        ensures ear { result.ear ≡ new_ear }
+        ensures { result ≡ new_receiver side }
     {
         Ear {
             side,
@@ -101,6 +121,7 @@ impl Ear {
             count: 0,
             joiner: Joiner::new(),
             texts: Texts::new(),
+            gap: false,
         }
     }
 
@@ -111,6 +132,28 @@ impl Ear {
         self.side
     }
 
+    /// Whether the link was opened.
+    pub fn opened(&self) -> bool
+        ensures { result ≡ self.now.ear.opened }
+    {
+        self.opened
+    }
+
+    /// Whether an I frame came since the last one that counted, and didn't count.
+    pub fn gap(&self) -> bool
+        ensures { result ≡ self.now.gap }
+    {
+        self.gap
+    }
+
+    /// Numbers are kept modulo 8 and 128.
+    pub fn numbers_are_kept(&self)
+        ensures count { self.now.ear.count < 8 }
+        ensures dts { self.now.ear.dts < 128 }
+    {
+        let _count = self.count;
+    }
+
     /// Lends the newest text.
     pub fn text(&self) -> &[u8]
         ensures { result.now ≡ self.now.text }
@@ -118,55 +161,37 @@ impl Ear {
         self.texts.text()
     }
 
-    /// What a deframer found comes.
-    pub fn hear(&mut self, found: &Option<Found<'_>>) -> Turned
-        ensures turn { turned result self.new ≡ turn_at_frames self.old.side self.old.ear (frames_found (option_map verdict_of_octets_found found.now)) }
-        ensures side { self.new.side ≡ self.old.side }
-    {
-        match found {
-            Some(Found::Frame(frame)) => self.frame(frame),
-            _ => Turned::GoesOn,
-        }
-    }
-
-    // A frame comes.
-    fn frame(&mut self, frame: &Frame<'_>) -> Turned
-        ensures turn { turned result self.new ≡ turn_at_frames self.old.side self.old.ear (read_frame (framing.Frame frame.now.address frame.now.body.now)) }
-        ensures side { self.new.side ≡ self.old.side }
-    {
-        let Some((control, information)) = control(frame.body) else {
-            return Turned::GoesOn;
-        };
-        self.read(frame.address, control, information)
-    }
-
-    // A frame whose control was read.
-    #[tactic(auto, using(crate::proofs::Turning::reduced_same), unfolding(tap_model::specs::Ears::turn_of_tap_frame))]
-    fn read(&mut self, address: u8, control: Control, information: &[u8]) -> Turned
+    /// A frame comes whose control was read.
+    #[tactic(auto, using(crate::proofs::Turning::text_turns), unfolding(crate::specs::Turns::frame_turn))]
+    pub fn read(&mut self, address: u8, control: Control, information: &[u8]) -> FrameOutcome
         ensures turn { turned result self.new
-            ≡ reduced_turn (turn_of_tap_frame self.old.side self.old.ear (record { address = address; control = control; information = information.now })) }
+            ≡ frame_turn self.old.side self.old.ear self.old.gap (record { address = address; control = control; information = information.now }) }
         ensures side { self.new.side ≡ self.old.side }
     {
         if !self.opened {
             if opens(self.side, address, control, information) {
                 self.opened = true;
             }
-            return Turned::GoesOn;
+            return FrameOutcome::PassedOver;
         }
         if ends(self.side, address, control, information) {
-            return Turned::Ends;
+            return FrameOutcome::LinkEnded(cause_of_end(control));
         }
         if address != address_of(self.side.other()) {
-            return Turned::GoesOn;
+            return FrameOutcome::PassedOver;
         }
         if !has_number(self.count, control) {
-            return Turned::GoesOn;
+            if is_information(control) {
+                self.gap = true;
+            }
+            return FrameOutcome::PassedOver;
         }
         self.count = (self.count + 1) % 8;
+        self.gap = false;
         match self.joiner.add(information) {
-            Err(_) => Turned::Ends,
-            Ok(None) => Turned::GoesOn,
-            Ok(Some(tpdu)) => self.texts.take(tpdu),
+            Err(_) => FrameOutcome::Counted(TextOutcome::Ended(EndCause::Block)),
+            Ok(None) => FrameOutcome::Counted(TextOutcome::NoText),
+            Ok(Some(tpdu)) => FrameOutcome::Counted(self.texts.take(tpdu)),
         }
     }
 }

@@ -68,7 +68,7 @@ fn rb_of(item: &[u8]) -> Option<u64>
 
 // Ra of the first item of the radio block centre's side.
 fn first_ra(items: &Items<'_>) -> Option<u64>
-    ensures { result ≡ first_number ra_in items.now }
+    ensures { result ≡ first_number ra_in items.now.left }
 {
     match items.first() {
         Some(item) => ra_of(item),
@@ -78,7 +78,7 @@ fn first_ra(items: &Items<'_>) -> Option<u64>
 
 // Rb of the first item of the engine's side.
 fn first_rb(items: &Items<'_>) -> Option<u64>
-    ensures { result ≡ first_number rb_in items.now }
+    ensures { result ≡ first_number rb_in items.now.left }
 {
     match items.first() {
         Some(item) => rb_of(item),
@@ -117,7 +117,7 @@ pub fn known_of<K: KeyFinder>(
     of_r: &Items<'_>,
 ) -> Known
     ensures { result
-        ≡ known_of opening.now.engine opening.now.rbc (key_at (K.entries keys.now) opening.now.moment opening.now.engine opening.now.rbc) of_e.now of_r.now }
+        ≡ known_of opening.now.engine opening.now.rbc (key_at (K.entries keys.now) opening.now.moment opening.now.engine opening.now.rbc) of_e.now.left of_r.now.left }
 {
     Known {
         engine: opening.engine,

@@ -8,7 +8,7 @@ ghost use Rattle.er_base.specs.Sides.{side_word};
 ghost use Rattle.sapdu.specs.Reading.{view};
 ghost use Rattle.tap_model.specs.VerdictWords.{verdict_word};
 ghost use Rattle.tap_model.specs.Texts.{sapdu_kind_word, item_words};
-ghost use Rattle.link_audit.specs.Strides.{told_words};
+ghost use Rattle.link_audit.specs.Counts.{told_words};
 
 use crate::digits::put_digits;
 use crate::read_pdu::ReadPdu;
@@ -113,23 +113,25 @@ pub fn put_item(
 }
 
 /// Appends the line of a side's end.
-pub fn put_end(
-    link: u8,
-    side: Side,
-    told: &Told,
-    items: u64,
-    out: &mut Vec<u8>,
-) -> Result<(), NoMemory>
-    ensures { OnOk result (out.new.items ≡ out.old.items ++ line_text (told_words link side told.now items)) }
+pub fn put_end(link: u8, side: Side, told: &Told, out: &mut Vec<u8>) -> Result<(), NoMemory>
+    ensures { OnOk result (out.new.items ≡ out.old.items ++ line_text (told_words link side told.now)) }
 {
     let words = [
         Plain(side.word()),
         Plain(b"end"),
         Decimal(told.frames),
         Decimal(told.heard),
-        Decimal(items),
+        Decimal(told.items),
         Decimal(told.left),
         Plain(told.why.word()),
     ];
     put_line(&Decimal(link as u64), &words, out)
+}
+
+/// Appends a text.
+pub fn put_text(text: &[u8], out: &mut Vec<u8>) -> Result<(), NoMemory>
+    ensures { OnOk result (out.new.items ≡ out.old.items ++ text.now) }
+{
+    out.extend_from_slice(text)?;
+    Ok(())
 }

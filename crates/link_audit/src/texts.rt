@@ -4,9 +4,10 @@ ghost use Rattle.std.specs.Prelude.{◌≡◌, ◌<◌, ◌≤◌, [], length};
 ghost use Rattle.x224_tpdu.specs.Function.{reading};
 ghost use Rattle.link_audit.specs.Turns.{no_texts, text_turned, text_turn, text_turn_at_data};
 
-use crate::turned::Turned;
+use crate::frame_outcome::TextOutcome;
 use arrayvec::ArrayVec;
 use std::marker::Model;
+use tap_model::EndCause;
 use x224_tpdu::{Tpdu, read};
 
 /// The most octets of a text.
@@ -51,7 +52,7 @@ impl Texts {
     }
 
     /// A TPDU comes.
-    pub fn take(&mut self, tpdu: &[u8]) -> Turned
+    pub fn take(&mut self, tpdu: &[u8]) -> TextOutcome
         ensures turn { text_turned result self.new ≡ text_turn self.old.dts self.old.begun (reading tpdu.now) }
         ensures below { self.new.dts < 128 }
     {
@@ -61,15 +62,15 @@ impl Texts {
         match read(tpdu) {
             Ok(Tpdu::Cr { user, .. }) => {
                 self.keep(user);
-                Turned::Says
+                TextOutcome::Text
             }
             Ok(Tpdu::Cc { user, .. }) => {
                 self.keep(user);
-                Turned::Says
+                TextOutcome::Text
             }
             Ok(Tpdu::Dr { user, .. }) => {
                 self.keep(user);
-                Turned::Parts
+                TextOutcome::LastText
             }
             Ok(
                 Tpdu::Dt {
@@ -79,10 +80,10 @@ impl Texts {
                     ..
                 },
             ) => self.data(last, number, user),
-            Ok(Tpdu::Ak { .. }) => Turned::GoesOn,
-            Ok(Tpdu::Dc { .. }) => Turned::Ends,
-            Ok(Tpdu::Er { .. }) => Turned::Ends,
-            Err(_) => Turned::Ends,
+            Ok(Tpdu::Ak { .. }) => TextOutcome::NoText,
+            Ok(Tpdu::Dc { .. }) => TextOutcome::Ended(EndCause::Tpdu),
+            Ok(Tpdu::Er { .. }) => TextOutcome::Ended(EndCause::Tpdu),
+            Err(_) => TextOutcome::Ended(EndCause::Tpdu),
         }
     }
 
@@ -107,22 +108,22 @@ impl Texts {
     }
 
     // A DT comes: one of another number, or one whose message is too long, ends all.
-    fn data(&mut self, last: bool, number: u8, user: &[u8]) -> Turned
+    fn data(&mut self, last: bool, number: u8, user: &[u8]) -> TextOutcome
         ensures turn { text_turned result self.new ≡ text_turn_at_data self.old.dts self.old.begun last number user.now }
         ensures below { self.new.dts < 128 }
     {
         if number != self.dts {
-            return Turned::Ends;
+            return TextOutcome::Ended(EndCause::Number);
         }
         if user.len() > MOST_OCTETS - self.begun.len() {
-            return Turned::Ends;
+            return TextOutcome::Ended(EndCause::Long);
         }
         self.dts = (self.dts + 1) % 128;
         self.begun.try_extend_from_slice(user).unwrap();
         if !last {
-            return Turned::GoesOn;
+            return TextOutcome::NoText;
         }
         self.complete();
-        Turned::Says
+        TextOutcome::Text
     }
 }

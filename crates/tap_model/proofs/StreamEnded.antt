@@ -11,7 +11,7 @@ use Rattle.hdlc_frames.specs.Framing.{Verdict}
 use Rattle.t70_header.specs.Joining as joining
 use Rattle.x224_tpdu.specs.Spelling.{TransportPdu, connection_request, connection_confirm, disconnect_request, disconnect_confirm, data_tpdu, acknowledgement, tpdu_error}
 use Rattle.tap_model.specs.Hearing.{ReadFrame, frames_read, read_frame, address_of_side, Sort, Carries, SetsUp, Agrees, Disconnects, Leaves, Passes, sort_of, is_link_opening, behind_opening, ends, before_end, has_number, is_next, in_sequence, tpdus_from, pdus_in, Hearing, with_text, texts_from, heard_of}
-use Rattle.tap_model.specs.Ends.{Reach}
+use Rattle.tap_model.specs.Ends.{ReceiverState}
 use Rattle.tap_model.specs.StreamEnds.{blocks_in, pdus_of_blocks, tpdu_begun, dts_among, message_begun, IsOpened, HasGap}
 
 -- ---- parts of lists
@@ -142,7 +142,7 @@ Joined blocks pdus held = (bs : List (List ℕ)) → pdus_of_blocks (blocks ++ b
 abbrev pub Said : List TransportPdu → List (List ℕ) → Type 0
 Said pdus texts = (ps : List TransportPdu) → texts_from 0 [] (pdus ++ ps) ≡ with_texts texts (texts_from (dts_among pdus) (message_begun [] pdus) ps)
 
-pub record Stands (side : Side) (before : List Verdict) (blocks : List (List ℕ)) (r : Reach) : Type 0 where
+pub record Stands (side : Side) (before : List Verdict) (blocks : List (List ℕ)) (r : ReceiverState) : Type 0 where
   pub pdus : List TransportPdu
   pub texts : List (List ℕ)
   pub opened : IsOpened side before

@@ -18,7 +18,7 @@ use Rattle.sapdu.specs.Messages.{most_octets}
 use Rattle.tap_model.specs.declared.end_cause.EndCause.{EndCause}
 use Rattle.tap_model.specs.declared.end_cause.EndCause.TheVariants as why
 use Rattle.tap_model.specs.Hearing.{ReadFrame, frames_read, read_as, read_frame, address_of_side, Sort, Carries, SetsUp, Agrees, Disconnects, Leaves, Passes, sort_of, is_link_opening, behind_opening, ends, before_end, has_number, is_next, in_sequence, tpdu_before, tpdus_from, pdu_before, pdus_in, Hearing, silence, with_text, texts_from, heard_of}
-use Rattle.tap_model.specs.Ends.{frames_among, Reach, first_reach, Stride, PassedOver, Counted, CountedLast, Left, stride_at_data, stride_at_pdu, stride_at_block, stride_at_piece, stride_at_sort, stride_of, StreamEnd, behind_stride, end_from, opens_link_of, stream_end}
+use Rattle.tap_model.specs.Ends.{frames_among, ReceiverState, receiver_at_opening, FrameOutcome, PassedOver, Counted, CountedLast, LinkEnded, outcome_at_data, outcome_at_pdu, outcome_at_block, outcome_at_piece, outcome_at_sort, outcome_of_verdict, StreamEnd, behind_outcome, end_from, opens_link_of, stream_end}
 use Rattle.tap_model.specs.StreamEnds.{blocks_in, heard_of_verdicts, pdus_of_blocks, tpdu_begun, dts_among, message_begun, CompletesTpdu, IsOpened, IsUnopened, GoesOn, HasGap, BringsTpdu, EndsList, ByDisc, ByDm, ByBlock, ByTpdu, ByDc, ByEr, ByNumber, ByLong, ByDr, IsEndOf, NeverOpens, StaysOpen, StaysInGap, EndsByFrame, EndsAreTold}
 use Rattle.tap_model.proofs.StreamEnded.{begun_parts, dts_parts, dts_data, message_parts, message_last, message_on, read_parts, read_then, blocks_of, cut_one, with_texts, one_text_more, Frames, Said, blocks_now, pdus_now, heard_now, heard_then, next_by, frames_pass, length_one, frames_count, heard_over, heard_counted, frame_opened, none_then, IsInformationTo, gap_stays, gap_back, gap_closed, Stands}
 
@@ -32,11 +32,11 @@ pub record Cut (side : Side) (before : List Verdict) (blocks : List (List ℕ)) 
   pub counted : length (blocks_in side (before ++ v ∷ [])) ≡ length blocks + count
   pub no_more : (more : List Verdict) → heard_of_verdicts side (before ++ v ∷ more) ≡ heard_of_verdicts side (before ++ v ∷ [])
 
-pub data Step (side : Side) (before : List Verdict) (blocks : List (List ℕ)) (v : Verdict) : Stride → Type 0 where
-  Passing : (next : Reach) → Stands side (before ++ v ∷ []) blocks next → Step side before blocks v (PassedOver next)
-  Counting : (next : Reach) (block : List ℕ) → Stands side (before ++ v ∷ []) (blocks ++ block ∷ []) next → Step side before blocks v (Counted next)
+pub data Step (side : Side) (before : List Verdict) (blocks : List (List ℕ)) (v : Verdict) : FrameOutcome → Type 0 where
+  Passing : (next : ReceiverState) → Stands side (before ++ v ∷ []) blocks next → Step side before blocks v (PassedOver next)
+  Counting : (next : ReceiverState) (block : List ℕ) → Stands side (before ++ v ∷ []) (blocks ++ block ∷ []) next → Step side before blocks v (Counted next)
   CutCounting : (cause : EndCause) → Cut side before blocks v 1 cause → Step side before blocks v (CountedLast cause)
-  CutLeaving : (cause : EndCause) → Cut side before blocks v 0 cause → Step side before blocks v (Left cause)
+  CutLeaving : (cause : EndCause) → Cut side before blocks v 0 cause → Step side before blocks v (LinkEnded cause)
 
 pub read_one : (v : Verdict) → (read_frame v ≡ []) ⊎ ((f : ReadFrame) × (read_frame v ≡ f ∷ []))
 read_one (Frame address body) = by (control_of 8 body)
@@ -75,7 +75,7 @@ dm_of control.Ua e = absurd cc
 dm_of control.Dm e = inl refl
 dm_of control.Frmr e = inr refl
 
-module _ (side : Side) (before : List Verdict) (blocks : List (List ℕ)) (r : Reach) (st : Stands side before blocks r) (v : Verdict) where
+module _ (side : Side) (before : List Verdict) (blocks : List (List ℕ)) (r : ReceiverState) (st : Stands side before blocks r) (v : Verdict) where
   -- what passes, and is no I frame to the receiver
   passing : Frames side (before ++ v ∷ []) blocks → IsOpened side (before ++ v ∷ [])
       → ((f : ReadFrame) → read_frame v ≡ f ∷ [] → IsInformationTo side f → ⊥) → Step side before blocks v (PassedOver r)
@@ -174,7 +174,7 @@ module _ (side : Side) (before : List Verdict) (blocks : List (List ℕ)) (r : R
             ]))
 
     -- a frame that ends the link
-    leaving : (cause : EndCause) → ends side f ≡ true → EndsList side blocks f cause → Step side before blocks v (Left cause)
+    leaving : (cause : EndCause) → ends side f ≡ true → EndsList side blocks f cause → Step side before blocks v (LinkEnded cause)
     leaving cause over rule =
         let now : (more : List Verdict) → blocks_in side (before ++ v ∷ more) ≡ blocks = heard_over side before blocks st.frames v f is over in
         CutLeaving cause (record {
@@ -344,13 +344,13 @@ module _ (side : Side) (before : List Verdict) (blocks : List (List ℕ)) (r : R
             (omega (arith, was, dts)) (rw message (omega (arith, size, begun)))
 
         data_any : (dst : ℕ) (last : Bool) (number : ℕ) (user : List ℕ) → reading tpdu ≡ Ok (data_tpdu dst last number user)
-            → Step side before blocks v (stride_at_data (record { vr = (r.vr + 1) % 8; held = held; number = r.number; begun = r.begun; gap = false }) last number user)
+            → Step side before blocks v (outcome_at_data (record { vr = (r.vr + 1) % 8; held = held; number = r.number; begun = r.begun; gap = false }) last number user)
         data_any dst last number user e =
             data_step dst last number user e (number == r.number) (nat_lt most_octets (r.begun + length user)) (ap (λ (n : ℕ). number == n) (sym st.number_is))
             (ap (nat_lt most_octets) (length-append (message_begun [] st.pdus) user ∙ ap (λ (n : ℕ). n + length user) (sym st.begun_is)))
 
         pdu_step : (read : Result TransportPdu TpFault) → reading tpdu ≡ read
-            → Step side before blocks v (stride_at_pdu (record { vr = (r.vr + 1) % 8; held = held; number = r.number; begun = r.begun; gap = false }) read)
+            → Step side before blocks v (outcome_at_pdu (record { vr = (r.vr + 1) % 8; held = held; number = r.number; begun = r.begun; gap = false }) read)
         unfolding texts_from dts_among message_begun
         pdu_step (Ok (connection_request credit dst src size user)) e =
             saying held (connection_request credit dst src size user) user held_then (read_then_pdus (Ok (connection_request credit dst src size user)) e) (λ d b ps. refl) refl (λ b. refl)
@@ -373,7 +373,7 @@ module _ (side : Side) (before : List Verdict) (blocks : List (List ℕ)) (r : R
             (λ bs. ap (texts_from (dts_among st.pdus) (message_begun [] st.pdus)) (read_then_pdus (Err fault) e bs))
 
       at_block : (held : List ℕ) (answer : joining.BlockJoiningResult) → joining.block_step r.held block ≡ (held, answer)
-          → Step side before blocks v (stride_at_block (record { vr = (r.vr + 1) % 8; held = held; number = r.number; begun = r.begun; gap = false }) answer)
+          → Step side before blocks v (outcome_at_block (record { vr = (r.vr + 1) % 8; held = held; number = r.number; begun = r.begun; gap = false }) answer)
       unfolding tpdus_from pdus_in texts_from
       at_block held (Ok None) joins =
           going held st.pdus st.texts r.number r.begun (sym (ap (λ (j : List ℕ × joining.BlockJoiningResult). j.0) joins))
@@ -384,7 +384,7 @@ module _ (side : Side) (before : List Verdict) (blocks : List (List ℕ)) (r : R
           ending why.Block (ByBlock fault next (ap (λ (l : List ℕ). (joining.block_step l block).1) (sym st.held_is) ∙ ap (λ (j : List ℕ × joining.BlockJoiningResult). j.1) joins)) silence
           (λ bs. ap (λ (j : List ℕ × joining.BlockJoiningResult). texts_from (dts_among st.pdus) (message_begun [] st.pdus) (pdus_in (tpdu_before j.1 (tpdus_from j.0 bs)))) joins)
 
-      piece : Step side before blocks v (stride_at_piece r block)
+      piece : Step side before blocks v (outcome_at_piece r block)
       piece = at_block (joining.block_step r.held block).0 (joining.block_step r.held block).1 refl
 
     -- by what its control is
@@ -392,21 +392,21 @@ module _ (side : Side) (before : List Verdict) (blocks : List (List ℕ)) (r : R
     no_next s sort none = rw sort (and_right (f.address == address_of_side (other side)) (has_number (length blocks) s) none)
 
     carries : (ns : ℕ) → sort_of f.control ≡ Carries ns → (b : Bool) → is_next side r.vr f ≡ b
-        → Step side before blocks v (if b then stride_at_piece r f.information else PassedOver (record r { gap = r.gap || (f.address == address_of_side (other side)) }))
+        → Step side before blocks v (if b then outcome_at_piece r f.information else PassedOver (record r { gap = r.gap || (f.address == address_of_side (other side)) }))
     carries ns sort true next = piece (sym (next_by side r.vr (length blocks) f st.vr_is) ∙ next)
     carries ns sort false next = stray ns sort (sym (next_by side r.vr (length blocks) f st.vr_is) ∙ next)
 
-    disconnects : sort_of f.control ≡ Disconnects → (b : Bool) → (f.address == address_of_side (other side)) ≡ b → Step side before blocks v (if b then Left why.Disc else PassedOver r)
+    disconnects : sort_of f.control ≡ Disconnects → (b : Bool) → (f.address == address_of_side (other side)) ≡ b → Step side before blocks v (if b then LinkEnded why.Disc else PassedOver r)
     disconnects sort true address =
         let d = disc_of f.control sort in
         leaving why.Disc (rw sort address) (ByDisc d.0 d.1 (eqb-true f.address (address_of_side (other side)) address))
     disconnects sort false address = idle Disconnects sort (rw sort address) (λ ns e. absurd cc) (no_next Disconnects sort refl)
 
-    leaves : sort_of f.control ≡ Leaves → (b : Bool) → (f.address == address_of_side side) ≡ b → Step side before blocks v (if b then Left why.Dm else PassedOver r)
+    leaves : sort_of f.control ≡ Leaves → (b : Bool) → (f.address == address_of_side side) ≡ b → Step side before blocks v (if b then LinkEnded why.Dm else PassedOver r)
     leaves sort true address = leaving why.Dm (rw sort address) (ByDm (dm_of f.control sort) (eqb-true f.address (address_of_side side) address))
     leaves sort false address = idle Leaves sort (rw sort address) (λ ns e. absurd cc) (no_next Leaves sort refl)
 
-    at_sort : (s : Sort) → sort_of f.control ≡ s → Step side before blocks v (stride_at_sort side r f s)
+    at_sort : (s : Sort) → sort_of f.control ≡ s → Step side before blocks v (outcome_at_sort side r f s)
     at_sort (Carries ns) sort = carries ns sort (is_next side r.vr f) refl
     at_sort SetsUp sort = idle SetsUp sort (rw sort refl) (λ ns e. absurd cc) (no_next SetsUp sort refl)
     at_sort Agrees sort = idle Agrees sort (rw sort refl) (λ ns e. absurd cc) (no_next Agrees sort refl)
@@ -414,15 +414,15 @@ module _ (side : Side) (before : List Verdict) (blocks : List (List ℕ)) (r : R
     at_sort Leaves sort = leaves sort (f.address == address_of_side side) refl
     at_sort Passes sort = idle Passes sort (rw sort refl) (λ ns e. absurd cc) (no_next Passes sort refl)
 
-  pub step : Step side before blocks v (stride_of side r (read_frame v))
+  pub step : Step side before blocks v (outcome_of_verdict side r (read_frame v))
   step = elim (read_one v) [
-    | inl none ↦ subst (λ (fs : List ReadFrame). Step side before blocks v (stride_of side r fs)) (sym none) (no_frame none)
-    | inr one ↦ subst (λ (fs : List ReadFrame). Step side before blocks v (stride_of side r fs)) (sym one.1) (at_sort one.0 one.1 (sort_of one.0.control) refl)
+    | inl none ↦ subst (λ (fs : List ReadFrame). Step side before blocks v (outcome_of_verdict side r fs)) (sym none) (no_frame none)
+    | inr one ↦ subst (λ (fs : List ReadFrame). Step side before blocks v (outcome_of_verdict side r fs)) (sym one.1) (at_sort one.0 one.1 (sort_of one.0.control) refl)
   ]
 
 -- ---- behind the opening
 
-goes_on : (side : Side) (before : List Verdict) (blocks : List (List ℕ)) (r : Reach) → Stands side before blocks r → GoesOn side before
+goes_on : (side : Side) (before : List Verdict) (blocks : List (List ℕ)) (r : ReceiverState) → Stands side before blocks r → GoesOn side before
 unfolding tpdus_from pdus_in texts_from
 goes_on side before blocks r st = record {
   opened = st.opened;
@@ -450,7 +450,7 @@ goes_on side before blocks r st = record {
 abbrev pub behind_count : ℕ → StreamEnd → StreamEnd
 behind_count n e = record { heard = n + e.heard; left = e.left; why = e.why }
 
-stays : (side : Side) (before : List Verdict) (blocks : List (List ℕ)) (r : Reach) → Stands side before blocks r → (gap : Bool) → r.gap ≡ gap
+stays : (side : Side) (before : List Verdict) (blocks : List (List ℕ)) (r : ReceiverState) → Stands side before blocks r → (gap : Bool) → r.gap ≡ gap
     → IsEndOf side before (behind_count (length blocks) (record { heard = 0; left = 0; why = if gap then why.Gap else why.Open }))
 stays side before blocks r st gap is = by gap is
   where
@@ -461,7 +461,7 @@ stays side before blocks r st gap is = by gap is
     by true is = StaysInGap (goes_on side before blocks r st) (st.gap is) (ap (λ (n : ℕ). record { heard = n; left = 0; why = why.Gap }) count)
     by false is = StaysOpen (goes_on side before blocks r st) (st.no_gap is) (ap (λ (n : ℕ). record { heard = n; left = 0; why = why.Open }) count)
 
-cut_is : (side : Side) (before : List Verdict) (blocks : List (List ℕ)) (r : Reach) → Stands side before blocks r → (v : Verdict) (vs : List Verdict) (count : ℕ) (cause : EndCause)
+cut_is : (side : Side) (before : List Verdict) (blocks : List (List ℕ)) (r : ReceiverState) → Stands side before blocks r → (v : Verdict) (vs : List Verdict) (count : ℕ) (cause : EndCause)
     → Cut side before blocks v count cause → IsEndOf side (before ++ v ∷ vs) (behind_count (length blocks) (record { heard = count; left = frames_among vs; why = cause }))
 cut_is side before blocks r st v vs count cause c = EndsByFrame (record {
   before = before;
@@ -478,16 +478,16 @@ cut_is side before blocks r st v vs count cause c = EndsByFrame (record {
 })
 
 abbrev Later : Side → List Verdict → Type 0
-Later side vs = (before : List Verdict) (blocks : List (List ℕ)) (r : Reach) → Stands side before blocks r → IsEndOf side (before ++ vs) (behind_count (length blocks) (end_from side r vs))
+Later side vs = (before : List Verdict) (blocks : List (List ℕ)) (r : ReceiverState) → Stands side before blocks r → IsEndOf side (before ++ vs) (behind_count (length blocks) (end_from side r vs))
 
-at_step : (side : Side) (v : Verdict) (vs : List Verdict) (before : List Verdict) (blocks : List (List ℕ)) (r : Reach) → Stands side before blocks r → Later side vs → (s : Stride)
-    → Step side before blocks v s → IsEndOf side (before ++ v ∷ vs) (behind_count (length blocks) (behind_stride s (frames_among vs) (λ next. end_from side next vs)))
+at_step : (side : Side) (v : Verdict) (vs : List Verdict) (before : List Verdict) (blocks : List (List ℕ)) (r : ReceiverState) → Stands side before blocks r → Later side vs → (s : FrameOutcome)
+    → Step side before blocks v s → IsEndOf side (before ++ v ∷ vs) (behind_count (length blocks) (behind_outcome s (frames_among vs) (λ next. end_from side next vs)))
 at_step side v vs before blocks r st later s (Passing next on) =
     subst (λ (l : List Verdict). IsEndOf side l (behind_count (length blocks) (end_from side next vs))) (append_assoc before (v ∷ []) vs) (later (before ++ v ∷ []) blocks next on)
 at_step side v vs before blocks r st later s (Counting next block on) =
     let n = length-append blocks (block ∷ []) in
     let same : length (blocks ++ block ∷ []) + (end_from side next vs).heard ≡ length blocks + ((end_from side next vs).heard + 1) = omega (arith, n) in
-    subst (λ (l : List Verdict). IsEndOf side l (behind_count (length blocks) (behind_stride (Counted next) (frames_among vs) (λ z. end_from side z vs)))) (append_assoc before (v ∷ []) vs)
+    subst (λ (l : List Verdict). IsEndOf side l (behind_count (length blocks) (behind_outcome (Counted next) (frames_among vs) (λ z. end_from side z vs)))) (append_assoc before (v ∷ []) vs)
     (subst (λ (h : ℕ). IsEndOf side ((before ++ v ∷ []) ++ vs) (record { heard = h; left = (end_from side next vs).left; why = (end_from side next vs).why })) same
     (later (before ++ v ∷ []) (blocks ++ block ∷ []) next on))
 at_step side v vs before blocks r st later s (CutCounting cause c) = cut_is side before blocks r st v vs 1 cause c
@@ -498,7 +498,7 @@ unfolding end_from
 go side [] before blocks r st =
     subst (λ (l : List Verdict). IsEndOf side l (behind_count (length blocks) (record { heard = 0; left = 0; why = if r.gap then why.Gap else why.Open }))) (sym (append-nil before))
     (stays side before blocks r st r.gap refl)
-go side (v ∷ vs) before blocks r st = at_step side v vs before blocks r st (go side vs) (stride_of side r (read_frame v)) (step side before blocks r st v)
+go side (v ∷ vs) before blocks r st = at_step side v vs before blocks r st (go side vs) (outcome_of_verdict side r (read_frame v)) (step side before blocks r st v)
 
 -- ---- the opening
 
@@ -522,7 +522,7 @@ abbrev pub NoneBehind : Side → List Verdict → Type 0
 NoneBehind side before = (fs : List ReadFrame) → behind_opening side (frames_read before ++ fs) ≡ behind_opening side fs
 
 module _ (side : Side) (before : List Verdict) (none : IsUnopened side before) (skips : NoneBehind side before) (v : Verdict) (f : ReadFrame) (is : read_frame v ≡ f ∷ []) where
-  pub stands : is_link_opening side f ≡ true → Stands side (before ++ v ∷ []) [] first_reach
+  pub stands : is_link_opening side f ≡ true → Stands side (before ++ v ∷ []) [] receiver_at_opening
   unfolding behind_opening frames_read tpdu_begun dts_among message_begun
   stands opens = record {
     pdus = [];
@@ -571,18 +571,18 @@ counted_none e = let z : 0 + e.heard ≡ e.heard = omega arith in ap (λ (n : �
 
 at_opening : (side : Side) (v : Verdict) (vs : List Verdict) (before : List Verdict) → IsUnopened side before → NoneBehind side before → LaterUnopened side vs
     → (f : ReadFrame) → read_frame v ≡ f ∷ [] → (o : Bool) → is_link_opening side f ≡ o
-    → IsEndOf side (before ++ v ∷ vs) (if o then end_from side first_reach vs else stream_end side vs)
+    → IsEndOf side (before ++ v ∷ vs) (if o then end_from side receiver_at_opening vs else stream_end side vs)
 at_opening side v vs before none skips later f is true opens =
-    subst (λ (l : List Verdict). IsEndOf side l (end_from side first_reach vs)) (append_assoc before (v ∷ []) vs)
-    (subst (λ (e : StreamEnd). IsEndOf side ((before ++ v ∷ []) ++ vs) e) (counted_none (end_from side first_reach vs))
-    (go side vs (before ++ v ∷ []) [] first_reach (stands side before none skips v f is opens)))
+    subst (λ (l : List Verdict). IsEndOf side l (end_from side receiver_at_opening vs)) (append_assoc before (v ∷ []) vs)
+    (subst (λ (e : StreamEnd). IsEndOf side ((before ++ v ∷ []) ++ vs) e) (counted_none (end_from side receiver_at_opening vs))
+    (go side vs (before ++ v ∷ []) [] receiver_at_opening (stands side before none skips v f is opens)))
 at_opening side v vs before none skips later f is false closed =
     subst (λ (l : List Verdict). IsEndOf side l (stream_end side vs)) (append_assoc before (v ∷ []) vs)
     (later (before ++ v ∷ []) (still_none side before none skips v f is closed) (still_skips side before none skips v f is closed))
 
 at_verdict : (side : Side) (v : Verdict) (vs : List Verdict) (before : List Verdict) → IsUnopened side before → NoneBehind side before → LaterUnopened side vs
     → (read_frame v ≡ []) ⊎ ((f : ReadFrame) × (read_frame v ≡ f ∷ []))
-    → IsEndOf side (before ++ v ∷ vs) (if opens_link_of side (read_frame v) then end_from side first_reach vs else stream_end side vs)
+    → IsEndOf side (before ++ v ∷ vs) (if opens_link_of side (read_frame v) then end_from side receiver_at_opening vs else stream_end side vs)
 at_verdict side v vs before none skips later (inl empty) =
     let same : frames_read (before ++ v ∷ []) ≡ frames_read before = none_then side before v empty in
     rw empty (subst (λ (l : List Verdict). IsEndOf side l (stream_end side vs)) (append_assoc before (v ∷ []) vs)

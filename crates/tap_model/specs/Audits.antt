@@ -6,7 +6,7 @@ use Rattle.er_end_model.specs.Steps.{Finds}
 use Rattle.tap_model.specs.declared.audit_fault.AuditFault.{AuditFault}
 use Rattle.tap_model.specs.declared.audit_fault.AuditFault.TheVariants.{NoLink, LinkTwice, Sink, NoMemory}
 use Rattle.tap_model.specs.Lines.{NoLinkAt, TwiceAt, fault_of_tap_lines}
-use Rattle.tap_model.specs.EndTexts.{text_of_audit, ends_of_all}
+use Rattle.tap_model.specs.EndTexts.{text_of_audit}
 
 -- what a sink tells before and behind, and its faults: the whole text where the lines stand in order; nothing where one doesn't; a beginning where
 -- the sink failed, and its faults rose, or memory ran out
@@ -20,7 +20,3 @@ WritesOf text lines before now f g (Err (NoMemory want)) = (fault_of_tap_lines l
 -- an audit
 abbrev pub Audits : (ends : Bool) → Finds → List TapLine → (before now : Option (List ℕ)) → (f g : ℕ) → Result (Unit {0}) AuditFault → Type 0
 Audits ends finds lines before now f g result = WritesOf (text_of_audit ends finds lines) lines before now f g result
-
--- the ends alone
-abbrev pub TellsEnds : List TapLine → (before now : Option (List ℕ)) → (f g : ℕ) → Result (Unit {0}) AuditFault → Type 0
-TellsEnds lines before now f g result = WritesOf (ends_of_all lines) lines before now f g result

@@ -21,12 +21,12 @@ use Rattle.sapdu.specs.declared.fault.SaFault.TheVariants.{Short}
 use Rattle.sapdu.specs.Spelling.{Au1, Au2, Au3, Ar, Dt, Di}
 use Rattle.er_settings.specs.Making.{usual_settings}
 use Rattle.er_end_model.specs.Steps.{Finds, hand_waiting_tpdus}
-use Rattle.er_end_model.specs.Ends.{Opening, Answer, Come, Moment, opened}
+use Rattle.er_end_model.specs.Ends.{Opening, Call, Answer, Start, Come, Moment, opened}
 use Rattle.tap_model.specs.declared.audit_verdict.AuditVerdict.{AuditVerdict}
 use Rattle.tap_model.specs.declared.audit_verdict.AuditVerdict.TheVariants.{Good, Malformed, Flag, Unexpected, Feature, Identity, NoKey}
 use Rattle.tap_model.specs.Hearing.{frames_read, behind_opening, before_end, in_sequence, payloads, tpdus_from, pdus_in, Hearing, silence, texts_from, heard_of, heard}
 use Rattle.tap_model.specs.Given.{received}
-use Rattle.tap_model.specs.Verdicts.{Known, Read, audit_verdict_on_item, judged_from}
+use Rattle.tap_model.specs.Verdicts.{Known, Read, ra_in, first_number, audit_verdict_on_item, judged_from}
 use Rattle.tap_model.specs.Lines.{NoLinkAt, TwiceAt, has, fault_from, fault_of_tap_lines, tap_opening_of_link, stream_of}
 use Rattle.tap_model.specs.Texts.{side_text, links_text, audit_text}
 
@@ -104,6 +104,31 @@ pub at_r : (audit_verdict_on_item known R 0 (Ok (Au2 9 1 7 8, true)) ≡ NoKey) 
 unfolding audit_verdict_on_item
 at_r = (refl, refl, refl, refl)
 
+-- ---- a CC without user data says an empty text, so an AU2 in a DT behind it isn't the first
+
+abbrev bare_cc_block : List ℕ
+bare_cc_block = 0x01 ∷ 0x00 ∷ 0x09 ∷ 0xdf ∷ 0x00 ∷ 0x01 ∷ 0x00 ∷ 0x01 ∷ 0x20 ∷ 0xc0 ∷ 0x01 ∷ 0x07 ∷ []
+
+-- an AU2 of radio block centre 9; a DT with number 0 that ends a message, in one block
+abbrev au2 : List ℕ
+au2 =
+    0x25 ∷ 0x00 ∷ 0x00 ∷ 0x09 ∷ 0x01 ∷ 0x11 ∷ 0x22 ∷ 0x33 ∷ 0x44 ∷ 0x55 ∷ 0x66 ∷ 0x77 ∷ 0x88
+    ∷ 0x01 ∷ 0x02 ∷ 0x03 ∷ 0x04 ∷ 0x05 ∷ 0x06 ∷ 0x07 ∷ 0x08 ∷ []
+
+abbrev dt_block : List ℕ → List ℕ
+dt_block user = 0x01 ∷ 0x00 ∷ 0x04 ∷ 0xf0 ∷ 0x00 ∷ 0x01 ∷ 0x80 ∷ user
+
+pub says_nothing_first :
+    hears R (ua ∷ Frame 0x03 (0x00 ∷ bare_cc_block) ∷ Frame 0x03 (0x02 ∷ dt_block au2) ∷ []) ≡ record { texts = [] ∷ au2 ∷ []; parting = None }
+unfolding heard_of in_sequence before_end behind_opening frames_read control_of tpdus_from pdus_in reading parameters_in texts_from
+says_nothing_first = refl
+
+pub later_au2 :
+    (first_number ra_in ([] ∷ au2 ∷ []) ≡ None)
+    × (audit_verdict_on_item known R 1 (Ok (Au2 9 1 0x1122334455667788 7, true)) ≡ Unexpected)
+unfolding audit_verdict_on_item
+later_au2 = (refl, refl)
+
 -- ---- a tap of the engine's first two frames
 
 abbrev line : ℕ → TapStep → TapLine
@@ -140,3 +165,19 @@ events = record { now = 0; event = Come no_keys first_octets } ∷ record { now 
 pub given_it : received events (opened callee) ≡ au1 ∷ []
 unfolding hand_waiting_tpdus eight number_in reading parameters_in frames_of between_flags all_but_last cut framing.verdict_on verdict_on_content checked_part check_number unescaped ends_in_escape spelling escaped escaped_octet content_of control_of fcs_of fcs_bits dividend remainder divided_once add_front sent_bits low_bits low_number
 given_it = refl
+
+-- ---- and what an engine's end is given of UA and a CC without user data: its empty text, which is no AU2
+
+abbrev caller : Opening
+caller = Call usual_settings 5 9 (record { first = 1; second = 2; third = 3 }) 0x0102030405060708 0
+
+abbrev agreed : List Moment
+agreed =
+    record { now = 0; event = Start }
+    ∷ record { now = 0; event = Come no_keys (0x7e ∷ 0x01 ∷ 0x73 ∷ 0x83 ∷ 0x57 ∷ 0x7e ∷ []) }
+    ∷ record { now = 1; event = Come no_keys (0x7e ∷ 0x03 ∷ 0x00 ∷ bare_cc_block ++ 0x38 ∷ 0xdd ∷ 0x7e ∷ []) }
+    ∷ []
+
+pub given_nothing_first : received agreed (opened caller) ≡ [] ∷ []
+unfolding hand_waiting_tpdus eight number_in reading parameters_in frames_of between_flags all_but_last cut framing.verdict_on verdict_on_content checked_part check_number unescaped ends_in_escape spelling escaped escaped_octet content_of control_of fcs_of fcs_bits dividend remainder divided_once add_front sent_bits low_bits low_number
+given_nothing_first = refl

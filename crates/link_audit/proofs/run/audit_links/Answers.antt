@@ -2,7 +2,7 @@
 use Rattle.std.proofs.Common.{arith}
 use Rattle.std.proofs.lemmas.Result.{err_from_is_err_and}
 use Rattle.link_audit.proofs.Written.{leads_then, leads_fault, leads_end}
-use Rattle.link_audit.proofs.Printed.{links_more, links_none}
+use Rattle.link_audit.proofs.Printed.{links_more, links_none, ends_told, all_told}
 use Rattle.link_audit.proofs.run.audit_links.Goals as goal
 
 pub loop-link-preserved : goal.loop-link-preserved
@@ -11,6 +11,7 @@ loop-link-preserved g c =
     record {
       leads =
           leads_then _ _ _ _ _ _ _ _ (links_more c.args.ends _ c.args.lines.now c.args.openings.now c.loop-link.link most) c.loop-link.invariant.leads _ _ c.in_ok-audit_number.ensures.later c.in_ok-audit_number.ensures.writes;
+      told = ends_told c.args.lines.now c.args.openings.now c.loop-link.link _ _ _ most c.in_ok-audit_number.ensures.told c.loop-link.invariant.told;
       least = omega arith;
       most = omega (arith, most);
     }
@@ -25,3 +26,8 @@ pub returns-clause-writes : goal.returns-clause-writes
 returns-clause-writes g c =
     let past = c.loop-link-test.false in
     leads_end _ _ _ _ _ _ (links_none c.args.ends _ c.args.lines.now c.args.openings.now c.loop-link.link (omega (arith, past))) c.loop-link.invariant.leads
+
+pub returns-clause-told : goal.returns-clause-told
+returns-clause-told g c =
+    let past = c.loop-link-test.false in
+    all_told c.args.lines.now c.args.openings.now c.loop-link.link _ _ (omega (arith, past)) c.loop-link.invariant.told

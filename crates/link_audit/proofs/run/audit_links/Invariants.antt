@@ -1,7 +1,7 @@
 -- What is left leads to the end of all.
-use Rattle.std.proofs.Common.{◌≤◌, ◌-◌}
+use Rattle.std.proofs.Common.{◌≡◌, ◌≤◌, ◌-◌, ◌++◌}
 use Rattle.safety_automaton.specs.Keys.{key_at}
-use Rattle.link_audit.specs.Openings.{links_opened}
+use Rattle.link_audit.specs.Openings.{links_opened, ends_opened}
 use Rattle.link_audit.specs.Writes.{LeadsToSameWriting}
 use Rattle.link_audit.proofs.run.audit_links.Given as goal
 
@@ -9,6 +9,7 @@ abbrev pub invariant-loop-link : goal.invariant-loop-link
 invariant-loop-link g l = record {
   leads : LeadsToSameWriting (g.S.Sink.state l.fn.sink).held (g.S.Sink.state l.fn.sink).faults (links_opened l.ends (key_at (g.K.KeyFinder.entries l.keys)) l.lines l.openings 1 64) (g.S.Sink.state l.sink).held (g.S.Sink.state l.sink).faults
       (links_opened l.ends (key_at (g.K.KeyFinder.entries l.keys)) l.lines l.openings l.link (65 - l.link));
+  told : l.told.items ++ ends_opened l.lines l.openings l.link (65 - l.link) ≡ l.fn.told.items ++ ends_opened l.lines l.openings 1 64;
   least : 1 ≤ l.link;
   most : l.link ≤ 65;
 }

@@ -2,8 +2,8 @@
 use Rattle.std.proofs.Common.{ℕ, ◌≡◌, List, ◌++◌, length}
 use Rattle.hdlc_frames.specs.Framing.{frames_of}
 use Rattle.hdlc_frames.specs.Deframing.{IsKeptOfStream, stream_behind_kept}
-use Rattle.link_audit.specs.Strides.{told_behind}
-use Rattle.link_audit.proofs.extent.Extent.hear.Given as goal
+use Rattle.link_audit.specs.Counts.{told_behind}
+use Rattle.link_audit.proofs.counted_ear.CountedEar.hear.Given as goal
 
 abbrev pub invariant-loop-rest : goal.invariant-loop-rest
 invariant-loop-rest l = record {
