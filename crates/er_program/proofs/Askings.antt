@@ -23,7 +23,8 @@ use Rattle.er_statuses.specs.Answers.{Answer, keys_answer}
 use Rattle.er_program.specs.Answers.{AllAreTaken, OneIsRefused, IsTraceAnswer, AllAreJudged, OneIsTold, verdict_answer, IsRecordingAnswer, lines_answer, tap_answer}
 use Rattle.er_program.specs.declared.work.Work.{Work}
 use Rattle.er_program.specs.declared.work.Work.TheVariants as work
-use Rattle.er_program.specs.KeyedWriting.{command_of_work, IsOfWork}
+use Rattle.er_program.specs.CommandViews.{command_of_work}
+use Rattle.er_program.specs.KeyedWriting.{IsOfWork}
 use Rattle.er_program.specs.ReplayWriting.{EndsOne}
 use Rattle.er_statuses.specs.Writing.{GivesAnswer, EndsUnfetched}
 use Rattle.er_statuses.specs.declared.status.Status.{Status}

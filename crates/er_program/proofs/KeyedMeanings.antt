@@ -16,7 +16,8 @@ use Rattle.er_program.specs.declared.work.Work.TheVariants as work
 use Rattle.er_program.specs.Answers.{tap_answer, IsFetchedSecond, IsAnswerBehindKeys, IsFetchedKeyed}
 use Rattle.er_program.specs.Asking.{AskedNames, AsksKeys, AsksBoth, Asks}
 use Rattle.er_program.specs.Commands.{Command, names_of}
-use Rattle.er_program.specs.KeyedWriting.{command_of_work, IsOfWork, HasStatusOfWork}
+use Rattle.er_program.specs.CommandViews.{command_of_work}
+use Rattle.er_program.specs.KeyedWriting.{IsOfWork, HasStatusOfWork}
 use Rattle.er_program.specs.Runs.{AreFirstLines, HasKeyedStatus, IsStatusBehindKeys}
 use Rattle.er_program.specs.Statuses as statuses
 use Rattle.er_program.specs.FileMeans.{FileMeans, IsUnfetched, IsCompleteByFiles, sight}

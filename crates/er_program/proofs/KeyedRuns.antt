@@ -24,7 +24,8 @@ use Rattle.er_program.specs.declared.work.Work.TheVariants as work
 use Rattle.er_program.specs.Answers.{IsSecondFileAnswer, IsAnswerBehindKeys, IsKeyedAnswer}
 use Rattle.er_program.specs.AuditRuns.{FirstAuditText}
 use Rattle.er_program.specs.AuditWriting.{BeginsTap, BeginsSpelledTap}
-use Rattle.er_program.specs.KeyedWriting.{command_of_work, IsOfWork, BeginsOfWork, BeginsFile, BeginsSecondFile, BeginsGood, BeginsBehindKeys}
+use Rattle.er_program.specs.CommandViews.{command_of_work}
+use Rattle.er_program.specs.KeyedWriting.{IsOfWork, BeginsOfWork, BeginsFile, BeginsSecondFile, BeginsGood, BeginsBehindKeys}
 use Rattle.er_program.specs.ReplayWriting.{EndsOne, BeginsSpelled, BeginsTrace}
 use Rattle.er_program.specs.Runs.{FirstEventLines}
 use Rattle.er_program.specs.Writing.{IsGivenAnswer, IsOutputBeginning, EndsCommand}

@@ -8,7 +8,6 @@ use Rattle.link_trait.specs.Outside.{HasFile}
 use Rattle.er_statuses.specs.Answers.{Answer, Files}
 use Rattle.er_program.specs.declared.work.Work.{Work}
 use Rattle.er_program.specs.declared.work.Work.TheVariants as work
-use Rattle.er_program.specs.Commands.{Command, Replay, Check, Audit}
 use Rattle.er_program.specs.Answers.{IsReplayOfFile, IsCheckOfFile, IsAuditOfFile}
 use Rattle.er_program.specs.AuditRuns.{HasTapStatus}
 use Rattle.er_program.specs.CheckRuns.{HasRecordingStatus}
@@ -16,11 +15,6 @@ use Rattle.er_program.specs.Runs.{HasTraceStatus}
 use Rattle.er_program.specs.AuditWriting.{BeginsTap}
 use Rattle.er_program.specs.CheckWriting.{IsNothing}
 use Rattle.er_program.specs.ReplayWriting.{BeginsTrace}
-
-abbrev pub command_of_work : Work → (keys name : List ℕ) → Command
-command_of_work work.Replay keys name = Replay keys name
-command_of_work work.Check keys name = Check keys name
-command_of_work (work.Audit ends) keys name = Audit keys name ends
 
 -- the answer to the octets of a file
 abbrev pub IsOfWork : Work → List KmacEntry → (file : List ℕ) → Answer → Type 0

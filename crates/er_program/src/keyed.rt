@@ -7,7 +7,8 @@ ghost use Rattle.er_statuses.specs.LastLines.{fault_line};
 ghost use Rattle.er_statuses.specs.Writing.{GivesAnswer};
 ghost use Rattle.er_program.specs.Answers.{IsSecondFileAnswer, IsAnswerBehindKeys};
 ghost use Rattle.er_program.specs.Asking.{Asks, AsksLast, AsksBehindKeys};
-ghost use Rattle.er_program.specs.KeyedWriting.{IsOfWork, BeginsOfWork, BeginsSecondFile, BeginsBehindKeys, command_of_work};
+ghost use Rattle.er_program.specs.KeyedWriting.{IsOfWork, BeginsOfWork, BeginsSecondFile, BeginsBehindKeys};
+ghost use Rattle.er_program.specs.CommandViews.{command_of_work};
 ghost use Rattle.er_program.specs.ReplayWriting.{EndsOne};
 ghost use Rattle.er_program.specs.Writing.{EndsCommand};
 

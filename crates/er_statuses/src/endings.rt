@@ -3,7 +3,7 @@
 ghost use Rattle.std.specs.Prelude.{◌≡◌, ◌≢◌, ◌≤◌, Err};
 ghost use Rattle.er_base.specs.declared.no_memory.NoMemory.{NoMemory as Want};
 ghost use Rattle.er_statuses.specs.declared.stop.Stop.TheVariants as stop;
-ghost use Rattle.er_statuses.specs.LastLines.{usage_line, fault_line, why_word};
+ghost use Rattle.er_statuses.specs.LastLines.{fault_line, why_word};
 ghost use Rattle.er_statuses.specs.Answers.{Answer};
 ghost use Rattle.er_statuses.specs.Writing.{Writes, GivesAnswer, Exhausts};
 
@@ -37,15 +37,6 @@ pub fn last<K: Sink>(status: u8, text: &[u8], sink: &mut K) -> Result<Status, St
         Ok(()) => Ok(Status(status)),
         Err(Failed) => Err(Stop::Sink),
     }
-}
-
-/// The words fit no command.
-pub fn misused<K: Sink>(sink: &mut K) -> Result<Status, Stop>
-    ensures gives { GivesAnswer (record { status = 1; text = usage_line }) (K.state sink.old).held (K.state sink.new).held
-        (K.state sink.old).faults (K.state sink.new).faults result }
-    ensures sink_count { (K.state sink.old).faults ≤ (K.state sink.new).faults }
-{
-    last(1, b"! usage\n", sink)
 }
 
 /// The file is out of its grammar.

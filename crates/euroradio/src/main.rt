@@ -22,8 +22,8 @@ use crate::telling_wires::TellingWires;
 use crate::watched_cabinet::WatchedCabinet;
 use er_base::{NoMemory, decimal};
 use er_program::{
-    Clock, Command, FileCabinet, MachineClock, Sink, Status, StdoutSink, command_from, run,
-    run_off_line, unmade,
+    Clock, Command, FileCabinet, FileCommand, LineCommand, MachineClock, Sink, Status, StdoutSink,
+    command_from, run, run_off_line, unmade,
 };
 use er_users::{Echo, SafeUser};
 use mio_wires::MioWires;
@@ -154,31 +154,27 @@ fn call<K: Sink>(
 }
 
 // What a command without wires asks for.
-fn off_line<K: Sink>(rt: HostRuntime, words: &[String], sink: &mut K) -> Option<Ended> {
-    let command = command_from(words);
-    if command.needs_wires() {
-        return None;
-    }
+fn off_line<K: Sink>(rt: HostRuntime, command: &FileCommand<'_>, sink: &mut K) -> Ended {
     let mut cabinet = FileCabinet::new(rt);
-    let status = run_off_line(rt.alloc(), &command, &mut cabinet, sink);
-    Some(Ended {
+    let status = run_off_line(rt.alloc(), command, &mut cabinet, sink);
+    Ended {
         status,
         file: cabinet.why(),
         wires: None,
-    })
+    }
 }
 
 // What the words ask for. None where the objects can't be made, or the system gives no seed.
 fn answered<K: Sink>(rt: HostRuntime, words: &[String], sink: &mut K) -> Option<Ended> {
-    let command = command_from(words);
-    if !command.needs_wires() {
-        return off_line(rt, words, sink);
-    }
-    let mut randoms = SystemWords::new(&rt).ok()?;
-    if matches!(command, Command::Call { .. }) {
-        call(rt, words, &mut randoms, sink).ok()?
-    } else {
-        serve(rt, words, &mut randoms, sink).ok()?
+    match command_from(words) {
+        Command::File(command) => Some(off_line(rt, &command, sink)),
+        Command::Line(command) => {
+            let mut randoms = SystemWords::new(&rt).ok()?;
+            match command {
+                LineCommand::Serve { .. } => serve(rt, words, &mut randoms, sink).ok()?,
+                LineCommand::Call { .. } => call(rt, words, &mut randoms, sink).ok()?,
+            }
+        }
     }
 }
 

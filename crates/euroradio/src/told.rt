@@ -2,7 +2,10 @@
 
 use crate::ended::Ended;
 use er_base::{NoMemory, Release};
-use er_program::{Command, FileFault, MOST_FILE_OCTETS, StdoutSink, command_from};
+use er_program::{
+    Command, FileCommand, FileFault, KeyedCommand, LineCommand, MOST_FILE_OCTETS, PlainCommand,
+    StdoutSink, Work, command_from,
+};
 use link_audit::tell_ends;
 use std::alloc::Global;
 use std::fmt::Write;
@@ -92,11 +95,11 @@ pub(crate) fn ended(rt: HostRuntime, words: &[String], ended: &Ended, last: &[u8
 /// How far each stream of a tap was heard, and why no further, behind an audit that printed what was heard alone: the lines that the word `ends`
 /// has it print.
 pub(crate) fn ends_of_streams(rt: HostRuntime, words: &[String], ended: &Ended) {
-    let Command::Audit {
-        tap,
-        ends: false,
+    let Command::File(FileCommand::Keyed(KeyedCommand {
+        work: Work::Audit { ends: false },
+        name: tap,
         ..
-    } = command_from(words)
+    })) = command_from(words)
     else {
         return;
     };
@@ -114,31 +117,31 @@ pub(crate) fn ends_of_streams(rt: HostRuntime, words: &[String], ended: &Ended) 
 // The file that a command reads besides keys.
 fn file_of<'a>(command: &Command<'a>) -> Option<(FileKind, &'a str)> {
     match *command {
-        Command::Drill { name } => Some((FileKind::Drill, name)),
-        Command::Bits { name } => Some((FileKind::Bits, name)),
-        Command::Replay { trace, .. } | Command::Check { trace, .. } => {
-            Some((FileKind::Trace, trace))
-        }
-        Command::Audit { tap, .. } => Some((FileKind::Tap, tap)),
-        Command::Misused
-        | Command::Migrate { .. }
-        | Command::Bulk { .. }
-        | Command::Serve { .. }
-        | Command::Call { .. } => None,
+        Command::File(FileCommand::Plain(PlainCommand::Drill { name })) =>
+            Some((FileKind::Drill, name)),
+        Command::File(FileCommand::Plain(PlainCommand::Bits { name })) =>
+            Some((FileKind::Bits, name)),
+        Command::File(FileCommand::Plain(_)) | Command::Line(_) => None,
+        Command::File(FileCommand::Keyed(KeyedCommand { work, name, .. })) =>
+            Some((kind_of(work), name)),
+    }
+}
+
+// What kind of file that is.
+fn kind_of(work: Work) -> FileKind {
+    match work {
+        Work::Replay | Work::Check => FileKind::Trace,
+        Work::Audit { .. } => FileKind::Tap,
     }
 }
 
 // The key file of a command.
 fn keys_of<'a>(command: &Command<'a>) -> Option<&'a str> {
     match *command {
-        Command::Migrate { keys }
-        | Command::Replay { keys, .. }
-        | Command::Check { keys, .. }
-        | Command::Audit { keys, .. }
-        | Command::Serve { keys, .. }
-        | Command::Call { keys, .. } => Some(keys),
-        Command::Misused | Command::Drill { .. } | Command::Bits { .. } | Command::Bulk { .. } =>
-            None,
+        Command::File(FileCommand::Plain(PlainCommand::Migrate { keys })) => Some(keys),
+        Command::File(FileCommand::Plain(_)) => None,
+        Command::File(FileCommand::Keyed(KeyedCommand { keys, .. })) => Some(keys),
+        Command::Line(command) => Some(command.key_file()),
     }
 }
 
@@ -178,7 +181,7 @@ pub(crate) fn hints(rt: HostRuntime, words: &[String]) {
             }
         }
     }
-    if command.needs_wires() && is_read_by_others(rt, name) {
+    if matches!(command, Command::Line(_)) && is_read_by_others(rt, name) {
         let mut line = String::new(rt.alloc());
         if put_text(&mut line, name).is_ok() {
             let _ = eprintln!(rt; "euroradio: warning: {line}: others than its owner may read it");
@@ -270,11 +273,12 @@ fn unfetched(alloc: Global, last: &[u8], why: Option<FileFault>) -> Result<Strin
 // Why a listen, a dial or a turn failed.
 fn wires_failed(alloc: Global, command: &Command<'_>, ended: &Ended) -> Result<String, NoMemory> {
     let mut line = String::new(alloc);
-    match *command {
-        Command::Serve { address, .. } | Command::Call { address, .. } => {
-            put_text(&mut line, address)?;
+    if let Command::Line(command) = *command {
+        match command {
+            LineCommand::Serve { address, .. } | LineCommand::Call { address, .. } => {
+                put_text(&mut line, address)?;
+            }
         }
-        _ => {}
     }
     match ended.wires {
         Some(why) => write!(line, ": {why}")?,
