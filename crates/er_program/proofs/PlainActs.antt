@@ -13,6 +13,7 @@ use Rattle.outside.specs.SinkTexts.{fetches_none}
 use Rattle.er_statuses.specs.Answers.{Answer}
 use Rattle.er_statuses.specs.LastLines.{usage_line}
 use Rattle.er_statuses.specs.ScriptEnds.{end_of_run}
+use Rattle.er_statuses.specs.Writing.{Exhausts}
 use Rattle.er_statuses.specs.declared.status.Status.{Status}
 use Rattle.er_statuses.specs.declared.stop.Stop.{Stop}
 use Rattle.er_program.specs.declared.file_command.PlainCommand.{PlainCommand}
@@ -141,3 +142,8 @@ asks_all (Audit keys tap ends) status asked asked_now before now (inr both) two 
 asks_all (Bulk seed count) status asked asked_now before now asks two four five seven = asks
 asks_all (Serve keys address rbc turns) status asked asked_now before now asks two four five seven = absurd asks
 asks_all (Call keys address engine rbc turns) status asked asked_now before now asks two four five seven = absurd asks
+
+-- want of memory ends with no other status than 7, or 5 where its line isn't written
+pub no_other : (before now : Option (List ℕ)) (f g : ℕ) (s : Status) → Exhausts before now f g s → s.0 ≢ 5 → s.0 ≢ 7 → ⊥
+no_other before now f g s (inl written) five seven = seven written.0
+no_other before now f g s (inr broken) five seven = five broken.0

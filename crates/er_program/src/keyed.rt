@@ -6,11 +6,11 @@ ghost use Rattle.link_trait.specs.Outside.{Grew, GrewPart, HasStayedAsTold};
 ghost use Rattle.er_statuses.specs.LastLines.{fault_line};
 ghost use Rattle.er_statuses.specs.Writing.{GivesAnswer};
 ghost use Rattle.er_program.specs.Answers.{IsSecondFileAnswer, IsAnswerBehindKeys};
-ghost use Rattle.er_program.specs.Asking.{Asks, AsksLast, AsksBehindKeys};
+ghost use Rattle.er_program.specs.Asking.{AsksLast, AsksBehindKeys};
+ghost use Rattle.er_program.specs.CommandScripts.{Answered};
 ghost use Rattle.er_program.specs.KeyedWriting.{IsOfWork, BeginsOfWork, BeginsSecondFile, BeginsBehindKeys};
 ghost use Rattle.er_program.specs.CommandViews.{command_of_work};
 ghost use Rattle.er_program.specs.ReplayWriting.{EndsOne};
-ghost use Rattle.er_program.specs.Writing.{EndsCommand};
 
 use crate::audit::audit_file;
 use crate::check::check_file;
@@ -115,14 +115,7 @@ pub fn keyed_run<F: Cabinet, K: Sink>(
     cabinet: &mut F,
     sink: &mut K,
 ) -> Result<Status, Stop>
-    ensures ends { EndsCommand (command_of_work work keys.now name.now) (F.state cabinet.new).files (F.state cabinet.old).faults (F.state cabinet.new).faults
-        (K.state sink.old).held (K.state sink.new).held (K.state sink.old).faults (K.state sink.new).faults result }
-    ensures asks { IfOk result (λ s. Asks (command_of_work work keys.now name.now) s.0 (F.state cabinet.old).asked (F.state cabinet.new).asked
-        (K.state sink.old).held (K.state sink.new).held) }
-    ensures part { GrewPart (F.state cabinet.old).asked (F.state cabinet.new).asked (keys.now ∷ name.now ∷ []) }
-    ensures files { HasStayedAsTold (F.state cabinet.old).files (F.state cabinet.new).files }
-    ensures count { (F.state cabinet.old).faults ≤ (F.state cabinet.new).faults }
-    ensures sink_count { (K.state sink.old).faults ≤ (K.state sink.new).faults }
+    ensures answered { Answered (command_of_work work keys.now name.now) (F.state cabinet.old) (F.state cabinet.new) (K.state sink.old) (K.state sink.new) result }
 {
     match fetched(alloc, keys, cabinet, sink) {
         Ok(octets) => work_with(alloc, work, octets.as_slice(), name, cabinet, sink),

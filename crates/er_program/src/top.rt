@@ -1,11 +1,9 @@
 //! The top call: what the program does with its words.
 
-ghost use Rattle.std.specs.Prelude.{◌≡◌, ◌≢◌, ◌≤◌, length, map};
-ghost use Rattle.link_trait.specs.Outside.{Grew, GrewPart, HasStayedAsTold};
-ghost use Rattle.er_program.specs.Commands.{command_of, names_of, octets_of_words};
+ghost use Rattle.std.specs.Prelude.{◌≡◌, length, map};
+ghost use Rattle.er_program.specs.Commands.{command_of, octets_of_words};
 ghost use Rattle.er_program.specs.CommandScripts.{Answered};
 ghost use Rattle.er_program.specs.CommandViews.{command_view, file_view};
-ghost use Rattle.er_program.specs.FileMeans.{FileMeans};
 ghost use Rattle.er_serving.specs.LineRuns.{GivenToLoop, given_to_loop};
 ghost use Rattle.er_serving.specs.Outsides.{Traffic, outside_of, beside, IsSteady};
 ghost use Rattle.er_program.specs.Statuses.{IsStatusOf, Means, IsIdle, AreAsked, IsComplete, IsRun};
@@ -38,30 +36,6 @@ fn answered<F: Cabinet, K: Sink>(
     }
 }
 
-// The same with its status, whatever it broke off for.
-fn ran<F: Cabinet, K: Sink>(
-    alloc: Global,
-    command: &FileCommand<'_>,
-    cabinet: &mut F,
-    sink: &mut K,
-) -> Status
-    ensures means { FileMeans (file_view command.now) (F.state cabinet.new).files (F.state cabinet.old).asked (F.state cabinet.new).asked
-        (F.state cabinet.old).faults (F.state cabinet.new).faults (K.state sink.old).faults (K.state sink.new).faults (K.state sink.old).held (K.state sink.new).held result.0 }
-    ensures asked { result.0 ≢ 2 → result.0 ≢ 4 → result.0 ≢ 5 → result.0 ≢ 7
-        → Grew (F.state cabinet.old).asked (F.state cabinet.new).asked (names_of (file_view command.now)) }
-    ensures part { GrewPart (F.state cabinet.old).asked (F.state cabinet.new).asked (names_of (file_view command.now)) }
-    ensures files { HasStayedAsTold (F.state cabinet.old).files (F.state cabinet.new).files }
-    ensures count { (F.state cabinet.old).faults ≤ (F.state cabinet.new).faults }
-    ensures sink_count { (K.state sink.old).faults ≤ (K.state sink.new).faults }
-{
-    drill_laws::laws::holds();
-    match answered(alloc, command, cabinet, sink) {
-        Ok(status) => status,
-        Err(Stop::Sink) => Status(5),
-        Err(Stop::NoMemory(want)) => out_of_memory(want, sink),
-    }
-}
-
 /// Does what a command asks for that needs no wires, and answers with what status the program is to end, as [`run`] does.
 pub fn run_off_line<F: Cabinet, K: Sink>(
     alloc: Global,
@@ -73,7 +47,12 @@ pub fn run_off_line<F: Cabinet, K: Sink>(
     ensures run { (g : GivenToLoop) (rest : Traffic) → IsRun (file_view command.now) g (beside rest F.Cabinet K.Sink cabinet.old sink.old)
         (beside rest F.Cabinet K.Sink cabinet.new sink.new) result.0 }
 {
-    ran(alloc, command, cabinet, sink)
+    drill_laws::laws::holds();
+    match answered(alloc, command, cabinet, sink) {
+        Ok(status) => status,
+        Err(Stop::Sink) => Status(5),
+        Err(Stop::NoMemory(want)) => out_of_memory(want, sink),
+    }
 }
 
 // A command that needs no wires is run without them, and any other over them.
