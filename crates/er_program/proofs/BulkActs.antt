@@ -28,7 +28,7 @@ use Rattle.er_program.specs.Answers.{IsBulkAnswer, AllAreCounted, TooManyWait, f
 use Rattle.er_program.specs.BulkTexts.{bulk_plan, steps_of_bulk, totals_of_bulk, totals_line}
 use Rattle.er_program.specs.BulkRuns.{DidFirst, HaltedAt}
 use Rattle.er_program.specs.KeyWriting.{GivesOne}
-use Rattle.er_program.specs.StepScripts.{first_fault, counts_steps, bulks}
+use Rattle.er_program.specs.StepScripts.{first_step_fault, counts_steps, bulks}
 use Rattle.er_program.specs.StepWriting.{TellsFault}
 use Rattle.er_program.proofs.BulkSteady.{IsOverfull, unrefused, only_overfull}
 use Rattle.er_program.proofs.FileActs.{Sinks, gives_print}
@@ -62,22 +62,22 @@ module _ (plan : DrillPlan) where
   as_first done s f is = subst (λ (steps : List Step). fault_behind plan steps s ≡ f) (sym (append-nil done)) is
 
   -- none: all are done
-  each_done : (done steps : List Step) → first_fault plan done steps ≡ None → (k : ℕ) (y : Step) → slice_get steps k ≡ Some y → fault_behind plan (done ++ take k steps) y ≡ None
-  unfolding first_fault
+  each_done : (done steps : List Step) → first_step_fault plan done steps ≡ None → (k : ℕ) (y : Step) → slice_get steps k ≡ Some y → fault_behind plan (done ++ take k steps) y ≡ None
+  unfolding first_step_fault
   each_done done [] is k y at = absurd (let u : ⊥ = cc in u)
   each_done done (s ∷ rest) is zero y at =
-      let both = neither (fault_behind plan done s) (first_fault plan (done ++ s ∷ []) rest) is in
+      let both = neither (fault_behind plan done s) (first_step_fault plan (done ++ s ∷ []) rest) is in
       subst (λ (z : Step). fault_behind plan (done ++ []) z ≡ None) (same_Some s y at) (as_first done s None both.0)
   each_done done (s ∷ rest) is (suc k) y at =
-      let both = neither (fault_behind plan done s) (first_fault plan (done ++ s ∷ []) rest) is in
+      let both = neither (fault_behind plan done s) (first_step_fault plan (done ++ s ∷ []) rest) is in
       after done (take k rest) s y None (each_done (done ++ s ∷ []) rest both.1 k y at)
 
   -- all are done: none
-  none_first : (done steps : List Step) → ((k : ℕ) (y : Step) → slice_get steps k ≡ Some y → fault_behind plan (done ++ take k steps) y ≡ None) → first_fault plan done steps ≡ None
-  unfolding first_fault
+  none_first : (done steps : List Step) → ((k : ℕ) (y : Step) → slice_get steps k ≡ Some y → fault_behind plan (done ++ take k steps) y ≡ None) → first_step_fault plan done steps ≡ None
+  unfolding first_step_fault
   none_first done [] all = refl
   none_first done (s ∷ rest) all =
-      ap (λ (f : Option WorldFault). or_else f (first_fault plan (done ++ s ∷ []) rest)) (first_of done s None (all zero s refl))
+      ap (λ (f : Option WorldFault). or_else f (first_step_fault plan (done ++ s ∷ []) rest)) (first_of done s None (all zero s refl))
       ∙ none_first (done ++ s ∷ []) rest (λ k y at. after_all done (take k rest) s y None (all (suc k) y at))
 
   -- a fault: where it is
@@ -95,8 +95,8 @@ module _ (plan : DrillPlan) where
       earlier (suc k) y lt is = after done (take k rest) s y None (at.are_done k y (omega (arith, lt)) is)
 
   by_head : (done rest : List Step) (s : Step) (fault : WorldFault) (f : Option WorldFault) → fault_behind plan done s ≡ f
-      → or_else f (first_fault plan (done ++ s ∷ []) rest) ≡ Some fault
-      → (first_fault plan (done ++ s ∷ []) rest ≡ Some fault → FaultAt plan (done ++ s ∷ []) rest fault) → FaultAt plan done (s ∷ rest) fault
+      → or_else f (first_step_fault plan (done ++ s ∷ []) rest) ≡ Some fault
+      → (first_step_fault plan (done ++ s ∷ []) rest ≡ Some fault → FaultAt plan (done ++ s ∷ []) rest fault) → FaultAt plan done (s ∷ rest) fault
   by_head done rest s fault None none is more = fault_more done rest s fault none (more is)
   by_head done rest s fault (Some other) some is more = record {
     count = zero;
@@ -106,24 +106,24 @@ module _ (plan : DrillPlan) where
     is = as_first done s (Some fault) (some ∙ is);
   }
 
-  fault_at : (done steps : List Step) (fault : WorldFault) → first_fault plan done steps ≡ Some fault → FaultAt plan done steps fault
-  unfolding first_fault
+  fault_at : (done steps : List Step) (fault : WorldFault) → first_step_fault plan done steps ≡ Some fault → FaultAt plan done steps fault
+  unfolding first_step_fault
   fault_at done [] fault is = absurd (none-some fault is)
   fault_at done (s ∷ rest) fault is = by_head done rest s fault (fault_behind plan done s) refl is (λ more. fault_at (done ++ s ∷ []) rest fault more)
 
   -- where it is: that fault
   fault_first : (done steps : List Step) (k : ℕ) (x : Step) (fault : WorldFault) → slice_get steps k ≡ Some x
       → ((j : ℕ) (y : Step) → j < k → slice_get steps j ≡ Some y → fault_behind plan (done ++ take j steps) y ≡ None)
-      → fault_behind plan (done ++ take k steps) x ≡ Some fault → first_fault plan done steps ≡ Some fault
-  unfolding first_fault
+      → fault_behind plan (done ++ take k steps) x ≡ Some fault → first_step_fault plan done steps ≡ Some fault
+  unfolding first_step_fault
   fault_first done [] k x fault at earlier is = absurd (let u : ⊥ = cc in u)
   fault_first done (s ∷ rest) zero x fault at earlier is =
       let here : fault_behind plan done s ≡ Some fault =
       first_of done s (Some fault) (subst (λ (z : Step). fault_behind plan (done ++ []) z ≡ Some fault) (sym (same_Some s x at)) is) in
-      ap (λ (f : Option WorldFault). or_else f (first_fault plan (done ++ s ∷ []) rest)) here
+      ap (λ (f : Option WorldFault). or_else f (first_step_fault plan (done ++ s ∷ []) rest)) here
   fault_first done (s ∷ rest) (suc k) x fault at earlier is =
       let none : fault_behind plan done s ≡ None = first_of done s None (earlier zero s (omega arith) refl) in
-      ap (λ (f : Option WorldFault). or_else f (first_fault plan (done ++ s ∷ []) rest)) none
+      ap (λ (f : Option WorldFault). or_else f (first_step_fault plan (done ++ s ∷ []) rest)) none
       ∙ fault_first (done ++ s ∷ []) rest k x fault at (λ j y lt is_y. after_all done (take j rest) s y None (earlier (suc j) y (omega (arith, lt)) is_y))
       (after_all done (take k rest) s x (Some fault) is)
 
@@ -136,7 +136,7 @@ spent_counting seed count None t = does_spent (λ text. text ≡ totals_line see
 spent_counting seed count (Some fault) t = does_spent (λ text. text ≡ (fault_answer 0 fault).text) (Ends (fault_answer 0 fault).status) t
 
 abbrev bulk_fault : (seed count : ℕ) → Option WorldFault
-bulk_fault seed count = first_fault bulk_plan [] (steps_of_bulk seed count)
+bulk_fault seed count = first_step_fault bulk_plan [] (steps_of_bulk seed count)
 
 so_counts : (seed count : ℕ) (f g : Option WorldFault) (before now : Told) (end : End) → f ≡ g → Does (counts_steps seed count g) before now end → Does (counts_steps seed count f) before now end
 so_counts seed count f g before now end is does = subst (λ (x : Option WorldFault). Does (counts_steps seed count x) before now end) (sym is) does
@@ -165,9 +165,9 @@ told : (seed count : ℕ) (plan : DrillPlan) (steps : List Step) (fault : WorldF
     → Does (answers (fault_answer 0 fault)) before now end → Does (bulks seed count) before now end
 unfolding counts_steps
 told seed count plan steps fault before now end plan_is is halted some does =
-    let first : first_fault plan [] steps ≡ Some fault = fault_first plan [] steps halted.count halted.step fault halted.next halted.are_done some in
+    let first : first_step_fault plan [] steps ≡ Some fault = fault_first plan [] steps halted.count halted.step fault halted.next halted.are_done some in
     let so : bulk_fault seed count ≡ Some fault =
-    subst (λ (xs : List Step). first_fault bulk_plan [] xs ≡ Some fault) is (subst (λ (p : DrillPlan). first_fault p [] steps ≡ Some fault) plan_is first) in
+    subst (λ (xs : List Step). first_step_fault bulk_plan [] xs ≡ Some fault) is (subst (λ (p : DrillPlan). first_step_fault p [] steps ≡ Some fault) plan_is first) in
     so_counts seed count (bulk_fault seed count) (Some fault) before now end so does
 
 wanted : (seed count : ℕ) (before now : Told) (end : End) → now ≡ before → end ≡ OutOfMemory → Does (bulks seed count) before now end

@@ -43,9 +43,9 @@ drills name = fetches_file name (λ file. drills_read (scenario_of file))
 -- ---- a bulk run
 
 -- why the first of these steps that isn't done, behind those that were done before, isn't
-unfoldable pub first_fault : DrillPlan → (done steps : List Step) → Option WorldFault
-first_fault plan done [] = None
-first_fault plan done (s ∷ rest) = or_else (fault_behind plan done s) (first_fault plan (done ++ s ∷ []) rest)
+unfoldable pub first_step_fault : DrillPlan → (done steps : List Step) → Option WorldFault
+first_step_fault plan done [] = None
+first_step_fault plan done (s ∷ rest) = or_else (fault_behind plan done s) (first_step_fault plan (done ++ s ∷ []) rest)
 
 -- nothing is printed of its steps: their totals where all are done, and else the line of the first fault
 unfoldable pub counts_steps : (seed count : ℕ) → Option WorldFault → Script
@@ -54,4 +54,4 @@ counts_steps seed count (Some fault) = answers (fault_answer 0 fault)
 
 -- `bulk SEED COUNT`
 abbrev pub bulks : (seed count : ℕ) → Script
-bulks seed count = counts_steps seed count (first_fault bulk_plan [] (steps_of_bulk seed count))
+bulks seed count = counts_steps seed count (first_step_fault bulk_plan [] (steps_of_bulk seed count))
