@@ -3,38 +3,27 @@ use Rattle.std.proofs.Common.{◌≡◌, ℕ, zero, suc, false, ◌+◌, ◌≤�
 use Rattle.std.proofs.lemmas.Bool.{cases_eq}
 use Rattle.std.proofs.lemmas.List.{take_all}
 use Rattle.std.proofs.lemmas.Option.{same_Some}
-use Rattle.er_base.specs.declared.no_memory.NoMemory.{NoMemory as Want}
-use Rattle.er_base.specs.declared.side.Side.{Side}
 use Rattle.er_settings.specs.Values.{Settings}
 use Rattle.er_settings.specs.Making.{usual_settings}
 use Rattle.er_scenario.specs.declared.level.Level.{Level}
 use Rattle.er_scenario.specs.declared.level.Level.TheVariants as level
 use Rattle.er_scenario.specs.declared.step.Step.{Step}
-use Rattle.drill_model.specs.declared.totals.Totals.{Totals}
-use Rattle.drill_model.specs.declared.world_fault.WorldFault.{WorldFault}
-use Rattle.drill_model.specs.declared.world_fault.WorldFault.TheVariants.{NoLink, LinkTwice, MomentBack, Overfull, NoMemory}
-use Rattle.drill_model.specs.Worlds.{DrillPlan, world_run}
+use Rattle.drill_model.specs.declared.world_fault.WorldFault.TheVariants.{NoMemory}
+use Rattle.drill_model.specs.Worlds.{DrillPlan}
 use Rattle.drill_model.specs.Faults.{fault_behind, AllDone}
-use Rattle.drill_laws.specs.Laws.{OpensAlways}
-use Rattle.drill_model.specs.Totals.{totals_of}
 use Rattle.drill_bulk.specs.Turns.{bulk_steps}
 use Rattle.er_world.specs.Standing.{KeptWorld, Ran}
-use Rattle.link_trait.specs.Outside.{Grew}
 use Rattle.er_statuses.specs.Answers.{Files}
-use Rattle.er_program.specs.Answers.{IsBulkAnswer, AllAreCounted, TooManyWait}
+use Rattle.er_program.specs.Answers.{IsBulkAnswer}
 use Rattle.er_program.specs.Commands.{Bulk}
-use Rattle.er_program.specs.BulkTexts.{bulk_plan, steps_of_bulk, totals_of_bulk, totals_line}
-use Rattle.er_program.specs.BulkRuns.{IsDoable, AreDoable, DidFirst, HaltedAt}
+use Rattle.er_program.specs.BulkTexts.{bulk_plan, steps_of_bulk}
+use Rattle.er_program.specs.BulkRuns.{IsDoable, AreDoable, DidFirst}
 use Rattle.er_program.specs.KeyWriting.{GivesOne}
-use Rattle.er_statuses.specs.LastLines.{overfull_line}
-use Rattle.er_statuses.specs.Writing.{GivesAnswer}
-use Rattle.er_program.specs.Writing.{TellsFault, EndsCommand}
+use Rattle.er_program.specs.Writing.{EndsCommand}
 use Rattle.er_statuses.specs.declared.status.Status.{Status}
 use Rattle.er_statuses.specs.declared.stop.Stop.{Stop}
 use Rattle.er_statuses.specs.declared.stop.Stop.TheVariants as stop
 use Rattle.er_program.proofs.BulkSteps.{take_one_more, steps_doable}
-use Rattle.er_program.proofs.BulkSteady.{IsOverfull, unrefused, only_overfull}
-use Rattle.er_program.proofs.KeyRuns.{gives_one}
 
 -- ---- the loop
 
