@@ -1,15 +1,14 @@
 -- The script of a bulk run: the first fault among its steps, how the code comes to it, and what it did.
-use Rattle.std.proofs.Common.{◌≡◌, ◌<◌, ℕ, zero, suc, inl, inr, List, [], ◌∷◌, ◌++◌, take, length, slice_get, Option, Some, None, Result, Ok, Err, IsFalse, refl, sym, ap, subst, ◌∙◌, append_assoc, append-nil, arith}
+use Rattle.std.proofs.Common.{◌≡◌, ◌<◌, ℕ, zero, suc, List, [], ◌∷◌, ◌++◌, take, length, slice_get, Option, Some, None, Result, IsFalse, refl, sym, ap, subst, ◌∙◌, append_assoc, append-nil, arith}
 use Rattle.std.specs.List.{list_any}
 use Rattle.std.proofs.lemmas.List.{take_all}
 use Rattle.std.proofs.lemmas.Option.{same_Some, none-some, slice_get_within}
-use Rattle.er_base.specs.declared.side.Side.{Side}
 use Rattle.er_scenario.specs.declared.step.Step.{Step}
 use Rattle.drill_model.specs.declared.totals.Totals.{Totals}
 use Rattle.drill_model.specs.declared.world_fault.WorldFault.{WorldFault}
 use Rattle.drill_model.specs.declared.world_fault.WorldFault.TheVariants.{NoLink, LinkTwice, MomentBack, Overfull, NoMemory}
 use Rattle.drill_model.specs.Worlds.{DrillPlan, world_run}
-use Rattle.drill_model.specs.Faults.{or_else, fault_behind, AllDone}
+use Rattle.drill_model.specs.Faults.{or_else, fault_behind}
 use Rattle.drill_model.specs.Totals.{totals_of}
 use Rattle.drill_laws.specs.Laws.{OpensAlways}
 use Rattle.er_world.specs.Standing.{KeptWorld, Ran}

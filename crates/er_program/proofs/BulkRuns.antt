@@ -8,7 +8,6 @@ use Rattle.er_settings.specs.Making.{usual_settings}
 use Rattle.er_scenario.specs.declared.level.Level.{Level}
 use Rattle.er_scenario.specs.declared.level.Level.TheVariants as level
 use Rattle.er_scenario.specs.declared.step.Step.{Step}
-use Rattle.drill_model.specs.declared.world_fault.WorldFault.TheVariants.{NoMemory}
 use Rattle.drill_model.specs.Worlds.{DrillPlan}
 use Rattle.drill_model.specs.Faults.{fault_behind, AllDone}
 use Rattle.drill_bulk.specs.Turns.{bulk_steps}

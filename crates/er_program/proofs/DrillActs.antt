@@ -10,7 +10,6 @@ use Rattle.er_scenario.specs.declared.step.Step.{Step}
 use Rattle.er_scenario.specs.declared.numbered.Numbered.{Numbered}
 use Rattle.er_scenario.specs.declared.scenario.Scenario.{Scenario}
 use Rattle.er_scenario.specs.Files.{scenario_of}
-use Rattle.er_scenario.specs.Texts.{CanBeRead}
 use Rattle.drill_model.specs.declared.world_fault.WorldFault.{WorldFault}
 use Rattle.drill_model.specs.Worlds.{DrillPlan, plan_of}
 use Rattle.drill_model.specs.Faults.{fault_behind}
@@ -19,7 +18,7 @@ use Rattle.drill_model.specs.Growth.{TextGrows}
 use Rattle.outside.specs.Acts.{Act, Wrote, is_fetch, is_sink_fault}
 use Rattle.outside.specs.Ties.{IsLeft, GrewBy, PutsInSink}
 use Rattle.outside.specs.Doings.{Told, Did}
-use Rattle.outside.specs.Scripts.{End, With, Sunk, OutOfMemory, Script, Ends, printing, says_last, RunsScript}
+use Rattle.outside.specs.Scripts.{End, With, Sunk, OutOfMemory, Script, printing, says_last, RunsScript}
 use Rattle.outside.specs.SinkTexts.{nothing_left_by, fetches_none}
 use Rattle.er_statuses.specs.Answers.{Answer, Files}
 use Rattle.er_statuses.specs.LastLines.{fault_line, memory_line, why_word}

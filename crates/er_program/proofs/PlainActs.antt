@@ -1,14 +1,14 @@
 -- What a command over one file or none leaves, from what its script did.
-use Rattle.std.proofs.Common.{◌≡◌, ◌≢◌, ℕ, inl, inr, List, [], ◌∷◌, Option, Result, Ok, Err, IfOk, IsFalse, refl, sym, ap, subst}
+use Rattle.std.proofs.Common.{◌≡◌, ◌≢◌, ℕ, inl, inr, List, [], ◌∷◌, Option, Result, IsFalse, refl, sym, subst}
 use Rattle.std.specs.List.{list_any}
-use Rattle.link_trait.specs.Outside.{Grew, GrewPart}
+use Rattle.link_trait.specs.Outside.{Grew}
 use Rattle.link_trait.specs.Growth.{grew_nothing, part_whole}
 use Rattle.link_trait.specs.States.{CabinetState}
 use Rattle.drill_model.specs.Growth.{TextGrows}
 use Rattle.drill_laws.specs.Laws.{OpensAlways}
 use Rattle.outside.specs.Acts.{Act, is_fetch}
 use Rattle.outside.specs.Doings.{Told, Did}
-use Rattle.outside.specs.Scripts.{End, Does, says_last, RunsScript}
+use Rattle.outside.specs.Scripts.{Does, says_last}
 use Rattle.outside.specs.SinkTexts.{fetches_none}
 use Rattle.er_statuses.specs.Answers.{Answer}
 use Rattle.er_statuses.specs.LastLines.{usage_line}
@@ -26,7 +26,6 @@ use Rattle.er_program.specs.CommandScripts.{plain_script, Answered}
 use Rattle.er_program.specs.CommandViews.{command_of_work, plain_view}
 use Rattle.er_program.specs.FileScripts.{migrates, reads_line}
 use Rattle.er_program.specs.StepScripts.{drills, bulks}
-use Rattle.er_program.specs.Writing.{EndsCommand}
 use Rattle.er_program.proofs.BitActs.{bits_ends, bits_asks, bits_asks_part}
 use Rattle.er_program.proofs.BulkActs.{gives_bulk, quiet_bulk}
 use Rattle.er_program.proofs.BulkRuns.{ends_bulk}

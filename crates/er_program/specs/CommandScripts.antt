@@ -1,6 +1,6 @@
 -- What a command over one file or none does to the outside, as its script (this profile); and what such a command leaves, by what its cabinet
 -- and its sink tell.
-use Rattle.std.specs.Prelude.{ℕ, ◌≤◌, List, Option, Result, IfOk}
+use Rattle.std.specs.Prelude.{◌≤◌, Result, IfOk}
 use Rattle.link_trait.specs.Outside.{GrewPart, HasStayedAsTold}
 use Rattle.link_trait.specs.States.{CabinetState, SinkState}
 use Rattle.outside.specs.Scripts.{Script, says_last}

@@ -1,5 +1,5 @@
 -- Contract: what a step did to the outside, and how a run ends at one that isn't done.
-use Rattle.std.specs.Prelude.{◌≡◌, ℕ, false, List, [], ◌∷◌, ◌++◌, drop, None, Option, Result, Ok, Err}
+use Rattle.std.specs.Prelude.{◌≡◌, ℕ, false, List, [], ◌∷◌, ◌++◌, drop, None, Result, Ok, Err}
 use Rattle.er_scenario.specs.declared.step.Step.{Step}
 use Rattle.er_scenario.specs.declared.scenario.Scenario.{Scenario}
 use Rattle.drill_model.specs.declared.world_fault.WorldFault.{WorldFault}

@@ -1,5 +1,5 @@
 -- What was read, drilled or refused; and want of memory.
-use Rattle.std.proofs.Common.{◌≡◌, ℕ, List, [], Result, Ok, Err}
+use Rattle.std.proofs.Common.{◌≡◌, ℕ, [], Result, Ok, Err}
 use Rattle.er_base.specs.declared.text_fault.TextFault.{TextFault}
 use Rattle.er_base.specs.declared.text_fault.TextFault.TheVariants as text
 use Rattle.er_base.specs.declared.why.Why.{Why}
