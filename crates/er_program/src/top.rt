@@ -31,7 +31,14 @@ fn answered<F: Cabinet, K: Sink>(
     match command {
         FileCommand::Plain(command) => plain_run(alloc, command, cabinet, sink),
         FileCommand::Keyed(command) => {
-            keyed_run(alloc, command.work, command.keys, command.name, cabinet, sink)
+            keyed_run(
+                alloc,
+                command.work,
+                command.keys,
+                command.name,
+                cabinet,
+                sink,
+            )
         }
     }
 }

@@ -3,8 +3,8 @@
 use crate::ended::Ended;
 use er_base::{NoMemory, Release};
 use er_program::{
-    Command, FileCommand, FileFault, KeyedCommand, LineCommand, MOST_FILE_OCTETS, PlainCommand,
-    StdoutSink, Work, command_from,
+    Command, FileCommand, FileFault, LineCommand, MOST_FILE_OCTETS, PlainCommand, StdoutSink, Work,
+    command_from,
 };
 use link_audit::tell_ends;
 use std::alloc::Global;
@@ -95,18 +95,16 @@ pub(crate) fn ended(rt: HostRuntime, words: &[String], ended: &Ended, last: &[u8
 /// How far each stream of a tap was heard, and why no further, behind an audit that printed what was heard alone: the lines that the word `ends`
 /// has it print.
 pub(crate) fn ends_of_streams(rt: HostRuntime, words: &[String], ended: &Ended) {
-    let Command::File(FileCommand::Keyed(KeyedCommand {
-        work: Work::Audit { ends: false },
-        name: tap,
-        ..
-    })) = command_from(words)
-    else {
+    let Command::File(FileCommand::Keyed(command)) = command_from(words) else {
         return;
     };
+    if !matches!(command.work, Work::Audit { ends: false }) {
+        return;
+    }
     if ended.status.0 != 0 {
         return;
     }
-    let Some(octets) = octets_again(rt, tap) else {
+    let Some(octets) = octets_again(rt, command.name) else {
         return;
     };
     if let Ok(tap) = er_tap::read(rt.alloc(), octets.as_slice()) {
@@ -117,13 +115,17 @@ pub(crate) fn ends_of_streams(rt: HostRuntime, words: &[String], ended: &Ended) 
 // The file that a command reads besides keys.
 fn file_of<'a>(command: &Command<'a>) -> Option<(FileKind, &'a str)> {
     match *command {
-        Command::File(FileCommand::Plain(PlainCommand::Drill { name })) =>
-            Some((FileKind::Drill, name)),
-        Command::File(FileCommand::Plain(PlainCommand::Bits { name })) =>
-            Some((FileKind::Bits, name)),
-        Command::File(FileCommand::Plain(_)) | Command::Line(_) => None,
-        Command::File(FileCommand::Keyed(KeyedCommand { work, name, .. })) =>
-            Some((kind_of(work), name)),
+        Command::File(FileCommand::Plain(command)) => plain_file_of(&command),
+        Command::File(FileCommand::Keyed(command)) => Some((kind_of(command.work), command.name)),
+        Command::Line(_) => None,
+    }
+}
+
+fn plain_file_of<'a>(command: &PlainCommand<'a>) -> Option<(FileKind, &'a str)> {
+    match *command {
+        PlainCommand::Drill { name } => Some((FileKind::Drill, name)),
+        PlainCommand::Bits { name } => Some((FileKind::Bits, name)),
+        PlainCommand::Misused | PlainCommand::Migrate { .. } | PlainCommand::Bulk { .. } => None,
     }
 }
 
@@ -140,7 +142,7 @@ fn keys_of<'a>(command: &Command<'a>) -> Option<&'a str> {
     match *command {
         Command::File(FileCommand::Plain(PlainCommand::Migrate { keys })) => Some(keys),
         Command::File(FileCommand::Plain(_)) => None,
-        Command::File(FileCommand::Keyed(KeyedCommand { keys, .. })) => Some(keys),
+        Command::File(FileCommand::Keyed(command)) => Some(command.keys),
         Command::Line(command) => Some(command.key_file()),
     }
 }
