@@ -13,7 +13,7 @@ use crate::migrate::migrate;
 use er_statuses::acting::misused;
 use er_statuses::{Status, Stop};
 use link_trait::{Cabinet, Sink};
-use outside::{NoClock, NoWires, NoWords, Outside, Parts};
+use outside::{Absent, Outside, Parts, off_line};
 use std::alloc::Global;
 
 // What a command over one file or none asks for, done over an outside.
@@ -44,10 +44,8 @@ pub fn plain_run<F: Cabinet, K: Sink>(
 {
     drill_model::laws::runs_grow();
     drill_laws::laws::worlds();
-    let mut wires = NoWires;
-    let mut clock = NoClock;
-    let mut randoms = NoWords;
-    let mut parts = Parts::new(cabinet, sink, &mut wires, &mut clock, &mut randoms);
+    let mut absent = Absent::new();
+    let mut parts = off_line(cabinet, sink, &mut absent);
     let ended = plain_done(alloc, command, &mut parts);
     let Parts { cabinet, sink, .. } = parts;
     // What is lent is given back here, which the clauses speak of.
