@@ -1,5 +1,5 @@
 -- Which names were asked for, by how the parts of a run end.
-use Rattle.std.proofs.Common.{◌≡◌, ◌⊎◌, inl, inr, ℕ, Bool, List, [], ◌∷◌, length, Option, Some, None, Result, Ok, Err, IfOk, refl, sym, subst, ap, ◌∙◌, arith}
+use Rattle.std.proofs.Common.{◌≡◌, ◌⊎◌, inl, inr, ℕ, Bool, List, [], ◌∷◌, length, Option, Some, None, Result, Ok, Err, IfOk, refl, sym, subst, ap, arith}
 use Rattle.er_base.specs.declared.no_memory.NoMemory.{NoMemory as Want}
 use Rattle.er_base.specs.declared.text_fault.TextFault.{TextFault}
 use Rattle.er_base.specs.declared.text_fault.TextFault.TheVariants as text
@@ -23,7 +23,8 @@ use Rattle.er_statuses.specs.Answers.{Answer, keys_answer}
 use Rattle.er_program.specs.Answers.{AllAreTaken, OneIsRefused, IsTraceAnswer, AllAreJudged, OneIsTold, verdict_answer, IsRecordingAnswer, lines_answer, tap_answer}
 use Rattle.er_program.specs.declared.work.Work.{Work}
 use Rattle.er_program.specs.declared.work.Work.TheVariants as work
-use Rattle.er_program.specs.KeyedWriting.{command_of_work, IsOfWork}
+use Rattle.er_program.specs.CommandViews.{command_of_work}
+use Rattle.er_program.specs.KeyedWriting.{IsOfWork}
 use Rattle.er_program.specs.ReplayWriting.{EndsOne}
 use Rattle.er_statuses.specs.Writing.{GivesAnswer, EndsUnfetched}
 use Rattle.er_statuses.specs.declared.status.Status.{Status}

@@ -1,35 +1,26 @@
 -- How the audit of a tap ends, from how its parts end.
-use Rattle.std.proofs.Common.{◌≡◌, ◌⊎◌, inl, inr, ℕ, Bool, ◌≤◌, List, [], Option, Some, None, Result, Ok, Err, codes, refl, sym, subst, ap, ◌∙◌, arith}
-use Rattle.er_base.specs.declared.no_memory.NoMemory.{NoMemory as Want}
+use Rattle.std.proofs.Common.{◌≡◌, inl, inr, ℕ, Bool, ◌≤◌, List, [], Option, Some, None, Result, Ok, Err, codes, refl, sym, subst, ap, ◌∙◌, arith}
 use Rattle.er_base.specs.declared.text_fault.TextFault.{TextFault}
 use Rattle.er_base.specs.declared.text_fault.TextFault.TheVariants as text
 use Rattle.er_base.specs.declared.why.Why.{Why}
 use Rattle.er_tap.specs.declared.tap.Tap.{Tap}
 use Rattle.er_tap.specs.declared.tap_line.TapLine.{TapLine}
-use Rattle.er_tap.specs.Files.{tap_of}
 use Rattle.er_end_model.specs.Steps.{Finds}
 use Rattle.safety_automaton.specs.Keys.{KmacEntry, key_at}
-use Rattle.key_store.specs.declared.key_file_fault.KeyFileFault.{KeyFileFault}
-use Rattle.key_store.specs.declared.key_file_fault.KeyFileFault.TheVariants as keys
-use Rattle.key_store.specs.Answers.{RefusesAsKeyFileSays}
-use Rattle.key_store.specs.KeyFiles.{keys_of}
-use Rattle.link_trait.specs.Outside.{Grew, GrewPart, Rose, HasFile}
+use Rattle.link_trait.specs.Outside.{Grew, GrewPart, Rose}
 use Rattle.link_trait.specs.Growth.{grew_then, part_then}
 use Rattle.tap_model.specs.declared.audit_fault.AuditFault.{AuditFault}
 use Rattle.tap_model.specs.declared.audit_fault.AuditFault.TheVariants as fault
 use Rattle.tap_model.specs.Audits.{Audits}
 use Rattle.tap_model.specs.Lines.{TapFault, NoLinkAt, TwiceAt, fault_of_tap_lines}
 use Rattle.tap_model.specs.EndTexts.{text_of_audit}
-use Rattle.er_program.specs.AuditRuns.{FirstAuditText}
-use Rattle.er_program.specs.AuditWriting.{IsLinesAnswer, IsTapAnswer, BeginsLines, BeginsSpelledTap, BeginsTap, TellsTapFault}
-use Rattle.er_program.specs.Commands.{Audit}
-use Rattle.er_statuses.specs.LastLines.{fetch_line, fault_line, why_word}
-use Rattle.er_statuses.specs.Answers.{Answer, Files, HasFetched, keys_answer}
+use Rattle.er_program.specs.AuditWriting.{IsLinesAnswer, IsTapAnswer, BeginsLines, BeginsTap, TellsTapFault}
+use Rattle.er_statuses.specs.LastLines.{fault_line, why_word}
+use Rattle.er_statuses.specs.Answers.{Answer}
 use Rattle.er_program.specs.Answers.{lines_answer}
 use Rattle.er_program.specs.KeyWriting.{GaveOne, BrokeOne}
 use Rattle.er_program.specs.ReplayWriting.{BeganOne, EndsOne}
-use Rattle.er_statuses.specs.Writing.{GivesAnswer, EndsUnfetched}
-use Rattle.er_program.specs.Writing.{EndsCommand}
+use Rattle.er_statuses.specs.Writing.{GivesAnswer}
 use Rattle.er_statuses.specs.declared.status.Status.{Status}
 use Rattle.er_statuses.specs.declared.stop.Stop.{Stop}
 use Rattle.er_statuses.specs.declared.stop.Stop.TheVariants as stop

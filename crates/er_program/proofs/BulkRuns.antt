@@ -3,38 +3,26 @@ use Rattle.std.proofs.Common.{◌≡◌, ℕ, zero, suc, false, ◌+◌, ◌≤�
 use Rattle.std.proofs.lemmas.Bool.{cases_eq}
 use Rattle.std.proofs.lemmas.List.{take_all}
 use Rattle.std.proofs.lemmas.Option.{same_Some}
-use Rattle.er_base.specs.declared.no_memory.NoMemory.{NoMemory as Want}
-use Rattle.er_base.specs.declared.side.Side.{Side}
 use Rattle.er_settings.specs.Values.{Settings}
 use Rattle.er_settings.specs.Making.{usual_settings}
 use Rattle.er_scenario.specs.declared.level.Level.{Level}
 use Rattle.er_scenario.specs.declared.level.Level.TheVariants as level
 use Rattle.er_scenario.specs.declared.step.Step.{Step}
-use Rattle.drill_model.specs.declared.totals.Totals.{Totals}
-use Rattle.drill_model.specs.declared.world_fault.WorldFault.{WorldFault}
-use Rattle.drill_model.specs.declared.world_fault.WorldFault.TheVariants.{NoLink, LinkTwice, MomentBack, Overfull, NoMemory}
-use Rattle.drill_model.specs.Worlds.{DrillPlan, world_run}
+use Rattle.drill_model.specs.Worlds.{DrillPlan}
 use Rattle.drill_model.specs.Faults.{fault_behind, AllDone}
-use Rattle.drill_laws.specs.Laws.{OpensAlways}
-use Rattle.drill_model.specs.Totals.{totals_of}
 use Rattle.drill_bulk.specs.Turns.{bulk_steps}
 use Rattle.er_world.specs.Standing.{KeptWorld, Ran}
-use Rattle.link_trait.specs.Outside.{Grew}
 use Rattle.er_statuses.specs.Answers.{Files}
-use Rattle.er_program.specs.Answers.{IsBulkAnswer, AllAreCounted, TooManyWait}
+use Rattle.er_program.specs.Answers.{IsBulkAnswer}
 use Rattle.er_program.specs.Commands.{Bulk}
-use Rattle.er_program.specs.BulkTexts.{bulk_plan, steps_of_bulk, totals_of_bulk, totals_line}
-use Rattle.er_program.specs.BulkRuns.{IsDoable, AreDoable, DidFirst, HaltedAt}
+use Rattle.er_program.specs.BulkTexts.{bulk_plan, steps_of_bulk}
+use Rattle.er_program.specs.BulkRuns.{IsDoable, AreDoable, DidFirst}
 use Rattle.er_program.specs.KeyWriting.{GivesOne}
-use Rattle.er_statuses.specs.LastLines.{overfull_line}
-use Rattle.er_statuses.specs.Writing.{GivesAnswer}
-use Rattle.er_program.specs.Writing.{TellsFault, EndsCommand}
+use Rattle.er_program.specs.Writing.{EndsCommand}
 use Rattle.er_statuses.specs.declared.status.Status.{Status}
 use Rattle.er_statuses.specs.declared.stop.Stop.{Stop}
 use Rattle.er_statuses.specs.declared.stop.Stop.TheVariants as stop
 use Rattle.er_program.proofs.BulkSteps.{take_one_more, steps_doable}
-use Rattle.er_program.proofs.BulkSteady.{IsOverfull, unrefused, only_overfull}
-use Rattle.er_program.proofs.KeyRuns.{gives_one}
 
 -- ---- the loop
 
@@ -98,70 +86,6 @@ doable_so plan xs ys is same doable =
 
 pub ran_so : (kept : KeptWorld) (plan : DrillPlan) → kept.plan ≡ plan → Ran kept plan [] → Ran kept kept.plan []
 ran_so kept plan is ran = subst (λ (p : DrillPlan). Ran kept p []) (sym is) ran
-
--- ---- the end
-
--- all steps were done, and their totals were written
-pub ends_counted : (seed count : ℕ) (plan : DrillPlan) (steps : List Step) (kept : KeptWorld) (totals : Totals) (before now : Option (List ℕ)) (f g : ℕ) (r : Result Status Stop)
-    → plan ≡ bulk_plan → steps ≡ steps_of_bulk seed count → DidFirst plan steps (length steps) kept
-    → ((plan : DrillPlan) (done : List Step) → Ran kept plan done → totals ≡ totals_of (world_run plan done).1)
-    → GivesAnswer (record { status = 0; text = totals_line seed count totals }) before now f g r → GivesOne (IsBulkAnswer seed count) before now f g r
-ends_counted seed count plan steps kept totals before now f g r plan_is is did counted gives =
-    let P : List Step → Type 0 = λ xs. DidFirst bulk_plan xs (length xs) kept in
-    let so : DidFirst bulk_plan (steps_of_bulk seed count) (length (steps_of_bulk seed count)) kept =
-    subst P is (subst (λ (p : DrillPlan). DidFirst p steps (length steps) kept) plan_is did) in
-    let all : take (length (steps_of_bulk seed count)) (steps_of_bulk seed count) ≡ steps_of_bulk seed count =
-    take_all (length (steps_of_bulk seed count)) (steps_of_bulk seed count) (omega arith) in
-    let are : totals ≡ totals_of_bulk seed count = counted bulk_plan (steps_of_bulk seed count) (subst (λ (first : List Step). Ran kept bulk_plan first) all so.ran) in
-    gives_one (IsBulkAnswer seed count) (record { status = 0; text = totals_line seed count totals }) before now f g r
-    (AllAreCounted so.are_done (ap (λ (t : Totals). record { status = 0; text = totals_line seed count t }) are)) gives
-
--- a step has a fault of the model: no other than that too many frames wait
-faulty : OpensAlways → (seed count : ℕ) (fault : WorldFault) → (halted : HaltedAt bulk_plan (steps_of_bulk seed count) fault)
-    → fault_behind bulk_plan (take halted.count (steps_of_bulk seed count)) halted.step ≡ Some fault → IsOverfull fault
-faulty opens seed count fault halted is =
-    only_overfull bulk_plan (take halted.count (steps_of_bulk seed count)) halted.step fault (unrefused opens seed count halted.count halted.step halted.next) is
-
-ends_overfull : (seed count link most : ℕ) (side : Side) (before now : Option (List ℕ)) (f g : ℕ) (r : Result Status Stop)
-    → HaltedAt bulk_plan (steps_of_bulk seed count) (Overfull link side most) → GivesAnswer (record { status = 8; text = overfull_line link side most }) before now f g r
-    → GivesOne (IsBulkAnswer seed count) before now f g r
-ends_overfull seed count link most side before now f g r halted gives =
-    gives_one (IsBulkAnswer seed count) (record { status = 8; text = overfull_line link side most }) before now f g r
-    (TooManyWait (record {
-      count = halted.count;
-      step = halted.step;
-      next = halted.next;
-      are_done = halted.are_done;
-      link = link;
-      side = side;
-      most = most;
-      is_overfull = halted.is;
-    }) refl) gives
-
-ends_wanted : (seed count : ℕ) (want : Want) (before now : Option (List ℕ)) (f g : ℕ) (r : Result Status Stop)
-    → r ≡ Err (stop.NoMemory want) → Grew before now [] → f ≤ g → GivesOne (IsBulkAnswer seed count) before now f g r
-ends_wanted seed count want before now f g r is none le = rw is (none, le)
-
-by_fault : OpensAlways → (seed count line : ℕ) (fault : WorldFault) (before now : Option (List ℕ)) (f g : ℕ) (r : Result Status Stop)
-    → HaltedAt bulk_plan (steps_of_bulk seed count) fault → TellsFault line fault before now f g r → GivesOne (IsBulkAnswer seed count) before now f g r
-by_fault opens seed count line (NoLink n) before now f g r halted tells =
-    let so = faulty opens seed count (NoLink n) halted halted.is in
-    absurd (cc so.is)
-by_fault opens seed count line (LinkTwice n) before now f g r halted tells =
-    let so = faulty opens seed count (LinkTwice n) halted halted.is in
-    absurd (cc so.is)
-by_fault opens seed count line (MomentBack was moment) before now f g r halted tells =
-    let so = faulty opens seed count (MomentBack was moment) halted halted.is in
-    absurd (cc so.is)
-by_fault opens seed count line (Overfull n side most) before now f g r halted tells = ends_overfull seed count n most side before now f g r halted tells
-by_fault opens seed count line (NoMemory want) before now f g r halted tells = ends_wanted seed count want before now f g r tells.0 tells.1 tells.2
-
--- a step wasn't done, and its fault was told
-pub ends_halted : OpensAlways → (seed count line : ℕ) (plan : DrillPlan) (steps : List Step) (fault : WorldFault) (before now : Option (List ℕ)) (f g : ℕ) (r : Result Status Stop)
-    → plan ≡ bulk_plan → steps ≡ steps_of_bulk seed count → HaltedAt plan steps fault → TellsFault line fault before now f g r → GivesOne (IsBulkAnswer seed count) before now f g r
-ends_halted opens seed count line plan steps fault before now f g r plan_is is halted tells =
-    by_fault opens seed count line fault before now f g r
-    (subst (λ (xs : List Step). HaltedAt bulk_plan xs fault) is (subst (λ (p : DrillPlan). HaltedAt p steps fault) plan_is halted)) tells
 
 -- ---- the words
 

@@ -1,5 +1,5 @@
 -- What a run of `check` means by its status, from how it ended.
-use Rattle.std.proofs.Common.{◌≡◌, ℕ, inl, inr, List, length, Option, Result, Ok, Err, refl, sym, subst, ◌∙◌, ap, arith}
+use Rattle.std.proofs.Common.{◌≡◌, ℕ, inl, inr, List, length, Option, Result, Ok, Err, refl, subst, ◌∙◌, ap, arith}
 use Rattle.er_base.specs.declared.text_fault.TextFault.{TextFault}
 use Rattle.er_base.specs.declared.text_fault.TextFault.TheVariants as text
 use Rattle.er_base.specs.declared.why.Why.{Why}
@@ -13,7 +13,7 @@ use Rattle.trace_model.specs.declared.check_verdict.CheckVerdict.TheVariants as 
 use Rattle.trace_model.specs.declared.replay_fault.ReplayFault.{ReplayFault}
 use Rattle.trace_model.specs.Printed.{text_of_trace}
 use Rattle.trace_model.specs.Recordings.{ended_part, check_verdict}
-use Rattle.trace_model.specs.Replays.{AreTaken, HasFirstRefusedEvent}
+use Rattle.trace_model.specs.Replays.{HasFirstRefusedEvent}
 use Rattle.er_statuses.specs.Answers.{Answer, Files}
 use Rattle.er_statuses.specs.LastLines.{fault_line, memory_line, why_word}
 use Rattle.er_program.specs.Answers.{replay_fault_line, checked_line, verdict_answer, IsCheckAnswer, AllAreJudged, OneIsTold, IsRecordingAnswer}

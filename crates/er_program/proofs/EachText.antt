@@ -7,6 +7,31 @@ use Rattle.outside.specs.Ties.{IsLeft, PutsInSink}
 use Rattle.outside.specs.Scripts.{End, With, Sunk, OutOfMemory, printing, says_last, RunsScript}
 use Rattle.er_program.specs.FileScripts.{prints_each}
 
+-- the octets of a text that was printed, and of what followed
+pub left_behind : (text : List ℕ) (rest : List Act) (all : List ℕ) → IsLeft PutsInSink (printing text ++ rest) all
+    → (more : List ℕ) × IsLeft PutsInSink rest more × (all ≡ text ++ more)
+unfolding IsLeft
+left_behind [] rest all left = (all, left, refl)
+left_behind (octet ∷ octets) rest all left = (left.1, left.3, left.4 ∙ ap (λ (first : List ℕ). first ++ left.1) left.2)
+
+pub sink_fault_behind : (text : List ℕ) (rest : List Act) → IsTrue (list_any is_sink_fault rest) → IsTrue (list_any is_sink_fault (printing text ++ rest))
+sink_fault_behind [] rest h = h
+sink_fault_behind (octet ∷ octets) rest h = h
+
+-- the write of a text failed
+pub unprinted : (text behind : List ℕ) (all : List ℕ) → IsLeft PutsInSink (Wrote text false ∷ []) all → (cut : List ℕ) × (all ++ cut ≡ text ++ behind)
+unfolding IsLeft
+unprinted text behind all left =
+    let octets : all ≡ left.0 = left.4 ∙ ap (λ (rest : List ℕ). left.0 ++ rest) left.3 ∙ append-nil left.0 in (
+      left.2.0 ++ behind,
+      ap (λ (xs : List ℕ). xs ++ (left.2.0 ++ behind)) octets ∙ sym (append_assoc left.0 left.2.0 behind) ∙ ap (λ (xs : List ℕ). xs ++ behind) left.2.1,
+    )
+
+-- a text that was printed asks for no file
+pub no_fetch_behind : (text : List ℕ) (rest : List Act) → IsFalse (list_any is_fetch rest) → IsFalse (list_any is_fetch (printing text ++ rest))
+no_fetch_behind [] rest h = h
+no_fetch_behind (octet ∷ octets) rest h = h
+
 module _ {A : Type 0} (line : A → List ℕ) (status : ℕ) (last : List ℕ) where
   -- by how it ended: all of it; a beginning of it, and a write failed; or the texts of some first things
   abbrev pub GotTexts : List A → End → List Act → List ℕ → Type 0
@@ -14,35 +39,15 @@ module _ {A : Type 0} (line : A → List ℕ) (status : ℕ) (last : List ℕ) w
   GotTexts xs Sunk acts all = (cut : List ℕ) × (all ++ cut ≡ flat_map line xs ++ last) × IsTrue (list_any is_sink_fault acts)
   GotTexts xs OutOfMemory acts all = (count : ℕ) × (all ≡ flat_map line (take count xs))
 
-  -- the octets of a text that was printed, and of what followed
-  left_behind : (text : List ℕ) (rest : List Act) (all : List ℕ) → IsLeft PutsInSink (printing text ++ rest) all
-      → (more : List ℕ) × IsLeft PutsInSink rest more × (all ≡ text ++ more)
-  unfolding IsLeft
-  left_behind [] rest all left = (all, left, refl)
-  left_behind (octet ∷ octets) rest all left = (left.1, left.3, left.4 ∙ ap (λ (first : List ℕ). first ++ left.1) left.2)
-
-  fault_behind : (text : List ℕ) (rest : List Act) → IsTrue (list_any is_sink_fault rest) → IsTrue (list_any is_sink_fault (printing text ++ rest))
-  fault_behind [] rest h = h
-  fault_behind (octet ∷ octets) rest h = h
-
   one_more : (x : A) (xs : List A) (end : End) (rest : List Act) (more : List ℕ) → GotTexts xs end rest more
       → GotTexts (x ∷ xs) end (printing (line x) ++ rest) (line x ++ more)
   one_more x xs (With s) rest more got = (got.0, ap (λ (octets : List ℕ). line x ++ octets) got.1 ∙ sym (append_assoc (line x) (flat_map line xs) last))
   one_more x xs Sunk rest more got = (
     got.0,
     append_assoc (line x) more got.0 ∙ ap (λ (octets : List ℕ). line x ++ octets) got.1 ∙ sym (append_assoc (line x) (flat_map line xs) last),
-    fault_behind (line x) rest got.2,
+    sink_fault_behind (line x) rest got.2,
   )
   one_more x xs OutOfMemory rest more got = (suc got.0, ap (λ (octets : List ℕ). line x ++ octets) got.1)
-
-  -- the write of a text failed
-  unprinted : (text behind : List ℕ) (all : List ℕ) → IsLeft PutsInSink (Wrote text false ∷ []) all → (cut : List ℕ) × (all ++ cut ≡ text ++ behind)
-  unfolding IsLeft
-  unprinted text behind all left =
-      let octets : all ≡ left.0 = left.4 ∙ ap (λ (rest : List ℕ). left.0 ++ rest) left.3 ∙ append-nil left.0 in (
-        left.2.0 ++ behind,
-        ap (λ (xs : List ℕ). xs ++ (left.2.0 ++ behind)) octets ∙ sym (append_assoc left.0 left.2.0 behind) ∙ ap (λ (xs : List ℕ). xs ++ behind) left.2.1,
-      )
 
   pub got_texts : (xs : List A) (acts : List Act) (end : End) (all : List ℕ) → RunsScript (prints_each line xs (says_last status last)) acts end
       → IsLeft PutsInSink acts all → GotTexts xs end acts all
@@ -81,10 +86,6 @@ module _ {A : Type 0} (line : A → List ℕ) (status : ℕ) (last : List ℕ) w
   unfolding RunsScript prints_each
   each_fetches_none [] acts end runs = fetches_none (λ text. text ≡ last) status acts end runs
   each_fetches_none (x ∷ xs) acts end (inl p) =
-      subst (λ (ys : List Act). IsFalse (list_any is_fetch ys)) (sym p.acts_are) (printed p.text p.rest (each_fetches_none xs p.rest end p.follows))
-    where
-      printed : (text : List ℕ) (rest : List Act) → IsFalse (list_any is_fetch rest) → IsFalse (list_any is_fetch (printing text ++ rest))
-      printed [] rest h = h
-      printed (octet ∷ octets) rest h = h
+      subst (λ (ys : List Act). IsFalse (list_any is_fetch ys)) (sym p.acts_are) (no_fetch_behind p.text p.rest (each_fetches_none xs p.rest end p.follows))
   each_fetches_none (x ∷ xs) acts end (inr (inl p)) = subst (λ (ys : List Act). IsFalse (list_any is_fetch ys)) (sym p.acts_are) refl
   each_fetches_none (x ∷ xs) acts end (inr (inr p)) = subst (λ (ys : List Act). IsFalse (list_any is_fetch ys)) (sym p.0) refl

@@ -91,7 +91,7 @@ sinks_behind : (a b : Option (List ℕ)) (f g : ℕ) (name : List ℕ) (answer :
     → Counts is_sink_fault f g (Fetched name answer ∷ acts) → Sinks a b f g acts
 sinks_behind a b f g name answer acts held faults = (behind_fetched a b name answer acts held, behind_fetch_counts f g name answer acts faults)
 
-if_ok : {A : Type 0} (r : Result Status Stop) → A → IfOk r (λ s. A)
+pub if_ok : {A : Type 0} (r : Result Status Stop) → A → IfOk r (λ s. A)
 if_ok (Ok s) a = a
 if_ok (Err stop) a = tt
 

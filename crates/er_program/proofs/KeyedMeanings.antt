@@ -13,10 +13,11 @@ use Rattle.er_statuses.specs.LastLines.{memory_line}
 use Rattle.er_statuses.specs.Answers.{Answer, Files, HasFetched, keys_answer, AreKeysRefused}
 use Rattle.er_program.specs.declared.work.Work.{Work}
 use Rattle.er_program.specs.declared.work.Work.TheVariants as work
-use Rattle.er_program.specs.Answers.{tap_answer, IsFetchedSecond, IsAnswerBehindKeys, IsFetchedKeyed}
+use Rattle.er_program.specs.Answers.{IsFetchedSecond, IsAnswerBehindKeys, IsFetchedKeyed}
 use Rattle.er_program.specs.Asking.{AskedNames, AsksKeys, AsksBoth, Asks}
 use Rattle.er_program.specs.Commands.{Command, names_of}
-use Rattle.er_program.specs.KeyedWriting.{command_of_work, IsOfWork, HasStatusOfWork}
+use Rattle.er_program.specs.CommandViews.{command_of_work}
+use Rattle.er_program.specs.KeyedWriting.{IsOfWork, HasStatusOfWork}
 use Rattle.er_program.specs.Runs.{AreFirstLines, HasKeyedStatus, IsStatusBehindKeys}
 use Rattle.er_program.specs.Statuses as statuses
 use Rattle.er_program.specs.FileMeans.{FileMeans, IsUnfetched, IsCompleteByFiles, sight}

@@ -1,5 +1,5 @@
 -- How a command ends that reads a key file and another file, from how its parts end.
-use Rattle.std.proofs.Common.{◌≡◌, ◌⊎◌, inl, inr, ℕ, ◌≤◌, Bool, List, [], ◌++◌, Option, Some, None, Result, Ok, Err, refl, sym, subst, append-nil, arith}
+use Rattle.std.proofs.Common.{◌≡◌, inl, inr, ℕ, ◌≤◌, Bool, List, [], ◌++◌, Option, Some, None, Result, Ok, Err, refl, sym, subst, append-nil, arith}
 use Rattle.er_base.specs.declared.no_memory.NoMemory.{NoMemory as Want}
 use Rattle.er_base.specs.declared.text_fault.TextFault.{TextFault}
 use Rattle.er_trace.specs.declared.trace.Trace.{Trace}
@@ -23,9 +23,10 @@ use Rattle.er_program.specs.declared.work.Work.{Work}
 use Rattle.er_program.specs.declared.work.Work.TheVariants as work
 use Rattle.er_program.specs.Answers.{IsSecondFileAnswer, IsAnswerBehindKeys, IsKeyedAnswer}
 use Rattle.er_program.specs.AuditRuns.{FirstAuditText}
-use Rattle.er_program.specs.AuditWriting.{BeginsTap, BeginsSpelledTap}
-use Rattle.er_program.specs.KeyedWriting.{command_of_work, IsOfWork, BeginsOfWork, BeginsFile, BeginsSecondFile, BeginsGood, BeginsBehindKeys}
-use Rattle.er_program.specs.ReplayWriting.{EndsOne, BeginsSpelled, BeginsTrace}
+use Rattle.er_program.specs.AuditWriting.{BeginsSpelledTap}
+use Rattle.er_program.specs.CommandViews.{command_of_work}
+use Rattle.er_program.specs.KeyedWriting.{IsOfWork, BeginsOfWork, BeginsSecondFile, BeginsGood, BeginsBehindKeys}
+use Rattle.er_program.specs.ReplayWriting.{EndsOne, BeginsSpelled}
 use Rattle.er_program.specs.Runs.{FirstEventLines}
 use Rattle.er_program.specs.Writing.{IsGivenAnswer, IsOutputBeginning, EndsCommand}
 

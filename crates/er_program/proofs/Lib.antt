@@ -1,7 +1,7 @@
 mod WholeReads
 pub mod WriterProgress
 pub mod DrillSteps
-pub mod DrillRuns
+pub mod Drilling
 pub mod RunEndings
 pub mod RunMeanings
 pub mod HoldsAlways
@@ -29,3 +29,6 @@ pub mod Migrating
 pub mod EachText
 pub mod BitReading
 pub mod BitActs
+pub mod DrillActs
+pub mod BulkActs
+pub mod PlainActs

@@ -1,34 +1,24 @@
 -- How the replay of a trace ends, from how its parts end.
-use Rattle.std.proofs.Common.{◌≡◌, ◌⊎◌, inl, inr, ℕ, ◌≤◌, List, [], ◌∷◌, ◌++◌, Option, Some, None, Result, Ok, Err, refl, sym, subst, append-nil, arith}
-use Rattle.er_base.specs.declared.no_memory.NoMemory.{NoMemory as Want}
+use Rattle.std.proofs.Common.{◌≡◌, inl, inr, ℕ, ◌≤◌, List, [], ◌∷◌, ◌++◌, Option, Result, Ok, Err, refl, sym, subst, append-nil, arith}
 use Rattle.er_base.specs.declared.text_fault.TextFault.{TextFault}
 use Rattle.er_base.specs.declared.text_fault.TextFault.TheVariants as text
 use Rattle.er_base.specs.declared.why.Why.{Why}
 use Rattle.er_settings.specs.Values.{Settings}
 use Rattle.er_trace.specs.declared.entry.Entry.{Entry as TraceEntry}
 use Rattle.er_trace.specs.declared.trace.Trace.{Trace}
-use Rattle.er_trace.specs.Files.{trace_of}
 use Rattle.er_end_model.specs.Steps.{Finds}
 use Rattle.safety_automaton.specs.Keys.{KmacEntry, key_at}
-use Rattle.key_store.specs.declared.key_file_fault.KeyFileFault.{KeyFileFault}
-use Rattle.key_store.specs.declared.key_file_fault.KeyFileFault.TheVariants as keys
-use Rattle.key_store.specs.Answers.{RefusesAsKeyFileSays}
-use Rattle.key_store.specs.KeyFiles.{keys_of}
-use Rattle.link_trait.specs.Outside.{Grew, GrewPart, Rose, HasFile}
+use Rattle.link_trait.specs.Outside.{Grew, GrewPart, Rose}
 use Rattle.link_trait.specs.Growth.{grew_then, part_then, part_more}
 use Rattle.trace_model.specs.declared.replay_fault.ReplayFault.{ReplayFault}
 use Rattle.trace_model.specs.declared.replay_fault.ReplayFault.TheVariants as fault
 use Rattle.trace_model.specs.Printed.{text_of_trace}
 use Rattle.trace_model.specs.Replays.{WroteAll, WroteBefore, WrotePart, Replays}
-use Rattle.er_program.specs.Commands.{Replay}
-use Rattle.er_statuses.specs.LastLines.{fetch_line, fault_line, why_word}
-use Rattle.er_program.specs.Answers.{replay_fault_line, IsReplayAnswer, AllAreTaken, OneIsRefused, IsTraceAnswer, IsAnswerBehindKeys}
-use Rattle.er_statuses.specs.Answers.{Answer, Files, HasFetched, keys_answer}
+use Rattle.er_statuses.specs.LastLines.{fault_line, why_word}
+use Rattle.er_program.specs.Answers.{replay_fault_line, IsReplayAnswer, AllAreTaken, OneIsRefused, IsTraceAnswer}
 use Rattle.er_program.specs.KeyWriting.{GaveOne, BrokeOne}
-use Rattle.er_program.specs.ReplayWriting.{BeganOne, EndsOne, BeginsEvents, BeginsSpelled, BeginsTrace, TellsRefusal}
-use Rattle.er_program.specs.Runs.{FirstEventLines}
-use Rattle.er_statuses.specs.Writing.{GivesAnswer, EndsUnfetched}
-use Rattle.er_program.specs.Writing.{EndsCommand}
+use Rattle.er_program.specs.ReplayWriting.{BeganOne, EndsOne, BeginsEvents, BeginsTrace, TellsRefusal}
+use Rattle.er_statuses.specs.Writing.{GivesAnswer}
 use Rattle.er_statuses.specs.declared.status.Status.{Status}
 use Rattle.er_statuses.specs.declared.stop.Stop.{Stop}
 use Rattle.er_statuses.specs.declared.stop.Stop.TheVariants as stop

@@ -1,11 +1,18 @@
 -- What a run means by its status, for the command that it was: the facts of its parts, put together.
 use Rattle.std.proofs.Common.{◌≡◌, ◌≢◌, ◌⊎◌, inl, inr, ℕ, false, List, [], Option, refl, arith}
 use Rattle.er_statuses.specs.Answers.{Files}
+use Rattle.er_serving.specs.LineCommands.{LineCommand}
 use Rattle.er_serving.specs.LineCommands as line
 use Rattle.er_serving.specs.LineRuns.{GivenToLoop, IsLineStatus}
 use Rattle.er_serving.specs.LineStatuses.{IsLineRun}
 use Rattle.er_serving.specs.Outsides.{Outside, Traffic, IsSteady}
 use Rattle.er_program.specs.Commands.{Command, Misused, Drill, Bits, Migrate, Replay, Check, Audit, Bulk, Serve, Call, needs_wires}
+use Rattle.er_program.specs.CommandViews.{command_of_work, command_of_line, file_view}
+use Rattle.er_program.specs.declared.file_command.FileCommand.{FileCommand}
+use Rattle.er_program.specs.declared.file_command.FileCommand.TheVariants as file
+use Rattle.er_program.specs.declared.file_command.PlainCommand.TheVariants as plain
+use Rattle.er_program.specs.declared.work.Work.{Work}
+use Rattle.er_program.specs.declared.work.Work.TheVariants as work
 use Rattle.er_program.specs.FileMeans.{FileMeans, AskedNames}
 use Rattle.er_program.specs.Statuses.{IsFileStatus, AreAsked, IsRun}
 
@@ -232,7 +239,7 @@ apart_line s (inr (inl x)) known = no_line s known (omega (arith, x)) (omega (ar
 apart_line s (inr (inr (inl x))) known = no_line s known (omega (arith, x)) (omega (arith, x)) (omega (arith, x)) (omega (arith, x)) (omega (arith, x)) (omega (arith, x))
 apart_line s (inr (inr (inr x))) known = no_line s known (omega (arith, x)) (omega (arith, x)) (omega (arith, x)) (omega (arith, x)) (omega (arith, x)) (omega (arith, x))
 
-pub serve_run : (keys address : List ℕ) (rbc turns : ℕ) (g : GivenToLoop) (before now : Outside) (status : ℕ)
+serve_run : (keys address : List ℕ) (rbc turns : ℕ) (g : GivenToLoop) (before now : Outside) (status : ℕ)
     → IsLineRun (line.Serve keys address rbc turns) g before now status → IsRun (Serve keys address rbc turns) g before now status
 serve_run keys address rbc turns g before now status m = record {
   known = m.known;
@@ -262,7 +269,7 @@ serve_run keys address rbc turns g before now status m = record {
   steady = m.steady;
 }
 
-pub call_run : (keys address : List ℕ) (engine rbc turns : ℕ) (g : GivenToLoop) (before now : Outside) (status : ℕ)
+call_run : (keys address : List ℕ) (engine rbc turns : ℕ) (g : GivenToLoop) (before now : Outside) (status : ℕ)
     → IsLineRun (line.Call keys address engine rbc turns) g before now status → IsRun (Call keys address engine rbc turns) g before now status
 call_run keys address engine rbc turns g before now status m = record {
   known = m.known;
@@ -291,3 +298,22 @@ call_run keys address engine rbc turns g before now status m = record {
   complete = m.complete;
   steady = m.steady;
 }
+
+pub line_run : (command : LineCommand) (g : GivenToLoop) (before now : Outside) (status : ℕ) → IsLineRun command g before now status → IsRun (command_of_line command) g before now status
+line_run (line.Serve keys address rbc turns) g before now status m = serve_run keys address rbc turns g before now status m
+line_run (line.Call keys address engine rbc turns) g before now status m = call_run keys address engine rbc turns g before now status m
+
+-- ---- which command needs no wires
+
+off_work : (w : Work) (keys name : List ℕ) → needs_wires (command_of_work w keys name) ≡ false
+off_work work.Replay keys name = refl
+off_work work.Check keys name = refl
+off_work (work.Audit ends) keys name = refl
+
+pub off_line : (command : FileCommand) → needs_wires (file_view command) ≡ false
+off_line (file.Plain plain.Misused) = refl
+off_line (file.Plain (plain.Drill name)) = refl
+off_line (file.Plain (plain.Bits name)) = refl
+off_line (file.Plain (plain.Migrate keys)) = refl
+off_line (file.Plain (plain.Bulk seed count)) = refl
+off_line (file.Keyed command) = off_work command.work command.keys.now command.name.now

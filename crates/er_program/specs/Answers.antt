@@ -35,7 +35,6 @@ use Rattle.trace_model.specs.Recordings.{ended_part, check_verdict}
 use Rattle.trace_model.specs.Printed.{text_of_trace}
 use Rattle.trace_model.specs.Replays.{AreTaken, HasFirstRefusedEvent}
 use Rattle.key_store.specs.declared.key_file_fault.KeyFileFault.{KeyFileFault}
-use Rattle.key_store.specs.declared.key_file_fault.KeyFileFault.TheVariants as keys
 use Rattle.key_store.specs.KeyFiles.{keys_of}
 use Rattle.er_statuses.specs.Answers.{Answer, Files, HasFetched, keys_answer}
 use Rattle.er_statuses.specs.LastLines.{usage_line, fetch_line, fault_line, memory_line, overfull_line, why_word}

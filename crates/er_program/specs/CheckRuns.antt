@@ -1,6 +1,6 @@
 -- What is claimed of a run of `check`, by its status (this profile): the recording is what its replay prints, or a line of it isn't, or the key
 -- file, the recording or one of its events is refused.
-use Rattle.std.specs.Prelude.{◌≡◌, ℕ, List, length, Option, Result, Ok, Err}
+use Rattle.std.specs.Prelude.{◌≡◌, ℕ, List, length, Option, Ok, Err}
 use Rattle.er_base.specs.declared.why.Why.{Why}
 use Rattle.er_base.specs.declared.text_fault.TextFault.TheVariants.{At}
 use Rattle.er_trace.specs.declared.trace.Trace.{Trace}

@@ -14,6 +14,8 @@ pub mod BulkRuns
 pub mod KeyWriting
 pub mod FileScripts
 pub mod BitScripts
+pub mod StepScripts
+pub mod StepWriting
 pub mod ReplayWriting
 pub mod AuditWriting
 pub mod CheckWriting
@@ -21,3 +23,4 @@ pub mod KeyedWriting
 pub mod Asking
 pub mod Statuses
 pub mod FileMeans
+pub mod CommandScripts

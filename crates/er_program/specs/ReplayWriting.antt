@@ -11,6 +11,7 @@ use Rattle.trace_model.specs.Printed.{text_of_trace}
 use Rattle.trace_model.specs.Replays.{AreTaken}
 use Rattle.safety_automaton.specs.Keys.{KmacEntry, key_at}
 use Rattle.link_trait.specs.Outside.{Grew}
+use Rattle.link_trait.specs.States.{SinkState}
 use Rattle.er_program.specs.Answers.{replay_fault_line}
 use Rattle.er_statuses.specs.Answers.{Answer}
 use Rattle.er_program.specs.KeyWriting.{GaveOne, BrokeOne}
@@ -33,6 +34,9 @@ abbrev pub EndsOne : (Answer → Type 0) → (List ℕ → Type 0) → Option (L
 EndsOne Is IsBegun before now f g (Ok s) = GaveOne Is before now f g s.0
 EndsOne Is IsBegun before now f g (Err stop.Sink) = BrokeOne Is before now f g
 EndsOne Is IsBegun before now f g (Err (stop.NoMemory want)) = BeganOne IsBegun before now f g
+
+abbrev pub EndsOneTo : (Answer → Type 0) → (List ℕ → Type 0) → (before now : SinkState) → Result Status Stop → Type 0
+EndsOneTo Is IsBegun before now result = EndsOne Is IsBegun before.held now.held before.faults now.faults result
 
 -- ---- what is written where memory runs out
 
@@ -64,3 +68,6 @@ TellsRefusal (NoKey line engine rbc) before now f g r = GivesAnswer (record { st
 TellsRefusal (Many line live) before now f g r = GivesAnswer (record { status = 3; text = replay_fault_line (Many line live) }) before now f g r
 TellsRefusal Sink before now f g r = (r ≡ Err stop.Sink) × Grew before now [] × (f ≤ g)
 TellsRefusal (NoMemory want) before now f g r = (r ≡ Err (stop.NoMemory want)) × Grew before now [] × (f ≤ g)
+
+abbrev pub TellsRefusalTo : ReplayFault → (before now : SinkState) → Result Status Stop → Type 0
+TellsRefusalTo fault before now result = TellsRefusal fault before.held now.held before.faults now.faults result

@@ -1,67 +1,19 @@
 -- Contract: what the parts of a run write to the sink, and how they end.
-use Rattle.std.specs.Prelude.{◌≡◌, ◌⊎◌, ℕ, ◌≤◌, false, List, [], ◌∷◌, ◌++◌, Option, Some, None, Result, Ok, Err}
+use Rattle.std.specs.Prelude.{◌≡◌, ◌⊎◌, ℕ, ◌≤◌, List, [], Option, Some, None, Result, Ok, Err}
 use Rattle.er_base.specs.declared.text_fault.TextFault.{TextFault}
-use Rattle.er_scenario.specs.declared.step.Step.{Step}
 use Rattle.er_scenario.specs.declared.scenario.Scenario.{Scenario}
 use Rattle.er_scenario.specs.Files.{scenario_of}
 use Rattle.er_scenario.specs.Texts.{CanBeRead}
-use Rattle.drill_model.specs.declared.world_fault.WorldFault.{WorldFault}
-use Rattle.drill_model.specs.declared.world_fault.WorldFault.TheVariants.{NoLink, LinkTwice, MomentBack, Overfull, NoMemory}
-use Rattle.drill_model.specs.Worlds.{DrillPlan, plan_of}
-use Rattle.drill_model.specs.Texts.{step_lines}
-use Rattle.er_world.specs.Standing.{KeptWorld, Ran, IsFaultBehind}
-use Rattle.drill_model.specs.Faults.{fault_behind}
 use Rattle.link_trait.specs.Outside.{Grew, GrewPart, Rose}
 use Rattle.er_program.specs.Commands.{Command, Misused, Drill, Bits, Migrate, Replay, Check, Audit, Bulk, Serve, Call}
 use Rattle.er_statuses.specs.LastLines.{usage_line}
 use Rattle.er_statuses.specs.Answers.{Answer, Files}
-use Rattle.er_statuses.specs.Writing.{GivesAnswer}
-use Rattle.er_program.specs.Answers.{IsDrillAnswer, IsScenarioAnswer, IsFileAnswer, IsBitsAnswer, AreDone, first_steps, lines_of_first, fault_answer, IsMigrateAnswer, IsKeyedAnswer, IsReplayOfFile, IsCheckOfFile, IsAuditOfFile, IsBulkAnswer}
+use Rattle.er_program.specs.Answers.{IsDrillAnswer, IsScenarioAnswer, IsFileAnswer, IsBitsAnswer, AreDone, lines_of_first, IsMigrateAnswer, IsKeyedAnswer, IsReplayOfFile, IsCheckOfFile, IsAuditOfFile, IsBulkAnswer}
 use Rattle.er_program.specs.AuditRuns.{FirstAuditText}
 use Rattle.er_program.specs.Runs.{SpellsScenario, FirstVerdictLines, FirstEventLines}
 use Rattle.er_statuses.specs.declared.status.Status.{Status}
-use Rattle.er_program.specs.declared.halt.Halt.{Halt}
-use Rattle.er_program.specs.declared.halt.Halt.TheVariants as halt
 use Rattle.er_statuses.specs.declared.stop.Stop.{Stop}
 use Rattle.er_statuses.specs.declared.stop.Stop.TheVariants as stop
-
--- ---- a fault
-
--- the fault of a step that isn't done was told; where it is want of memory, nothing was written
-abbrev pub TellsFault : ℕ → WorldFault → Option (List ℕ) → Option (List ℕ) → ℕ → ℕ → Result Status Stop → Type 0
-TellsFault line (NoMemory want) before now f g r = (r ≡ Err (stop.NoMemory want)) × Grew before now [] × (f ≤ g)
-TellsFault line (NoLink n) before now f g r = GivesAnswer (fault_answer line (NoLink n)) before now f g r
-TellsFault line (LinkTwice n) before now f g r = GivesAnswer (fault_answer line (LinkTwice n)) before now f g r
-TellsFault line (MomentBack was moment) before now f g r = GivesAnswer (fault_answer line (MomentBack was moment)) before now f g r
-TellsFault line (Overfull n side most) before now f g r = GivesAnswer (fault_answer line (Overfull n side most)) before now f g r
-
--- ---- one step
-
--- it was done, behind these steps, and its lines were written
-pub record WentOne (plan : DrillPlan) (done : List Step) (old : KeptWorld) (s : Step) (new : KeptWorld) (before now : Option (List ℕ)) (f g : ℕ) : Type 0 where
-  pub ran : Ran new plan (done ++ s ∷ [])
-  pub none : fault_behind plan done s ≡ None
-  pub plan_is : new.plan ≡ old.plan
-  pub unspent : new.spent ≡ false
-  pub printed : Grew before now (step_lines plan done s)
-  pub later : f ≤ g
-
--- it was done, and the sink failed in its lines
-pub record FailedOne (plan : DrillPlan) (done : List Step) (s : Step) (before now : Option (List ℕ)) (f g : ℕ) : Type 0 where
-  pub none : fault_behind plan done s ≡ None
-  pub part : GrewPart before now (step_lines plan done s)
-  pub rose : Rose f g
-
--- it wasn't done, for this fault
-pub record HaltsOne (plan : DrillPlan) (done : List Step) (s : Step) (before now : Option (List ℕ)) (f g : ℕ) (fault : WorldFault) : Type 0 where
-  pub is : IsFaultBehind plan done s fault
-  pub printed : Grew before now []
-  pub later : f ≤ g
-
-abbrev pub StepsOne : DrillPlan → List Step → KeptWorld → Step → KeptWorld → Option (List ℕ) → Option (List ℕ) → ℕ → ℕ → Result (Unit {0}) Halt → Type 0
-StepsOne plan done old s new before now f g (Ok none) = WentOne plan done old s new before now f g
-StepsOne plan done old s new before now f g (Err halt.Sink) = FailedOne plan done s before now f g
-StepsOne plan done old s new before now f g (Err (halt.Fault fault)) = HaltsOne plan done s before now f g fault
 
 -- ---- a drill
 
@@ -70,15 +22,6 @@ pub record FirstSteps (s : Scenario) (before now : Option (List ℕ)) : Type 0 w
   pub count : ℕ
   pub are_done : AreDone s count
   pub grew : Grew before now (lines_of_first s count)
-
--- so many steps of a drill were done: where the world stands, and the lines that were written
-pub record HasDoneDrillSteps (s : Scenario) (count : ℕ) (kept : KeptWorld) (before now : Option (List ℕ)) (f g : ℕ) : Type 0 where
-  pub are_done : AreDone s count
-  pub ran : Ran kept (plan_of s) (first_steps s count)
-  pub plan_is : kept.plan ≡ plan_of s
-  pub unspent : kept.spent ≡ false
-  pub printed : Grew before now (lines_of_first s count)
-  pub later : f ≤ g
 
 -- a drill wrote its answer, a beginning of it where the sink failed, or the lines of some first steps where memory ran out
 pub record GaveDrill (s : Scenario) (before now : Option (List ℕ)) (f g status : ℕ) : Type 0 where

@@ -1,7 +1,6 @@
 //! `bits FILE`: a recorded synchronous line, read as frames with zero insertion.
 
-ghost use Rattle.std.specs.Prelude.{◌≡◌, ◌≤◌, ◌*◌, ◌++◌, [], ◌∷◌, false, length, nat_lt, IfOk, OnOk, option_map};
-ghost use Rattle.link_trait.specs.Outside.{Grew, GrewPart, HasStayedAsTold};
+ghost use Rattle.std.specs.Prelude.{◌≡◌, ◌≤◌, ◌*◌, ◌++◌, false, length, nat_lt, OnOk, option_map};
 ghost use Rattle.er_base.specs.LineTexts.{line_text};
 ghost use Rattle.hdlc_bits.specs.Shown.{verdict_of_bits_found};
 ghost use Rattle.outside.specs.Scripts.{Does, says_last};
@@ -9,17 +8,15 @@ ghost use Rattle.er_statuses.specs.ScriptEnds.{end_of_run};
 ghost use Rattle.er_program.specs.BitScripts.{SaysVerdict, SaysFound};
 ghost use Rattle.er_program.specs.BitTexts.{verdict_words, counts_line, most_line_octets};
 ghost use Rattle.er_program.specs.BitWriting.{found_count};
-ghost use Rattle.er_program.specs.Commands.{Bits};
 ghost use Rattle.er_program.specs.FileScripts.{reads_bits, reads_line};
-ghost use Rattle.er_program.specs.Writing.{EndsCommand};
 
 use er_base::{NoMemory, PrintedWord, Why, put_line};
 use er_statuses::acting::{last, out_of_form, say, unfetched};
 use er_statuses::{Status, Stop};
 use hdlc_bits::laws::{frames_grow, nothing_is_read, reading_goes_on};
 use hdlc_bits::{BitDeframer, BitFound};
-use link_trait::{Cabinet, FetchFault, Sink};
-use outside::{NoClock, NoWires, NoWords, Outside, Parts};
+use link_trait::FetchFault;
+use outside::Outside;
 use std::alloc::Global;
 
 /// The greatest number of octets that a recorded line may have (this profile).
@@ -139,8 +136,8 @@ fn bits_file<O: Outside>(alloc: Global, octets: &[u8], outside: &mut O) -> Resul
     read_line(alloc, octets, outside)
 }
 
-// Fetches the file, and prints what it is read as.
-fn bits<O: Outside>(alloc: Global, name: &str, outside: &mut O) -> Result<Status, Stop>
+/// `bits NAME`: fetches the file, and prints what it is read as.
+pub fn bits<O: Outside>(alloc: Global, name: &str, outside: &mut O) -> Result<Status, Stop>
     ensures does { Does (reads_line name.now) (O.told outside.old) (O.told outside.new) (end_of_run result) }
 {
     match outside.fetch(alloc, name) {
@@ -148,31 +145,4 @@ fn bits<O: Outside>(alloc: Global, name: &str, outside: &mut O) -> Result<Status
         Err(FetchFault::Failed) => unfetched(alloc, name, outside),
         Err(FetchFault::NoMemory(want)) => Err(Stop::NoMemory(want)),
     }
-}
-
-/// `bits NAME`: fetches the file, and prints what it is read as.
-pub fn bits_run<F: Cabinet, K: Sink>(
-    alloc: Global,
-    name: &str,
-    cabinet: &mut F,
-    sink: &mut K,
-) -> Result<Status, Stop>
-    ensures ends { EndsCommand (Bits name.now) (F.state cabinet.new).files (F.state cabinet.old).faults (F.state cabinet.new).faults
-        (K.state sink.old).held (K.state sink.new).held (K.state sink.old).faults (K.state sink.new).faults result }
-    ensures asked { IfOk result (λ _. Grew (F.state cabinet.old).asked (F.state cabinet.new).asked (name.now ∷ [])) }
-    ensures part { GrewPart (F.state cabinet.old).asked (F.state cabinet.new).asked (name.now ∷ []) }
-    ensures files { HasStayedAsTold (F.state cabinet.old).files (F.state cabinet.new).files }
-    ensures count { (F.state cabinet.old).faults ≤ (F.state cabinet.new).faults }
-    ensures sink_count { (K.state sink.old).faults ≤ (K.state sink.new).faults }
-{
-    let mut wires = NoWires;
-    let mut clock = NoClock;
-    let mut randoms = NoWords;
-    let mut parts = Parts::new(cabinet, sink, &mut wires, &mut clock, &mut randoms);
-    let ended = bits(alloc, name, &mut parts);
-    let Parts { cabinet, sink, .. } = parts;
-    // What is lent is given back here, which the clauses speak of.
-    let _ = &cabinet;
-    let _ = &sink;
-    ended
 }

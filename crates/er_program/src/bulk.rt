@@ -1,17 +1,17 @@
 //! `bulk SEED COUNT`: many messages over one link whose line now and then loses or repeats a frame, and how much came of them.
 
-ghost use Rattle.std.specs.Prelude.{◌≡◌, ◌≤◌, [], ◌∷◌, ◌++◌, List, None, OnOk, IfErr, IfOk, false};
+ghost use Rattle.std.specs.Prelude.{◌≡◌, [], ◌∷◌, ◌++◌, List, None, OnOk, IfErr, IfOk, false};
 ghost use Rattle.er_scenario.specs.declared.step.Step.{Step as AnyStep};
 ghost use Rattle.drill_model.specs.Faults.{fault_behind};
 ghost use Rattle.drill_model.specs.Steps.{HasEtcsNumbers};
 ghost use Rattle.drill_model.specs.StepLevels.{IsOfLevel, HasMoment};
 ghost use Rattle.drill_model.specs.Worlds.{DrillPlan};
 ghost use Rattle.er_world.specs.Standing.{Ran, IsFaultBehind};
-ghost use Rattle.er_program.specs.Answers.{IsBulkAnswer};
+ghost use Rattle.outside.specs.Scripts.{Does, says_last};
+ghost use Rattle.er_statuses.specs.ScriptEnds.{end_of_run};
 ghost use Rattle.er_program.specs.BulkTexts.{bulk_plan, steps_of_bulk, totals_line};
 ghost use Rattle.er_program.specs.BulkRuns.{AreDoable, DoesAll};
-ghost use Rattle.er_program.specs.KeyWriting.{GivesOne};
-ghost use Rattle.er_statuses.specs.Writing.{GivesAnswer};
+ghost use Rattle.er_program.specs.StepScripts.{bulks};
 
 use crate::endings::not_done;
 use crate::message_count::MessageCount;
@@ -20,9 +20,10 @@ use er_base::PrintedWord::{Decimal, Plain};
 use er_base::{NoMemory, put_line};
 use er_scenario::{Level, Step};
 use er_settings::Settings;
-use er_statuses::{Status, Stop, last};
+use er_statuses::acting::last;
+use er_statuses::{Status, Stop};
 use er_world::{Totals, World, WorldFault};
-use link_trait::Sink;
+use outside::Outside;
 use std::alloc::Global;
 
 // Does a step, of which nothing is printed.
@@ -85,20 +86,19 @@ fn put_totals(seed: u64, count: u32, totals: &Totals, out: &mut Vec<u8>) -> Resu
 }
 
 // All steps are done.
-fn counted<K: Sink>(
+#[tactic(auto, using(outside::specs::ScriptSteps::does_spent))]
+fn counted<O: Outside>(
     alloc: Global,
     seed: u64,
     count: u32,
     totals: &Totals,
-    sink: &mut K,
+    outside: &mut O,
 ) -> Result<Status, Stop>
-    ensures gives { GivesAnswer (record { status = 0; text = totals_line seed count totals.now }) (K.state sink.old).held
-        (K.state sink.new).held (K.state sink.old).faults (K.state sink.new).faults result }
-    ensures sink_count { (K.state sink.old).faults ≤ (K.state sink.new).faults }
+    ensures does { Does (says_last 0 (totals_line seed count totals.now)) (O.told outside.old) (O.told outside.new) (end_of_run result) }
 {
     let mut line = Vec::new(alloc);
     put_totals(seed, count, totals, &mut line)?;
-    last(0, line.as_slice(), sink)
+    last(0, line.as_slice(), outside)
 }
 
 // The steps of a bulk run, which are opaque above.
@@ -111,21 +111,19 @@ fn drawn(alloc: Global, seed: u64, count: MessageCount) -> Result<Vec<Step>, NoM
 }
 
 /// `bulk SEED COUNT`: does the steps of a bulk run, and prints their totals.
-pub fn bulk_run<K: Sink>(
+#[tactic(auto, using(crate::proofs::BulkActs::spent_counting))]
+pub fn bulk<O: Outside>(
     alloc: Global,
     seed: u64,
     count: MessageCount,
-    sink: &mut K,
+    outside: &mut O,
 ) -> Result<Status, Stop>
-    ensures ends { GivesOne (IsBulkAnswer seed count) (K.state sink.old).held (K.state sink.new).held (K.state sink.old).faults
-        (K.state sink.new).faults result }
-    ensures sink_count { (K.state sink.old).faults ≤ (K.state sink.new).faults }
+    ensures does { Does (bulks seed count) (O.told outside.old) (O.told outside.new) (end_of_run result) }
 {
-    drill_laws::laws::worlds();
     let steps = drawn(alloc, seed, count)?;
     let mut world = World::new(alloc, Level::Full, Settings::usual(), false)?;
     match do_all(alloc, steps.as_slice(), &mut world) {
-        Ok(()) => counted(alloc, seed, count.get(), &world.totals(), sink),
-        Err(fault) => not_done(alloc, 0, fault, sink),
+        Ok(()) => counted(alloc, seed, count.get(), &world.totals(), outside),
+        Err(fault) => not_done(alloc, 0, fault, outside),
     }
 }

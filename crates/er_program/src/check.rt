@@ -3,10 +3,10 @@
 ghost use Rattle.std.specs.Prelude.{◌≡◌, ◌≤◌, IfOk};
 ghost use Rattle.safety_automaton.specs.Keys.{key_at};
 ghost use Rattle.er_trace.specs.Texts.{CanBeRead};
-ghost use Rattle.er_statuses.specs.Writing.{GivesAnswer};
+ghost use Rattle.er_statuses.specs.Writing.{GivesAnswerTo};
 ghost use Rattle.er_program.specs.Answers.{checked_line, verdict_answer, IsCheckAnswer, IsCheckOfFile};
 ghost use Rattle.er_program.specs.CheckWriting.{IsNothing};
-ghost use Rattle.er_program.specs.ReplayWriting.{EndsOne};
+ghost use Rattle.er_program.specs.ReplayWriting.{EndsOneTo};
 
 use crate::keyed::told_line;
 use crate::replay::not_taken;
@@ -41,8 +41,7 @@ fn judged<K: Sink>(
     verdict: CheckVerdict,
     sink: &mut K,
 ) -> Result<Status, Stop>
-    ensures gives { GivesAnswer (verdict_answer events verdict) (K.state sink.old).held (K.state sink.new).held
-        (K.state sink.old).faults (K.state sink.new).faults result }
+    ensures gives { GivesAnswerTo (verdict_answer events verdict) (K.state sink.old) (K.state sink.new) result }
     ensures sink_count { (K.state sink.old).faults ≤ (K.state sink.new).faults }
 {
     match verdict {
@@ -65,8 +64,7 @@ fn check_events<K: Sink>(
     sink: &mut K,
 ) -> Result<Status, Stop>
     requires { CanBeRead trace.now }
-    ensures ends { EndsOne (IsCheckAnswer trace.now.settings (key_at store.now) trace.now.entries octets.now) IsNothing
-        (K.state sink.old).held (K.state sink.new).held (K.state sink.old).faults (K.state sink.new).faults result }
+    ensures ends { EndsOneTo (IsCheckAnswer trace.now.settings (key_at store.now) trace.now.entries octets.now) IsNothing (K.state sink.old) (K.state sink.new) result }
     ensures sink_count { (K.state sink.old).faults ≤ (K.state sink.new).faults }
 {
     match check(alloc, store, octets, trace) {
@@ -82,8 +80,7 @@ pub fn check_file<K: Sink>(
     octets: &[u8],
     sink: &mut K,
 ) -> Result<Status, Stop>
-    ensures ends { EndsOne (IsCheckOfFile store.now octets.now) IsNothing
-        (K.state sink.old).held (K.state sink.new).held (K.state sink.old).faults (K.state sink.new).faults result }
+    ensures ends { EndsOneTo (IsCheckOfFile store.now octets.now) IsNothing (K.state sink.old) (K.state sink.new) result }
     ensures sink_count { (K.state sink.old).faults ≤ (K.state sink.new).faults }
 {
     match read(alloc, ended_part(octets)) {

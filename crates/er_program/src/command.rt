@@ -1,12 +1,16 @@
 //! The commands of the program, and the words that fit them.
 
 ghost use Rattle.std.specs.Prelude.{◌≡◌, ◌≤◌, IfSome};
-ghost use Rattle.er_program.specs.Commands.{command_of, command_of_two, bulk_of, command_of_three, command_of_four, at_most, etcs_number, turns_number, serve_of, command_of_five, call_command_of, command_of_six, needs_wires, octets_of_words};
+ghost use Rattle.er_program.specs.Commands.{command_of, command_of_two, bulk_of, command_of_three, command_of_four, at_most, etcs_number, turns_number, serve_of, command_of_five, call_command_of, command_of_six, octets_of_words};
 ghost use Rattle.er_program.specs.CommandViews.{command_view};
 
+use crate::file_command::FileCommand::{Keyed, Plain};
+use crate::file_command::{FileCommand, KeyedCommand, PlainCommand};
 use crate::message_count::MessageCount;
+use crate::work::Work;
 use drill_bulk::MOST_MESSAGES;
 use er_base::{EtcsNumber, MOST_ETCS_NUMBER, decimal};
+use er_serving::LineCommand;
 
 /// The most turns that a loop can be asked for (this profile).
 const MOST_TURNS: u64 = 1_000_000_000;
@@ -17,109 +21,23 @@ const NO_BOUND: u64 = u64::MAX;
 /// A command, as the words of the program spell it.
 #[derive(Clone, Copy)]
 pub enum Command<'a> {
-    /// The words fit no command.
-    Misused,
-    /// `drill SCENARIO`.
-    Drill {
-        /// The name of the file.
-        name: &'a str,
-    },
-    /// `bits FILE`.
-    Bits {
-        /// The name of the file.
-        name: &'a str,
-    },
-    /// `migrate KEYS`.
-    Migrate {
-        /// The name of the key file.
-        keys: &'a str,
-    },
-    /// `replay KEYS TRACE`.
-    Replay {
-        /// The name of the key file.
-        keys: &'a str,
-        /// The name of the trace.
-        trace: &'a str,
-    },
-    /// `check KEYS TRACE`.
-    Check {
-        /// The name of the key file.
-        keys: &'a str,
-        /// The name of the trace.
-        trace: &'a str,
-    },
-    /// `audit KEYS TAP`, or `audit KEYS TAP ends`.
-    Audit {
-        /// The name of the key file.
-        keys: &'a str,
-        /// The name of the tap.
-        tap: &'a str,
-        /// Whether the ends of streams are asked for.
-        ends: bool,
-    },
-    /// `bulk SEED COUNT`.
-    Bulk {
-        /// The seed of what is drawn.
-        seed: u64,
-        /// The number of messages.
-        count: MessageCount,
-    },
-    /// `serve KEYS ADDRESS RBC TURNS`.
-    Serve {
-        /// The name of the key file.
-        keys: &'a str,
-        /// The address to listen at.
-        address: &'a str,
-        /// The radio block centre.
-        rbc: EtcsNumber,
-        /// How many turns are done at the most: to 10^9, or 2^64 - 1 where no bound was asked for.
-        turns: u64,
-    },
-    /// `call KEYS ADDRESS ENGINE RBC TURNS`.
-    Call {
-        /// The name of the key file.
-        keys: &'a str,
-        /// The address to dial.
-        address: &'a str,
-        /// The engine that calls.
-        engine: EtcsNumber,
-        /// The radio block centre that is called.
-        rbc: EtcsNumber,
-        /// How many turns are done at the most: to 10^9, or 2^64 - 1 where no bound was asked for.
-        turns: u64,
-    },
-}
-
-impl Command<'_> {
-    /// Whether it runs the readiness loop, and so needs wires, a clock and random words.
-    pub fn needs_wires(&self) -> bool
-        ensures { result ≡ needs_wires (command_view self.now) }
-    {
-        match self {
-            Command::Misused
-            | Command::Drill { .. }
-            | Command::Bits { .. }
-            | Command::Migrate { .. }
-            | Command::Replay { .. }
-            | Command::Check { .. }
-            | Command::Audit { .. }
-            | Command::Bulk { .. } => false,
-            Command::Serve { .. } | Command::Call { .. } => true,
-        }
-    }
+    /// One that needs no wires.
+    File(FileCommand<'a>),
+    /// One that runs the readiness loop, over wires, a clock and random words.
+    Line(LineCommand<'a>),
 }
 
 fn command_of_two<'a>(command: &str, name: &'a str) -> Command<'a>
     ensures { command_view result ≡ command_of_two command.now name.now }
 {
     if command == "drill" {
-        Command::Drill { name }
+        Command::File(Plain(PlainCommand::Drill { name }))
     } else if command == "bits" {
-        Command::Bits { name }
+        Command::File(Plain(PlainCommand::Bits { name }))
     } else if command == "migrate" {
-        Command::Migrate { keys: name }
+        Command::File(Plain(PlainCommand::Migrate { keys: name }))
     } else {
-        Command::Misused
+        Command::File(Plain(PlainCommand::Misused))
     }
 }
 
@@ -127,43 +45,45 @@ fn bulk_of<'a>(seed: Option<u64>, count: Option<u64>) -> Command<'a>
     ensures { command_view result ≡ bulk_of seed count }
 {
     let Some(seed) = seed else {
-        return Command::Misused;
+        return Command::File(Plain(PlainCommand::Misused));
     };
     let Some(count) = count else {
-        return Command::Misused;
+        return Command::File(Plain(PlainCommand::Misused));
     };
     if count > MOST_MESSAGES as u64 {
-        return Command::Misused;
+        return Command::File(Plain(PlainCommand::Misused));
     }
-    Command::Bulk {
+    Command::File(Plain(PlainCommand::Bulk {
         seed,
         count: MessageCount::new(count as u32),
-    }
+    }))
 }
 
 fn command_of_three<'a>(command: &str, first: &'a str, second: &'a str) -> Command<'a>
     ensures { command_view result ≡ command_of_three command.now first.now second.now }
 {
     if command == "replay" {
-        Command::Replay {
+        Command::File(Keyed(KeyedCommand {
+            work: Work::Replay,
             keys: first,
-            trace: second,
-        }
+            name: second,
+        }))
     } else if command == "check" {
-        Command::Check {
+        Command::File(Keyed(KeyedCommand {
+            work: Work::Check,
             keys: first,
-            trace: second,
-        }
+            name: second,
+        }))
     } else if command == "audit" {
-        Command::Audit {
+        Command::File(Keyed(KeyedCommand {
+            work: Work::Audit { ends: false },
             keys: first,
-            tap: second,
-            ends: false,
-        }
+            name: second,
+        }))
     } else if command == "bulk" {
         bulk_of(decimal(first.as_bytes()), decimal(second.as_bytes()))
     } else {
-        Command::Misused
+        Command::File(Plain(PlainCommand::Misused))
     }
 }
 
@@ -171,13 +91,13 @@ fn command_of_four<'a>(command: &str, keys: &'a str, tap: &'a str, asked: &str) 
     ensures { command_view result ≡ command_of_four command.now keys.now tap.now asked.now }
 {
     if command == "audit" && asked == "ends" {
-        Command::Audit {
+        Command::File(Keyed(KeyedCommand {
+            work: Work::Audit { ends: true },
             keys,
-            tap,
-            ends: true,
-        }
+            name: tap,
+        }))
     } else {
-        Command::Misused
+        Command::File(Plain(PlainCommand::Misused))
     }
 }
 
@@ -216,17 +136,17 @@ fn serve_of<'a>(
     ensures { command_view result ≡ serve_of keys.now address.now rbc turns }
 {
     let Some(rbc) = rbc else {
-        return Command::Misused;
+        return Command::File(Plain(PlainCommand::Misused));
     };
     let Some(turns) = turns else {
-        return Command::Misused;
+        return Command::File(Plain(PlainCommand::Misused));
     };
-    Command::Serve {
+    Command::Line(LineCommand::Serve {
         keys,
         address,
         rbc,
         turns,
-    }
+    })
 }
 
 fn command_of_five<'a>(
@@ -241,7 +161,7 @@ fn command_of_five<'a>(
     if command == "serve" {
         serve_of(keys, address, etcs_number(rbc), turns_number(turns))
     } else {
-        Command::Misused
+        Command::File(Plain(PlainCommand::Misused))
     }
 }
 
@@ -255,21 +175,21 @@ fn call_of<'a>(
     ensures { command_view result ≡ call_command_of keys.now address.now engine rbc turns }
 {
     let Some(engine) = engine else {
-        return Command::Misused;
+        return Command::File(Plain(PlainCommand::Misused));
     };
     let Some(rbc) = rbc else {
-        return Command::Misused;
+        return Command::File(Plain(PlainCommand::Misused));
     };
     let Some(turns) = turns else {
-        return Command::Misused;
+        return Command::File(Plain(PlainCommand::Misused));
     };
-    Command::Call {
+    Command::Line(LineCommand::Call {
         keys,
         address,
         engine,
         rbc,
         turns,
-    }
+    })
 }
 
 fn command_of_six<'a>(
@@ -291,7 +211,7 @@ fn command_of_six<'a>(
             turns_number(turns),
         )
     } else {
-        Command::Misused
+        Command::File(Plain(PlainCommand::Misused))
     }
 }
 
@@ -325,6 +245,6 @@ pub fn command_from(words: &[String]) -> Command<'_>
             rbc.as_str(),
             turns.as_str(),
         ),
-        _ => Command::Misused,
+        _ => Command::File(Plain(PlainCommand::Misused)),
     }
 }

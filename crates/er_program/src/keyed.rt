@@ -4,12 +4,12 @@ ghost use Rattle.std.specs.Prelude.{◌≡◌, ◌≤◌, [], ◌∷◌, IfOk};
 ghost use Rattle.key_store.specs.KeyFiles.{keys_of};
 ghost use Rattle.link_trait.specs.Outside.{Grew, GrewPart, HasStayedAsTold};
 ghost use Rattle.er_statuses.specs.LastLines.{fault_line};
-ghost use Rattle.er_statuses.specs.Writing.{GivesAnswer};
-ghost use Rattle.er_program.specs.Answers.{IsSecondFileAnswer, IsAnswerBehindKeys};
-ghost use Rattle.er_program.specs.Asking.{Asks, AsksLast, AsksBehindKeys};
-ghost use Rattle.er_program.specs.KeyedWriting.{IsOfWork, BeginsOfWork, BeginsSecondFile, BeginsBehindKeys, command_of_work};
-ghost use Rattle.er_program.specs.ReplayWriting.{EndsOne};
-ghost use Rattle.er_program.specs.Writing.{EndsCommand};
+ghost use Rattle.er_statuses.specs.Writing.{GivesAnswerTo};
+ghost use Rattle.er_program.specs.Asking.{AsksLast, AsksBehindKeys};
+ghost use Rattle.er_program.specs.CommandScripts.{Answered};
+ghost use Rattle.er_program.specs.KeyedWriting.{IsOfWork, BeginsOfWork, EndsSecondFile, EndsBehindKeys};
+ghost use Rattle.er_program.specs.CommandViews.{command_of_work};
+ghost use Rattle.er_program.specs.ReplayWriting.{EndsOneTo};
 
 use crate::audit::audit_file;
 use crate::check::check_file;
@@ -28,8 +28,7 @@ pub fn told_line<K: Sink>(
     word: &[u8],
     sink: &mut K,
 ) -> Result<Status, Stop>
-    ensures gives { GivesAnswer (record { status = status; text = fault_line line word.now }) (K.state sink.old).held (K.state sink.new).held
-        (K.state sink.old).faults (K.state sink.new).faults result }
+    ensures gives { GivesAnswerTo (record { status = status; text = fault_line line word.now }) (K.state sink.old) (K.state sink.new) result }
     ensures sink_count { (K.state sink.old).faults ≤ (K.state sink.new).faults }
 {
     let line = fault_line(alloc, line, word)?;
@@ -45,8 +44,7 @@ fn work_on<K: Sink>(
     told: &mut Vec<u8>,
     sink: &mut K,
 ) -> Result<Status, Stop>
-    ensures ends { EndsOne (IsOfWork work store.now octets.now) (BeginsOfWork work store.now octets.now)
-        (K.state sink.old).held (K.state sink.new).held (K.state sink.old).faults (K.state sink.new).faults result }
+    ensures ends { EndsOneTo (IsOfWork work store.now octets.now) (BeginsOfWork work store.now octets.now) (K.state sink.old) (K.state sink.new) result }
     ensures sink_count { (K.state sink.old).faults ≤ (K.state sink.new).faults }
 {
     match work {
@@ -66,9 +64,7 @@ fn work_named<F: Cabinet, K: Sink>(
     told: &mut Vec<u8>,
     sink: &mut K,
 ) -> Result<Status, Stop>
-    ensures ends { EndsOne (IsSecondFileAnswer (IsOfWork work) store.now name.now (F.state cabinet.new).files (F.state cabinet.old).faults
-        (F.state cabinet.new).faults) (BeginsSecondFile (BeginsOfWork work) store.now name.now (F.state cabinet.new).files) (K.state sink.old).held
-        (K.state sink.new).held (K.state sink.old).faults (K.state sink.new).faults result }
+    ensures ends { EndsSecondFile work store.now name.now (F.state cabinet.old) (F.state cabinet.new) (K.state sink.old) (K.state sink.new) result }
     ensures asked { IfOk result (λ _. Grew (F.state cabinet.old).asked (F.state cabinet.new).asked (name.now ∷ [])) }
     ensures asks { IfOk result (λ s. AsksLast name.now s.0 (K.state sink.old).held (K.state sink.new).held) }
     ensures part { GrewPart (F.state cabinet.old).asked (F.state cabinet.new).asked (name.now ∷ []) }
@@ -92,9 +88,7 @@ fn work_with<F: Cabinet, K: Sink>(
     told: &mut Vec<u8>,
     sink: &mut K,
 ) -> Result<Status, Stop>
-    ensures ends { EndsOne (IsAnswerBehindKeys (IsOfWork work) (keys_of octets.now) name.now (F.state cabinet.new).files
-        (F.state cabinet.old).faults (F.state cabinet.new).faults) (BeginsBehindKeys (BeginsOfWork work) (keys_of octets.now) name.now
-        (F.state cabinet.new).files) (K.state sink.old).held (K.state sink.new).held (K.state sink.old).faults (K.state sink.new).faults result }
+    ensures ends { EndsBehindKeys work (keys_of octets.now) name.now (F.state cabinet.old) (F.state cabinet.new) (K.state sink.old) (K.state sink.new) result }
     ensures asks { IfOk result (λ s. AsksBehindKeys name.now s.0 (F.state cabinet.old).asked (F.state cabinet.new).asked
         (K.state sink.old).held (K.state sink.new).held) }
     ensures part { GrewPart (F.state cabinet.old).asked (F.state cabinet.new).asked (name.now ∷ []) }
@@ -119,14 +113,7 @@ pub fn keyed_run<F: Cabinet, K: Sink>(
     told: &mut Vec<u8>,
     sink: &mut K,
 ) -> Result<Status, Stop>
-    ensures ends { EndsCommand (command_of_work work keys.now name.now) (F.state cabinet.new).files (F.state cabinet.old).faults (F.state cabinet.new).faults
-        (K.state sink.old).held (K.state sink.new).held (K.state sink.old).faults (K.state sink.new).faults result }
-    ensures asks { IfOk result (λ s. Asks (command_of_work work keys.now name.now) s.0 (F.state cabinet.old).asked (F.state cabinet.new).asked
-        (K.state sink.old).held (K.state sink.new).held) }
-    ensures part { GrewPart (F.state cabinet.old).asked (F.state cabinet.new).asked (keys.now ∷ name.now ∷ []) }
-    ensures files { HasStayedAsTold (F.state cabinet.old).files (F.state cabinet.new).files }
-    ensures count { (F.state cabinet.old).faults ≤ (F.state cabinet.new).faults }
-    ensures sink_count { (K.state sink.old).faults ≤ (K.state sink.new).faults }
+    ensures answered { Answered (command_of_work work keys.now name.now) (F.state cabinet.old) (F.state cabinet.new) (K.state sink.old) (K.state sink.new) result }
 {
     match fetched(alloc, keys, cabinet, sink) {
         Ok(octets) => work_with(alloc, work, octets.as_slice(), name, cabinet, told, sink),

@@ -1,20 +1,16 @@
 //! `migrate KEYS`: a key file, printed as one of version 2.
 
-ghost use Rattle.std.specs.Prelude.{◌≡◌, ◌≤◌, [], ◌∷◌, Ok, IfOk};
-ghost use Rattle.link_trait.specs.Outside.{Grew, GrewPart, HasStayedAsTold};
 ghost use Rattle.key_store.specs.KeyFiles.{keys_of};
 ghost use Rattle.outside.specs.Scripts.{Does};
 ghost use Rattle.er_statuses.specs.FileScripts.{behind_keys};
 ghost use Rattle.er_statuses.specs.ScriptEnds.{end_of_run};
-ghost use Rattle.er_program.specs.Commands.{Migrate};
 ghost use Rattle.er_program.specs.FileScripts.{prints_keys, migrates};
-ghost use Rattle.er_program.specs.Writing.{EndsCommand};
 
 use er_statuses::acting::{keys_refused, last, unfetched};
 use er_statuses::{Status, Stop};
 use key_store::KeyStore;
-use link_trait::{Cabinet, FetchFault, Sink};
-use outside::{NoClock, NoWires, NoWords, Outside, Parts};
+use link_trait::FetchFault;
+use outside::Outside;
 use std::alloc::Global;
 
 // Prints the entries of a store.
@@ -36,8 +32,8 @@ fn migrate_file<O: Outside>(alloc: Global, octets: &[u8], outside: &mut O) -> Re
     }
 }
 
-// Fetches the key file, and prints one of version 2 that has its entries.
-fn migrate<O: Outside>(alloc: Global, name: &str, outside: &mut O) -> Result<Status, Stop>
+/// `migrate NAME`: fetches the key file, and prints one of version 2 that has its entries.
+pub fn migrate<O: Outside>(alloc: Global, name: &str, outside: &mut O) -> Result<Status, Stop>
     ensures does { Does (migrates name.now) (O.told outside.old) (O.told outside.new) (end_of_run result) }
 {
     match outside.fetch(alloc, name) {
@@ -45,31 +41,4 @@ fn migrate<O: Outside>(alloc: Global, name: &str, outside: &mut O) -> Result<Sta
         Err(FetchFault::Failed) => unfetched(alloc, name, outside),
         Err(FetchFault::NoMemory(want)) => Err(Stop::NoMemory(want)),
     }
-}
-
-/// `migrate KEYS`: fetches the key file, and prints one of version 2 that has its entries.
-pub fn migrate_run<F: Cabinet, K: Sink>(
-    alloc: Global,
-    name: &str,
-    cabinet: &mut F,
-    sink: &mut K,
-) -> Result<Status, Stop>
-    ensures ends { EndsCommand (Migrate name.now) (F.state cabinet.new).files (F.state cabinet.old).faults (F.state cabinet.new).faults
-        (K.state sink.old).held (K.state sink.new).held (K.state sink.old).faults (K.state sink.new).faults result }
-    ensures asked { IfOk result (λ _. Grew (F.state cabinet.old).asked (F.state cabinet.new).asked (name.now ∷ [])) }
-    ensures part { GrewPart (F.state cabinet.old).asked (F.state cabinet.new).asked (name.now ∷ []) }
-    ensures files { HasStayedAsTold (F.state cabinet.old).files (F.state cabinet.new).files }
-    ensures count { (F.state cabinet.old).faults ≤ (F.state cabinet.new).faults }
-    ensures sink_count { (K.state sink.old).faults ≤ (K.state sink.new).faults }
-{
-    let mut wires = NoWires;
-    let mut clock = NoClock;
-    let mut randoms = NoWords;
-    let mut parts = Parts::new(cabinet, sink, &mut wires, &mut clock, &mut randoms);
-    let ended = migrate(alloc, name, &mut parts);
-    let Parts { cabinet, sink, .. } = parts;
-    // What is lent is given back here, which the clauses speak of.
-    let _ = &cabinet;
-    let _ = &sink;
-    ended
 }

@@ -5,7 +5,7 @@ ghost use Rattle.safety_automaton.specs.Keys.{key_at};
 ghost use Rattle.er_trace.specs.Files.{trace_of};
 ghost use Rattle.er_trace.specs.Texts.{CanBeRead};
 ghost use Rattle.er_program.specs.Answers.{IsReplayAnswer, IsTraceAnswer};
-ghost use Rattle.er_program.specs.ReplayWriting.{EndsOne, BeginsEvents, BeginsTrace, TellsRefusal};
+ghost use Rattle.er_program.specs.ReplayWriting.{EndsOneTo, BeginsEvents, BeginsTrace, TellsRefusalTo};
 
 use crate::keyed::told_line;
 use er_base::TextFault;
@@ -18,8 +18,7 @@ use trace_replay::{ReplayFault, replay};
 
 /// Why a replay ends before the last event.
 pub fn not_taken<K: Sink>(alloc: Global, fault: ReplayFault, sink: &mut K) -> Result<Status, Stop>
-    ensures tells { TellsRefusal fault (K.state sink.old).held (K.state sink.new).held (K.state sink.old).faults (K.state sink.new).faults
-        result }
+    ensures tells { TellsRefusalTo fault (K.state sink.old) (K.state sink.new) result }
     ensures sink_count { (K.state sink.old).faults ≤ (K.state sink.new).faults }
 {
     match fault {
@@ -41,9 +40,7 @@ fn replay_events<K: Sink>(
     sink: &mut K,
 ) -> Result<Status, Stop>
     requires { CanBeRead trace.now }
-    ensures ends { EndsOne (IsReplayAnswer trace.now.settings (key_at store.now) trace.now.entries)
-        (BeginsEvents trace.now.settings (key_at store.now) trace.now.entries) (K.state sink.old).held (K.state sink.new).held
-        (K.state sink.old).faults (K.state sink.new).faults result }
+    ensures ends { EndsOneTo (IsReplayAnswer trace.now.settings (key_at store.now) trace.now.entries) (BeginsEvents trace.now.settings (key_at store.now) trace.now.entries) (K.state sink.old) (K.state sink.new) result }
     ensures sink_count { (K.state sink.old).faults ≤ (K.state sink.new).faults }
 {
     match replay(alloc, store, trace, sink) {
@@ -59,8 +56,7 @@ pub fn replay_file<K: Sink>(
     octets: &[u8],
     sink: &mut K,
 ) -> Result<Status, Stop>
-    ensures ends { EndsOne (IsTraceAnswer store.now (trace_of octets.now)) (BeginsTrace store.now (trace_of octets.now))
-        (K.state sink.old).held (K.state sink.new).held (K.state sink.old).faults (K.state sink.new).faults result }
+    ensures ends { EndsOneTo (IsTraceAnswer store.now (trace_of octets.now)) (BeginsTrace store.now (trace_of octets.now)) (K.state sink.old) (K.state sink.new) result }
     ensures sink_count { (K.state sink.old).faults ≤ (K.state sink.new).faults }
 {
     match read(alloc, octets) {

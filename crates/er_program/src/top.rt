@@ -1,120 +1,62 @@
 //! The top call: what the program does with its words.
 
-ghost use Rattle.std.specs.Prelude.{◌≡◌, ◌≢◌, ◌≤◌, true, false, [], ◌∷◌, length, map, IfOk};
-ghost use Rattle.er_scenario.specs.Files.{scenario_of};
-ghost use Rattle.link_trait.specs.Outside.{Grew, GrewPart, HasStayedAsTold};
-ghost use Rattle.er_program.specs.Asking.{Asks};
-ghost use Rattle.er_program.specs.Commands.{Drill, command_of, names_of, needs_wires, octets_of_words};
-ghost use Rattle.er_program.specs.CommandViews.{command_view};
-ghost use Rattle.er_program.specs.FileMeans.{FileMeans};
+ghost use Rattle.std.specs.Prelude.{◌≡◌, length, map};
+ghost use Rattle.er_program.specs.Commands.{command_of, octets_of_words};
+ghost use Rattle.er_program.specs.CommandScripts.{Answered};
+ghost use Rattle.er_program.specs.CommandViews.{command_view, file_view};
 ghost use Rattle.er_serving.specs.LineRuns.{GivenToLoop, given_to_loop};
 ghost use Rattle.er_serving.specs.Outsides.{Traffic, outside_of, beside, IsSteady};
 ghost use Rattle.er_program.specs.Statuses.{IsStatusOf, Means, IsIdle, AreAsked, IsComplete, IsRun};
-ghost use Rattle.er_program.specs.Writing.{EndsFile, EndsCommand};
 
-use crate::bits::bits_run;
-use crate::bulk::bulk_run;
 use crate::command::{Command, command_from};
-use crate::drill::drill;
+use crate::file_command::FileCommand;
 use crate::keyed::keyed_run;
-use crate::migrate::migrate_run;
-use crate::work::Work;
-use er_base::TextFault;
-use er_scenario::read;
-use er_serving::{LineCommand, Outside, run_on_line};
-use er_statuses::{Status, Stop, fetched, misused, out_of_form, out_of_memory};
+use crate::plain::plain_run;
+use er_serving::{Outside, run_on_line};
+use er_statuses::{Status, Stop, out_of_memory};
 use er_users::SafeUser;
 use link_trait::{Cabinet, Clock, Sink, Wires};
 use rand_core::Rng;
 use std::alloc::Global;
 
-fn drill_file<K: Sink>(alloc: Global, octets: &[u8], sink: &mut K) -> Result<Status, Stop>
-    ensures ends { EndsFile (scenario_of octets.now) (K.state sink.old).held (K.state sink.new).held (K.state sink.old).faults
-        (K.state sink.new).faults result }
-    ensures sink_count { (K.state sink.old).faults ≤ (K.state sink.new).faults }
-{
-    match read(alloc, octets) {
-        Ok(scenario) => drill(alloc, &scenario, sink),
-        Err(TextFault::At { line, why }) => out_of_form(alloc, line, why, sink),
-        Err(TextFault::NoMemory(want)) => Err(Stop::NoMemory(want)),
-    }
-}
-
-// `drill NAME`.
-fn drill_run<F: Cabinet, K: Sink>(
-    alloc: Global,
-    name: &str,
-    cabinet: &mut F,
-    sink: &mut K,
-) -> Result<Status, Stop>
-    ensures ends { EndsCommand (Drill name.now) (F.state cabinet.new).files (F.state cabinet.old).faults (F.state cabinet.new).faults
-        (K.state sink.old).held (K.state sink.new).held (K.state sink.old).faults (K.state sink.new).faults result }
-    ensures asked { IfOk result (λ _. Grew (F.state cabinet.old).asked (F.state cabinet.new).asked (name.now ∷ [])) }
-    ensures part { GrewPart (F.state cabinet.old).asked (F.state cabinet.new).asked (name.now ∷ []) }
-    ensures files { HasStayedAsTold (F.state cabinet.old).files (F.state cabinet.new).files }
-    ensures count { (F.state cabinet.old).faults ≤ (F.state cabinet.new).faults }
-    ensures sink_count { (K.state sink.old).faults ≤ (K.state sink.new).faults }
-{
-    match fetched(alloc, name, cabinet, sink) {
-        Ok(octets) => drill_file(alloc, octets.as_slice(), sink),
-        Err(ended) => ended,
-    }
-}
-
 // What a command that needs no wires asks for, done and answered, or why it broke off.
 fn answered<F: Cabinet, K: Sink>(
     alloc: Global,
-    command: &Command<'_>,
+    command: &FileCommand<'_>,
     cabinet: &mut F,
     told: &mut Vec<u8>,
     sink: &mut K,
 ) -> Result<Status, Stop>
-    requires off_line { needs_wires (command_view command.now) ≡ false }
-    ensures ends { EndsCommand (command_view command.now) (F.state cabinet.new).files (F.state cabinet.old).faults (F.state cabinet.new).faults
-        (K.state sink.old).held (K.state sink.new).held (K.state sink.old).faults (K.state sink.new).faults result }
-    ensures asks { IfOk result (λ s. Asks (command_view command.now) s.0 (F.state cabinet.old).asked (F.state cabinet.new).asked
-        (K.state sink.old).held (K.state sink.new).held) }
-    ensures part { GrewPart (F.state cabinet.old).asked (F.state cabinet.new).asked (names_of (command_view command.now)) }
-    ensures files { HasStayedAsTold (F.state cabinet.old).files (F.state cabinet.new).files }
-    ensures count { (F.state cabinet.old).faults ≤ (F.state cabinet.new).faults }
-    ensures sink_count { (K.state sink.old).faults ≤ (K.state sink.new).faults }
+    ensures answered { Answered (file_view command.now) (F.state cabinet.old) (F.state cabinet.new) (K.state sink.old) (K.state sink.new) result }
 {
-    match *command {
-        Command::Misused => misused(sink),
-        Command::Drill { name } => drill_run(alloc, name, cabinet, sink),
-        Command::Bits { name } => bits_run(alloc, name, cabinet, sink),
-        Command::Migrate { keys } => migrate_run(alloc, keys, cabinet, sink),
-        Command::Replay { keys, trace } => {
-            keyed_run(alloc, Work::Replay, keys, trace, cabinet, told, sink)
+    match command {
+        FileCommand::Plain(command) => plain_run(alloc, command, cabinet, sink),
+        FileCommand::Keyed(command) => {
+            keyed_run(
+                alloc,
+                command.work,
+                command.keys,
+                command.name,
+                cabinet,
+                told,
+                sink,
+            )
         }
-        Command::Check { keys, trace } => {
-            keyed_run(alloc, Work::Check, keys, trace, cabinet, told, sink)
-        }
-        Command::Audit { keys, tap, ends } => {
-            keyed_run(alloc, Work::Audit { ends }, keys, tap, cabinet, told, sink)
-        }
-        Command::Bulk { seed, count } => bulk_run(alloc, seed, count, sink),
-        Command::Serve { .. } | Command::Call { .. } => unreachable!(),
     }
 }
 
-// The same with its status, whatever it broke off for.
-fn ran<F: Cabinet, K: Sink>(
+/// Does what a command asks for that needs no wires, and answers with what status the program is to end, as [`run`] does. An audit that reads its tap to
+/// the end appends to `told` the line of each stream's end, whether these are printed or not.
+pub fn run_off_line<F: Cabinet, K: Sink>(
     alloc: Global,
-    command: &Command<'_>,
+    command: &FileCommand<'_>,
     cabinet: &mut F,
     told: &mut Vec<u8>,
     sink: &mut K,
 ) -> Status
-    requires off_line { needs_wires (command_view command.now) ≡ false }
-    ensures means { FileMeans (command_view command.now) (F.state cabinet.new).files (F.state cabinet.old).asked (F.state cabinet.new).asked
-        (F.state cabinet.old).faults (F.state cabinet.new).faults (K.state sink.old).faults (K.state sink.new).faults (K.state sink.old).held (K.state sink.new).held result.0 }
-    ensures asked { result.0 ≢ 2 → result.0 ≢ 4 → result.0 ≢ 5 → result.0 ≢ 7
-        → Grew (F.state cabinet.old).asked (F.state cabinet.new).asked (names_of (command_view command.now)) }
-    ensures part { GrewPart (F.state cabinet.old).asked (F.state cabinet.new).asked (names_of (command_view command.now)) }
-    ensures files { HasStayedAsTold (F.state cabinet.old).files (F.state cabinet.new).files }
-    ensures count { (F.state cabinet.old).faults ≤ (F.state cabinet.new).faults }
-    ensures sink_count { (K.state sink.old).faults ≤ (K.state sink.new).faults }
+    // Whatever wires, clock and random words there are beside its cabinet and sink, they are left alone.
+    ensures run { (g : GivenToLoop) (rest : Traffic) → IsRun (file_view command.now) g (beside rest F.Cabinet K.Sink cabinet.old sink.old)
+        (beside rest F.Cabinet K.Sink cabinet.new sink.new) result.0 }
 {
     drill_laws::laws::holds();
     match answered(alloc, command, cabinet, told, sink) {
@@ -124,78 +66,7 @@ fn ran<F: Cabinet, K: Sink>(
     }
 }
 
-/// Does what a command asks for that needs no wires, and answers with what status the program is to end, as [`run`] does. An audit that reads its tap to
-/// the end appends to `told` the line of each stream's end, whether these are printed or not.
-pub fn run_off_line<F: Cabinet, K: Sink>(
-    alloc: Global,
-    command: &Command<'_>,
-    cabinet: &mut F,
-    told: &mut Vec<u8>,
-    sink: &mut K,
-) -> Status
-    requires off_line { needs_wires (command_view command.now) ≡ false }
-    // Whatever wires, clock and random words there are beside its cabinet and sink, they are left alone.
-    ensures run { (g : GivenToLoop) (rest : Traffic) → IsRun (command_view command.now) g (beside rest F.Cabinet K.Sink cabinet.old sink.old)
-        (beside rest F.Cabinet K.Sink cabinet.new sink.new) result.0 }
-{
-    ran(alloc, command, cabinet, told, sink)
-}
-
-// What `serve` or `call` asks for.
-fn ran_on_line<F: Cabinet, K: Sink, W: Wires, C: Clock, R: Rng>(
-    alloc: Global,
-    command: &Command<'_>,
-    users: Vec<Box<dyn SafeUser>>,
-    outside: &mut Outside<F, K, W, C, R>,
-) -> Status
-    requires on_line { needs_wires (command_view command.now) ≡ true }
-    ensures run { IsRun (command_view command.now) (given_to_loop (length users.items) (map mind users.items) (R.stream outside.old.randoms)) outside.old.seen outside.new.seen
-        result.0 }
-    ensures names { outside.new.names ≡ outside.old.names }
-{
-    match *command {
-        Command::Serve {
-            keys,
-            address,
-            rbc,
-            turns,
-        } => {
-            let line = LineCommand::Serve {
-                keys,
-                address,
-                rbc,
-                turns,
-            };
-            run_on_line(alloc, &line, users, outside)
-        }
-        Command::Call {
-            keys,
-            address,
-            engine,
-            rbc,
-            turns,
-        } => {
-            let line = LineCommand::Call {
-                keys,
-                address,
-                engine,
-                rbc,
-                turns,
-            };
-            run_on_line(alloc, &line, users, outside)
-        }
-        Command::Misused
-        | Command::Drill { .. }
-        | Command::Bits { .. }
-        | Command::Migrate { .. }
-        | Command::Replay { .. }
-        | Command::Check { .. }
-        | Command::Audit { .. }
-        | Command::Bulk { .. } => unreachable!(),
-    }
-}
-
-// A command of the loop is run over wires, and any other without them.
+// A command that needs no wires is run without them, and any other over them.
 fn dispatched<F: Cabinet, K: Sink, W: Wires, C: Clock, R: Rng>(
     alloc: Global,
     command: &Command<'_>,
@@ -206,16 +77,17 @@ fn dispatched<F: Cabinet, K: Sink, W: Wires, C: Clock, R: Rng>(
         result.0 }
     ensures names { outside.new.names ≡ outside.old.names }
 {
-    if command.needs_wires() {
-        ran_on_line(alloc, command, users, outside)
-    } else {
-        run_off_line(
-            alloc,
-            command,
-            outside.cabinet,
-            &mut Vec::new(alloc),
-            outside.sink,
-        )
+    match command {
+        Command::File(command) => {
+            run_off_line(
+                alloc,
+                command,
+                outside.cabinet,
+                &mut Vec::new(alloc),
+                outside.sink,
+            )
+        }
+        Command::Line(command) => run_on_line(alloc, command, users, outside),
     }
 }
 

@@ -7,7 +7,7 @@ ghost use Rattle.key_store.specs.declared.key_file_fault.KeyFileFault.TheVariant
 ghost use Rattle.outside.specs.Doings.{Did};
 ghost use Rattle.outside.specs.Scripts.{Does, says_last};
 ghost use Rattle.er_statuses.specs.KeyLines.{keys_line};
-ghost use Rattle.er_statuses.specs.LastLines.{fetch_line, fault_line, why_word};
+ghost use Rattle.er_statuses.specs.LastLines.{usage_line, fetch_line, fault_line, why_word};
 ghost use Rattle.er_statuses.specs.ScriptEnds.{end_of_run, said_acts, EndsRefused};
 
 use crate::key_lines::decimal_text;
@@ -41,6 +41,13 @@ pub fn last<O: Outside>(status: u8, text: &[u8], outside: &mut O) -> Result<Stat
     }
 }
 
+/// The words fit no command.
+pub fn misused<O: Outside>(outside: &mut O) -> Result<Status, Stop>
+    ensures does { Does (says_last 1 usage_line) (O.told outside.old) (O.told outside.new) (end_of_run result) }
+{
+    last(1, b"! usage\n", outside)
+}
+
 /// The fetch of that name failed.
 #[tactic(auto, using(outside::specs::ScriptSteps::does_spent))]
 pub fn unfetched<O: Outside>(alloc: Global, name: &str, outside: &mut O) -> Result<Status, Stop>
@@ -48,6 +55,21 @@ pub fn unfetched<O: Outside>(alloc: Global, name: &str, outside: &mut O) -> Resu
 {
     let line = fetch_line(alloc, name)?;
     last(2, line.as_slice(), outside)
+}
+
+/// What is to be told of a line of the file, alone or last.
+#[tactic(auto, using(outside::specs::ScriptSteps::does_spent))]
+pub fn told_line<O: Outside>(
+    alloc: Global,
+    status: u8,
+    line: usize,
+    word: &[u8],
+    outside: &mut O,
+) -> Result<Status, Stop>
+    ensures does { Does (says_last status (fault_line line word.now)) (O.told outside.old) (O.told outside.new) (end_of_run result) }
+{
+    let line = fault_line(alloc, line, word)?;
+    last(status, line.as_slice(), outside)
 }
 
 /// The file is out of its grammar.

@@ -3,7 +3,7 @@
 ghost use Rattle.std.specs.Prelude.{◌≡◌, ◌≤◌, [], ◌∷◌, IfOk, IfErr, OnOk};
 ghost use Rattle.link_trait.specs.Outside.{Grew, GrewPart, HasFile, HasStayedAsTold};
 ghost use Rattle.er_statuses.specs.LastLines.{fetch_line};
-ghost use Rattle.er_statuses.specs.Writing.{GivesAnswer, EndsUnfetched};
+ghost use Rattle.er_statuses.specs.Writing.{GivesAnswerTo, EndsUnfetchedTo};
 
 use crate::endings::last;
 use crate::last_lines::fetch_line;
@@ -14,8 +14,7 @@ use std::alloc::Global;
 
 // The fetch of that name failed.
 fn unfetched<K: Sink>(alloc: Global, name: &str, sink: &mut K) -> Result<Status, Stop>
-    ensures gives { GivesAnswer (record { status = 2; text = fetch_line name.now }) (K.state sink.old).held (K.state sink.new).held
-        (K.state sink.old).faults (K.state sink.new).faults result }
+    ensures gives { GivesAnswerTo (record { status = 2; text = fetch_line name.now }) (K.state sink.old) (K.state sink.new) result }
     ensures sink_count { (K.state sink.old).faults ≤ (K.state sink.new).faults }
 {
     let line = fetch_line(alloc, name)?;
@@ -31,8 +30,7 @@ pub fn fetched<F: Cabinet, K: Sink>(
 ) -> Result<Vec<u8>, Result<Status, Stop>>
     ensures file { IfOk result (λ octets. HasFile (F.state cabinet.new).files name.now octets.items) }
     ensures untouched { OnOk result (sink.new ≡ sink.old) }
-    ensures ended { IfErr result (λ ended. EndsUnfetched name.now (F.state cabinet.old).faults (F.state cabinet.new).faults
-        (K.state sink.old).held (K.state sink.new).held (K.state sink.old).faults (K.state sink.new).faults ended) }
+    ensures ended { IfErr result (λ ended. EndsUnfetchedTo name.now (F.state cabinet.old) (F.state cabinet.new) (K.state sink.old) (K.state sink.new) ended) }
     ensures asked { OnOk result (Grew (F.state cabinet.old).asked (F.state cabinet.new).asked (name.now ∷ [])) }
     ensures asked_for { IfErr result (λ ended. IfOk ended (λ _. Grew (F.state cabinet.old).asked (F.state cabinet.new).asked (name.now ∷ []))) }
     ensures part { GrewPart (F.state cabinet.old).asked (F.state cabinet.new).asked (name.now ∷ []) }

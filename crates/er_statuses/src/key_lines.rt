@@ -9,7 +9,7 @@ ghost use Rattle.er_base.specs.LineTexts.{line_text};
 ghost use Rattle.er_base.specs.Printing.{word_printed};
 ghost use Rattle.er_statuses.specs.Answers.{keys_answer};
 ghost use Rattle.er_statuses.specs.KeyLines.{keys_line};
-ghost use Rattle.er_statuses.specs.Writing.{GivesAnswer};
+ghost use Rattle.er_statuses.specs.Writing.{GivesAnswerTo};
 
 use crate::endings::last;
 use crate::status::Status;
@@ -26,8 +26,7 @@ pub fn say_keys<K: Sink>(
     words: &[PrintedWord<'_>],
     sink: &mut K,
 ) -> Result<Status, Stop>
-    ensures gives { GivesAnswer (record { status = 4; text = line_text (codes "!" ∷ map word_printed words.now) }) (K.state sink.old).held
-        (K.state sink.new).held (K.state sink.old).faults (K.state sink.new).faults result }
+    ensures gives { GivesAnswerTo (record { status = 4; text = line_text (codes "!" ∷ map word_printed words.now) }) (K.state sink.old) (K.state sink.new) result }
     ensures sink_count { (K.state sink.old).faults ≤ (K.state sink.new).faults }
 {
     let mut line = Vec::new(alloc);
@@ -37,8 +36,7 @@ pub fn say_keys<K: Sink>(
 
 // The key file has a version that is unknown.
 fn say_version<K: Sink>(alloc: Global, version: i64, sink: &mut K) -> Result<Status, Stop>
-    ensures gives { GivesAnswer (record { status = 4; text = keys_line (keys.Version version) }) (K.state sink.old).held
-        (K.state sink.new).held (K.state sink.old).faults (K.state sink.new).faults result }
+    ensures gives { GivesAnswerTo (record { status = 4; text = keys_line (keys.Version version) }) (K.state sink.old) (K.state sink.new) result }
     ensures sink_count { (K.state sink.old).faults ≤ (K.state sink.new).faults }
 {
     let number = decimal_text(alloc, version)?;
@@ -59,8 +57,7 @@ pub fn keys_refused<K: Sink>(
     fault: KeyFileFault,
     sink: &mut K,
 ) -> Result<Status, Stop>
-    ensures gives { GivesAnswer (keys_answer fault) (K.state sink.old).held (K.state sink.new).held (K.state sink.old).faults
-        (K.state sink.new).faults result }
+    ensures gives { GivesAnswerTo (keys_answer fault) (K.state sink.old) (K.state sink.new) result }
     ensures want { (want : Want) → fault ≡ keys.NoMemory want → result ≡ Err (stop.NoMemory want) }
     ensures sink_count { (K.state sink.old).faults ≤ (K.state sink.new).faults }
 {

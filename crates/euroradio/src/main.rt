@@ -22,8 +22,8 @@ use crate::telling_wires::TellingWires;
 use crate::watched_cabinet::WatchedCabinet;
 use er_base::{NoMemory, decimal};
 use er_program::{
-    Clock, Command, FileCabinet, MachineClock, Sink, Status, StdoutSink, command_from, run,
-    run_off_line, unmade,
+    Clock, Command, FileCabinet, FileCommand, LineCommand, MachineClock, Sink, Status, StdoutSink,
+    command_from, run, run_off_line, unmade,
 };
 use er_users::{Echo, SafeUser};
 use mio_wires::MioWires;
@@ -156,21 +156,17 @@ fn call<K: Sink>(
 // What a command without wires asks for; what an audit tells of ends is given back.
 fn off_line<K: Sink>(
     rt: HostRuntime,
-    words: &[String],
+    command: &FileCommand<'_>,
     ends: &mut Vec<u8>,
     sink: &mut K,
-) -> Option<Ended> {
-    let command = command_from(words);
-    if command.needs_wires() {
-        return None;
-    }
+) -> Ended {
     let mut cabinet = FileCabinet::new(rt);
-    let status = run_off_line(rt.alloc(), &command, &mut cabinet, ends, sink);
-    Some(Ended {
+    let status = run_off_line(rt.alloc(), command, &mut cabinet, ends, sink);
+    Ended {
         status,
         file: cabinet.why(),
         wires: None,
-    })
+    }
 }
 
 // What the words ask for. None where the objects can't be made, or the system gives no seed.
@@ -180,15 +176,15 @@ fn answered<K: Sink>(
     ends: &mut Vec<u8>,
     sink: &mut K,
 ) -> Option<Ended> {
-    let command = command_from(words);
-    if !command.needs_wires() {
-        return off_line(rt, words, ends, sink);
-    }
-    let mut randoms = SystemWords::new(&rt).ok()?;
-    if matches!(command, Command::Call { .. }) {
-        call(rt, words, &mut randoms, sink).ok()?
-    } else {
-        serve(rt, words, &mut randoms, sink).ok()?
+    match command_from(words) {
+        Command::File(command) => Some(off_line(rt, &command, ends, sink)),
+        Command::Line(command) => {
+            let mut randoms = SystemWords::new(&rt).ok()?;
+            match command {
+                LineCommand::Serve { .. } => serve(rt, words, &mut randoms, sink).ok()?,
+                LineCommand::Call { .. } => call(rt, words, &mut randoms, sink).ok()?,
+            }
+        }
     }
 }
 

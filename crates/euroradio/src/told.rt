@@ -2,7 +2,10 @@
 
 use crate::ended::Ended;
 use er_base::{NoMemory, Release};
-use er_program::{Command, FileFault, MOST_FILE_OCTETS, StdoutSink, command_from};
+use er_program::{
+    Command, FileCommand, FileFault, LineCommand, MOST_FILE_OCTETS, PlainCommand, StdoutSink, Work,
+    command_from,
+};
 use link_trait::Sink;
 use std::alloc::Global;
 use std::fmt::Write;
@@ -92,9 +95,12 @@ pub(crate) fn ended(rt: HostRuntime, words: &[String], ended: &Ended, last: &[u8
 /// How far each stream of a tap was heard, and why no further, behind an audit that printed what was heard alone: the lines that the word `ends`
 /// has it print, as the audit gave them back.
 pub(crate) fn ends_of_streams(rt: HostRuntime, words: &[String], ended: &Ended, ends: &[u8]) {
-    let Command::Audit { ends: false, .. } = command_from(words) else {
+    let Command::File(FileCommand::Keyed(command)) = command_from(words) else {
         return;
     };
+    if !matches!(command.work, Work::Audit { ends: false }) {
+        return;
+    }
     if ended.status.0 != 0 {
         return;
     }
@@ -108,31 +114,35 @@ pub(crate) fn ends_of_streams(rt: HostRuntime, words: &[String], ended: &Ended, 
 // The file that a command reads besides keys.
 fn file_of<'a>(command: &Command<'a>) -> Option<(FileKind, &'a str)> {
     match *command {
-        Command::Drill { name } => Some((FileKind::Drill, name)),
-        Command::Bits { name } => Some((FileKind::Bits, name)),
-        Command::Replay { trace, .. } | Command::Check { trace, .. } => {
-            Some((FileKind::Trace, trace))
-        }
-        Command::Audit { tap, .. } => Some((FileKind::Tap, tap)),
-        Command::Misused
-        | Command::Migrate { .. }
-        | Command::Bulk { .. }
-        | Command::Serve { .. }
-        | Command::Call { .. } => None,
+        Command::File(FileCommand::Plain(command)) => plain_file_of(&command),
+        Command::File(FileCommand::Keyed(command)) => Some((kind_of(command.work), command.name)),
+        Command::Line(_) => None,
+    }
+}
+
+fn plain_file_of<'a>(command: &PlainCommand<'a>) -> Option<(FileKind, &'a str)> {
+    match *command {
+        PlainCommand::Drill { name } => Some((FileKind::Drill, name)),
+        PlainCommand::Bits { name } => Some((FileKind::Bits, name)),
+        PlainCommand::Misused | PlainCommand::Migrate { .. } | PlainCommand::Bulk { .. } => None,
+    }
+}
+
+// What kind of file that is.
+fn kind_of(work: Work) -> FileKind {
+    match work {
+        Work::Replay | Work::Check => FileKind::Trace,
+        Work::Audit { .. } => FileKind::Tap,
     }
 }
 
 // The key file of a command.
 fn keys_of<'a>(command: &Command<'a>) -> Option<&'a str> {
     match *command {
-        Command::Migrate { keys }
-        | Command::Replay { keys, .. }
-        | Command::Check { keys, .. }
-        | Command::Audit { keys, .. }
-        | Command::Serve { keys, .. }
-        | Command::Call { keys, .. } => Some(keys),
-        Command::Misused | Command::Drill { .. } | Command::Bits { .. } | Command::Bulk { .. } =>
-            None,
+        Command::File(FileCommand::Plain(PlainCommand::Migrate { keys })) => Some(keys),
+        Command::File(FileCommand::Plain(_)) => None,
+        Command::File(FileCommand::Keyed(command)) => Some(command.keys),
+        Command::Line(command) => Some(command.key_file()),
     }
 }
 
@@ -172,7 +182,7 @@ pub(crate) fn hints(rt: HostRuntime, words: &[String]) {
             }
         }
     }
-    if command.needs_wires() && is_read_by_others(rt, name) {
+    if matches!(command, Command::Line(_)) && is_read_by_others(rt, name) {
         let mut line = String::new(rt.alloc());
         if put_text(&mut line, name).is_ok() {
             let _ = eprintln!(rt; "euroradio: warning: {line}: others than its owner may read it");
@@ -264,11 +274,12 @@ fn unfetched(alloc: Global, last: &[u8], why: Option<FileFault>) -> Result<Strin
 // Why a listen, a dial or a turn failed.
 fn wires_failed(alloc: Global, command: &Command<'_>, ended: &Ended) -> Result<String, NoMemory> {
     let mut line = String::new(alloc);
-    match *command {
-        Command::Serve { address, .. } | Command::Call { address, .. } => {
-            put_text(&mut line, address)?;
+    if let Command::Line(command) = *command {
+        match command {
+            LineCommand::Serve { address, .. } | LineCommand::Call { address, .. } => {
+                put_text(&mut line, address)?;
+            }
         }
-        _ => {}
     }
     match ended.wires {
         Some(why) => write!(line, ": {why}")?,

@@ -3,7 +3,7 @@ use Rattle.std.proofs.Common.{ℕ, inl, inr, false, List, [], ◌∷◌, ◌++�
 use Rattle.outside.specs.Acts.{Gave, Failed, Spent, Act, Fetched, Wrote}
 use Rattle.outside.specs.Doings.{Told, Did}
 use Rattle.outside.specs.Chains.{did_nothing, did_then}
-use Rattle.outside.specs.Scripts.{End, With, Sunk, OutOfMemory, Script, Ends, Fetches, Prints, printing, IsFetchThen, IsPrinted, IsUnprinted, RunsScript, Does}
+use Rattle.outside.specs.Scripts.{End, With, Sunk, OutOfMemory, Script, Ends, Fetches, Prints, Knowing, printing, IsFetchThen, IsPrinted, IsUnprinted, RunsScript, Does}
 
 -- ---- acts alone
 
@@ -75,6 +75,17 @@ pub does_spent_fetching : (name : List ℕ) (next : Option (List ℕ) → Script
     → Did before now (Fetched name Spent ∷ []) → Does (Fetches name next) before now OutOfMemory
 unfolding RunsScript IsFetchThen
 does_spent_fetching name next before now did = record { acts = Fetched name Spent ∷ []; did = did; runs = (refl, refl, refl) }
+
+-- ---- a fact
+
+pub does_knowing : (Fact : Type 0) (next : Script) (before now : Told) (end : End) → Fact → Does next before now end → Does (Knowing Fact next) before now end
+unfolding RunsScript
+does_knowing Fact next before now end fact does = record { acts = does.acts; did = does.did; runs = inl (fact, does.runs) }
+
+-- memory ran out before it was known
+pub does_spent_unknowing : (Fact : Type 0) (next : Script) (t : Told) → Does (Knowing Fact next) t t OutOfMemory
+unfolding RunsScript
+does_spent_unknowing Fact next t = record { acts = []; did = did_nothing t; runs = inr (refl, refl) }
 
 -- ---- texts of a kind
 

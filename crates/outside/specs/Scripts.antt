@@ -16,6 +16,8 @@ pub data Script : Type 1 where
   Fetches : (name : List ℕ) → (Option (List ℕ) → Script) → Script
   -- a text of this kind is written, which may be empty: then nothing is asked of the sink
   Prints : (Is : List ℕ → Type 0) → Script → Script
+  -- this holds of what was read, and then the rest is done; memory may run out as it is read
+  Knowing : (Fact : Type 0) → Script → Script
 
 -- the acts by which a text is printed
 abbrev pub printing : List ℕ → List Act
@@ -57,6 +59,7 @@ unfoldable pub RunsScript : Script → List Act → End → Type 0
 RunsScript (Ends status) acts end = (acts ≡ []) × (end ≡ With status)
 RunsScript (Fetches name next) acts end = IsFetchThen name (λ file rest. RunsScript (next file) rest end) acts end
 RunsScript (Prints Is next) acts end = IsPrintThen Is (λ rest. RunsScript next rest end) acts end
+RunsScript (Knowing Fact next) acts end = (Fact × RunsScript next acts end) ⊎ ((acts ≡ []) × (end ≡ OutOfMemory))
 
 -- the script was run: these acts were done, and so it ended
 pub record Does (script : Script) (before now : Told) (end : End) : Type 0 where

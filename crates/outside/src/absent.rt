@@ -1,4 +1,5 @@
-//! What stands for the parts that a run hasn't: wires that go nowhere, a clock that stands, and words that aren't random.
+//! What stands for the parts that a run hasn't: wires that go nowhere, a clock that stands, and words that aren't random. No name of these leaves the
+//! crate, so that they are of no use but to such a run.
 
 ghost use Rattle.std.specs.Prelude.{◌≡◌, ◌≤◌, ◌^◌, ◌-◌, length, None, false};
 ghost use Rattle.rand_core.specs.Stream.{next_u32, next_u64, fill_bytes};
@@ -69,5 +70,24 @@ impl Rng for NoWords {
     #[tactic(auto, unfolding(rand_core::specs::Stream::fill_bytes))]
     fn fill_bytes(&mut self, dst: &mut [u8]) {
         dst.fill(0);
+    }
+}
+
+/// What stands for wires, a clock and random words in a run that has none.
+#[derive(Drop)]
+pub struct Absent {
+    pub(crate) wires: NoWires,
+    pub(crate) clock: NoClock,
+    pub(crate) randoms: NoWords,
+}
+
+impl Absent {
+    /// None of the three.
+    pub fn new() -> Absent {
+        Absent {
+            wires: NoWires,
+            clock: NoClock,
+            randoms: NoWords,
+        }
     }
 }

@@ -11,7 +11,7 @@ mod note;
 mod outside;
 mod parts;
 
-pub use absent::{NoClock, NoWires, NoWords};
+pub use absent::Absent;
 pub use history::History;
 pub use outside::Outside;
-pub use parts::Parts;
+pub use parts::{Parts, off_line};

@@ -3,6 +3,7 @@
 ghost use Rattle.std.specs.Prelude.{◌≡◌, []};
 ghost use Rattle.outside.specs.Doings.{Told};
 
+use crate::absent::{Absent, NoClock, NoWires, NoWords};
 use crate::history::History;
 use crate::note::Note;
 use crate::outside::Outside;
@@ -143,4 +144,23 @@ impl<'f, 'k, 'w, 'c, 'r, F: Cabinet, K: Sink, W: Wires, C: Clock, R: Rng> Outsid
         self.history.note(&Note::Drew(word));
         word
     }
+}
+
+/// An outside of a cabinet and a sink alone, to which nothing was done yet.
+pub fn off_line<'f, 'k, 'a, F: Cabinet, K: Sink>(
+    cabinet: &'f mut F,
+    sink: &'k mut K,
+    absent: &'a mut Absent,
+) -> Parts<'f, 'k, 'a, 'a, 'a, F, K, NoWires, NoClock, NoWords>
+    ensures cabinet { result.cabinet ≡ cabinet.entry }
+    ensures sink { result.sink ≡ sink.entry }
+    ensures history { result.history.acts ≡ [] }
+{
+    Parts::new(
+        cabinet,
+        sink,
+        &mut absent.wires,
+        &mut absent.clock,
+        &mut absent.randoms,
+    )
 }

@@ -1,58 +1,24 @@
--- One step more, a step that breaks off, and the end, by the lemmas on runs of steps.
-use Rattle.std.proofs.Common.{◌≡◌, ◌<◌, ◌≤◌, List, ℕ, length, get_or, slice_get, Some, refl, subst, sym, ap}
-use Rattle.std.proofs.lemmas.Option.{slice_get_read}
-use Rattle.er_scenario.specs.declared.level.Level.{Level}
-use Rattle.er_scenario.specs.declared.numbered.Numbered.{Numbered}
-use Rattle.drill_model.specs.StepLevels.{IsOfLevel}
-use Rattle.drill_model.specs.Worlds.{DrillPlan, plan_of}
-use Rattle.er_program.proofs.DrillSteps.{of_level, etcs_numbers, has_moment, readable_at}
-use Rattle.er_program.proofs.DrillRuns.{went_more, went_sink, went_halt, went_end}
+-- The fetch gave a file, or none, or memory ran out in it.
+use Rattle.er_scenario.specs.Files.{scenario_of}
+use Rattle.outside.specs.ScriptSteps.{does_had, does_had_none, does_spent_fetching}
+use Rattle.er_statuses.specs.FileScripts.{behind_fetch}
+use Rattle.er_program.specs.StepScripts.{drills_read}
 use Rattle.er_program.proofs.drill.drill.Goals as goal
 
--- the step at an index, among those of the scenario
-item_at : (xs ys : List Numbered) (i : ℕ) (x : Numbered) → xs ≡ ys → i < length xs → x ≡ get_or xs i x → slice_get ys i ≡ Some x
-item_at xs ys i x same inside is = subst (λ (zs : List Numbered). slice_get zs i ≡ Some x) same (slice_get_read xs (length xs) i x refl inside is)
+pub returns-in-Ok : goal.returns-in-Ok
+returns-in-Ok g c = record {
+  does = does_had c.args.name.now c.in-Ok.octets.items (behind_fetch c.args.name.now (λ file. drills_read (scenario_of file))) _ _ _ _
+      c.in-Ok.ensures.does (rw c.as_slice.ensures.value at c.drill_file.ensures.does);
+}
 
-pub step_once-requires-clause-level : goal.step_once-requires-clause-level
-step_once-requires-clause-level g c =
-    let readable = readable_at c.args.scenario.now.level c.args.scenario.now.steps c.loop-numbered.numbered-index c.numbered-item.result c.requires.steps
-    (item_at _ _ _ _ c.as_slice-numbered-items.ensures c.loop-numbered-test.true c.numbered-item.is) in
-    subst (λ (l : Level). IsOfLevel l c.numbered-item.result.step) (sym (ap (λ (p : DrillPlan). p.level) c.loop-numbered.invariant.plan_is))
-    (of_level c.args.scenario.now.level c.numbered-item.result.step readable.of_level)
+pub returns-in-Err-Failed : goal.returns-in-Err-Failed
+returns-in-Err-Failed g c = record {
+  does = does_had_none c.args.name.now (behind_fetch c.args.name.now (λ file. drills_read (scenario_of file))) _ _ _ _
+      (rw c.in-Err-Failed.field-0-is at c.in-Err-Failed.ensures.does) c.unfetched.ensures.does;
+}
 
-pub step_once-requires-clause-numbers : goal.step_once-requires-clause-numbers
-step_once-requires-clause-numbers g c =
-    let readable = readable_at c.args.scenario.now.level c.args.scenario.now.steps c.loop-numbered.numbered-index c.numbered-item.result c.requires.steps
-    (item_at _ _ _ _ c.as_slice-numbered-items.ensures c.loop-numbered-test.true c.numbered-item.is) in
-    etcs_numbers c.numbered-item.result.step readable.range
-
-pub step_once-requires-clause-moment : goal.step_once-requires-clause-moment
-step_once-requires-clause-moment g c =
-    let readable = readable_at c.args.scenario.now.level c.args.scenario.now.steps c.loop-numbered.numbered-index c.numbered-item.result c.requires.steps
-    (item_at _ _ _ _ c.as_slice-numbered-items.ensures c.loop-numbered-test.true c.numbered-item.is) in
-    has_moment c.numbered-item.result.step readable.range
-
-pub returns-in-Err-Sink-clause-drills : goal.returns-in-Err-Sink-clause-drills
-returns-in-Err-Sink-clause-drills g c =
-    went_sink c.runs_grow.ensures.text _ _ c.numbered-item.result _ _ _ _ _ _ _ c.loop-numbered.invariant
-    (item_at _ _ _ _ c.as_slice-numbered-items.ensures c.loop-numbered-test.true c.numbered-item.is)
-    (rw c.in-Err-Sink.field-0-is at (c.in-Err-Sink.ensures.drills (plan_of c.args.scenario.now) _ c.loop-numbered.invariant.ran))
-
-pub returns-in-Err-Fault-clause-drills : goal.returns-in-Err-Fault-clause-drills
-returns-in-Err-Fault-clause-drills g c =
-    went_halt _ _ c.numbered-item.result _ _ _ _ _ _ _ _ _ _ _ c.loop-numbered.invariant
-    (item_at _ _ _ _ c.as_slice-numbered-items.ensures c.loop-numbered-test.true c.numbered-item.is)
-    (rw c.in-Err-Fault.field-0-is at (c.in-Err-Fault.ensures.drills (plan_of c.args.scenario.now) _ c.loop-numbered.invariant.ran))
-    (rw c.in-Err-Fault.field-0-is at c.not_done.ensures.gives)
-
-pub loop-numbered-preserved : goal.loop-numbered-preserved
-loop-numbered-preserved g c =
-    went_more c.runs_grow.ensures.text _ _ c.numbered-item.result _ _ _ _ _ _ _ _ c.loop-numbered.invariant
-    (item_at _ _ _ _ c.as_slice-numbered-items.ensures c.loop-numbered-test.true c.numbered-item.is)
-    (c.in-Ok.ensures.drills (plan_of c.args.scenario.now) _ c.loop-numbered.invariant.ran)
-
-pub returns-clause-drills : goal.returns-clause-drills
-returns-clause-drills g c =
-    went_end _ _ _ _ _ _ _ _ _ _ c.loop-numbered.invariant
-    (subst (λ (xs : List Numbered). length xs ≤ c.loop-numbered.numbered-index) c.as_slice-numbered-items.ensures c.loop-numbered-test.false)
-    (c.closed.ensures.gives (plan_of c.args.scenario.now) _ c.loop-numbered.invariant.ran)
+pub returns-in-Err-NoMemory : goal.returns-in-Err-NoMemory
+returns-in-Err-NoMemory g c = record {
+  does = does_spent_fetching c.args.name.now (behind_fetch c.args.name.now (λ file. drills_read (scenario_of file))) _ _
+      (rw c.in-Err-NoMemory.field-0-is at c.in-Err-NoMemory.ensures.does);
+}
