@@ -17,8 +17,9 @@ LAYERS = (
     ("frames: flags, escapes, check sequence", "#4477aa", ("hdlc_frames", "hdlc_fcs", "memchr")),
     ("station of the link", "#66ccee", ("hdlc_balanced", "hdlc_station_core", "hdlc_station_model")),
     ("blocks and transport", "#228833", ("t70_header", "x224_tpdu", "x224_class2")),
-    ("safety layer without its ciphers", "#ccbb44", ("sapdu", "safety_automaton", "session_keys", "key_store")),
-    ("DES and MACs", "#ee6677", ("des_block", "cbc_mac")),
+    ("safety layer without its ciphers", "#ccbb44", ("sapdu", "safety_automaton", "key_store")),
+    # MACs are compiled in place in session_keys, which does nothing else for a message.
+    ("DES and MACs", "#ee6677", ("des_block", "cbc_mac", "session_keys")),
     ("copies and zeros", "#aa3377", ("libc memcpy", "libc memmove", "libc memset", "libc memcmp")),
     ("events of the ends, with what is compiled in place", "#999999", (EVENTS, "er_end")),
     (OTHER, "#dddddd", ()),
