@@ -1,10 +1,11 @@
 /* Deframing throughput of the library hdlc_frames beside a plain C deframer, in one run.
  *
- * Four streams of frames are read: bodies of 260 octets none of which is escaped ("clean"), the same of random
- * octets ("random"), the same with every second octet escaped ("escaped"), and frames of 4 octets of content, as
- * those without information are ("short"); each in pieces of 1, 64 and 4,096 octets. For each the best of some
- * rounds is printed in MiB of stream a second of processor time, and the ratio of the library to plain C. Both
- * must find the same number of frames, or the run fails.
+ * Six streams of frames are read: bodies of 260 octets none of which is escaped ("clean"), the same of random
+ * octets ("random"), the same with an octet in eight escaped, drawn at random ("eighth"), and with every second one
+ * ("escaped"); frames of 4 octets of content, as those without information are ("short"), and of 8 ("eight"); each in
+ * pieces of 1, 64 and 4,096 octets. For each the best of some rounds is printed in MiB of stream a second of
+ * processor time, and the ratio of the library to plain C, by the best and at the median of the rounds. Both must
+ * find the same number of frames, or the run fails.
  */
 #include <stdint.h>
 #include <stdio.h>
@@ -55,13 +56,23 @@ static size_t put_octet(uint8_t *out, size_t at, uint8_t octet) {
   return at;
 }
 
-enum kind { CLEAN, RANDOM, ESCAPED, SHORT, KINDS };
+enum kind { CLEAN, RANDOM, EIGHTH, ESCAPED, SHORT, EIGHT, KINDS };
 
-static const char *const names[] = {"clean", "random", "escaped", "short"};
+static const char *const names[] = {"clean", "random", "eighth", "escaped", "short", "eight"};
 
-/* frames with bodies of 260 octets, as a full data block of the line has, or of one, until the stream is full */
+/* how many octets of content stand before the check sequence */
+static const int lengths[] = {261, 261, 261, 261, 2, 6};
+
+/* whether an octet is to be escaped */
+static int is_escaped(enum kind kind, int place) {
+  if (kind == EIGHTH)
+    return random_octet() < 32;
+  return kind == ESCAPED && place % 2 == 1;
+}
+
+/* frames with bodies of 260 octets, as a full data block of the line has, or short ones, until the stream is full */
 static size_t make_stream(uint8_t *out, size_t room, enum kind kind) {
-  const int length = kind == SHORT ? 2 : 261;
+  const int length = lengths[kind];
   size_t at = 0;
   out[at++] = FLAG;
   while (at + 2 * 263 + 1 <= room) {
@@ -70,7 +81,7 @@ static size_t make_stream(uint8_t *out, size_t room, enum kind kind) {
       uint8_t octet = random_octet();
       if (kind != RANDOM && (octet == FLAG || octet == ESCAPE))
         octet = 0;
-      if (kind == ESCAPED && i % 2 == 1)
+      if (is_escaped(kind, i))
         octet = octet & 1 ? FLAG : ESCAPE;
       check = (uint16_t)(check >> 8 ^ table[(check ^ octet) & 0xff]);
       at = put_octet(out, at, octet);
@@ -93,6 +104,11 @@ static double seconds(void) {
 
 typedef uint64_t counter(const uint8_t *, size_t, uint32_t);
 
+static int by_size(const void *one, const void *other) {
+  double difference = *(const double *)one - *(const double *)other;
+  return difference > 0 ? 1 : difference < 0 ? -1 : 0;
+}
+
 static double rate(counter *run, const uint8_t *stream, size_t length, uint32_t piece, uint64_t *frames) {
   double begin = seconds();
   *frames = run(stream, length, piece);
@@ -106,16 +122,17 @@ int main(void) {
   if (stream == NULL)
     return 1;
   make_table();
-  printf("%-8s %6s %8s %12s %12s %6s\n", "stream", "piece", "frames", "plain MiB/s", "this MiB/s", "ratio");
+  printf("%-8s %6s %8s %12s %12s %6s %7s\n", "stream", "piece", "frames", "plain MiB/s", "this MiB/s", "ratio", "median");
   for (int kind = 0; kind < KINDS; kind++) {
     size_t length = make_stream(stream, room, (enum kind)kind);
     for (int k = 0; k < 3; k++) {
-      double plain = 0, ours = 0;
+      double plain = 0, ours = 0, ratios[ROUNDS];
       uint64_t expected = 0, frames = 0;
       /* by turns, so that both meet the same machine */
       for (int round = 0; round < ROUNDS; round++) {
         double one = rate(plain_count, stream, length, pieces[k], &expected);
         double other = rate(bench_c_frames, stream, length, pieces[k], &frames);
+        ratios[round] = other / one;
         if (one > plain)
           plain = one;
         if (other > ours)
@@ -125,7 +142,10 @@ int main(void) {
           return 1;
         }
       }
-      printf("%-8s %6u %8llu %12.0f %12.0f %6.2f\n", names[kind], pieces[k], (unsigned long long)frames, plain, ours, ours / plain);
+      qsort(ratios, ROUNDS, sizeof ratios[0], by_size);
+      printf("%-8s %6u %8llu %12.0f %12.0f %6.2f %7.2f\n", names[kind], pieces[k], (unsigned long long)frames, plain, ours, ours / plain,
+             ratios[ROUNDS / 2]);
+      fflush(stdout);
     }
   }
   free(stream);

@@ -5,10 +5,13 @@
 # Then where the time goes: by `perf`, where it is there and may sample, the part of each crate; what the compiler inlined counts with the
 # function that it stands in, and the four layers' code that is inlined in the events with the events. And, beside it, the time that
 # cbc_mac alone takes for as many texts of the same length (two MACs a message: one seals, one verifies), where there is a C compiler.
-# Nothing is asserted. Wants `rt` and python3.
+# Nothing is asserted. Wants `rt` and python3. PROGRAM names another program of crates/bench than the one that is built, and then nothing is built, and the
+# time of cbc_mac alone is told only where MAC names a library of crates/bench_c. bench/picture.py draws what this script prints.
 set -eu
+program=${PROGRAM:+$(realpath "$PROGRAM")}
+library=${MAC:+$(realpath "$MAC")}
 cd "$(dirname "$0")/.."
-command -v rt > /dev/null || { echo "stack.sh: there is no rt to build the program with; nothing is measured"; exit 0; }
+[ -n "$program" ] || command -v rt > /dev/null || { echo "stack.sh: there is no rt to build the program with; nothing is measured"; exit 0; }
 command -v python3 > /dev/null || { echo "stack.sh: python3 is wanted, to measure; nothing is measured"; exit 0; }
 work=$(mktemp -d)
 trap 'rm -rf "$work"' EXIT
@@ -17,20 +20,27 @@ build() {
   (cd "crates/$1" && shift && "$@") > "$work/log" 2>&1 || { cat "$work/log"; exit 1; }
 }
 
-program=$PWD/crates/bench/out/bench
-rm -f "$program"
-build bench rt run -- ends 24 8 1
-
 mac=none
 compiler=${CC:-cc}
-if command -v "$compiler" > /dev/null; then
-  build bench_c rt lib
-  "$compiler" -O2 -Wall -Wextra -o "$work/mac" bench/stack_mac.c crates/bench_c/out/libbench_c.a
+if [ -z "$program" ]; then
+  program=$PWD/crates/bench/out/bench
+  rm -f "$program"
+  build bench rt run -- ends 24 8 1
+  if command -v "$compiler" > /dev/null; then
+    build bench_c rt lib
+    library=$PWD/crates/bench_c/out/libbench_c.a
+  fi
+fi
+if [ -n "$library" ] && command -v "$compiler" > /dev/null; then
+  "$compiler" -O2 -Wall -Wextra -o "$work/mac" bench/stack_mac.c "$library"
   mac=$work/mac
 fi
 
 python3 - "$program" "$mac" "$work" << 'PY'
-import collections, os, re, resource, shutil, subprocess, sys
+import collections, datetime, os, re, resource, shutil, subprocess, sys
+sys.dont_write_bytecode = True
+sys.path.insert(0, "tests")
+from minutes import speed
 program, mac, work = sys.argv[1:]
 
 def run(words):
@@ -47,7 +57,8 @@ def alone(length, count):
     # a sealed text: two octets of a length, three of the receiver's number, one of the kind, and the message
     return float(subprocess.run([mac, str(length + 6), str(2 * count)], stdout=subprocess.PIPE, check=True).stdout)
 
-print(f"load of the machine: {os.getloadavg()[0]:.1f} on {os.cpu_count()} processors")
+print(f"{datetime.date.today()}; load of the machine: {os.getloadavg()[0]:.1f} on {os.cpu_count()} processors; "
+      f"ten million steps of a loop over integers take {speed():.2f} s in Python")
 for length, times, size, modulo, window in ((24, 10, 128, 8, 7), (114, 10, 128, 8, 7), (1023, 2, 128, 8, 7), (1023, 2, 1024, 8, 7), (24, 10, 128, 128, 31)):
     seconds, tally = best((length, 10000, times, size, modulo, window))
     taken, octets = tally["taken"], tally["octets"]
@@ -59,7 +70,7 @@ for length, times, size, modulo, window in ((24, 10, 128, 8, 7), (114, 10, 128, 
 seconds, tally = best((24, 0, 2000))
 print(f"the set-up alone, two ends made, connected and dropped: {tally['connected'] / 2 / seconds:8.0f} a second, {seconds / tally['connected'] * 2e6:6.2f} us each")
 if mac == "none":
-    print("no C compiler: the MAC alone was not measured")
+    print("no C compiler, or no library: the MAC alone was not measured")
 
 def profile(words):
     record = ["perf", "record", "-q", "-e", "cpu-clock:u", "-F", "10000", "-o", work + "/perf", program, "ends"] + [str(word) for word in words]

@@ -1,4 +1,5 @@
-"""For turns.sh beside it: turns.py OLD NEW."""
+"""For turns.sh beside it: turns.py OLD NEW [OLD_BENCH NEW_BENCH]."""
+import datetime
 import os
 import socket
 import statistics
@@ -7,8 +8,16 @@ import sys
 import tempfile
 import time
 
-OLD, NEW = sys.argv[1:]
-PAIRS = int(os.environ.get("PAIRS", "9"))
+sys.dont_write_bytecode = True
+TOP = os.path.join(os.path.dirname(os.path.abspath(__file__)), "..")
+sys.path.insert(0, os.path.join(TOP, "tests"))
+from minutes import speed  # noqa: E402
+
+OLD, NEW = (os.path.abspath(program) for program in sys.argv[1:3])
+ENDS = [os.path.abspath(program) for program in sys.argv[3:]]
+PAIRS = int(os.environ.get("PAIRS", "0"))
+MINUTES = float(os.environ.get("MINUTES", "5"))
+LEAST_PAIRS = 5
 KEY = "0123456789abcdef23456789abcdef01456789abcdef0123"
 KEYS = f'version = 1\n\n[[key]]\nengine = 5\nrbc = 9\nkmac = "{KEY}"\n'
 SET_UP_FRAMES = 682
@@ -74,8 +83,13 @@ def calls_seconds(program, folder):
     return usage.ru_utime + usage.ru_stime
 
 
+def carried(length):
+    """Two whole ends, one of which sends messages of so many octets in ten connections."""
+    return lambda program: processor_seconds([program, "ends", str(length), "10000", "10"], os.devnull)
+
+
 def measures(folder):
-    """The name of each measure, and a function of a program that makes one run."""
+    """The name of each measure, a function of a program that makes one run, and the two programs."""
     def file(name, text):
         path = os.path.join(folder, name)
         with open(path, "w") as it:
@@ -85,9 +99,9 @@ def measures(folder):
     safe, full, events = file("safe.drill", safe_drill()), file("full.drill", full_drill()), file("events.trace", trace())
     processor_seconds([OLD, "drill", full], out)
     with open(out, "rb") as printed:
-        made = subprocess.run([sys.executable, os.path.join(os.path.dirname(__file__), "..", "tools", "tap"), "--engine", "5", "--rbc", "9"], stdin=printed, capture_output=True, check=True)
+        made = subprocess.run([sys.executable, os.path.join(TOP, "tools", "tap"), "--engine", "5", "--rbc", "9"], stdin=printed, capture_output=True, check=True)
     tap = file("full.tap", made.stdout.decode())
-    return [
+    both = [
         ("drill, level safe: 12,000 messages", lambda program: processor_seconds([program, "drill", safe], out)),
         ("drill, level full: 15,000 messages", lambda program: processor_seconds([program, "drill", full], out)),
         ("bulk: 10,000 messages", lambda program: processor_seconds([program, "bulk", "7", "10000"], out)),
@@ -95,16 +109,39 @@ def measures(folder):
         ("audit: 15,000 messages", lambda program: processor_seconds([program, "audit", keys, tap], out)),
         (f"serve: {CALLS} calls", lambda program: calls_seconds(program, folder)),
     ]
+    stack = [(f"stack: 100,000 messages of {length} octets", carried(length)) for length in (24, 114)] if ENDS else []
+    return [(*each, OLD, NEW) for each in both] + [(*each, *ENDS) for each in stack]
+
+
+def in_turns(table):
+    """The pairs of seconds of each measure, round after round, until the time is over or there are so many."""
+    pairs, begun = [[] for _ in table], time.monotonic()
+    while True:
+        round_begun = time.monotonic()
+        for (_, run, old, new), found in zip(table, pairs):
+            found.append((run(old), run(new)) if len(found) % 2 == 0 else (run(new), run(old))[::-1])
+        now, count = time.monotonic(), len(pairs[0])
+        if count >= PAIRS if PAIRS else count >= LEAST_PAIRS and now + (now - round_begun) > begun + 60 * MINUTES:
+            return pairs
+
+
+def row(name, pairs):
+    old, new = (min(side) for side in zip(*pairs))
+    ratios = [new / old for old, new in pairs if old > 0]
+    low, middle, high = statistics.quantiles(ratios, n=4) if len(ratios) > 1 else ratios * 3
+    return f"| {name} | {old * 1000:,.0f} ms | {new * 1000:,.0f} ms | {new / old:.3f} | {middle:.3f} | {low:.3f} to {high:.3f} |"
 
 
 def main():
+    begun, load, loop = time.monotonic(), os.getloadavg()[0], speed()
     with tempfile.TemporaryDirectory(prefix="turns-") as folder:
-        print("| What | OLD, the least | NEW, the least | NEW / OLD, median of pairs |\n|---|---|---|---|")
-        for name, run in measures(folder):
-            pairs = [(run(OLD), run(NEW)) if pair % 2 == 0 else (run(NEW), run(OLD))[::-1] for pair in range(PAIRS)]
-            old, new = (min(side) for side in zip(*pairs))
-            ratio = statistics.median(new / old for old, new in pairs if old > 0)
-            print(f"| {name} | {old * 1000:,.0f} ms | {new * 1000:,.0f} ms | {ratio:.3f} |", flush=True)
+        table = measures(folder)
+        found = in_turns(table)
+    print("| What | OLD, the least | NEW, the least | NEW / OLD, by the least | at the median of the pairs | half of the pairs |\n|---|---|---|---|---|---|")
+    for (name, *_), pairs in zip(table, found):
+        print(row(name, pairs))
+    print(f"\n{datetime.date.today()}: {len(found[0])} pairs of each in {(time.monotonic() - begun) / 60:.1f} minutes; load {load:.1f} before, {os.getloadavg()[0]:.1f} behind, "
+          f"on {os.cpu_count()} processors. Ten million steps of a loop over integers take {loop:.2f} s in Python before, {speed():.2f} s behind.")
 
 
 if __name__ == "__main__":
