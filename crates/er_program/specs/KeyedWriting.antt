@@ -57,14 +57,15 @@ BeginsBehindKeys Begins read name files text = (text ≡ []) ⊎ BeginsGood Begi
 -- ---- how it ends, by what the cabinet and the sink tell
 
 -- the file of that name, with these entries
-abbrev pub EndsSecondFile : Work → List KmacEntry → (name : List ℕ) → (cabinet cabinet_now : CabinetState) → (sink sink_now : SinkState) → Result Status Stop → Type 0
+abbrev pub EndsSecondFile : Work → List KmacEntry → (name : List ℕ) → (cabinet cabinet_now : CabinetState) → (sink sink_now : SinkState)
+    → Result Status Stop → Type 0
 EndsSecondFile work keys name cabinet cabinet_now sink sink_now result =
     EndsOneTo (IsSecondFileAnswer (IsOfWork work) keys name cabinet_now.files cabinet.faults cabinet_now.faults)
     (BeginsSecondFile (BeginsOfWork work) keys name cabinet_now.files) sink sink_now result
 
 -- the same with what a key file was read as
-abbrev pub EndsBehindKeys : Work → Result (List KmacEntry) KeyFileFault → (name : List ℕ) → (cabinet cabinet_now : CabinetState) → (sink sink_now : SinkState)
-    → Result Status Stop → Type 0
+abbrev pub EndsBehindKeys : Work → Result (List KmacEntry) KeyFileFault → (name : List ℕ) → (cabinet cabinet_now : CabinetState)
+    → (sink sink_now : SinkState) → Result Status Stop → Type 0
 EndsBehindKeys work read name cabinet cabinet_now sink sink_now result =
     EndsOneTo (IsAnswerBehindKeys (IsOfWork work) read name cabinet_now.files cabinet.faults cabinet_now.faults)
     (BeginsBehindKeys (BeginsOfWork work) read name cabinet_now.files) sink sink_now result
