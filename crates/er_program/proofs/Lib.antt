@@ -29,3 +29,4 @@ pub mod Migrating
 pub mod EachText
 pub mod BitReading
 pub mod BitActs
+pub mod RelayEnds

@@ -21,3 +21,5 @@ pub mod KeyedWriting
 pub mod Asking
 pub mod Statuses
 pub mod FileMeans
+pub mod RelayCommands
+pub mod RelayRuns

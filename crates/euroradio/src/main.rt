@@ -2,10 +2,12 @@
 #![tactic(auto)]
 
 mod ended;
+mod listening_wires;
 mod objects;
 mod origin;
 mod recorded_wires;
 mod recording;
+mod relaying;
 mod streams;
 mod system_words;
 mod telling_wires;
@@ -16,14 +18,15 @@ use crate::ended::Ended;
 use crate::objects::position_reports;
 use crate::recorded_wires::RecordedWires;
 use crate::recording::{Recording, RecordingSink};
+use crate::relaying::relay;
 use crate::streams::stand_ins;
 use crate::system_words::SystemWords;
 use crate::telling_wires::TellingWires;
 use crate::watched_cabinet::WatchedCabinet;
 use er_base::{NoMemory, decimal};
 use er_program::{
-    Clock, Command, FileCabinet, MachineClock, Sink, Status, StdoutSink, command_from, run,
-    run_off_line, unmade,
+    Clock, Command, FileCabinet, MachineClock, Sink, Status, StdoutSink, command_from, relay_from,
+    run, run_off_line, unmade,
 };
 use er_users::{Echo, SafeUser};
 use mio_wires::MioWires;
@@ -170,6 +173,10 @@ fn off_line<K: Sink>(rt: HostRuntime, words: &[String], sink: &mut K) -> Option<
 
 // What the words ask for. None where the objects can't be made, or the system gives no seed.
 fn answered<K: Sink>(rt: HostRuntime, words: &[String], sink: &mut K) -> Option<Ended> {
+    if let Some(command) = relay_from(words) {
+        let mut randoms: SystemWords<ChaCha20Rng> = SystemWords::new(&rt).ok()?;
+        return relay(rt, &command, &mut randoms, sink);
+    }
     let command = command_from(words);
     if !command.needs_wires() {
         return off_line(rt, words, sink);

@@ -2,7 +2,7 @@
 
 use crate::ended::Ended;
 use er_base::{NoMemory, Release};
-use er_program::{Command, FileFault, MOST_FILE_OCTETS, StdoutSink, command_from};
+use er_program::{Command, FileFault, MOST_FILE_OCTETS, StdoutSink, command_from, relay_from};
 use link_audit::tell_ends;
 use std::alloc::Global;
 use std::fmt::Write;
@@ -26,8 +26,9 @@ pub(crate) const USAGE: &str = "usage: euroradio COMMAND, one of
   migrate KEYS                          prints a key file as one of version 2
   serve KEYS ADDRESS RBC TURNS          serves trains at an IP address and port, as 127.0.0.1:4711
   call KEYS ADDRESS ENGINE RBC TURNS    calls as a train
+  relay SCRIPT LISTEN DIAL TURNS        passes octets between two devices, but for what a script says
   --help, --version                     print this text, and which program this is
-ADDRESS is an IP address and a port. ENGINE and RBC are ETCS numbers, 0 to 16777215. TURNS is 0 to 1000000000, or - for no bound.
+ADDRESS, LISTEN and DIAL are an IP address and a port each. ENGINE and RBC are ETCS numbers, 0 to 16777215. TURNS is 0 to 1000000000, or - for no bound.
 ";
 
 /// The standard output is closed.
@@ -52,7 +53,7 @@ pub(crate) fn ended(rt: HostRuntime, words: &[String], ended: &Ended, last: &[u8
         }
         2 => tell(rt, unfetched(rt.alloc(), last, ended.file)),
         3 => {
-            if let Some((kind, name)) = file_of(&command) {
+            if let Some((kind, name)) = file_of(words) {
                 let text = octets_again(rt, name);
                 tell(
                     rt,
@@ -69,19 +70,19 @@ pub(crate) fn ended(rt: HostRuntime, words: &[String], ended: &Ended, last: &[u8
         5 => {
             let _ = eprintln!(rt; "euroradio: a write to the standard output failed");
         }
-        6 => tell(rt, wires_failed(rt.alloc(), &command, ended)),
+        6 => tell(rt, wires_failed(rt.alloc(), words, ended)),
         7 => {
             let _ = eprintln!(rt; "euroradio: memory ran out");
         }
         8 => {
-            let name = match file_of(&command) {
+            let name = match file_of(words) {
                 Some((_, name)) => name,
                 None => "bulk",
             };
             tell(rt, overfull(rt.alloc(), name, last));
         }
         9 => {
-            if let Some((_, name)) = file_of(&command) {
+            if let Some((_, name)) = file_of(words) {
                 tell(rt, recording_differs(rt.alloc(), name, last));
             }
         }
@@ -112,8 +113,11 @@ pub(crate) fn ends_of_streams(rt: HostRuntime, words: &[String], ended: &Ended) 
 }
 
 // The file that a command reads besides keys.
-fn file_of<'a>(command: &Command<'a>) -> Option<(FileKind, &'a str)> {
-    match *command {
+fn file_of(words: &[String]) -> Option<(FileKind, &str)> {
+    if let Some(relay) = relay_from(words) {
+        return Some((FileKind::Script, relay.script));
+    }
+    match command_from(words) {
         Command::Drill { name } => Some((FileKind::Drill, name)),
         Command::Bits { name } => Some((FileKind::Bits, name)),
         Command::Replay { trace, .. } | Command::Check { trace, .. } => {
@@ -235,6 +239,7 @@ fn wanted_by(command: &str) -> Option<(&'static str, usize)> {
         "bulk" => Some(("SEED COUNT", 2)),
         "serve" => Some(("KEYS ADDRESS RBC TURNS", 4)),
         "call" => Some(("KEYS ADDRESS ENGINE RBC TURNS", 5)),
+        "relay" => Some(("SCRIPT LISTEN DIAL TURNS", 4)),
         _ => None,
     }
 }
@@ -268,9 +273,18 @@ fn unfetched(alloc: Global, last: &[u8], why: Option<FileFault>) -> Result<Strin
 }
 
 // Why a listen, a dial or a turn failed.
-fn wires_failed(alloc: Global, command: &Command<'_>, ended: &Ended) -> Result<String, NoMemory> {
+fn wires_failed(alloc: Global, words: &[String], ended: &Ended) -> Result<String, NoMemory> {
     let mut line = String::new(alloc);
-    match *command {
+    if let Some(relay) = relay_from(words) {
+        put_text(
+            &mut line,
+            match ended.wires {
+                Some(_) => relay.listen,
+                None => relay.dial,
+            },
+        )?;
+    }
+    match command_from(words) {
         Command::Serve { address, .. } | Command::Call { address, .. } => {
             put_text(&mut line, address)?;
         }
@@ -278,6 +292,8 @@ fn wires_failed(alloc: Global, command: &Command<'_>, ended: &Ended) -> Result<S
     }
     match ended.wires {
         Some(why) => write!(line, ": {why}")?,
+        // The address to dial was looked at before anything was asked of the wires.
+        None if relay_from(words).is_some() => line.push_str(": no IP address and port")?,
         None => line.push_str(": the system refused it")?,
     }
     Ok(line)

@@ -1,0 +1,9 @@
+-- Turn by turn.
+use Rattle.relay_loop.proofs.RelayCalls.{relays_then}
+use Rattle.relay_loop.proofs.live_relay.LiveRelay.run.Goals as goal
+
+pub loop-init : goal.loop-init
+loop-init g c = record { relays = λ before s. s }
+
+pub loop-preserved : goal.loop-preserved
+loop-preserved g c = record { relays = λ before s. relays_then c.args.script.now before _ _ _ _ (c.loop.invariant.relays before s) c.in_ok-turn.ensures }
