@@ -17,7 +17,7 @@ use Rattle.relay_loop.specs.WaySteps.{Moves, PrintsGiven, joined}
 use Rattle.relay_loop.specs.declared.stamp.Stamp.{Stamp}
 use Rattle.relay_loop.specs.Sending.{given_by_act, given_in_acts, IsSendTo, AreSendsTo, Sends}
 use Rattle.relay_loop.specs.Reading.{read_by_act, read_in_acts, IsReadOf, AreReadsOf, Hears}
-use Rattle.relay_loop.proofs.WayCalls.{moves_none}
+use Rattle.relay_loop.proofs.WayCalls.{moves_none, still}
 use Rattle.relay_loop.specs.Giving.{PrintsBoth, WritesBoth, TellsFirst}
 use Rattle.relay_loop.specs.Links.{HoldsLink, IsUntouched, IsOfVisit, AreOfVisit, Stays, Visits}
 
@@ -280,12 +280,6 @@ sends_to_e script link way before now s = record {
 }
 
 -- ---- no act
-
-still : (script : Script) (side : Side) (read told gave : List ℕ) (old new : Way) → Moves script [] [] old new → HoldsWay script side read told gave old
-    → HoldsWay script side read told gave new
-still script side read told gave old new moves h =
-    subst (λ (r : List ℕ). HoldsWay script side r told gave new) (append-nil read)
-    (subst (λ (g : List ℕ). HoldsWay script side (read ++ []) told g new) (append-nil gave) (moves side read told gave h))
 
 pub stays_none : (link : Link) → Stays link link
 stays_none link = record { e = refl; r = refl; holds = λ script acts l. l }

@@ -31,6 +31,13 @@ moves_gave : (script : Script) (octets : List ℕ) (old new : Way)
 moves_gave script octets old new given side read told gave h =
     subst (λ (r : List ℕ). HoldsWay script side r told (gave ++ octets) new) (sym (append-nil read)) (given side read told gave h)
 
+-- a call that reads and writes nothing
+pub still : (script : Script) (side : Side) (read told gave : List ℕ) (old new : Way) → Moves script [] [] old new → HoldsWay script side read told gave old
+    → HoldsWay script side read told gave new
+still script side read told gave old new moves h =
+    subst (λ (r : List ℕ). HoldsWay script side r told gave new) (append-nil read)
+    (subst (λ (g : List ℕ). HoldsWay script side (read ++ []) told g new) (append-nil gave) (moves side read told gave h))
+
 pub moves_none : (script : Script) (way : Way) → Moves script [] [] way way
 moves_none script way = moves_still script way way (λ side read told gave h. h)
 

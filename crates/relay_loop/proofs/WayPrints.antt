@@ -11,7 +11,8 @@ use Rattle.relay_loop.specs.declared.piece.Piece.{Piece}
 use Rattle.relay_loop.specs.declared.way.Way.{Way}
 use Rattle.relay_loop.specs.RelayLines.{given_line}
 use Rattle.relay_loop.specs.Ways.{HoldsWay}
-use Rattle.relay_loop.specs.WaySteps.{joined, given_lines, PrintsGiven}
+use Rattle.relay_loop.specs.WaySteps.{Moves, joined, given_lines, PrintsGiven}
+use Rattle.relay_loop.proofs.WayCalls.{still}
 use Rattle.relay_loop.proofs.LiveWays.{carried_from, prints_live}
 
 pub prints_none : (at : Stamp) (way : Way) (lines : List ℕ) → PrintsGiven at way way lines lines
@@ -20,6 +21,17 @@ prints_none at way lines = record {
   lines = sym (append-nil lines);
   same_side = refl;
   holds = λ script side read told gave h. subst (λ (t : List ℕ). HoldsWay script side read t gave way) (sym (append-nil told)) h;
+}
+
+-- nothing is printed by a call that changes what no claim speaks of
+pub prints_nothing : (at : Stamp) (old new : Way) (lines : List ℕ) → new.side ≡ old.side → ((script : Script) → Moves script [] [] old new)
+    → PrintsGiven at old new lines lines
+prints_nothing at old new lines same_side moves = record {
+  parts = [];
+  lines = sym (append-nil lines);
+  same_side = same_side;
+  holds = λ script side read told gave h.
+      subst (λ (t : List ℕ). HoldsWay script side read t gave new) (sym (append-nil told)) (still script side read told gave old new (moves script) h);
 }
 
 one_holds : ClosedStays → (script : Script) (old new : Way) (piece : Piece) (octets : List ℕ) → octets ≡ piece.octets.items → old.lost ≡ false

@@ -16,7 +16,7 @@ pub(crate) fn write_lines<O: Outside>(
     ensures told { OnOk result (Did (O.told outside.old) (O.told outside.new) (printing lines.old.items)) }
     ensures none { OnOk result (lines.new.items ≡ []) }
 {
-    if lines.is_empty() {
+    if lines.as_slice().is_empty() {
         return Ok(());
     }
     match outside.write(lines.as_slice()) {

@@ -85,7 +85,7 @@ impl Way {
     fn keep(&mut self, given: Vec<u8>, due: u64) -> Result<(), NoMemory>
         ensures { OnOk result (Keeps self.old self.new given.items) }
     {
-        if given.is_empty() {
+        if given.as_slice().is_empty() {
             return Ok(());
         }
         self.later = self.later.saturating_add(given.len());
@@ -181,17 +181,11 @@ impl Way {
         put_given(at, self.side, piece.octets.as_slice(), lines)?;
         self.printed.extend_from_slice(piece.octets.as_slice())?;
         self.later = self.later.saturating_sub(piece.octets.len());
-        self.see_close();
+        self.closing = self.closes();
         Ok(())
     }
 
-    // Where a line has closed the connection, and nothing waits any more, its octets were printed.
-    fn see_close(&mut self)
-        ensures { self.new ≡ record self.old { closing = self.new.closing } }
-    {
-        self.closing = self.closes();
-    }
-
+    // Whether the octets behind which a line closes the connection were printed: nothing comes behind them.
     fn closes(&self) -> bool {
         if self.waits.is_empty() {
             return self.carrier.is_closed();

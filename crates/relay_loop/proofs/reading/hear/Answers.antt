@@ -7,11 +7,11 @@ use Rattle.relay_loop.proofs.reading.hear.Goals as goal
 pub returns-then-is_closed : goal.returns-then-is_closed
 returns-then-is_closed g c = hears_none c.args.script.now c.args.from.0 c.args.way.now c.args.way.now _ (moves_none c.args.script.now c.args.way.now)
 
-pub returns-then-lost : goal.returns-then-lost
-returns-then-lost g c = hears_none c.args.script.now c.args.from.0 c.args.way.now c.args.way.now _ (moves_none c.args.script.now c.args.way.now)
+pub returns-then-way : goal.returns-then-way
+returns-then-way g c = hears_none c.args.script.now c.args.from.0 c.args.way.now c.args.way.now _ (moves_none c.args.script.now c.args.way.now)
 
-pub returns-then-unread : goal.returns-then-unread
-returns-then-unread g c = hears_none c.args.script.now c.args.from.0 c.args.way.now _ _ (same c.args.script.now c.args.way.now _ refl refl refl refl refl refl)
+pub returns-then-way-2 : goal.returns-then-way-2
+returns-then-way-2 g c = hears_none c.args.script.now c.args.from.0 c.args.way.now _ _ (same c.args.script.now c.args.way.now _ refl refl refl refl refl refl)
 
 pub returns : goal.returns
 returns g c =

@@ -9,4 +9,4 @@ returns-in-E c =
 
 pub returns-in-R : goal.returns-in-R
 returns-in-R c =
-    on_ok_weaker c.fail-2.result (λ m. stays_both c.args.self.now _ _ (stays_r c.args.self.now c.fail-2.new.failed (λ s. (m s).0)) (stays_e _ c.fail-2.new.towards (λ s. (m s).1))) c.fail-2.ensures
+    on_ok_weaker c.fail-in-R.result (λ m. stays_both c.args.self.now _ _ (stays_r c.args.self.now c.fail-in-R.new.failed (λ s. (m s).0)) (stays_e _ c.fail-in-R.new.towards (λ s. (m s).1))) c.fail-in-R.ensures

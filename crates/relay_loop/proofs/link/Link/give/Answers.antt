@@ -9,9 +9,9 @@ pub loop-preserved : goal.loop-preserved
 loop-preserved g c = record {
   visits = λ script.
       visits_then script _ _ _ _ _ _ (c.loop.invariant.visits script)
-      (then_stays script _ _ _ _ _ (first_visits script _ _ _ _ _ _ c.in_ok-give_once.ensures) c.in_ok-fail.ensures);
+      (then_stays script _ _ _ _ _ (first_visits script _ _ _ _ _ _ c.in_ok-side.ensures) c.in_ok-fail-in-Some.ensures);
 }
 
 pub returns-in-None : goal.returns-in-None
 returns-in-None g c = λ script.
-    visits_then script _ _ _ _ _ _ (c.loop.invariant.visits script) (first_visits script _ _ _ _ _ _ c.in_ok-give_once.ensures)
+    visits_then script _ _ _ _ _ _ (c.loop.invariant.visits script) (first_visits script _ _ _ _ _ _ c.in_ok-side.ensures)

@@ -7,4 +7,4 @@ pub returns-in-E : goal.returns-in-E
 returns-in-E g c = on_ok_weaker c.hear.result (λ h. hears_e c.args.script.now c.args.self.now _ _ _ h) c.hear.ensures
 
 pub returns-in-R : goal.returns-in-R
-returns-in-R g c = on_ok_weaker c.hear-2.result (λ h. hears_r c.args.script.now c.args.self.now _ _ _ h) c.hear-2.ensures
+returns-in-R g c = on_ok_weaker c.hear-in-R.result (λ h. hears_r c.args.script.now c.args.self.now _ _ _ h) c.hear-in-R.ensures

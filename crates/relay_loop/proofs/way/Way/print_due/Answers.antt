@@ -2,11 +2,11 @@
 use Rattle.relay_loop.proofs.WayPrints.{prints_none, prints_then}
 use Rattle.relay_loop.proofs.way.Way.print_due.Goals as goal
 
-pub returns-then-lost : goal.returns-then-lost
-returns-then-lost c = prints_none c.args.at c.args.self.now c.args.lines.now.items
+pub returns-then-self : goal.returns-then-self
+returns-then-self c = prints_none c.args.at c.args.self.now c.args.lines.now.items
 
 pub loop-init : goal.loop-init
-loop-init c = record { alive = c.if-lost.false; prints = prints_none c.args.at c.args.self.now c.args.lines.now.items }
+loop-init c = record { alive = c.if-self.false; prints = prints_none c.args.at c.args.self.now c.args.lines.now.items }
 
 pub loop-preserved : goal.loop-preserved
 loop-preserved c = record {
