@@ -4,4 +4,6 @@ pub mod WayPrints
 pub mod WaySends
 pub mod WayTakes
 pub mod LinkCalls
-pub mod RelayCalls
+pub mod RelayActs
+pub mod RelayRings
+pub mod RelayTurns

@@ -114,7 +114,7 @@ impl LiveRelay {
     }
 
     // What is due is given.
-    #[tactic(auto, using(crate::proofs::RelayCalls::goes_none))]
+    #[tactic(auto, using(crate::proofs::RelayRings::goes_none))]
     fn give_due<O: Outside>(
         &mut self,
         script: &Script,
@@ -204,7 +204,7 @@ impl LiveRelay {
     }
 
     // What happened is handled whole.
-    #[tactic(auto, using(crate::proofs::RelayCalls::goes_none))]
+    #[tactic(auto, using(crate::proofs::RelayRings::goes_none))]
     fn react<O: Outside>(
         &mut self,
         alloc: Global,

@@ -1,5 +1,5 @@
 -- One after the other.
-use Rattle.relay_loop.proofs.RelayCalls.{goes_none, goes_then}
+use Rattle.relay_loop.proofs.RelayRings.{goes_none, goes_then}
 use Rattle.relay_loop.proofs.live_relay.LiveRelay.ask_each.Goals as goal
 
 pub loop-init : goal.loop-init
