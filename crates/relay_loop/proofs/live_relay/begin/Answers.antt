@@ -1,6 +1,6 @@
 -- Nothing was opened yet.
 use Rattle.std.proofs.lemmas.Result.{on_ok_weaker}
-use Rattle.relay_loop.proofs.RelayTurns.{relays_begun}
+use Rattle.relay_loop.proofs.RelayRuns.{relays_begun}
 use Rattle.relay_loop.proofs.live_relay.begin.Goals as goal
 
 pub returns-in-Ok : goal.returns-in-Ok

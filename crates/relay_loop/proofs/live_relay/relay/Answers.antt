@@ -1,4 +1,4 @@
 -- All turns.
 use Rattle.std.proofs.lemmas.Result.{on_ok_weaker}
-use Rattle.relay_loop.proofs.RelayTurns.{relays}
+use Rattle.relay_loop.proofs.RelayRuns.{relays}
 use Rattle.relay_loop.proofs.live_relay.relay.Goals as goal

@@ -1,5 +1,5 @@
 -- Turn by turn.
-use Rattle.relay_loop.proofs.RelayTurns.{relays_then}
+use Rattle.relay_loop.proofs.RelayRuns.{relays_then}
 use Rattle.relay_loop.proofs.live_relay.LiveRelay.run.Goals as goal
 
 pub loop-init : goal.loop-init

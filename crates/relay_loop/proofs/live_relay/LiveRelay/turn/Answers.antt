@@ -1,4 +1,6 @@
 -- By what happened.
-use Rattle.std.proofs.lemmas.Result.{on_ok_weaker}
-use Rattle.relay_loop.proofs.RelayTurns.{turns}
+use Rattle.relay_loop.proofs.RelayGoes.{turn_goes}
 use Rattle.relay_loop.proofs.live_relay.LiveRelay.turn.Goals as goal
+
+pub returns : goal.returns
+returns g c = ?

@@ -1,5 +1,5 @@
 -- The line is written, and the socket is closed.
-use Rattle.relay_loop.proofs.RelayTurns.{idles_lines, idles_close, idles_then}
+use Rattle.relay_loop.proofs.RelayIdles.{idles_lines, idles_close, idles_then}
 use Rattle.relay_loop.proofs.live_relay.LiveRelay.turn_away.Goals as goal
 
 pub returns-clause-idles : goal.returns-clause-idles
