@@ -7,3 +7,6 @@ loop-init g c = record { relays = λ before s. s }
 
 pub loop-preserved : goal.loop-preserved
 loop-preserved g c = record { relays = λ before s. relays_then c.args.script.now before _ _ _ _ (c.loop.invariant.relays before s) c.in_ok-turn.ensures }
+
+pub returns-then-not-branch : goal.returns-then-not-branch
+returns-then-not-branch g c = λ before s. relays_then c.args.script.now before _ _ _ _ (c.loop.invariant.relays before s) c.in_ok-turn.ensures
