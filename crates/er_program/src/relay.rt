@@ -167,11 +167,7 @@ fn exhausted<O: Outside>(outside: &mut O) -> Status
 /// - 5: a write to the sink failed, in place of any other status; nothing is written after it.
 /// - 6: DIAL is no address, or a listen or turn of the wires failed; behind what was printed, `! wires` is printed.
 /// - 7: memory ran out; what was printed stays, and `! memory` is printed.
-pub fn relay_run<O: Outside>(
-    alloc: Global,
-    command: &RelayCommand<'_>,
-    outside: &mut O,
-) -> Status
+pub fn relay_run<O: Outside>(alloc: Global, command: &RelayCommand<'_>, outside: &mut O) -> Status
     // The list of statuses is closed.
     ensures known { IsRelayStatus result.0 }
     ensures runs { RunsRelay command.now.script.now (O.told outside.old) (O.told outside.new) result.0 }

@@ -1,10 +1,10 @@
 -- A connection, call by call.
-use Rattle.std.proofs.Common.{◌≡◌, ◌≢◌, ◌⊎◌, ℕ, ◌==◌, if◌then◌else◌, Bool, true, false, List, [], ◌∷◌, ◌++◌, refl, sym, ap, ◌∙◌, subst, append_assoc, append-nil, inl, inr}
+use Rattle.std.proofs.Common.{◌≡◌, ◌≢◌, ◌⊎◌, ℕ, ◌==◌, if◌then◌else◌, true, false, List, [], ◌∷◌, ◌++◌, refl, sym, ap, ◌∙◌, subst, append_assoc, append-nil, inl, inr}
 use Rattle.std.proofs.lemmas.Bool.{ne_eqb}
 use Rattle.std.proofs.lemmas.List.Concat.{flat_map-append}
 use Rattle.er_base.specs.declared.side.Side.{Side}
 use Rattle.er_base.specs.declared.side.Side.TheVariants.{E, R}
-use Rattle.outside.specs.Acts.{SeenCall, Listened, Dialled, Turned, Read, Sent, Closed, Act, Fetched, Wrote, Called, Asked, Drew}
+use Rattle.outside.specs.Acts.{Listened, Dialled, Turned, Read, Sent, Closed, Act, Fetched, Wrote, Called, Asked, Drew}
 use Rattle.outside.specs.Doings.{Told, Did}
 use Rattle.outside.specs.Chains.{did_nothing, did_then}
 use Rattle.outside.specs.Scripts.{printing}
@@ -292,7 +292,9 @@ stays_e link way moves = record {
   e = refl;
   r = refl;
   holds = λ script acts l. record {
-    parted = l.parted; told_of_e = l.told_of_e; told_of_r = l.told_of_r;
+    parted = l.parted;
+    told_of_e = l.told_of_e;
+    told_of_r = l.told_of_r;
     from_e = still script E (read_in_acts link.e.0 acts) l.told_of_e (given_in_acts link.r.0 acts) link.from_e way (moves script) l.from_e;
     from_r = l.from_r;
   };
@@ -303,7 +305,9 @@ stays_r link way moves = record {
   e = refl;
   r = refl;
   holds = λ script acts l. record {
-    parted = l.parted; told_of_e = l.told_of_e; told_of_r = l.told_of_r;
+    parted = l.parted;
+    told_of_e = l.told_of_e;
+    told_of_r = l.told_of_r;
     from_e = l.from_e;
     from_r = still script R (read_in_acts link.r.0 acts) l.told_of_r (given_in_acts link.e.0 acts) link.from_r way (moves script) l.from_r;
   };
@@ -314,7 +318,9 @@ prints_e at link way x y p = record {
   e = refl;
   r = refl;
   holds = λ script acts l. record {
-    parted = l.parted; told_of_e = l.told_of_e ++ joined p.parts; told_of_r = l.told_of_r;
+    parted = l.parted;
+    told_of_e = l.told_of_e ++ joined p.parts;
+    told_of_r = l.told_of_r;
     from_e = p.holds script E (read_in_acts link.e.0 acts) l.told_of_e (given_in_acts link.r.0 acts) l.from_e;
     from_r = l.from_r;
   };
@@ -325,7 +331,9 @@ prints_r at link way x y p = record {
   e = refl;
   r = refl;
   holds = λ script acts l. record {
-    parted = l.parted; told_of_e = l.told_of_e; told_of_r = l.told_of_r ++ joined p.parts;
+    parted = l.parted;
+    told_of_e = l.told_of_e;
+    told_of_r = l.told_of_r ++ joined p.parts;
     from_e = l.from_e;
     from_r = p.holds script R (read_in_acts link.r.0 acts) l.told_of_r (given_in_acts link.e.0 acts) l.from_r;
   };

@@ -5,7 +5,7 @@ use Rattle.std.proofs.lemmas.List.Concat.{flat_map-append}
 use Rattle.er_base.specs.declared.side.Side.{Side}
 use Rattle.er_base.specs.Printing.{Begins}
 use Rattle.relay_script.specs.declared.script.Script.{Script}
-use Rattle.relay_model.specs.Units.{parts_from, held_in_standing, standing_behind}
+use Rattle.relay_model.specs.Units.{parts_from}
 use Rattle.relay_model.specs.Loads.{loads_from}
 use Rattle.relay_model.specs.Carried.{loads_of_sent, octets_of_loads, given_of_sent, is_closed_by, carried}
 use Rattle.relay_model.specs.Laws.{ClosedStays}

@@ -61,13 +61,14 @@ older_apart bound r link below less more = record {
 pub pairs_newer : (script : Script) (done acts : List Act) (bound : ℕ) (link : Link) (links : List Link) (dialled : List ℕ) → ((conn : ℕ) → IsUntouched conn acts)
     → bound < link.e.0 → link.e.0 < link.r.0 → ArePaired script done bound links dialled → ArePaired script (done ++ acts) link.r.0 (links ++ link ∷ []) dialled
 pairs_newer script done acts bound link links [] idle less more paired = tt
-pairs_newer script done acts bound link links (r ∷ rest) idle less more paired =
-    (record {
-      is_carried = carried_on script done acts (r - 1) r (idle (r - 1)) (idle r) paired.0.is_carried;
-      below = omega (arith, paired.0.below, less, more);
-      parted = parted_last (r - 1) r link links (inr (older_apart bound r link paired.0.below less more)) paired.0.parted;
-    },
-    pairs_newer script done acts bound link links rest idle less more paired.1)
+pairs_newer script done acts bound link links (r ∷ rest) idle less more paired = (
+  record {
+    is_carried = carried_on script done acts (r - 1) r (idle (r - 1)) (idle r) paired.0.is_carried;
+    below = omega (arith, paired.0.below, less, more);
+    parted = parted_last (r - 1) r link links (inr (older_apart bound r link paired.0.below less more)) paired.0.parted;
+  },
+  pairs_newer script done acts bound link links rest idle less more paired.1,
+)
 
 pub pairs_append : (script : Script) (acts : List Act) (bound : ℕ) (links : List Link) (dialled : List ℕ) (r : ℕ) → ArePaired script acts bound links dialled
     → IsPaired script acts bound links r → ArePaired script acts bound links (dialled ++ r ∷ [])

@@ -1,11 +1,10 @@
 -- What acts of a visit leave of other connections.
-use Rattle.std.proofs.Common.{◌≡◌, ◌≢◌, ◌⊎◌, ℕ, ◌+◌, ◌-◌, List, [], ◌∷◌, ◌++◌, refl, sym, ap, ◌∙◌, append_assoc, append-nil, inl, inr, fold}
+use Rattle.std.proofs.Common.{◌≡◌, ◌≢◌, ◌⊎◌, ℕ, List, [], ◌∷◌, ◌++◌, refl, sym, ap, ◌∙◌, append_assoc, append-nil, inl, inr, fold}
 use Rattle.std.proofs.lemmas.List.Concat.{flat_map-append}
 use Rattle.er_base.specs.Printing.{Begins}
 use Rattle.outside.specs.Acts.{Listened, Dialled, Turned, Read, Sent, Closed, Act, Fetched, Wrote, Called, Asked, Drew, calls_in_acts}
 use Rattle.outside.specs.Seen.{opened_by_call}
 use Rattle.relay_script.specs.declared.script.Script.{Script}
-use Rattle.relay_model.specs.Carried.{carried}
 use Rattle.relay_loop.specs.declared.link.Link.{Link}
 use Rattle.relay_loop.specs.Sending.{given_by_act, given_in_acts}
 use Rattle.relay_loop.specs.Reading.{read_by_act, read_in_acts}

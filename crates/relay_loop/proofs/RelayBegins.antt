@@ -1,16 +1,13 @@
 -- A relay's turns: what is due and what comes is given.
-use Rattle.std.proofs.Common.{◌≡◌, ◌≢◌, ℕ, ◌+◌, ◌-◌, ◌<◌, ◌≤◌, List, [], ◌∷◌, ◌++◌, Option, refl, ◌∙◌, subst, append_assoc, arith}
+use Rattle.std.proofs.Common.{◌≡◌, ℕ, ◌≤◌, List, [], ◌∷◌, ◌++◌, Option, refl, arith}
 use Rattle.link_trait.specs.Wires.{opened_by_turn}
-use Rattle.link_trait.specs.declared.wires.Conn.{Conn}
 use Rattle.link_trait.specs.declared.wires.Happening.{Happening}
 use Rattle.link_trait.specs.declared.wires.Happening.TheVariants as happening
 use Rattle.outside.specs.Acts.{Turned, Act, Called, Asked}
 use Rattle.outside.specs.Doings.{Told, Did}
-use Rattle.outside.specs.Chains.{did_then}
 use Rattle.relay_script.specs.declared.script.Script.{Script}
 use Rattle.relay_loop.specs.declared.link.Link.{Link}
-use Rattle.relay_loop.specs.Relays.{dialled_in_acts, HoldsRelay, Goes, StandsRelay, Accepts, Reacts, TurnsOnce}
-use Rattle.relay_loop.proofs.RelayRings.{goes_then}
+use Rattle.relay_loop.specs.Relays.{dialled_in_acts, HoldsRelay}
 use Rattle.relay_loop.proofs.RelayIdles.{relay_idle}
 
 pub turn_rises : (what : Happening) (n : ℕ) → n ≤ opened_by_turn what n
@@ -37,4 +34,3 @@ opened_behind until what moment s t u turned asked =
     let first : t.wires.opened ≡ opened_by_turn what s.wires.opened = turned.wires.opened in
     let second : u.wires.opened ≡ t.wires.opened = asked.wires.opened in
     omega (arith, first, second, rises)
-

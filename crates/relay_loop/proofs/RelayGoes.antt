@@ -1,18 +1,13 @@
 -- A relay's turns: what is due and what comes is given.
-use Rattle.std.proofs.Common.{◌≡◌, ◌≢◌, ℕ, ◌+◌, ◌-◌, ◌<◌, ◌≤◌, List, [], ◌∷◌, ◌++◌, Option, refl, ◌∙◌, subst, append_assoc, arith}
-use Rattle.link_trait.specs.Wires.{opened_by_turn}
-use Rattle.link_trait.specs.declared.wires.Conn.{Conn}
+use Rattle.std.proofs.Common.{ℕ, ◌≤◌, List, [], ◌∷◌, ◌++◌, Option, subst, append_assoc, arith}
 use Rattle.link_trait.specs.declared.wires.Happening.{Happening}
-use Rattle.link_trait.specs.declared.wires.Happening.TheVariants as happening
 use Rattle.outside.specs.Acts.{Turned, Act, Called, Asked}
 use Rattle.outside.specs.Doings.{Told, Did}
 use Rattle.outside.specs.Chains.{did_then}
 use Rattle.relay_script.specs.declared.script.Script.{Script}
 use Rattle.relay_loop.specs.declared.link.Link.{Link}
-use Rattle.relay_loop.specs.Relays.{dialled_in_acts, HoldsRelay, Goes, StandsRelay, Accepts, Reacts, TurnsOnce}
+use Rattle.relay_loop.specs.Relays.{HoldsRelay, Goes, TurnsOnce}
 use Rattle.relay_loop.proofs.RelayRings.{goes_then}
-use Rattle.relay_loop.proofs.RelayIdles.{relay_idle}
-
 use Rattle.relay_loop.proofs.RelayBegins.{begun}
 
 pub turn_goes : (script : Script) (until : Option ℕ) (what : Happening) (moment : ℕ) (a b c : List Link) (s t u v w : Told) → Did s t (Called (Turned until what) ∷ [])
@@ -30,4 +25,3 @@ turn_goes script until what moment a b c s t u v w turned asked due goes rises =
             (all.holds (done ++ (Called (Turned until what) ∷ Asked moment ∷ [])) st.bound (begun script until what moment done st.bound a st.holds));
       };
     }
-

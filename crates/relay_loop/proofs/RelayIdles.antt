@@ -1,5 +1,5 @@
 -- Acts of a relay at no socket.
-use Rattle.std.proofs.Common.{◌≡◌, ◌≢◌, ℕ, ◌+◌, ◌-◌, ◌<◌, ◌≤◌, List, [], ◌∷◌, ◌++◌, None, true, refl, ◌∙◌}
+use Rattle.std.proofs.Common.{◌≡◌, ℕ, ◌-◌, List, [], ◌∷◌, ◌++◌, None, true, refl, ◌∙◌}
 use Rattle.std.proofs.lemmas.List.Concat.{flat_map-append}
 use Rattle.outside.specs.Scripts.{printing}
 use Rattle.outside.specs.Acts.{Dialled, Closed, Act, Wrote, Called}
@@ -23,9 +23,10 @@ all_idle script done acts (link ∷ links) idle hold =
 pub pairs_idle : (script : Script) (done acts : List Act) (bound : ℕ) (links : List Link) (dialled : List ℕ) → ((conn : ℕ) → IsUntouched conn acts)
     → ArePaired script done bound links dialled → ArePaired script (done ++ acts) bound links dialled
 pairs_idle script done acts bound links [] idle paired = tt
-pairs_idle script done acts bound links (r ∷ rest) idle paired =
-    (record { is_carried = carried_on script done acts (r - 1) r (idle (r - 1)) (idle r) paired.0.is_carried; below = paired.0.below; parted = paired.0.parted },
-    pairs_idle script done acts bound links rest idle paired.1)
+pairs_idle script done acts bound links (r ∷ rest) idle paired = (
+  record { is_carried = carried_on script done acts (r - 1) r (idle (r - 1)) (idle r) paired.0.is_carried; below = paired.0.below; parted = paired.0.parted },
+  pairs_idle script done acts bound links rest idle paired.1,
+)
 
 pub relay_idle : (script : Script) (done acts : List Act) (bound : ℕ) (links : List Link) → ((conn : ℕ) → IsUntouched conn acts) → dialled_in_acts acts ≡ []
     → HoldsRelay script done bound links → HoldsRelay script (done ++ acts) bound links

@@ -1,5 +1,5 @@
 -- The connections of a relay, of which the first is asked.
-use Rattle.std.proofs.Common.{◌≡◌, ◌≢◌, ◌⊎◌, ℕ, ◌+◌, ◌-◌, ◌<◌, ◌≤◌, List, [], ◌∷◌, ◌++◌, refl, sym, ap, ◌∙◌, subst, append_assoc, append-nil, inl, inr, arith}
+use Rattle.std.proofs.Common.{◌≡◌, ◌≢◌, ◌⊎◌, ℕ, ◌-◌, ◌<◌, ◌≤◌, List, [], ◌∷◌, ◌++◌, refl, sym, ap, ◌∙◌, subst, append_assoc, append-nil, inl, inr, arith}
 use Rattle.std.proofs.lemmas.List.Concat.{flat_map-append}
 use Rattle.link_trait.specs.declared.wires.Conn.{Conn}
 use Rattle.outside.specs.Acts.{Act}
@@ -25,10 +25,11 @@ pub all_on : (script : Script) (done acts : List Act) (first : Link) (links : Li
     → AllHold script done links → AllHold script (done ++ acts) links
 all_on script done acts first [] of_visit differ hold = tt
 all_on script done acts first (link ∷ links) of_visit differ hold =
-    let back = differs_back first link differ.0 in
-    (link_on script done acts link (visit_untouched first.e.0 first.r.0 link.e.0 acts of_visit back.e_e back.e_r)
-    (visit_untouched first.e.0 first.r.0 link.r.0 acts of_visit back.r_e back.r_r) hold.0,
-    (hold.1.0, all_on script done acts first links of_visit differ.1 hold.1.1))
+    let back = differs_back first link differ.0 in (
+      link_on script done acts link (visit_untouched first.e.0 first.r.0 link.e.0 acts of_visit back.e_e back.e_r)
+          (visit_untouched first.e.0 first.r.0 link.r.0 acts of_visit back.r_e back.r_r) hold.0,
+      (hold.1.0, all_on script done acts first links of_visit differ.1 hold.1.1),
+    )
 
 -- another stands last behind them
 pub all_last : (script : Script) (acts : List Act) (link : Link) (links : List Link) → HoldsLink script acts link → AllDiffer link.e.0 link.r.0 links
@@ -72,26 +73,28 @@ pub pairs_rotate : (script : Script) (done acts : List Act) (bound : ℕ) (first
     → new.e ≡ first.e → new.r ≡ first.r → HoldsLink script (done ++ acts) new → ArePaired script done bound (first ∷ links) dialled
     → ArePaired script (done ++ acts) bound (links ++ new ∷ []) dialled
 pairs_rotate script done acts bound first new links [] of_visit same_e same_r hold paired = tt
-pairs_rotate script done acts bound first new links (r ∷ rest) of_visit same_e same_r hold paired =
-    (record {
-      is_carried = pair_on script done acts first new r of_visit same_e same_r hold paired.0.parted.0 paired.0.is_carried;
-      below = paired.0.below;
-      parted = parted_last (r - 1) r new links (kept_sockets first new (r - 1) r same_e same_r paired.0.parted.0) paired.0.parted.1;
-    },
-    pairs_rotate script done acts bound first new links rest of_visit same_e same_r hold paired.1)
+pairs_rotate script done acts bound first new links (r ∷ rest) of_visit same_e same_r hold paired = (
+  record {
+    is_carried = pair_on script done acts first new r of_visit same_e same_r hold paired.0.parted.0 paired.0.is_carried;
+    below = paired.0.below;
+    parted = parted_last (r - 1) r new links (kept_sockets first new (r - 1) r same_e same_r paired.0.parted.0) paired.0.parted.1;
+  },
+  pairs_rotate script done acts bound first new links rest of_visit same_e same_r hold paired.1,
+)
 
 -- it is closed, and goes
 pub pairs_drop : (script : Script) (done acts : List Act) (bound : ℕ) (first new : Link) (links : List Link) (dialled : List ℕ) → AreOfVisit first.e.0 first.r.0 acts
     → new.e ≡ first.e → new.r ≡ first.r → HoldsLink script (done ++ acts) new → ArePaired script done bound (first ∷ links) dialled
     → ArePaired script (done ++ acts) bound links dialled
 pairs_drop script done acts bound first new links [] of_visit same_e same_r hold paired = tt
-pairs_drop script done acts bound first new links (r ∷ rest) of_visit same_e same_r hold paired =
-    (record {
-      is_carried = pair_on script done acts first new r of_visit same_e same_r hold paired.0.parted.0 paired.0.is_carried;
-      below = paired.0.below;
-      parted = paired.0.parted.1;
-    },
-    pairs_drop script done acts bound first new links rest of_visit same_e same_r hold paired.1)
+pairs_drop script done acts bound first new links (r ∷ rest) of_visit same_e same_r hold paired = (
+  record {
+    is_carried = pair_on script done acts first new r of_visit same_e same_r hold paired.0.parted.0 paired.0.is_carried;
+    below = paired.0.below;
+    parted = paired.0.parted.1;
+  },
+  pairs_drop script done acts bound first new links rest of_visit same_e same_r hold paired.1,
+)
 
 pub dialled_on : (done acts : List Act) → dialled_in_acts acts ≡ [] → dialled_in_acts (done ++ acts) ≡ dialled_in_acts done
 dialled_on done acts none = flat_map-append dialled_by_act done acts ∙ rw none (append-nil (dialled_in_acts done))

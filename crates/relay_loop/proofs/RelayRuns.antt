@@ -1,5 +1,5 @@
 -- All turns of a relay.
-use Rattle.std.proofs.Common.{◌≡◌, ◌≢◌, ℕ, ◌+◌, ◌-◌, ◌<◌, ◌≤◌, List, [], ◌∷◌, ◌++◌, true, refl, ◌∙◌, arith}
+use Rattle.std.proofs.Common.{ℕ, List, [], ◌∷◌, ◌++◌, true, refl, arith}
 use Rattle.outside.specs.Acts.{Listened, Act, Wrote, Called}
 use Rattle.outside.specs.Doings.{Told, Did}
 use Rattle.outside.specs.Chains.{did_then}

@@ -1,18 +1,13 @@
 -- A relay's turns: what is due and what comes is given.
-use Rattle.std.proofs.Common.{◌≡◌, ◌≢◌, ℕ, ◌+◌, ◌-◌, ◌<◌, ◌≤◌, List, [], ◌∷◌, ◌++◌, Option, refl, ◌∙◌, subst, append_assoc, arith}
-use Rattle.link_trait.specs.Wires.{opened_by_turn}
+use Rattle.std.proofs.Common.{◌≡◌, ℕ, ◌+◌, List, [], ◌∷◌, Option, refl}
 use Rattle.link_trait.specs.declared.wires.Conn.{Conn}
 use Rattle.link_trait.specs.declared.wires.Happening.{Happening}
 use Rattle.link_trait.specs.declared.wires.Happening.TheVariants as happening
-use Rattle.outside.specs.Acts.{Turned, Act, Called, Asked}
+use Rattle.outside.specs.Acts.{Turned, Called, Asked}
 use Rattle.outside.specs.Doings.{Told, Did}
-use Rattle.outside.specs.Chains.{did_then}
 use Rattle.relay_script.specs.declared.script.Script.{Script}
 use Rattle.relay_loop.specs.declared.link.Link.{Link}
-use Rattle.relay_loop.specs.Relays.{dialled_in_acts, HoldsRelay, Goes, StandsRelay, Accepts, Reacts, TurnsOnce}
-use Rattle.relay_loop.proofs.RelayRings.{goes_then}
-use Rattle.relay_loop.proofs.RelayIdles.{relay_idle}
-
+use Rattle.relay_loop.specs.Relays.{Goes, Reacts, TurnsOnce}
 use Rattle.relay_loop.proofs.RelayBegins.{opened_behind}
 use Rattle.relay_loop.proofs.RelayGoes.{turn_goes}
 use Rattle.relay_loop.proofs.RelayTakesIn.{turn_accepts}

@@ -1,5 +1,5 @@
 -- One way of a connection, call by call: what was read, what was told and what was written.
-use Rattle.std.proofs.Common.{◌≡◌, ◌⊎◌, ℕ, true, false, List, [], ◌∷◌, ◌++◌, refl, sym, ap, ◌∙◌, subst, append_assoc, append-nil, take, drop, true≢false, inl, inr}
+use Rattle.std.proofs.Common.{◌≡◌, ◌⊎◌, ℕ, true, false, List, [], ◌++◌, refl, sym, ap, ◌∙◌, subst, append_assoc, append-nil, take, drop, true≢false, inl, inr}
 use Rattle.er_base.specs.declared.side.Side.{Side}
 use Rattle.er_base.specs.Printing.{Begins}
 use Rattle.relay_script.specs.declared.script.Script.{Script}

@@ -5,7 +5,7 @@ use Rattle.std.proofs.lemmas.List.{take-append-drop}
 use Rattle.link_trait.specs.Wires.{reading_of}
 use Rattle.link_trait.specs.declared.wires.ReadAnswer.{ReadAnswer}
 use Rattle.link_trait.specs.declared.wires.ReadAnswer.TheVariants as read_answer
-use Rattle.outside.specs.Acts.{Act, Called, Read}
+use Rattle.outside.specs.Acts.{Called, Read}
 use Rattle.outside.specs.Doings.{Told, Did}
 use Rattle.outside.specs.Chains.{did_nothing}
 use Rattle.relay_script.specs.declared.script.Script.{Script}

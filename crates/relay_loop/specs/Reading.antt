@@ -1,5 +1,5 @@
 -- Contract: what is read of a side, and what comes of it.
-use Rattle.std.specs.Prelude.{◌≡◌, ℕ, ◌==◌, if◌then◌else◌, false, List, [], ◌∷◌, ◌++◌, take}
+use Rattle.std.specs.Prelude.{◌≡◌, ℕ, ◌==◌, if◌then◌else◌, List, [], ◌∷◌, take}
 use Rattle.std.specs.List.{flat_map}
 use Rattle.link_trait.specs.Wires.{Reading}
 use Rattle.link_trait.specs.Wires as wires

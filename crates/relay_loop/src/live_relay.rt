@@ -115,11 +115,7 @@ impl LiveRelay {
 
     // What is due is given.
     #[tactic(auto, using(crate::proofs::RelayRings::goes_none))]
-    fn give_due<O: Outside>(
-        &mut self,
-        script: &Script,
-        outside: &mut O,
-    ) -> Result<(), RelayFault>
+    fn give_due<O: Outside>(&mut self, script: &Script, outside: &mut O) -> Result<(), RelayFault>
         requires range { IsScriptInRange script.now }
         ensures { OnOk result (Goes script.now self.old.links.items self.new.links.items (O.told outside.old) (O.told outside.new)) }
     {

@@ -1,5 +1,5 @@
 -- No line waits.
-use Rattle.std.proofs.Common.{◌≡◌, ◌==◌, ℕ, true, List, [], ◌∷◌, length, eqb-true, sym, ◌∙◌, arith}
+use Rattle.std.proofs.Common.{◌≡◌, ◌==◌, ℕ, true, List, [], ◌∷◌, length, eqb-true, arith}
 use Rattle.outside.specs.Doings.{Told, Did}
 use Rattle.outside.specs.Chains.{did_nothing}
 use Rattle.outside.specs.Scripts.{printing}

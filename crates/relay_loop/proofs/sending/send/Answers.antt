@@ -1,5 +1,4 @@
 -- Write by write.
-use Rattle.std.proofs.Common.{refl}
 use Rattle.relay_loop.proofs.WayCalls.{moves_none}
 use Rattle.relay_loop.proofs.WaySends.{sends_none, sends_one, sends_then}
 use Rattle.relay_loop.proofs.sending.send.Goals as goal
