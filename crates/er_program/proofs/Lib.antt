@@ -32,3 +32,4 @@ pub mod BitActs
 pub mod DrillActs
 pub mod BulkActs
 pub mod PlainActs
+pub mod RelayEnds

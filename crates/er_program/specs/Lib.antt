@@ -24,3 +24,5 @@ pub mod Asking
 pub mod Statuses
 pub mod FileMeans
 pub mod CommandScripts
+pub mod RelayCommands
+pub mod RelayRuns

@@ -118,7 +118,7 @@ fn etcs_number(word: &str) -> Option<EtcsNumber>
     }
 }
 
-fn turns_number(word: &str) -> Option<u64>
+pub(crate) fn turns_number(word: &str) -> Option<u64>
     ensures { result ≡ turns_number word.now }
 {
     if word == "-" {

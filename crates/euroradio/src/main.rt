@@ -2,10 +2,12 @@
 #![tactic(auto)]
 
 mod ended;
+mod listening_wires;
 mod objects;
 mod origin;
 mod recorded_wires;
 mod recording;
+mod relaying;
 mod streams;
 mod system_words;
 mod telling_wires;
@@ -16,6 +18,7 @@ use crate::ended::Ended;
 use crate::objects::position_reports;
 use crate::recorded_wires::RecordedWires;
 use crate::recording::{Recording, RecordingSink};
+use crate::relaying::relay;
 use crate::streams::stand_ins;
 use crate::system_words::SystemWords;
 use crate::telling_wires::TellingWires;
@@ -23,7 +26,7 @@ use crate::watched_cabinet::WatchedCabinet;
 use er_base::{NoMemory, decimal};
 use er_program::{
     Clock, Command, FileCabinet, FileCommand, LineCommand, MachineClock, Sink, Status, StdoutSink,
-    command_from, run, run_off_line, unmade,
+    command_from, relay_from, run, run_off_line, unmade,
 };
 use er_users::{Echo, SafeUser};
 use mio_wires::MioWires;
@@ -176,6 +179,10 @@ fn answered<K: Sink>(
     ends: &mut Vec<u8>,
     sink: &mut K,
 ) -> Option<Ended> {
+    if let Some(command) = relay_from(words) {
+        let mut randoms: SystemWords<ChaCha20Rng> = SystemWords::new(&rt).ok()?;
+        return relay(rt, &command, &mut randoms, sink);
+    }
     match command_from(words) {
         Command::File(command) => Some(off_line(rt, &command, ends, sink)),
         Command::Line(command) => {

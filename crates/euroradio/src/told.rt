@@ -4,7 +4,7 @@ use crate::ended::Ended;
 use er_base::{NoMemory, Release};
 use er_program::{
     Command, FileCommand, FileFault, LineCommand, MOST_FILE_OCTETS, PlainCommand, StdoutSink, Work,
-    command_from,
+    command_from, relay_from,
 };
 use link_trait::Sink;
 use std::alloc::Global;
@@ -29,8 +29,9 @@ pub(crate) const USAGE: &str = "usage: euroradio COMMAND, one of
   migrate KEYS                          prints a key file as one of version 2
   serve KEYS ADDRESS RBC TURNS          serves trains at an IP address and port, as 127.0.0.1:4711
   call KEYS ADDRESS ENGINE RBC TURNS    calls as a train
+  relay SCRIPT LISTEN DIAL TURNS        passes octets between two devices, but for what a script says
   --help, --version                     print this text, and which program this is
-ADDRESS is an IP address and a port. ENGINE and RBC are ETCS numbers, 0 to 16777215. TURNS is 0 to 1000000000, or - for no bound.
+ADDRESS, LISTEN and DIAL are an IP address and a port each. ENGINE and RBC are ETCS numbers, 0 to 16777215. TURNS is 0 to 1000000000, or - for no bound.
 ";
 
 /// The standard output is closed.
@@ -55,7 +56,7 @@ pub(crate) fn ended(rt: HostRuntime, words: &[String], ended: &Ended, last: &[u8
         }
         2 => tell(rt, unfetched(rt.alloc(), last, ended.file)),
         3 => {
-            if let Some((kind, name)) = file_of(&command) {
+            if let Some((kind, name)) = file_of(words) {
                 let text = octets_again(rt, name);
                 tell(
                     rt,
@@ -72,19 +73,19 @@ pub(crate) fn ended(rt: HostRuntime, words: &[String], ended: &Ended, last: &[u8
         5 => {
             let _ = eprintln!(rt; "euroradio: a write to the standard output failed");
         }
-        6 => tell(rt, wires_failed(rt.alloc(), &command, ended)),
+        6 => tell(rt, wires_failed(rt.alloc(), words, ended)),
         7 => {
             let _ = eprintln!(rt; "euroradio: memory ran out");
         }
         8 => {
-            let name = match file_of(&command) {
+            let name = match file_of(words) {
                 Some((_, name)) => name,
                 None => "bulk",
             };
             tell(rt, overfull(rt.alloc(), name, last));
         }
         9 => {
-            if let Some((_, name)) = file_of(&command) {
+            if let Some((_, name)) = file_of(words) {
                 tell(rt, recording_differs(rt.alloc(), name, last));
             }
         }
@@ -112,8 +113,11 @@ pub(crate) fn ends_of_streams(rt: HostRuntime, words: &[String], ended: &Ended, 
 }
 
 // The file that a command reads besides keys.
-fn file_of<'a>(command: &Command<'a>) -> Option<(FileKind, &'a str)> {
-    match *command {
+fn file_of(words: &[String]) -> Option<(FileKind, &str)> {
+    if let Some(relay) = relay_from(words) {
+        return Some((FileKind::Script, relay.script));
+    }
+    match command_from(words) {
         Command::File(FileCommand::Plain(command)) => plain_file_of(&command),
         Command::File(FileCommand::Keyed(command)) => Some((kind_of(command.work), command.name)),
         Command::Line(_) => None,
@@ -239,6 +243,7 @@ fn wanted_by(command: &str) -> Option<(&'static str, usize)> {
         "bulk" => Some(("SEED COUNT", 2)),
         "serve" => Some(("KEYS ADDRESS RBC TURNS", 4)),
         "call" => Some(("KEYS ADDRESS ENGINE RBC TURNS", 5)),
+        "relay" => Some(("SCRIPT LISTEN DIAL TURNS", 4)),
         _ => None,
     }
 }
@@ -272,9 +277,18 @@ fn unfetched(alloc: Global, last: &[u8], why: Option<FileFault>) -> Result<Strin
 }
 
 // Why a listen, a dial or a turn failed.
-fn wires_failed(alloc: Global, command: &Command<'_>, ended: &Ended) -> Result<String, NoMemory> {
+fn wires_failed(alloc: Global, words: &[String], ended: &Ended) -> Result<String, NoMemory> {
     let mut line = String::new(alloc);
-    if let Command::Line(command) = *command {
+    if let Some(relay) = relay_from(words) {
+        put_text(
+            &mut line,
+            match ended.wires {
+                Some(_) => relay.listen,
+                None => relay.dial,
+            },
+        )?;
+    }
+    if let Command::Line(command) = command_from(words) {
         match command {
             LineCommand::Serve { address, .. } | LineCommand::Call { address, .. } => {
                 put_text(&mut line, address)?;
@@ -283,6 +297,8 @@ fn wires_failed(alloc: Global, command: &Command<'_>, ended: &Ended) -> Result<S
     }
     match ended.wires {
         Some(why) => write!(line, ": {why}")?,
+        // The address to dial was looked at before anything was asked of the wires.
+        None if relay_from(words).is_some() => line.push_str(": no IP address and port")?,
         None => line.push_str(": the system refused it")?,
     }
     Ok(line)

@@ -1,6 +1,6 @@
 //! The connections: those that are open, with what happened at them, and those that leave.
 
-ghost use Rattle.std.specs.Prelude.{◌≡◌, ◌==◌, ◌<◌, ◌+◌, ◌⊎◌, true, Some, [], ◌∷◌, length, Ok, IfSome, IsSome, IsSomeAnd};
+ghost use Rattle.std.specs.Prelude.{◌≡◌, ◌==◌, ◌<◌, ◌≤◌, ◌+◌, ◌⊎◌, true, Some, [], ◌∷◌, length, Ok, IfSome, IsSome, IsSomeAnd};
 ghost use Rattle.std.specs.IoError.{error_kind};
 ghost use Rattle.std.specs.Io.{ReadsAtMost, WritesAtMost};
 ghost use Rattle.slab.specs.Slab.{get};
@@ -24,16 +24,16 @@ use std::net::{Shutdown, SocketAddr};
 /// The most connections that are open at once: 256 that are live, and one that is accepted to be closed.
 pub const MOST_CONNECTIONS: usize = 257;
 
+/// The same where each of the 256 has another one dialled for it.
+pub const MOST_PAIRED: usize = 2 * 256 + 1;
+
 // The most connections that leave at once.
-const MOST_LEAVING: usize = 256;
+pub const MOST_LEAVING: usize = 256;
 
 // Each connection has a slot, below this, which is its token.
-pub const SLOTS: usize = MOST_CONNECTIONS + MOST_LEAVING;
+const SLOTS: usize = MOST_PAIRED + MOST_LEAVING;
 
 pub const LISTENER: Token = Token(SLOTS);
-
-// A listener, and two happenings a connection.
-const MOST_SEEN: usize = 2 * MOST_CONNECTIONS + 1;
 
 // How many octets are read away from one that leaves.
 const MOST_READ_AWAY: usize = 262_144;
@@ -125,6 +125,8 @@ pub struct Place {
 
 #[derive(Drop)]
 pub struct Lines {
+    // The most connections that are open at once.
+    most: usize,
     slots: Slab<Line>,
     // The open connections by their numbers, which rise: the newest stands last.
     places: Vec<Place>,
@@ -133,19 +135,23 @@ pub struct Lines {
 }
 
 impl Lines {
-    // No connection, with the memory for all that can be.
-    pub fn new(alloc: Global) -> Result<Lines, NoMemory> {
+    // No connection, with the memory for all that can be: at most so many that are open, and those that leave. In the queue stand a listener, and two
+    // happenings a connection.
+    pub fn new(alloc: Global, most: usize) -> Result<Lines, NoMemory>
+        requires { most ≤ 513 }
+    {
         Ok(Lines {
-            slots: Slab::with_capacity(alloc, SLOTS)?,
-            places: Vec::with_capacity(alloc, MOST_CONNECTIONS)?,
+            most,
+            slots: Slab::with_capacity(alloc, most + MOST_LEAVING)?,
+            places: Vec::with_capacity(alloc, most)?,
             leaving: Leavers::with_capacity(alloc, MOST_LEAVING)?,
-            queue: Queue::with_capacity(alloc, MOST_SEEN)?,
+            queue: Queue::with_capacity(alloc, 2 * most + 1)?,
         })
     }
 
     // Whether as many connections are open as can be.
     pub fn is_full(&self) -> bool {
-        self.places.len() >= MOST_CONNECTIONS
+        self.places.len() >= self.most
     }
 
     // Whether no happening stands in the queue.

@@ -11,7 +11,7 @@ ghost use Rattle.mio_wires.specs.Waiting.{WaitsUntil, earlier};
 
 use crate::accepting::accept;
 use crate::faults::WireFault;
-use crate::lines::{LISTENER, Lines, SLOTS, Start};
+use crate::lines::{LISTENER, Lines, MOST_LEAVING, Start};
 use crate::moments::Moments;
 use crate::options::set_for_frames;
 use crate::queue::Seen;
@@ -61,16 +61,18 @@ pub struct Sockets<R: Net + Clock + Drop> {
 }
 
 impl<R: Net + Clock + Drop> Sockets<R> {
-    // No socket yet, with the memory for all that can be opened.
-    pub fn new(alloc: Global, rt: R) -> Result<Sockets<R>, NoMemory> {
+    // No socket yet, with the memory for all that can be opened, at most so many at once.
+    pub fn new(alloc: Global, rt: R, most: usize) -> Result<Sockets<R>, NoMemory>
+        requires { most ≤ 513 }
+    {
         let poll = Poll::new(&rt);
         let moments = Moments::by_the_wall(&rt);
         Ok(Sockets {
             rt,
             poll,
-            events: Events::with_capacity(alloc, SLOTS + 1)?,
+            events: Events::with_capacity(alloc, most + MOST_LEAVING + 1)?,
             listener: None,
-            lines: Lines::new(alloc)?,
+            lines: Lines::new(alloc, most)?,
             is_held_back: false,
             again_at: None,
             at_once: 0,

@@ -1,11 +1,12 @@
 //! Wires over sockets: the sockets, and beside them numbers and counts of faults.
 
-ghost use Rattle.std.specs.Prelude.{◌≡◌, ◌≢◌, ℕ, IfOk, None};
+ghost use Rattle.std.specs.Prelude.{◌≡◌, ◌≢◌, ◌≤◌, ℕ, IfOk, None};
 ghost use Rattle.link_trait.specs.Wires.{opened_by_turn};
 ghost use Rattle.mio_wires.specs.Counting.{unused};
 ghost use Rattle.mio_wires.specs.Telling.{told_as_happening};
 
 use crate::faults::WireFault;
+use crate::lines::{MOST_CONNECTIONS, MOST_PAIRED};
 use crate::queue::Seen;
 use crate::sockets::Sockets;
 use er_base::NoMemory;
@@ -20,8 +21,8 @@ use std::rt::Clock;
 /// An address is an IP address and a port, as `127.0.0.1:4711`; a listen or dial of any other text fails, and no name is
 /// looked up. What happened stands in a queue, each happening once, and a turn answers the first. Where none stands there it
 /// polls before, until the given moment; where one does it polls only behind sixteen answers and behind an accepted
-/// connection, and doesn't wait. At most 257 connections are open at once: while they are, nothing is accepted, and a dial
-/// fails. Only [`new`](MioWires::new) takes memory.
+/// connection, and doesn't wait. At most 257 connections are open at once, 513 where they are [`paired`](MioWires::paired): while
+/// they are, nothing is accepted, and a dial fails. Only the two calls that make it take memory.
 ///
 /// A connection is writable once it was dialled and is made, and once there is room behind a write that took less than the
 /// whole piece. Other room isn't told.
@@ -62,8 +63,23 @@ impl<R: Net + Clock + Drop> MioWires<R> {
     pub fn new(alloc: Global, rt: R) -> Result<MioWires<R>, NoMemory>
         ensures { IfOk result (λ wires. wires ≡ unused) }
     {
+        MioWires::with_most(alloc, rt, MOST_CONNECTIONS)
+    }
+
+    /// The same where each connection that is accepted has another one dialled for it: at most 513 are open at once.
+    pub fn paired(alloc: Global, rt: R) -> Result<MioWires<R>, NoMemory>
+        ensures { IfOk result (λ wires. wires ≡ unused) }
+    {
+        MioWires::with_most(alloc, rt, MOST_PAIRED)
+    }
+
+    // Wires without a connection, of which at most so many are open at once.
+    fn with_most(alloc: Global, rt: R, most: usize) -> Result<MioWires<R>, NoMemory>
+        requires { most ≤ 513 }
+        ensures { IfOk result (λ wires. wires ≡ unused) }
+    {
         Ok(MioWires {
-            sockets: Sockets::new(alloc, rt)?,
+            sockets: Sockets::new(alloc, rt, most)?,
             opened: 0,
             listening: false,
             faults: 0,

@@ -9,6 +9,8 @@ pub enum FileKind {
     Tap,
     /// A recorded synchronous line.
     Bits,
+    /// The script of a relay.
+    Script,
 }
 
 impl FileKind {
@@ -22,6 +24,7 @@ impl FileKind {
             }
             FileKind::Tap => "a tap begins with the line 'tap 1'",
             FileKind::Bits => "a recorded line has no header",
+            FileKind::Script => "a script begins with the line 'relay 1'",
         }
     }
 
@@ -34,6 +37,7 @@ impl FileKind {
             FileKind::Trace => "> before an event, < before an outcome",
             FileKind::Tap => "link, octets",
             FileKind::Bits => "none",
+            FileKind::Script => "lose, repeat, alter, put, delay, close",
         }
     }
 }

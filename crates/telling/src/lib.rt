@@ -13,6 +13,7 @@ mod key_faults;
 mod last_line;
 mod line_words;
 mod refusals;
+mod script_words;
 mod sentence;
 mod shown;
 mod tally;

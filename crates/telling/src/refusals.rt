@@ -3,6 +3,7 @@
 use crate::drill_words::{drill_words, levels, setting_values};
 use crate::file_kind::FileKind;
 use crate::line_words::LineWords;
+use crate::script_words::script_words;
 use crate::sentence::{NOTHING, Piece, Sentence, put_sentence};
 use crate::shown::put_text;
 use crate::tap_words::tap_words;
@@ -188,6 +189,7 @@ fn shape_of(kind: FileKind, words: &LineWords<'_>) -> Option<Shape> {
         FileKind::Drill => shape_at(0, drill_words(words.at(0))),
         FileKind::Tap => shape_at(0, tap_words(words.at(0))),
         FileKind::Trace => shape_in_trace(words),
+        FileKind::Script => shape_at(0, script_words(words.at(0))),
         FileKind::Bits => None,
     }
 }

@@ -1,7 +1,11 @@
 use er_base::{MOST_ETCS_NUMBER, MOST_MOMENT, decimal};
+use relay_script::UnitKind;
 
 // The most octets of a HEX word.
 const MOST_OCTETS: usize = 4_096;
+
+// The greatest number, place and delay of a script.
+const MOST_OF_SCRIPT: u64 = 1_000_000_000;
 
 /// What a word of a line is to be.
 #[derive(Clone, Copy, PartialEq, Eq)]
@@ -19,6 +23,9 @@ pub(crate) enum Wanted {
     Passes,
     Number,
     Releaser,
+    UnitKind,
+    Ordinal,
+    Delay,
     Any,
 }
 
@@ -39,6 +46,11 @@ impl Wanted {
             Wanted::Passes => "a number of passes, 1 to 100000",
             Wanted::Number => "a number of 64 bits, in decimal digits",
             Wanted::Releaser => "local or peer",
+            Wanted::UnitKind => {
+                "a kind of units, any, bad, i, rr, rnr, rej, srej, sabm, ua, disc, dm, frmr, other, cr, cc, dr, dc, dt, ak or er"
+            }
+            Wanted::Ordinal => "a number, 1 to 1000000000",
+            Wanted::Delay => "milliseconds, 0 to 1000000000",
             Wanted::Any => "a word",
         }
     }
@@ -61,6 +73,9 @@ impl Wanted {
             Wanted::Passes => is_number(word, 1, 100_000),
             Wanted::Number => decimal(word).is_some(),
             Wanted::Releaser => word == b"local".as_slice() || word == b"peer".as_slice(),
+            Wanted::UnitKind => UnitKind::named(word).is_some(),
+            Wanted::Ordinal => is_number(word, 1, MOST_OF_SCRIPT),
+            Wanted::Delay => is_number(word, 0, MOST_OF_SCRIPT),
             Wanted::Any => true,
         }
     }

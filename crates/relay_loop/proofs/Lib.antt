@@ -1,0 +1,15 @@
+pub mod LiveWays
+pub mod WayCalls
+pub mod WayPrints
+pub mod WaySends
+pub mod WayTakes
+pub mod LinkCalls
+pub mod RelayActs
+pub mod RelayRings
+pub mod RelayIdles
+pub mod RelayAccepts
+pub mod RelayBegins
+pub mod RelayGoes
+pub mod RelayTakesIn
+pub mod RelayTurns
+pub mod RelayRuns

@@ -1,0 +1,6 @@
+-- First what came from e, then what came from r.
+use Rattle.std.proofs.Common.{refl}
+use Rattle.relay_loop.proofs.link.Link.print_due.Goals as goal
+
+pub returns : goal.returns
+returns c = record { between = _; from_e = c.in_ok-print_unless.ensures; from_r = c.in_ok-print_unless-2.ensures; is = refl }

@@ -1,0 +1,12 @@
+-- Behind a line that closes the connection, and else.
+use Rattle.std.proofs.Common.{sym, ◌∙◌}
+use Rattle.relay_loop.proofs.WayCalls.{ends, closed_ends}
+use Rattle.relay_loop.proofs.way.Way.end.Goals as goal
+
+pub returns-then-is_closed-clause-ends : goal.returns-then-is_closed-clause-ends
+returns-then-is_closed-clause-ends c = λ script. closed_ends script c.args.self.now c.requires.unended (sym c.is_closed.ensures ∙ c.if-is_closed.true)
+
+pub returns-clause-ends : goal.returns-clause-ends
+returns-clause-ends c = λ script.
+    ends script c.args.self.now c.keep_held.new.self _ _ c.requires.unended (c.in_ok-due.ensures.given script) c.in_ok-keep_held.ensures.side
+    c.in_ok-keep_held.ensures.lost c.in_ok-keep_held.ensures.keeps

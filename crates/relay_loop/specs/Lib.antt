@@ -1,0 +1,9 @@
+pub mod RelayLines
+pub mod Ways
+pub mod WaySteps
+pub mod Sending
+pub mod Reading
+pub mod Links
+pub mod Giving
+pub mod KnownAnswers
+pub mod Relays

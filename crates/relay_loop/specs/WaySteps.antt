@@ -1,0 +1,46 @@
+-- Contract: what calls do to one way of a connection.
+use Rattle.std.specs.Prelude.{◌≡◌, ℕ, false, List, [], ◌++◌}
+use Rattle.std.specs.List.{flat_map}
+use Rattle.er_base.specs.declared.side.Side.{Side}
+use Rattle.relay_script.specs.declared.script.Script.{Script}
+use Rattle.relay_loop.specs.declared.stamp.Stamp.{Stamp}
+use Rattle.relay_loop.specs.declared.way.Way.{Way}
+use Rattle.relay_loop.specs.RelayLines.{given_line}
+use Rattle.relay_loop.specs.Ways.{octets_of_pieces, HoldsWay}
+
+-- what is given for what came waits behind all that waits
+pub record Keeps (old new : Way) (given : List ℕ) : Type 0 where
+  pub side : new.side ≡ old.side
+  pub carrier : new.carrier ≡ old.carrier
+  pub printed : new.printed.items ≡ old.printed.items
+  pub ended : new.ended ≡ old.ended
+  pub lost : new.lost ≡ old.lost
+  pub waits : octets_of_pieces new.waits.items ≡ octets_of_pieces old.waits.items ++ given
+
+-- these octets were read of the side, and these written to the other; nothing was told
+abbrev pub Moves : Script → (octets written : List ℕ) → (old new : Way) → Type 0
+Moves script octets written old new =
+    (side : Side) (read told gave : List ℕ) → HoldsWay script side read told gave old → HoldsWay script side (read ++ octets) told (gave ++ written) new
+
+abbrev pub joined : List (List ℕ) → List ℕ
+joined parts = flat_map (λ part. part) parts
+
+-- the lines of these parts of what is given
+abbrev pub given_lines : Stamp → Side → List (List ℕ) → List ℕ
+given_lines at side parts = flat_map (λ part. given_line at.moment at.number side part) parts
+
+-- parts of what is given are printed, each in a line: they were told
+pub record PrintsGiven (at : Stamp) (old new : Way) (before after : List ℕ) : Type 0 where
+  pub parts : List (List ℕ)
+  pub lines : after ≡ before ++ given_lines at old.side parts
+  pub same_side : new.side ≡ old.side
+  pub holds : (script : Script) (side : Side) (read told gave : List ℕ) → HoldsWay script side read told gave old
+      → HoldsWay script side read (told ++ joined parts) gave new
+
+-- octets were read, of which this rest is left to take
+pub record TakesSoFar (script : Script) (octets rest : List ℕ) (old now : Way) : Type 0 where
+  pub front : List ℕ
+  pub cut : octets ≡ front ++ rest
+  pub unended : now.ended ≡ false
+  pub alive : now.lost ≡ false
+  pub moves : Moves script front [] old now
