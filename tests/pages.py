@@ -12,7 +12,7 @@ What is looked for of a text in backticks; {A, B} behind /, . or :: stands for e
 Comments of code and definitions don't count. Words of capitals alone stand for others, as NAME does, and what begins with / lies elsewhere. What the
 tree needn't have is in the list here. A row of a table, and a claim of docs/CLAIMS.md, says names of the crates that it names itself, by `CRATE/specs` or
 `CRATE::`: there each definition and type must stand in one of these, and of "`NAME` of CRATE" the name in that crate, on every page. Of counts those of
-crates, of must-fail edits and of claims are looked at wherever a page tells ten or more.
+crates, of must-fail edits, of claims and of wrong designs are looked at wherever a page tells ten or more; docs/CLAIMS.md names each design.
 
 And the pages can be read: no sentence above 50 words, no cell of a table above 300 characters, no line above 200 columns but in tables and code blocks, no
 day but in docs/SPEED.md and docs/DECISIONS.md; README.md has at most 120 lines of at most 120 columns.
@@ -169,6 +169,7 @@ def counts(tree):
         r"crates": len(tree.crates),
         r"must-fail edits": sum(path.endswith(".edit") for path in tree.files),
         r"claims": listed.count("\n"),
+        r"wrong designs of the code": sum(path.startswith("tests/designs/") for path in tree.files),
         r"lines of code, definitions and proofs": round(sum(read(path).count("\n") for path in of_code), -4),
     }
 
@@ -198,6 +199,13 @@ def lost_in_blocks(tree, page):
                 yield number, it
             if named and re.fullmatch(r"[A-Z]\w*[a-z]\w*", it) and not any(it in tree.of_crate[crate] for crate in named):
                 yield number, it
+
+
+def unnamed_designs(tree):
+    """Each wrong design of the code that docs/CLAIMS.md doesn't name."""
+    text = read("docs/CLAIMS.md")
+    names = sorted(os.path.splitext(os.path.basename(path))[0] for path in tree.files if path.startswith("tests/designs/"))
+    return [f"docs/CLAIMS.md: the design `{name}` isn't there" for name in names if f"`{name}`" not in text]
 
 
 def lost_of_crates(tree, page):
@@ -290,7 +298,7 @@ def main():
             else:
                 failed += 1
                 print(f"{page}:{line}: {said} {what}: there are {there}")
-    for fault in crate_table.faults() + proved.faults():
+    for fault in crate_table.faults() + proved.faults() + unnamed_designs(tree):
         failed += 1
         print(fault)
     needless = sorted(word for word in elsewhere if word in tree.all)
