@@ -15,7 +15,7 @@ tree needn't have is in the list here. A row of a table, and a claim of docs/CLA
 crates, of must-fail edits, of claims and of wrong designs are looked at wherever a page tells ten or more; docs/CLAIMS.md names each design.
 
 And the pages can be read: no sentence above 50 words, no cell of a table above 300 characters, no line above 200 columns but in tables and code blocks, no
-day but in docs/SPEED.md and docs/DECISIONS.md; README.md has at most 120 lines of at most 120 columns.
+day but in docs/SPEED.md and docs/DECISIONS.md, no entry of the latter above 60 words; README.md has at most 120 lines of at most 120 columns.
 """
 import fnmatch
 import os
@@ -45,6 +45,7 @@ PATH = re.compile(r"(?<![\w./-])[\w.*-]+(?:/[\w.*-]+)+/?|(?<![\w./-])[\w-]+/(?!\
 NAMES = re.compile(r"\w+(?:::\w+)+")
 # What a page may have at the most.
 MOST_WORDS, MOST_CELL, MOST_COLUMNS = 50, 300, 200
+MOST_OF_DECISION = 60
 README_LINES, README_COLUMNS = 120, 120
 DAY = re.compile(r"\b20\d\d-\d\d-\d\d\b")
 DATED = ("docs/SPEED.md", "docs/DECISIONS.md")
@@ -252,6 +253,8 @@ def unreadable(page):
     if page == "README.md" and len(lines) - 1 > README_LINES:
         yield README_LINES + 1, f"{len(lines) - 1} lines"
     for number, text in paragraphs(page):
+        if page == "docs/DECISIONS.md" and len(text.split()) > MOST_OF_DECISION:
+            yield number, f"a decision of {len(text.split())} words"
         for sentence in SENTENCE.split(text):
             if len(sentence.split()) > MOST_WORDS:
                 yield number, f"a sentence of {len(sentence.split())} words: {' '.join(sentence.split()[:10])} .."
