@@ -72,7 +72,7 @@ def faults(write=False):
         return []
     if text[begin : end + len(END)] == made:
         return []
-    old = set(text[begin:end].split("\n"))
+    old = set(text[begin : end + len(END)].split("\n"))
     return [f"docs/ARCHITECTURE.md hasn't this row: {row}" for row in made.split("\n") if row not in old] or ["docs/ARCHITECTURE.md has rows of crates too many"]
 
 

@@ -212,7 +212,7 @@ def unnamed_designs(tree):
 def lost_of_crates(tree, page):
     """(line, name, crate) of each name that is said of a crate, as `NAME` of CRATE, and isn't in it."""
     text = read(page)
-    for found in re.finditer(r"`(\w+)`(?:,? (?:and )?`\w+`)* of `?([a-z_0-9]+)\b`?(?!::|/)", text):
+    for found in re.finditer(r"`(\w+)`(?:,? (?:and )?`\w+`)*\s+of\s+`?([a-z_0-9]+)\b`?(?!::|/)", text):
         if found[2] in tree.crates and "_" in found[2] and found[1] not in tree.of_crate[found[2]]:
             yield text[: found.start()].count("\n") + 1, found[1], found[2]
 
