@@ -217,6 +217,16 @@ def lost_of_crates(tree, page):
             yield text[: found.start()].count("\n") + 1, found[1], found[2]
 
 
+def without_edits(tree, page):
+    """(line, crate) of each crate whose must-fail edits a page speaks of, as "edits of CRATE", and that has none."""
+    text = read(page)
+    edited = {path.split("/")[1] for path in tree.files if path.endswith(".edit")}
+    for found in re.finditer(r"\bedits?\s+of\s+(\w+(?:(?:,\s+|\s+and\s+)\w+)*)", text):
+        for crate in re.findall(r"\w+", found[1]):
+            if crate in tree.crates and crate not in edited:
+                yield text[: found.start()].count("\n") + 1, crate
+
+
 def paragraphs(page):
     """(line, text) of each paragraph, item of a list and heading outside of tables and code blocks."""
     begin, found, inside = 0, [], False
@@ -292,6 +302,9 @@ def main():
         for line, name, crate in lost_of_crates(tree, page):
             failed += 1
             print(f"{page}:{line}: `{name}`: {crate} hasn't it")
+        for line, crate in without_edits(tree, page):
+            failed += 1
+            print(f"{page}:{line}: {crate} has no must-fail edit")
         for line, what in unreadable(page):
             failed += 1
             print(f"{page}:{line}: {what}")
