@@ -280,49 +280,40 @@ def told(page, counted):
                 yield text[: found.start()].count("\n") + 1, what, said, there
 
 
+def faults_of(tree, page, counted):
+    """(line, what) of each fault of a page, but of the names in backticks."""
+    for line, name in lost_in_blocks(tree, page):
+        yield line, f"`{name}`: no crate that is named beside it has it"
+    for line, name, crate in lost_of_crates(tree, page):
+        yield line, f"`{name}`: {crate} hasn't it"
+    for line, crate in without_edits(tree, page):
+        yield line, f"{crate} has no must-fail edit"
+    for line, what, said, there in told(page, counted):
+        if said != there:
+            yield line, f"{said} {what}: there are {there}"
+    yield from unreadable(page)
+
+
 def main():
     tree = Tree()
     elsewhere = {word for words in ELSEWHERE.values() for word in words.split()}
     counted = counts(tree)
     pages = ["README.md"] + [f"docs/{name}" for name in sorted(os.listdir(os.path.join(TOP, "docs"))) if name.endswith(".md")]
-    passed = failed = 0
+    passed, faults = 0, []
     for page in pages:
         for line, text in in_backticks(page):
             if "--names" in sys.argv[1:]:
                 print(f"{page}:{line}: {text}")
             lacking = [word for word in tree.lacks(text) if word not in elsewhere]
-            if lacking:
-                failed += 1
-                print(f"{page}:{line}: `{text}`: the tree has no {', '.join(lacking)}")
-            else:
-                passed += 1
-        for line, name in lost_in_blocks(tree, page):
-            failed += 1
-            print(f"{page}:{line}: `{name}`: no crate that is named beside it has it")
-        for line, name, crate in lost_of_crates(tree, page):
-            failed += 1
-            print(f"{page}:{line}: `{name}`: {crate} hasn't it")
-        for line, crate in without_edits(tree, page):
-            failed += 1
-            print(f"{page}:{line}: {crate} has no must-fail edit")
-        for line, what in unreadable(page):
-            failed += 1
-            print(f"{page}:{line}: {what}")
-        for line, what, said, there in told(page, counted):
-            if said == there:
-                passed += 1
-            else:
-                failed += 1
-                print(f"{page}:{line}: {said} {what}: there are {there}")
-    for fault in crate_table.faults() + proved.faults() + unnamed_designs(tree):
-        failed += 1
-        print(fault)
+            passed += not lacking
+            faults += [f"{page}:{line}: `{text}`: the tree has no {', '.join(lacking)}"] if lacking else []
+        faults += [f"{page}:{line}: {what}" for line, what in faults_of(tree, page, counted)]
+    faults += crate_table.faults() + proved.faults() + unnamed_designs(tree)
     needless = sorted(word for word in elsewhere if word in tree.all)
     if needless:
-        failed += 1
-        print(f"the list of what needn't be there names what is there: {', '.join(needless)}")
-    print(f"{passed} passed, {failed} failed")
-    return 1 if failed or not passed else 0
+        faults.append(f"the list of what needn't be there names what is there: {', '.join(needless)}")
+    print("\n".join(faults + [f"{passed} passed, {len(faults)} failed"]))
+    return 1 if faults or not passed else 0
 
 
 if __name__ == "__main__":
