@@ -59,8 +59,9 @@ homes, listed = collections.defaultdict(set), {}
 for path in glob.glob("crates/*/specs/**/*.antt", recursive=True):
     for name in re.findall(r"^(?:abbrev|unfoldable) pub ([^\s:]+)", open(path, encoding="utf-8").read(), re.M):
         homes[name].add(path.split("/")[1])
-for row in re.finditer(r"^\| `([^`]+)` \| ([^|]+) \| [^|]+ \|$", open("docs/NAMES.md", encoding="utf-8").read(), re.M):
-    listed[row.group(1)] = set(re.findall(r"`(\w+)`", row.group(2)))
+for row in re.finditer(r"^\| (`[^|]+`) \| (`[^|]+`) \| [^|]+ \|$", open("docs/NAMES.md", encoding="utf-8").read(), re.M):
+    for name in re.findall(r"`([^`]+)`", row.group(1)):
+        listed[name] = set(re.findall(r"`(\w+)`", row.group(2)))
 homes = {name: crates for name, crates in homes.items() if len(crates) > 1}
 wrong = [name for name in sorted(homes.keys() | listed.keys()) if homes.get(name) != listed.get(name)]
 for name in wrong:

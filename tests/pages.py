@@ -10,7 +10,12 @@ What is looked for of a text in backticks; {A, B} behind /, . or :: stands for e
 | any other | each word, in any file of the tree but the pages; of `_name` a word that ends so |
 
 Comments of code and definitions don't count. Words of capitals alone stand for others, as NAME does, and what begins with / lies elsewhere. What the
-tree needn't have is in the list here. Of counts those of crates, of must-fail edits and of claims are looked at wherever a page tells ten or more.
+tree needn't have is in the list here. A row of a table, and a claim of docs/CLAIMS.md, says names of the crates that it names itself, by `CRATE/specs` or
+`CRATE::`: there each definition and type must stand in one of these, and of "`NAME` of CRATE" the name in that crate, on every page. Of counts those of
+crates, of must-fail edits, of claims and of wrong designs are looked at wherever a page tells ten or more; docs/CLAIMS.md names each design.
+
+And the pages can be read: no sentence above 50 words, no cell of a table above 300 characters, no line above 200 columns but in tables and code blocks, no
+day but in docs/SPEED.md and docs/DECISIONS.md, no entry of the latter above 60 words; README.md has at most 120 lines of at most 120 columns.
 """
 import fnmatch
 import os
@@ -19,6 +24,10 @@ import subprocess
 import sys
 
 sys.dont_write_bytecode = True
+
+import crates as crate_table  # noqa: E402
+import proved  # noqa: E402
+
 TOP = os.path.dirname(os.path.dirname(os.path.abspath(__file__)))
 # Words that the tree needn't have, by the reason.
 ELSEWHERE = {
@@ -34,6 +43,14 @@ WORD = re.compile(r"(?<![A-Za-z_0-9])[A-Za-z_][A-Za-z_0-9]*")
 PIECE = re.compile(r"(?<=/|\.|:)\{([^{}]*)\}")
 PATH = re.compile(r"(?<![\w./-])[\w.*-]+(?:/[\w.*-]+)+/?|(?<![\w./-])[\w-]+/(?!\S)")
 NAMES = re.compile(r"\w+(?:::\w+)+")
+# What a page may have at the most.
+MOST_WORDS, MOST_CELL, MOST_COLUMNS = 50, 300, 200
+MOST_OF_DECISION = 60
+README_LINES, README_COLUMNS = 120, 120
+DAY = re.compile(r"\b20\d\d-\d\d-\d\d\b")
+DATED = ("docs/SPEED.md", "docs/DECISIONS.md")
+SENTENCE = re.compile(r"(?<=[\w`)\]\"*'])[.?!][)\"*_]*(?=\s)")
+NAMED_CRATE = re.compile(r"\b([a-z_0-9]+)(?=/specs|/proofs|::)")
 COMMENT = {".rt": re.compile(r"//.*"), ".antt": re.compile(r"(^|\s)--(\s.*)?$", re.M)}
 
 
@@ -49,8 +66,8 @@ class Tree:
         self.of_crate = {crate: set() for crate in self.crates}
         for path, words in self.words.items():
             parts = path.split("/")
-            if parts[0] == "crates" and parts[2:3] != ["must-fail"]:
-                self.of_crate[parts[1]] |= words
+            if parts[0] == "crates":
+                self.of_crate[parts[1]] |= words if parts[2:3] != ["must-fail"] else {parts[3].partition(".")[0]}
 
     def lacks(self, text):
         """What of a text in backticks isn't in the tree."""
@@ -153,20 +170,104 @@ def counts(tree):
         r"crates": len(tree.crates),
         r"must-fail edits": sum(path.endswith(".edit") for path in tree.files),
         r"claims": listed.count("\n"),
+        r"wrong designs of the code": sum(path.startswith("tests/designs/") for path in tree.files),
         r"lines of code, definitions and proofs": round(sum(read(path).count("\n") for path in of_code), -4),
     }
 
 
-def lost_in_rows(tree, page):
-    """(line, name) of each definition in a row of a table, as FILE.NAME, that no crate of the row has: the crates that the row names by CRATE/specs or CRATE::, any
-    where it names none."""
-    for number, line in enumerate(read(page).split("\n"), 1):
-        texts = [each for it in re.findall(r"`([^`]+)`", line) for each in unfolded(it)] if line.startswith("|") else []
-        crates = {word for it in texts for word in re.findall(r"\b([a-z_0-9]+)(?=/specs|::)", it) if word in tree.crates} or tree.crates
+def blocks_of(page):
+    """(line, text) of each row of a table, and of docs/CLAIMS.md of each claim: what stands below one heading of the third level."""
+    claim, begin = [], None
+    for number, line in enumerate(read(page).split("\n") + ["#"], 1):
+        if line.startswith("|"):
+            yield number, line
+        if line.startswith("#"):
+            if begin:
+                yield begin, "\n".join(claim)
+            claim, begin = [], number if line.startswith("### ") and page == "docs/CLAIMS.md" else None
+        claim.append(line)
+
+
+def lost_in_blocks(tree, page):
+    """(line, name) of each definition or type in a block that no crate of the block has: the crates that it names, any where it names none."""
+    for number, text in blocks_of(page):
+        texts = [each for it in re.findall(r"`([^`]+)`", text) for each in unfolded(it)]
+        named = {word for it in texts for word in NAMED_CRATE.findall(it) if word in tree.crates}
+        crates = named or tree.crates
         for it in texts:
             found = re.fullmatch(r"(?:([a-z_0-9]+)/specs/)?([A-Z]\w+)\.([A-Za-z_]\w*)(?:\.\w+)?", it)
             if found and not any(tree.defines(path, found[2], found[3]) for path in tree.words if tree.is_spec(path, {found[1]} if found[1] else crates)):
                 yield number, it
+            if named and re.fullmatch(r"[A-Z]\w*[a-z]\w*", it) and not any(it in tree.of_crate[crate] for crate in named):
+                yield number, it
+
+
+def unnamed_designs(tree):
+    """Each wrong design of the code that docs/CLAIMS.md doesn't name."""
+    text = read("docs/CLAIMS.md")
+    names = sorted(os.path.splitext(os.path.basename(path))[0] for path in tree.files if path.startswith("tests/designs/"))
+    return [f"docs/CLAIMS.md: the design `{name}` isn't there" for name in names if f"`{name}`" not in text]
+
+
+def lost_of_crates(tree, page):
+    """(line, name, crate) of each name that is said of a crate, as `NAME` of CRATE, and isn't in it."""
+    text = read(page)
+    for found in re.finditer(r"`(\w+)`(?:,? (?:and )?`\w+`)*\s+of\s+`?([a-z_0-9]+)\b`?(?!::|/)", text):
+        if found[2] in tree.crates and "_" in found[2] and found[1] not in tree.of_crate[found[2]]:
+            yield text[: found.start()].count("\n") + 1, found[1], found[2]
+
+
+def without_edits(tree, page):
+    """(line, crate) of each crate whose must-fail edits a page speaks of, as "edits of CRATE", and that has none."""
+    text = read(page)
+    edited = {path.split("/")[1] for path in tree.files if path.endswith(".edit")}
+    for found in re.finditer(r"\bedits?\s+of\s+(\w+(?:(?:,\s+|\s+and\s+)\w+)*)", text):
+        for crate in re.findall(r"\w+", found[1]):
+            if crate in tree.crates and crate not in edited:
+                yield text[: found.start()].count("\n") + 1, crate
+
+
+def paragraphs(page):
+    """(line, text) of each paragraph, item of a list and heading outside of tables and code blocks."""
+    begin, found, inside = 0, [], False
+    for number, line in enumerate(read(page).split("\n") + [""], 1):
+        fence = line.startswith("```")
+        if fence or inside or not line.strip() or line.startswith(("|", "#", "<!--")) or re.match(r"\s*(?:[-*]|\d+\.) ", line):
+            if found:
+                yield begin, " ".join(found)
+            found = []
+        if fence:
+            inside = not inside
+        elif not inside and line.strip() and not line.startswith(("|", "<!--")):
+            begin = begin if found else number
+            found.append(line.strip())
+
+
+def unreadable(page):
+    """(line, what) of what makes a page hard to read."""
+    inside = made = False
+    lines = read(page).split("\n")
+    for number, line in enumerate(lines, 1):
+        inside ^= line.startswith("```")
+        made = line == proved.BEGIN or (made and line != proved.END)
+        if line.startswith("|") and not inside:
+            for cell in re.split(r"(?<!\\)\|", line.strip().strip("|")):
+                if len(cell.strip()) > MOST_CELL:
+                    yield number, f"a cell of {len(cell.strip())} characters: {cell.strip()[:60]}.."
+        elif len(line) > MOST_COLUMNS and not inside:
+            yield number, f"a line of {len(line)} columns"
+        if page == "README.md" and len(line) > README_COLUMNS:
+            yield number, f"a line of {len(line)} columns"
+        if DAY.search(line) and not inside and page not in DATED and not made:
+            yield number, f"a day: {DAY.search(line)[0]}"
+    if page == "README.md" and len(lines) - 1 > README_LINES:
+        yield README_LINES + 1, f"{len(lines) - 1} lines"
+    for number, text in paragraphs(page):
+        if page == "docs/DECISIONS.md" and len(text.split()) > MOST_OF_DECISION:
+            yield number, f"a decision of {len(text.split())} words"
+        for sentence in SENTENCE.split(text):
+            if len(sentence.split()) > MOST_WORDS:
+                yield number, f"a sentence of {len(sentence.split())} words: {' '.join(sentence.split()[:10])} .."
 
 
 def told(page, counted):
@@ -179,37 +280,40 @@ def told(page, counted):
                 yield text[: found.start()].count("\n") + 1, what, said, there
 
 
+def faults_of(tree, page, counted):
+    """(line, what) of each fault of a page, but of the names in backticks."""
+    for line, name in lost_in_blocks(tree, page):
+        yield line, f"`{name}`: no crate that is named beside it has it"
+    for line, name, crate in lost_of_crates(tree, page):
+        yield line, f"`{name}`: {crate} hasn't it"
+    for line, crate in without_edits(tree, page):
+        yield line, f"{crate} has no must-fail edit"
+    for line, what, said, there in told(page, counted):
+        if said != there:
+            yield line, f"{said} {what}: there are {there}"
+    yield from unreadable(page)
+
+
 def main():
     tree = Tree()
     elsewhere = {word for words in ELSEWHERE.values() for word in words.split()}
     counted = counts(tree)
     pages = ["README.md"] + [f"docs/{name}" for name in sorted(os.listdir(os.path.join(TOP, "docs"))) if name.endswith(".md")]
-    passed = failed = 0
+    passed, faults = 0, []
     for page in pages:
         for line, text in in_backticks(page):
             if "--names" in sys.argv[1:]:
                 print(f"{page}:{line}: {text}")
             lacking = [word for word in tree.lacks(text) if word not in elsewhere]
-            if lacking:
-                failed += 1
-                print(f"{page}:{line}: `{text}`: the tree has no {', '.join(lacking)}")
-            else:
-                passed += 1
-        for line, name in lost_in_rows(tree, page):
-            failed += 1
-            print(f"{page}:{line}: `{name}`: no crate of the row has it")
-        for line, what, said, there in told(page, counted):
-            if said == there:
-                passed += 1
-            else:
-                failed += 1
-                print(f"{page}:{line}: {said} {what}: there are {there}")
+            passed += not lacking
+            faults += [f"{page}:{line}: `{text}`: the tree has no {', '.join(lacking)}"] if lacking else []
+        faults += [f"{page}:{line}: {what}" for line, what in faults_of(tree, page, counted)]
+    faults += crate_table.faults() + proved.faults() + unnamed_designs(tree)
     needless = sorted(word for word in elsewhere if word in tree.all)
     if needless:
-        failed += 1
-        print(f"the list of what needn't be there names what is there: {', '.join(needless)}")
-    print(f"{passed} passed, {failed} failed")
-    return 1 if failed or not passed else 0
+        faults.append(f"the list of what needn't be there names what is there: {', '.join(needless)}")
+    print("\n".join(faults + [f"{passed} passed, {len(faults)} failed"]))
+    return 1 if faults or not passed else 0
 
 
 if __name__ == "__main__":
