@@ -20,14 +20,14 @@ said_ends status text acts end (inl printed) = inl printed.follows.1
 said_ends status text acts end (inr (inl unprinted)) = inr (inl unprinted.sunk)
 said_ends status text acts end (inr (inr spent)) = inr (inr spent.1)
 
-six_ends_loop : (end : End) → (end ≡ With 6) ⊎ (end ≡ Sunk) ⊎ (end ≡ OutOfMemory) → EndsLoop end
-six_ends_loop end (inl e) = subst EndsLoop (sym e) (inr refl)
-six_ends_loop end (inr (inl e)) = subst EndsLoop (sym e) tt
-six_ends_loop end (inr (inr e)) = subst EndsLoop (sym e) tt
+six_ends_loop : (script : Script) (before now : Told) (end : End) → (end ≡ With 6) ⊎ (end ≡ Sunk) ⊎ (end ≡ OutOfMemory) → EndsLoop script before now end
+six_ends_loop script before now end (inl e) = subst (EndsLoop script before now) (sym e) (inr refl)
+six_ends_loop script before now end (inr (inl e)) = subst (EndsLoop script before now) (sym e) tt
+six_ends_loop script before now end (inr (inr e)) = subst (EndsLoop script before now) (sym e) tt
 
--- the wires failed
-pub wires_end : (text : List ℕ) (before now : Told) (end : End) → Does (says_last 6 text) before now end → EndsLoop end
-wires_end text before now end does = six_ends_loop end (said_ends 6 text does.acts end does.runs)
+-- the wires failed, behind what was done before
+pub wires_end : (script : Script) (text : List ℕ) (before mid now : Told) (end : End) → Does (says_last 6 text) mid now end → EndsLoop script before now end
+wires_end script text before mid now end does = six_ends_loop script before now end (said_ends 6 text does.acts end does.runs)
 
 -- memory ran out as the script was read
 pub spent_script : (said : Result Script TextFault) (t : Told) → EndsScript said t t OutOfMemory
@@ -43,11 +43,11 @@ IsEnd (With s) = (s ≡ 0) ⊎ (s ≡ 2) ⊎ (s ≡ 3) ⊎ (s ≡ 6)
 IsEnd Sunk = Unit {0}
 IsEnd OutOfMemory = Unit {0}
 
-loop_is_end : (end : End) → EndsLoop end → IsEnd end
-loop_is_end (With s) (inl e) = inl e
-loop_is_end (With s) (inr e) = inr (inr (inr e))
-loop_is_end Sunk h = tt
-loop_is_end OutOfMemory h = tt
+loop_is_end : (script : Script) (before now : Told) (end : End) → EndsLoop script before now end → IsEnd end
+loop_is_end script before now (With s) (inl done) = inl done.0
+loop_is_end script before now (With s) (inr e) = inr (inr (inr e))
+loop_is_end script before now Sunk h = tt
+loop_is_end script before now OutOfMemory h = tt
 
 two_is_end : (end : End) → (end ≡ With 2) ⊎ (end ≡ Sunk) ⊎ (end ≡ OutOfMemory) → IsEnd end
 two_is_end end (inl e) = subst IsEnd (sym e) (inr (inl refl))
@@ -60,7 +60,7 @@ three_is_end end (inr (inl e)) = subst IsEnd (sym e) tt
 three_is_end end (inr (inr e)) = subst IsEnd (sym e) tt
 
 script_is_end : (said : Result Script TextFault) (before now : Told) (end : End) → EndsScript said before now end → IsEnd end
-script_is_end (Ok script) before now end h = loop_is_end end h
+script_is_end (Ok script) before now end h = loop_is_end script before now end h
 script_is_end (Err (At line why)) before now end h = three_is_end end (said_ends 3 (fault_line line (why_word why)) h.acts end h.runs)
 script_is_end (Err (NoMemory want)) before now end h = subst IsEnd (sym h.1) tt
 

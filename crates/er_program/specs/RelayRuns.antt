@@ -1,9 +1,10 @@
--- What `relay` does up to its loop, and how it ends (this profile).
+-- What `relay` does: its script, its loop, and how it ends (this profile).
 use Rattle.std.specs.Prelude.{◌≡◌, ◌⊎◌, ℕ, true, false, List, [], ◌∷◌, Result, Ok, Err}
 use Rattle.er_base.specs.declared.text_fault.TextFault.{TextFault}
 use Rattle.er_base.specs.declared.text_fault.TextFault.TheVariants.{At, NoMemory}
 use Rattle.relay_script.specs.declared.script.Script.{Script}
 use Rattle.relay_script.specs.Files.{script_of}
+use Rattle.relay_loop.specs.Relays.{Relays}
 use Rattle.outside.specs.Acts.{Fetch, Gave, Failed, Spent, Fetched, Wrote}
 use Rattle.outside.specs.Doings.{Told, Did}
 use Rattle.outside.specs.Scripts.{End, With, Sunk, OutOfMemory, Does, says_last, printing}
@@ -13,15 +14,16 @@ use Rattle.er_statuses.specs.LastLines.{fetch_line, fault_line, why_word, memory
 abbrev pub IsRelayStatus : ℕ → Type 0
 IsRelayStatus s = (s ≡ 0) ⊎ (s ≡ 2) ⊎ (s ≡ 3) ⊎ (s ≡ 5) ⊎ (s ≡ 6) ⊎ (s ≡ 7)
 
--- how a relay ends whose script is good: all turns were done; an address or the wires failed; a write failed; or memory ran out
-abbrev pub EndsLoop : End → Type 0
-EndsLoop (With status) = (status ≡ 0) ⊎ (status ≡ 6)
-EndsLoop Sunk = Unit {0}
-EndsLoop OutOfMemory = Unit {0}
+-- how a relay ends whose script is good: all turns were done, and of each connection what is carried was given; an address or the wires failed; a write
+-- failed; or memory ran out
+abbrev pub EndsLoop : Script → (before now : Told) → End → Type 0
+EndsLoop script before now (With status) = ((status ≡ 0) × Relays script before now) ⊎ (status ≡ 6)
+EndsLoop script before now Sunk = Unit {0}
+EndsLoop script before now OutOfMemory = Unit {0}
 
 -- what follows a script, by what its file says: one that is refused prints its first fault alone, and nothing is asked of the wires
 abbrev pub EndsScript : Result Script TextFault → (before now : Told) → End → Type 0
-EndsScript (Ok script) before now end = EndsLoop end
+EndsScript (Ok script) before now end = EndsLoop script before now end
 EndsScript (Err (At line why)) before now end = Does (says_last 3 (fault_line line (why_word why))) before now end
 EndsScript (Err (NoMemory want)) before now end = (now ≡ before) × (end ≡ OutOfMemory)
 

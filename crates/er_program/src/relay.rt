@@ -96,7 +96,7 @@ fn relayed<O: Outside>(
     outside: &mut O,
 ) -> Result<Status, Stop>
     requires range { IsScriptInRange script.now }
-    ensures ends { EndsLoop (end_of_run result) }
+    ensures ends { EndsLoop script.now (O.told outside.old) (O.told outside.new) (end_of_run result) }
 {
     if !is_address(command.dial) {
         return last(6, b"! wires\n", outside);
