@@ -325,13 +325,13 @@ def many():
     check(relay.wait_for("< [0-9]+ 18 closed"), "one of them is closed")
     pairs[17] = relay.pair()
     for number, (e, r) in enumerate(pairs):
-        e.sendall(struct.pack(">I", number))
-        r.sendall(struct.pack(">I", number + 1000))
+        e.sendall(b"%04d" % number)
+        r.sendall(b"%04d" % (number + 1000))
     for number, (e, r) in enumerate(pairs):
         to_r, to_e = bytearray(), bytearray()
         until_quiet(r, to_r, 4)
         until_quiet(e, to_e, 4)
-        check((bytes(to_r), bytes(to_e)) == (struct.pack(">I", number), struct.pack(">I", number + 1000)), f"connection {number + 1} of 256")
+        check((bytes(to_r), bytes(to_e)) == (b"%04d" % number, b"%04d" % (number + 1000)), f"connection {number + 1} of 256")
         e.close()
         r.close()
     relay.end()
