@@ -22,7 +22,8 @@ use Rattle.er_program.specs.declared.work.Work.{Work}
 use Rattle.er_program.specs.declared.work.Work.TheVariants as work
 use Rattle.er_program.specs.Asking.{AskedNames, Asks}
 use Rattle.er_program.specs.Commands.{Command, Misused, Drill, Bits, Migrate, Replay, Check, Audit, Bulk, Serve, Call, names_of}
-use Rattle.er_program.specs.CommandScripts.{plain_script, Answered}
+use Rattle.er_program.specs.CommandScripts.{plain_script}
+use Rattle.er_program.specs.CommandAnswers.{Answered}
 use Rattle.er_program.specs.CommandViews.{command_of_work, plain_view}
 use Rattle.er_program.specs.FileScripts.{migrates, reads_line}
 use Rattle.er_program.specs.StepScripts.{drills, bulks}

@@ -23,6 +23,7 @@ pub mod KeyedWriting
 pub mod Asking
 pub mod Statuses
 pub mod FileMeans
+pub mod CommandAnswers
 pub mod CommandScripts
 pub mod RelayCommands
 pub mod RelayRuns

@@ -6,7 +6,7 @@ ghost use Rattle.link_trait.specs.Outside.{Grew, GrewPart, HasStayedAsTold};
 ghost use Rattle.er_statuses.specs.LastLines.{fault_line};
 ghost use Rattle.er_statuses.specs.Writing.{GivesAnswerTo};
 ghost use Rattle.er_program.specs.Asking.{AsksLast, AsksBehindKeys};
-ghost use Rattle.er_program.specs.CommandScripts.{Answered};
+ghost use Rattle.er_program.specs.CommandAnswers.{Answered};
 ghost use Rattle.er_program.specs.KeyedWriting.{IsOfWork, BeginsOfWork, EndsSecondFile, EndsBehindKeys};
 ghost use Rattle.er_program.specs.CommandViews.{command_of_work};
 ghost use Rattle.er_program.specs.ReplayWriting.{EndsOneTo};

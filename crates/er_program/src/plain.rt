@@ -2,7 +2,8 @@
 
 ghost use Rattle.outside.specs.Scripts.{Does};
 ghost use Rattle.er_statuses.specs.ScriptEnds.{end_of_run};
-ghost use Rattle.er_program.specs.CommandScripts.{plain_script, Answered};
+ghost use Rattle.er_program.specs.CommandAnswers.{Answered};
+ghost use Rattle.er_program.specs.CommandScripts.{plain_script};
 ghost use Rattle.er_program.specs.CommandViews.{plain_view};
 
 use crate::bits::bits;

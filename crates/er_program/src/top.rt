@@ -2,7 +2,7 @@
 
 ghost use Rattle.std.specs.Prelude.{◌≡◌, length, map};
 ghost use Rattle.er_program.specs.Commands.{command_of, octets_of_words};
-ghost use Rattle.er_program.specs.CommandScripts.{Answered};
+ghost use Rattle.er_program.specs.CommandAnswers.{Answered};
 ghost use Rattle.er_program.specs.CommandViews.{command_view, file_view};
 ghost use Rattle.er_serving.specs.LineRuns.{GivenToLoop, given_to_loop};
 ghost use Rattle.er_serving.specs.Outsides.{Traffic, outside_of, beside, IsSteady};

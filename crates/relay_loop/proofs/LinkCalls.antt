@@ -13,7 +13,7 @@ use Rattle.relay_script.specs.declared.script.Script.{Script}
 use Rattle.relay_loop.specs.declared.way.Way.{Way}
 use Rattle.relay_loop.specs.declared.link.Link.{Link}
 use Rattle.relay_loop.specs.Ways.{HoldsWay}
-use Rattle.relay_loop.specs.WaySteps.{Moves, PrintsGiven, joined}
+use Rattle.relay_loop.specs.WaySteps.{WayMoves, PrintsGiven, joined}
 use Rattle.relay_loop.specs.declared.stamp.Stamp.{Stamp}
 use Rattle.relay_loop.specs.Sending.{given_by_act, given_in_acts, IsSendTo, AreSendsTo, Sends}
 use Rattle.relay_loop.specs.Reading.{read_by_act, read_in_acts, IsReadOf, AreReadsOf, Hears}
@@ -94,7 +94,7 @@ sends_elsewhere conn at (act ∷ acts) differ h = rw (send_elsewhere conn at act
 
 -- what acts read and wrote of a way is what it moved
 way_on : (script : Script) (side : Side) (from to : ℕ) (done acts : List Act) (told octets written : List ℕ) (old new : Way) → read_in_acts from acts ≡ octets
-    → given_in_acts to acts ≡ written → Moves script octets written old new
+    → given_in_acts to acts ≡ written → WayMoves script octets written old new
     → HoldsWay script side (read_in_acts from done) told (given_in_acts to done) old
     → HoldsWay script side (read_in_acts from (done ++ acts)) told (given_in_acts to (done ++ acts)) new
 way_on script side from to done acts told octets written old new read gave moves h =
@@ -105,7 +105,7 @@ way_on script side from to done acts told octets written old new read gave moves
     subst (λ (r : List ℕ). HoldsWay script side r told (given_in_acts to (done ++ acts)) new) (sym reads)
     (subst (λ (g : List ℕ). HoldsWay script side (read_in_acts from done ++ octets) told g new) (sym gives) (moves side (read_in_acts from done) told (given_in_acts to done) h))
 
-way_rests : (script : Script) (way : Way) → Moves script [] [] way way
+way_rests : (script : Script) (way : Way) → WayMoves script [] [] way way
 way_rests script way = moves_none script way
 
 pub new_link : (script : Script) (acts : List Act) (link : Link) → HoldsWay script E [] [] [] link.from_e → HoldsWay script R [] [] [] link.from_r
@@ -287,7 +287,7 @@ stays_none link = record { e = refl; r = refl; holds = λ script acts l. l }
 pub stays_both : (a b c : Link) → Stays a b → Stays b c → Stays a c
 stays_both a b c p q = record { e = q.e ∙ p.e; r = q.r ∙ p.r; holds = λ script acts l. q.holds script acts (p.holds script acts l) }
 
-pub stays_e : (link : Link) (way : Way) → ((script : Script) → Moves script [] [] link.from_e way) → Stays link (record link { from_e = way })
+pub stays_e : (link : Link) (way : Way) → ((script : Script) → WayMoves script [] [] link.from_e way) → Stays link (record link { from_e = way })
 stays_e link way moves = record {
   e = refl;
   r = refl;
@@ -300,7 +300,7 @@ stays_e link way moves = record {
   };
 }
 
-pub stays_r : (link : Link) (way : Way) → ((script : Script) → Moves script [] [] link.from_r way) → Stays link (record link { from_r = way })
+pub stays_r : (link : Link) (way : Way) → ((script : Script) → WayMoves script [] [] link.from_r way) → Stays link (record link { from_r = way })
 stays_r link way moves = record {
   e = refl;
   r = refl;

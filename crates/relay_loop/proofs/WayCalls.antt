@@ -8,40 +8,40 @@ use Rattle.relay_model.specs.Laws.{ClosedStays}
 use Rattle.relay_carrier.specs.Standing.{KCarrier, StandsBehind, TakesBehind, Ends}
 use Rattle.relay_loop.specs.declared.way.Way.{Way}
 use Rattle.relay_loop.specs.Ways.{HoldsLive, HoldsWay}
-use Rattle.relay_loop.specs.WaySteps.{Keeps, Moves}
+use Rattle.relay_loop.specs.WaySteps.{Keeps, WayMoves}
 use Rattle.relay_loop.proofs.LiveWays.{carried_from, not_shut, closed_by_line, new_live, takes_live, ends_live, closed_ends_live, writes_live}
 
 -- ---- moves
 
 pub moves_still : (script : Script) (old new : Way)
-    → ((side : Side) (read told gave : List ℕ) → HoldsWay script side read told gave old → HoldsWay script side read told gave new) → Moves script [] [] old new
+    → ((side : Side) (read told gave : List ℕ) → HoldsWay script side read told gave old → HoldsWay script side read told gave new) → WayMoves script [] [] old new
 moves_still script old new still side read told gave h =
     subst (λ (r : List ℕ). HoldsWay script side r told (gave ++ []) new) (sym (append-nil read))
     (subst (λ (g : List ℕ). HoldsWay script side read told g new) (sym (append-nil gave)) (still side read told gave h))
 
 moves_took : (script : Script) (octets : List ℕ) (old new : Way)
     → ((side : Side) (read told gave : List ℕ) → HoldsWay script side read told gave old → HoldsWay script side (read ++ octets) told gave new)
-    → Moves script octets [] old new
+    → WayMoves script octets [] old new
 moves_took script octets old new took side read told gave h =
     subst (λ (g : List ℕ). HoldsWay script side (read ++ octets) told g new) (sym (append-nil gave)) (took side read told gave h)
 
 moves_gave : (script : Script) (octets : List ℕ) (old new : Way)
     → ((side : Side) (read told gave : List ℕ) → HoldsWay script side read told gave old → HoldsWay script side read told (gave ++ octets) new)
-    → Moves script [] octets old new
+    → WayMoves script [] octets old new
 moves_gave script octets old new given side read told gave h =
     subst (λ (r : List ℕ). HoldsWay script side r told (gave ++ octets) new) (sym (append-nil read)) (given side read told gave h)
 
 -- a call that reads and writes nothing
-pub still : (script : Script) (side : Side) (read told gave : List ℕ) (old new : Way) → Moves script [] [] old new → HoldsWay script side read told gave old
+pub still : (script : Script) (side : Side) (read told gave : List ℕ) (old new : Way) → WayMoves script [] [] old new → HoldsWay script side read told gave old
     → HoldsWay script side read told gave new
 still script side read told gave old new moves h =
     subst (λ (r : List ℕ). HoldsWay script side r told gave new) (append-nil read)
     (subst (λ (g : List ℕ). HoldsWay script side (read ++ []) told g new) (append-nil gave) (moves side read told gave h))
 
-pub moves_none : (script : Script) (way : Way) → Moves script [] [] way way
+pub moves_none : (script : Script) (way : Way) → WayMoves script [] [] way way
 moves_none script way = moves_still script way way (λ side read told gave h. h)
 
-pub moves_then : (script : Script) (o p w v : List ℕ) (a b c : Way) → Moves script o w a b → Moves script p v b c → Moves script (o ++ p) (w ++ v) a c
+pub moves_then : (script : Script) (o p w v : List ℕ) (a b c : Way) → WayMoves script o w a b → WayMoves script p v b c → WayMoves script (o ++ p) (w ++ v) a c
 moves_then script o p w v a b c first next side read told gave h =
     subst (λ (r : List ℕ). HoldsWay script side r told (gave ++ (w ++ v)) c) (append_assoc read o p)
     (subst (λ (g : List ℕ). HoldsWay script side (read ++ o ++ p) told g c) (append_assoc gave w v)
@@ -85,7 +85,7 @@ new_holds script side way sided unended same stands printed waits = record {
 
 pub takes : ClosedStays → (script : Script) (old new : Way) (carrier : KCarrier) (moment due : ℕ) (octets given : List ℕ) → old.lost ≡ false → old.ended ≡ false
     → old.carrier.closed ≡ false → TakesBehind script old.carrier carrier moment octets given due → carrier.side ≡ old.carrier.side
-    → Keeps (record old { carrier = carrier }) new given → Moves script octets [] old new
+    → Keeps (record old { carrier = carrier }) new given → WayMoves script octets [] old new
 takes stays script old new carrier moment due octets given alive unended unclosed behind sided k =
     moves_took script octets old new
     (λ side read told gave h.
@@ -110,7 +110,7 @@ takes stays script old new carrier moment due octets given alive unended unclose
 
 -- behind a line that closes the connection octets come to nothing
 pub absorbs : ClosedStays → (script : Script) (more : List ℕ) (way : Way) → way.lost ≡ false → way.ended ≡ false → way.carrier.closed ≡ true
-    → Moves script more [] way way
+    → WayMoves script more [] way way
 absorbs stays script more way alive unended closed =
     moves_took script more way way
     (λ side read told gave h.
@@ -131,14 +131,14 @@ absorbs stays script more way alive unended closed =
     })
 
 pub ends : (script : Script) (old mid : Way) (carrier : KCarrier) (given : List ℕ) → old.ended ≡ false → Ends script old.carrier given → mid.side ≡ old.side
-    → mid.lost ≡ old.lost → (old.lost ≡ false → Keeps (record old { carrier = carrier }) mid given) → Moves script [] [] old (record mid { ended = true })
+    → mid.lost ≡ old.lost → (old.lost ≡ false → Keeps (record old { carrier = carrier }) mid given) → WayMoves script [] [] old (record mid { ended = true })
 ends script old mid carrier given unended end same lost keeps =
     moves_still script old (record mid { ended = true })
     (λ side read told gave h.
     same_way script side read told gave old (record mid { ended = true }) h same
     (λ alive. let was = sym lost ∙ alive in ends_live script old mid carrier given unended end (keeps was) h.came told gave (h.live was)))
 
-pub closed_ends : (script : Script) (old : Way) → old.ended ≡ false → old.carrier.closed ≡ true → Moves script [] [] old (record old { ended = true })
+pub closed_ends : (script : Script) (old : Way) → old.ended ≡ false → old.carrier.closed ≡ true → WayMoves script [] [] old (record old { ended = true })
 closed_ends script old unended closed =
     moves_still script old (record old { ended = true })
     (λ side read told gave h.
@@ -146,14 +146,14 @@ closed_ends script old unended closed =
     (λ alive. closed_ends_live script old unended closed h.came told gave (h.live alive)))
 
 -- the other side gets nothing any more
-pub loses : (script : Script) (old new : Way) → new.side ≡ old.side → new.lost ≡ true → Moves script [] [] old new
+pub loses : (script : Script) (old new : Way) → new.side ≡ old.side → new.lost ≡ true → WayMoves script [] [] old new
 loses script old new same lost =
     moves_still script old new
     (λ side read told gave h. same_way script side read told gave old new h same (λ alive. absurd (true≢false (sym lost ∙ alive))))
 
 -- what no claim speaks of changes
 pub same : (script : Script) (old new : Way) → new.lost ≡ old.lost → new.ended ≡ old.ended → new.side ≡ old.side → new.carrier ≡ old.carrier
-    → new.waits.items ≡ old.waits.items → new.printed.items ≡ old.printed.items → Moves script [] [] old new
+    → new.waits.items ≡ old.waits.items → new.printed.items ≡ old.printed.items → WayMoves script [] [] old new
 same script old new lost ended same_side carrier waits printed =
     moves_still script old new
     (λ side read told gave h.
@@ -164,7 +164,7 @@ same script old new lost ended same_side carrier waits printed =
 
 pub writes : (script : Script) (old new : Way) (count : ℕ) → new.lost ≡ old.lost → old.lost ≡ false → new.ended ≡ old.ended → new.side ≡ old.side
     → new.carrier ≡ old.carrier → new.waits.items ≡ old.waits.items → new.printed.items ≡ drop count old.printed.items
-    → Moves script [] (take count old.printed.items) old new
+    → WayMoves script [] (take count old.printed.items) old new
 writes script old new count lost alive ended same_side carrier waits printed =
     moves_gave script (take count old.printed.items) old new
     (λ side read told gave h.

@@ -11,7 +11,7 @@ use Rattle.relay_loop.specs.declared.piece.Piece.{Piece}
 use Rattle.relay_loop.specs.declared.way.Way.{Way}
 use Rattle.relay_loop.specs.RelayLines.{given_line}
 use Rattle.relay_loop.specs.Ways.{HoldsWay}
-use Rattle.relay_loop.specs.WaySteps.{Moves, joined, given_lines, PrintsGiven}
+use Rattle.relay_loop.specs.WaySteps.{WayMoves, joined, given_lines, PrintsGiven}
 use Rattle.relay_loop.proofs.WayCalls.{still}
 use Rattle.relay_loop.proofs.LiveWays.{carried_from, prints_live}
 
@@ -24,7 +24,7 @@ prints_none at way lines = record {
 }
 
 -- nothing is printed by a call that changes what no claim speaks of
-pub prints_nothing : (at : Stamp) (old new : Way) (lines : List ℕ) → new.side ≡ old.side → ((script : Script) → Moves script [] [] old new)
+pub prints_nothing : (at : Stamp) (old new : Way) (lines : List ℕ) → new.side ≡ old.side → ((script : Script) → WayMoves script [] [] old new)
     → PrintsGiven at old new lines lines
 prints_nothing at old new lines same_side moves = record {
   parts = [];

@@ -8,7 +8,7 @@ use Rattle.outside.specs.Doings.{Told, Did}
 use Rattle.outside.specs.Chains.{did_nothing, did_then}
 use Rattle.relay_script.specs.declared.script.Script.{Script}
 use Rattle.relay_loop.specs.declared.way.Way.{Way}
-use Rattle.relay_loop.specs.WaySteps.{Moves}
+use Rattle.relay_loop.specs.WaySteps.{WayMoves}
 use Rattle.relay_loop.specs.Sending.{octets_taken, given_by_act, given_in_acts, AreSendsTo, Sends}
 use Rattle.relay_loop.proofs.WayCalls.{moves_none, moves_then}
 
@@ -23,12 +23,12 @@ taken_is : (conn : ℕ) (taken : List ℕ) → (if conn == conn then taken else 
 taken_is conn taken = let same : (conn == conn) ≡ true = eq-eqb conn conn refl in rw same (append-nil taken)
 
 pub sends_one : (conn : ℕ) (old new : Way) (before now : Told) (piece : List ℕ) (answer : WriteAnswer) → Did before now (Called (Sent conn piece answer) ∷ [])
-    → ((script : Script) → Moves script [] (octets_taken piece answer) old new) → Sends conn old new before now
+    → ((script : Script) → WayMoves script [] (octets_taken piece answer) old new) → Sends conn old new before now
 sends_one conn old new before now piece answer did moves = record {
   acts = Called (Sent conn piece answer) ∷ [];
   did = did;
   only = (refl, tt);
-  moves = λ script. subst (λ (o : List ℕ). Moves script [] o old new) (sym (taken_is conn (octets_taken piece answer))) (moves script);
+  moves = λ script. subst (λ (o : List ℕ). WayMoves script [] o old new) (sym (taken_is conn (octets_taken piece answer))) (moves script);
 }
 
 pub sends_then : (conn : ℕ) (a b c : Way) (s t u : Told) → Sends conn a b s t → Sends conn b c t u → Sends conn a c s u
@@ -37,6 +37,6 @@ sends_then conn a b c s t u p q = record {
   did = did_then s t u p.acts q.acts p.did q.did;
   only = sends_append conn p.acts q.acts p.only q.only;
   moves = λ script.
-      subst (λ (o : List ℕ). Moves script [] o a c) (sym (flat_map-append (given_by_act conn) p.acts q.acts))
+      subst (λ (o : List ℕ). WayMoves script [] o a c) (sym (flat_map-append (given_by_act conn) p.acts q.acts))
       (moves_then script [] [] (given_in_acts conn p.acts) (given_in_acts conn q.acts) a b c (p.moves script) (q.moves script));
 }

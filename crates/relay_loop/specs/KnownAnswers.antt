@@ -7,7 +7,7 @@ use Rattle.er_base.specs.Hexadecimal.{hex_of}
 use Rattle.link_trait.specs.Wires as wires
 use Rattle.link_trait.specs.declared.wires.WriteAnswer.TheVariants as write_answer
 use Rattle.outside.specs.Acts.{Called, Read, Sent}
-use Rattle.relay_loop.specs.RelayLines.{open_line, came_line, given_line, end_line, closed_line}
+use Rattle.relay_loop.specs.RelayLines.{open_line, received_line, given_line, side_end_line, closed_line}
 use Rattle.relay_loop.specs.Sending.{given_in_acts}
 use Rattle.relay_loop.specs.Reading.{read_in_acts}
 
@@ -15,7 +15,7 @@ known_open : open_line 12 3 ≡ codes "> 12 3 open\n"
 unfolding line_text line_end digits
 known_open = refl
 
-known_came : came_line 12 3 E (0x7e ∷ 0x01 ∷ []) ≡ codes "> 12 3 e " ++ (hex_of (0x7e ∷ 0x01 ∷ []) ++ codes "\n")
+known_came : received_line 12 3 E (0x7e ∷ 0x01 ∷ []) ≡ codes "> 12 3 e " ++ (hex_of (0x7e ∷ 0x01 ∷ []) ++ codes "\n")
 unfolding line_text line_end digits
 known_came = refl
 
@@ -23,7 +23,7 @@ known_given : given_line 12 3 R (0x0a ∷ []) ≡ codes "< 12 3 r " ++ (hex_of (
 unfolding line_text line_end digits
 known_given = refl
 
-known_end : end_line 12 3 R ≡ codes "> 12 3 end r\n"
+known_end : side_end_line 12 3 R ≡ codes "> 12 3 end r\n"
 unfolding line_text line_end digits
 known_end = refl
 

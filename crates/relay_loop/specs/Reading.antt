@@ -9,7 +9,7 @@ use Rattle.outside.specs.Acts.{SeenCall, Listened, Dialled, Turned, Read, Sent, 
 use Rattle.outside.specs.Doings.{Told, Did}
 use Rattle.relay_script.specs.declared.script.Script.{Script}
 use Rattle.relay_loop.specs.declared.way.Way.{Way}
-use Rattle.relay_loop.specs.WaySteps.{Moves}
+use Rattle.relay_loop.specs.WaySteps.{WayMoves}
 
 abbrev pub octets_read : Reading → List ℕ
 octets_read (wires.Gave octets) = octets
@@ -56,14 +56,14 @@ AreReadsOf conn (act ∷ acts) = IsReadOf conn act × AreReadsOf conn acts
 
 -- what comes of a read, by its answer and the slice behind it: an end or a fault ends the side, and no octets come
 abbrev pub TakesIn : Script → ReadAnswer → (slice : List ℕ) → (old new : Way) → Type 0
-TakesIn script (read_answer.Some count) slice old new = Moves script (take count slice) [] old new
-TakesIn script read_answer.NotNow slice old new = Moves script [] [] old new
-TakesIn script read_answer.End slice old new = Moves script [] [] old new
-TakesIn script read_answer.Failed slice old new = Moves script [] [] old new
+TakesIn script (read_answer.Some count) slice old new = WayMoves script (take count slice) [] old new
+TakesIn script read_answer.NotNow slice old new = WayMoves script [] [] old new
+TakesIn script read_answer.End slice old new = WayMoves script [] [] old new
+TakesIn script read_answer.Failed slice old new = WayMoves script [] [] old new
 
 -- nothing was done but a read of the connection, if that, and what it gave was read of the side
 pub record Hears (script : Script) (conn : ℕ) (old new : Way) (before now : Told) : Type 0 where
   pub acts : List Act
   pub did : Did before now acts
   pub only : AreReadsOf conn acts
-  pub moves : Moves script (read_in_acts conn acts) [] old new
+  pub moves : WayMoves script (read_in_acts conn acts) [] old new

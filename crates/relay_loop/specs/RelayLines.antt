@@ -11,16 +11,16 @@ abbrev pub open_line : (moment number : ℕ) → List ℕ
 open_line moment number = line_text (codes ">" ∷ decimal moment ∷ decimal number ∷ codes "open" ∷ [])
 
 -- octets came from a side: a unit, or others
-abbrev pub came_line : (moment number : ℕ) → Side → (octets : List ℕ) → List ℕ
-came_line moment number side octets = line_text (codes ">" ∷ decimal moment ∷ decimal number ∷ side_word side ∷ hex_of octets ∷ [])
+abbrev pub received_line : (moment number : ℕ) → Side → (octets : List ℕ) → List ℕ
+received_line moment number side octets = line_text (codes ">" ∷ decimal moment ∷ decimal number ∷ side_word side ∷ hex_of octets ∷ [])
 
 -- octets of a side are given to the other
 abbrev pub given_line : (moment number : ℕ) → Side → (octets : List ℕ) → List ℕ
 given_line moment number side octets = line_text (codes "<" ∷ decimal moment ∷ decimal number ∷ side_word side ∷ hex_of octets ∷ [])
 
 -- a side ended or failed
-abbrev pub end_line : (moment number : ℕ) → Side → List ℕ
-end_line moment number side = line_text (codes ">" ∷ decimal moment ∷ decimal number ∷ codes "end" ∷ side_word side ∷ [])
+abbrev pub side_end_line : (moment number : ℕ) → Side → List ℕ
+side_end_line moment number side = line_text (codes ">" ∷ decimal moment ∷ decimal number ∷ codes "end" ∷ side_word side ∷ [])
 
 -- both sides are closed
 abbrev pub closed_line : (moment number : ℕ) → List ℕ

@@ -7,7 +7,7 @@ use Rattle.outside.specs.Acts.{SeenCall, Listened, Dialled, Turned, Read, Sent, 
 use Rattle.outside.specs.Doings.{Told, Did}
 use Rattle.relay_script.specs.declared.script.Script.{Script}
 use Rattle.relay_loop.specs.declared.way.Way.{Way}
-use Rattle.relay_loop.specs.WaySteps.{Moves}
+use Rattle.relay_loop.specs.WaySteps.{WayMoves}
 
 -- the octets of a piece that a write took
 abbrev pub octets_taken : (piece : List ℕ) → WriteAnswer → List ℕ
@@ -57,4 +57,4 @@ pub record Sends (conn : ℕ) (old new : Way) (before now : Told) : Type 0 where
   pub acts : List Act
   pub did : Did before now acts
   pub only : AreSendsTo conn acts
-  pub moves : (script : Script) → Moves script [] (given_in_acts conn acts) old new
+  pub moves : (script : Script) → WayMoves script [] (given_in_acts conn acts) old new

@@ -18,8 +18,8 @@ pub record Keeps (old new : Way) (given : List ℕ) : Type 0 where
   pub waits : octets_of_pieces new.waits.items ≡ octets_of_pieces old.waits.items ++ given
 
 -- these octets were read of the side, and these written to the other; nothing was told
-abbrev pub Moves : Script → (octets written : List ℕ) → (old new : Way) → Type 0
-Moves script octets written old new =
+abbrev pub WayMoves : Script → (octets written : List ℕ) → (old new : Way) → Type 0
+WayMoves script octets written old new =
     (side : Side) (read told gave : List ℕ) → HoldsWay script side read told gave old → HoldsWay script side (read ++ octets) told (gave ++ written) new
 
 abbrev pub joined : List (List ℕ) → List ℕ
@@ -43,4 +43,4 @@ pub record TakesSoFar (script : Script) (octets rest : List ℕ) (old now : Way)
   pub cut : octets ≡ front ++ rest
   pub unended : now.ended ≡ false
   pub alive : now.lost ≡ false
-  pub moves : Moves script front [] old now
+  pub moves : WayMoves script front [] old now

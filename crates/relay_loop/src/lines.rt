@@ -1,7 +1,7 @@
 //! The lines that a relay prints.
 
 ghost use Rattle.std.specs.Prelude.{◌≡◌, ◌++◌, OnOk};
-ghost use Rattle.relay_loop.specs.RelayLines.{came_line, given_line, open_line, end_line, closed_line};
+ghost use Rattle.relay_loop.specs.RelayLines.{received_line, given_line, open_line, side_end_line, closed_line};
 
 use crate::stamp::Stamp;
 use er_base::PrintedWord::{Decimal, Hexadecimal, Plain};
@@ -22,7 +22,7 @@ pub(crate) fn put_came(
     octets: &[u8],
     out: &mut Vec<u8>,
 ) -> Result<(), NoMemory>
-    ensures { OnOk result (out.new.items ≡ out.old.items ++ came_line at.moment at.number side octets.now) }
+    ensures { OnOk result (out.new.items ≡ out.old.items ++ received_line at.moment at.number side octets.now) }
 {
     let words = [
         Decimal(at.moment),
@@ -53,7 +53,7 @@ pub(crate) fn put_given(
 
 /// Appends `> MOMENT N end S`.
 pub(crate) fn put_end(at: Stamp, side: Side, out: &mut Vec<u8>) -> Result<(), NoMemory>
-    ensures { OnOk result (out.new.items ≡ out.old.items ++ end_line at.moment at.number side) }
+    ensures { OnOk result (out.new.items ≡ out.old.items ++ side_end_line at.moment at.number side) }
 {
     let words = [
         Decimal(at.moment),

@@ -4,7 +4,7 @@ ghost use Rattle.std.specs.Prelude.{◌≡◌, ◌≢◌, false, [], List, IfOk,
 ghost use Rattle.outside.specs.Acts.{Act};
 ghost use Rattle.relay_script.specs.declared.script.Script as model;
 ghost use Rattle.relay_script.specs.ScriptRanges.{IsScriptInRange};
-ghost use Rattle.relay_loop.specs.WaySteps.{Moves, PrintsGiven};
+ghost use Rattle.relay_loop.specs.WaySteps.{WayMoves, PrintsGiven};
 ghost use Rattle.relay_loop.specs.Sending.{Sends};
 ghost use Rattle.relay_loop.specs.Giving.{PrintsBoth, WritesBoth, TellsFirst};
 ghost use Rattle.relay_loop.specs.Links.{HoldsLink, IsUntouched, Stays, Visits};
@@ -402,7 +402,7 @@ fn fail(
     towards: &mut Way,
     workspace: &mut Workspace,
 ) -> Result<(), NoMemory>
-    ensures { OnOk result ((script : model.Script) → Moves script [] [] failed.old failed.new × Moves script [] [] towards.old towards.new) }
+    ensures { OnOk result ((script : model.Script) → WayMoves script [] [] failed.old failed.new × WayMoves script [] [] towards.old towards.new) }
 {
     towards.lose();
     end_once(is_closing, at, failed, workspace)
@@ -416,7 +416,7 @@ fn end_once(
     way: &mut Way,
     workspace: &mut Workspace,
 ) -> Result<(), NoMemory>
-    ensures { OnOk result ((script : model.Script) → Moves script [] [] way.old way.new) }
+    ensures { OnOk result ((script : model.Script) → WayMoves script [] [] way.old way.new) }
 {
     if is_closing {
         return Ok(());

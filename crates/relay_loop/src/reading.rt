@@ -3,7 +3,7 @@
 ghost use Rattle.std.specs.Prelude.{◌≡◌, ◌≤◌, ℕ, false, [], length, take, OnOk};
 ghost use Rattle.relay_script.specs.declared.script.Script as model;
 ghost use Rattle.relay_script.specs.ScriptRanges.{IsScriptInRange};
-ghost use Rattle.relay_loop.specs.WaySteps.{Moves};
+ghost use Rattle.relay_loop.specs.WaySteps.{WayMoves};
 ghost use Rattle.relay_loop.specs.Reading.{Hears, TakesIn};
 
 use crate::fault::RelayFault;
@@ -49,7 +49,7 @@ fn take_all(
     requires range { IsScriptInRange script.now }
     requires unended { way.old.ended ≡ false }
     requires alive { way.old.lost ≡ false }
-    ensures { OnOk result (Moves script.now octets.now [] way.old way.new) }
+    ensures { OnOk result (WayMoves script.now octets.now [] way.old way.new) }
 {
     closed_stays();
     let mut came = Room::with_capacity(alloc, MOST_OCTETS)?;
@@ -74,7 +74,7 @@ pub(crate) fn end(
     lines: &mut Vec<u8>,
 ) -> Result<(), NoMemory>
     requires unended { way.old.ended ≡ false }
-    ensures { OnOk result ((script : model.Script) → Moves script [] [] way.old way.new) }
+    ensures { OnOk result ((script : model.Script) → WayMoves script [] [] way.old way.new) }
 {
     let mut came = Room::with_capacity(alloc, MOST_OCTETS)?;
     way.end(alloc, at.moment, &mut came)?;

@@ -4,7 +4,7 @@ ghost use Rattle.std.specs.Prelude.{◌≡◌, ◌<◌, ◌≤◌, ◌+◌, true
 ghost use Rattle.relay_script.specs.declared.script.Script as model;
 ghost use Rattle.relay_script.specs.ScriptRanges.{IsScriptInRange};
 ghost use Rattle.relay_loop.specs.Ways.{HoldsWay};
-ghost use Rattle.relay_loop.specs.WaySteps.{Keeps, Moves, PrintsGiven};
+ghost use Rattle.relay_loop.specs.WaySteps.{Keeps, WayMoves, PrintsGiven};
 
 use crate::lines::put_given;
 use crate::piece::Piece;
@@ -111,7 +111,7 @@ impl Way {
         ensures moves { IfOk result (λ used. 0 < length octets.now → 0 < used) }
         ensures unended { OnOk result (self.new.ended ≡ false) }
         ensures alive { OnOk result (self.new.lost ≡ false) }
-        ensures takes { IfOk result (λ used. Moves script.now (take used octets.now) [] self.old self.new) }
+        ensures takes { IfOk result (λ used. WayMoves script.now (take used octets.now) [] self.old self.new) }
         ensures room { came.new.capacity ≡ 4096 }
     {
         closed_stays();
@@ -133,7 +133,7 @@ impl Way {
         requires unended { self.old.ended ≡ false }
         requires room { came.old.capacity ≡ 4096 }
         ensures ended { OnOk result (self.new.ended ≡ true) }
-        ensures ends { OnOk result ((script : model.Script) → Moves script [] [] self.old self.new) }
+        ensures ends { OnOk result ((script : model.Script) → WayMoves script [] [] self.old self.new) }
         ensures room { came.new.capacity ≡ 4096 }
     {
         came.clear();
@@ -213,7 +213,7 @@ impl Way {
     pub(crate) fn wrote(&mut self, count: usize)
         requires count { count ≤ length self.old.printed.items }
         requires alive { self.old.lost ≡ false }
-        ensures writes { (script : model.Script) → Moves script [] (take count self.old.printed.items) self.old self.new }
+        ensures writes { (script : model.Script) → WayMoves script [] (take count self.old.printed.items) self.old self.new }
         ensures alive { self.new.lost ≡ false }
         ensures less { length self.new.printed.items + count ≡ length self.old.printed.items }
     {
@@ -222,7 +222,7 @@ impl Way {
 
     /// The other side failed: what waits for it goes.
     pub(crate) fn lose(&mut self)
-        ensures { (script : model.Script) → Moves script [] [] self.old self.new }
+        ensures { (script : model.Script) → WayMoves script [] [] self.old self.new }
     {
         self.waits.clear();
         self.later = 0;
