@@ -2,4 +2,4 @@
 
 /// The version of the program, the kit by which it is proved, and the sum of the sources of which it is built.
 pub(crate) const VERSION: &str =
-    "euroradio 1.1\nkit rattle-kit-13f logic dac8208d650f15bf\nsources d65c3b724b47af399e4249e73223ac0625ea2a05f820586b201f95f97915d15f\n";
+    "euroradio 1.1\nkit rattle-kit-13f logic dac8208d650f15bf\nsources eab48502d1fa2e397a67b9b3e90d8dd6471f399719a60b218f2cd5b5e1f6863c\n";
