@@ -34,6 +34,7 @@ pub fn measure(rt: HostRuntime, numbers: &Numbers) -> io::Result<()> {
         for number in 0..count {
             wire.carry(number, &message[..length], &mut tally);
         }
+        drop(wire);
     }
     println!(rt; "{tally}")
 }

@@ -46,8 +46,13 @@ impl Plan {
     // Runs it with stations with go-back.
     fn go_back(&self, alloc: Global, settings: &Settings) -> Result<Totals, NoMemory> {
         let calling = GoBack::calling(alloc, settings)?;
-        let called = GoBack::called(alloc, settings)?;
-        self.run(alloc, calling, called)
+        match GoBack::called(alloc, settings) {
+            Ok(called) => self.run(alloc, calling, called),
+            Err(refused) => {
+                drop(calling);
+                Err(refused)
+            }
+        }
     }
 
     // Runs it with stations with selective reject.
@@ -55,8 +60,13 @@ impl Plan {
         requires { 2 * settings.now.window ≤ settings.now.modulo }
     {
         let calling = Selective::calling(alloc, settings)?;
-        let called = Selective::called(alloc, settings)?;
-        self.run(alloc, calling, called)
+        match Selective::called(alloc, settings) {
+            Ok(called) => self.run(alloc, calling, called),
+            Err(refused) => {
+                drop(calling);
+                Err(refused)
+            }
+        }
     }
 }
 

@@ -27,8 +27,7 @@ pub fn measure(rt: HostRuntime, numbers: &Numbers) -> io::Result<()> {
             taken = taken.saturating_add(1);
         }
     }
-    println!(rt;
-        "{taken} messages of {octets} octets, {} TPDUs",
-        sides.given()
-    )
+    let given = sides.given();
+    drop(sides);
+    println!(rt; "{taken} messages of {octets} octets, {given} TPDUs")
 }

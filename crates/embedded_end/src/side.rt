@@ -13,10 +13,11 @@ pub const ENGINE: u32 = 5;
 /// The ETCS number of the radio block centre.
 pub const CENTRE: u32 = 9;
 
-/// An end, the octets that are to go to the line and to its user, and the peer's number once it is connected.
+/// An end, the octets that are to go to the line and to its user, and the peer's number once it is connected. An end is large, so it stands
+/// on the heap.
 #[derive(Drop)]
 pub struct Side {
-    end: End,
+    end: Box<End>,
     pub to_line: Vec<u8>,
     pub to_user: Vec<u8>,
     pub peer: Option<u32>,
@@ -26,7 +27,7 @@ impl Side {
     /// A radio block centre: its end waits for a call.
     pub fn centre(alloc: Global, random: u64, now: Moment) -> Result<Side, NoMemory> {
         let end = End::answer(alloc, &Settings::usual(), CENTRE, random, now.get())?;
-        Ok(Side::new(alloc, end))
+        Side::new(alloc, end)
     }
 
     /// An engine: its end calls the radio block centre.
@@ -38,7 +39,7 @@ impl Side {
     ) -> Result<Side, NoMemory> {
         let settings = Settings::usual();
         let end = End::call(alloc, &settings, ENGINE, CENTRE, kmac, random, now.get())?;
-        let mut side = Side::new(alloc, end);
+        let mut side = Side::new(alloc, end)?;
         let deeds = side.end.start(now.get());
         side.to_line.extend_from_slice(deeds.out)?;
         Ok(side)
@@ -68,12 +69,12 @@ impl Side {
         Ok(())
     }
 
-    fn new(alloc: Global, end: End) -> Side {
-        Side {
-            end,
+    fn new(alloc: Global, end: End) -> Result<Side, NoMemory> {
+        Ok(Side {
+            end: Box::new(alloc, end)?,
             to_line: Vec::new(alloc),
             to_user: Vec::new(alloc),
             peer: None,
-        }
+        })
     }
 }

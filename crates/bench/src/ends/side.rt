@@ -1,13 +1,12 @@
 //! One end and the octets that it sent.
 
 use crate::ends::tally::Tally;
-use er_base::{Moment, NoMemory, Room};
+use er_base::{Moment, Room};
 use er_end::End;
 use safety_automaton::PairKey;
-use std::alloc::Global;
 
-// More than what an end sends in one pass.
-const ROOM: usize = 1_000_000;
+/// More than what an end sends in one pass.
+pub const ROOM: usize = 1_000_000;
 
 /// An end, its keys, and the octets that it sent and the other end hasn't read.
 #[derive(Drop)]
@@ -18,10 +17,9 @@ pub struct Side {
 }
 
 impl Side {
-    /// The side of an end with these keys.
-    pub fn new(alloc: Global, end: End, keys: PairKey) -> Result<Side, NoMemory> {
-        let sent = Room::with_capacity(alloc, ROOM)?;
-        Ok(Side { end, keys, sent })
+    /// The side of an end with these keys, and room for what it sends.
+    pub fn new(end: End, keys: PairKey, sent: Room) -> Side {
+        Side { end, keys, sent }
     }
 
     /// The end begins.

@@ -1,9 +1,9 @@
 //! Two ends that read what the other sends.
 
-use crate::ends::side::Side;
+use crate::ends::side::{ROOM, Side};
 use crate::ends::tally::Tally;
 use des_block::TripleKey;
-use er_base::{EtcsNumber, Moment, NoMemory};
+use er_base::{EtcsNumber, Moment, NoMemory, Room};
 use er_end::End;
 use er_settings::Settings;
 use safety_automaton::PairKey;
@@ -44,12 +44,20 @@ pub struct Wire {
 impl Wire {
     /// Two new ends.
     pub fn new(alloc: Global, settings: &Settings) -> Result<Wire, NoMemory> {
+        let forth = Room::with_capacity(alloc, ROOM)?;
+        let back = Room::with_capacity(alloc, ROOM)?;
         let engine = End::call(alloc, settings, ENGINE, CENTRE, KMAC, 0x0102030405060708, 0)?;
-        let centre = End::answer(alloc, settings, CENTRE, 0x1122334455667788, 0)?;
-        Ok(Wire {
-            engine: Side::new(alloc, engine, keys())?,
-            centre: Side::new(alloc, centre, keys())?,
-        })
+        match End::answer(alloc, settings, CENTRE, 0x1122334455667788, 0) {
+            Ok(centre) => Ok(Wire {
+                engine: Side::new(engine, keys(), forth),
+                centre: Side::new(centre, keys(), back),
+            }),
+            // An end that is let go without a call has a prover read how each of its parts is let go.
+            Err(refused) => {
+                drop(engine);
+                Err(refused)
+            }
+        }
     }
 
     /// The engine begins, and both are connected.

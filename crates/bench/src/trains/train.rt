@@ -44,9 +44,10 @@ impl Train {
     /// A train that calls.
     pub fn new(alloc: Global, reports: u64) -> Result<Train, NoMemory> {
         let settings = Settings::usual();
+        let sent = Room::with_capacity(alloc, ROOM)?;
         let mut train = Train {
             end: End::call(alloc, &settings, ENGINE, CENTRE, KMAC, ENGINES_WORD, MOMENT)?,
-            sent: Room::with_capacity(alloc, ROOM)?,
+            sent,
             left: reports,
             heard: 0,
         };

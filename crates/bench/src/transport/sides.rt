@@ -21,20 +21,26 @@ pub struct Sides {
 impl Sides {
     /// Two sides with these settings whose connection is made; None where memory is missing.
     pub fn new(alloc: Global, settings: &Settings) -> Option<Sides> {
-        let mut caller = Transport::caller(alloc, settings).ok()?;
-        let mut callee = Transport::callee(alloc, settings).ok()?;
         let Ok(mut out) = Room::with_capacity(alloc, 1_024) else {
+            return None;
+        };
+        let mut caller = Transport::caller(alloc, settings).ok()?;
+        // A side that is let go without a call has a prover read how each of its parts is let go.
+        let Ok(mut callee) = Transport::callee(alloc, settings) else {
+            drop(caller);
             return None;
         };
         caller.connect(b"1");
         let _request = caller.next_tpdu(&mut out);
         let TransportDeed::Called(_) = callee.receive(out.held()) else {
+            drop((caller, callee));
             return None;
         };
         callee.accept(b"2");
         out.clear();
         let _confirm = callee.next_tpdu(&mut out);
         let TransportDeed::Confirmed(_) = caller.receive(out.held()) else {
+            drop((caller, callee));
             return None;
         };
         Some(Sides {
