@@ -50,10 +50,11 @@ for row in tests/rows/*/; do
   rm -rf "$work"
 done
 
-# Each file of examples/ has a row of its own; the folders have programs, and captures are read by tools: other scripts try them.
+# Each file of examples/ has a row of its own; the folders have programs, captures and what a relay printed are read by tools, and a relay wants sockets:
+# other scripts try them.
 for example in examples/*; do
   [ -f "$example" ] || continue
-  case $example in *.pcap) continue ;; esac
+  case $example in *.pcap | *.relay | *.printed) continue ;; esac
   name=$(basename "$example")
   if ! grep -qx "$name" "tests/rows/example-${name%.*}/args" 2> /dev/null; then
     failed=$((failed + 1))
