@@ -133,7 +133,7 @@ CASES = (
     case("selective-reject", *FRAME_ERROR, play=said(plays.a_response(0x0D)), both=(refuses_the_link,)),
     case("set-up-frame-in-a-session", *FRAME_ERROR, play=said(plays.a_frame("other", 0x3F)), both=(refuses_the_link,)),
     case("disconnected-link", "Releases", "the link was disconnected: DISC, DM or FRMR", play=said(lambda end: end.disc()), both=(answers_disc,)),
-    case("window", "Drills", "window (1 to 7", play=partial(plays.unconfirmed, count=10), centre=(whole, keeps_its_window)),
+    case("window", "Drills", "`window` | link, full | 1 to 7", play=partial(plays.unconfirmed, count=10), centre=(whole, keeps_its_window)),
     case("busy-peer", "Releases", "T1 expired too often in a row", play=plays.busy, both=(waits_while_busy,)),
     case("asked-by-reject", *ONCE, play=plays.rejected, both=(whole, sends_again_at_once)),
     case("asks-once-for-a-gap", *ONCE, play=plays.with_a_gap, centre=(whole, says_back(*GAP), rejects_once), train=(rejects_once,)),
@@ -141,7 +141,7 @@ CASES = (
          play=partial(plays.silent, says=lambda end: end.say(b"the last word")), both=(tries_again,)),
     case("silence-from-the-start", "Releases", "N2 + 1 expiries of T1 without a UA", play=plays.deaf_from_the_start, train=(tries_again,)),
     # ---- the transport
-    case("credit", "Drills", "credit (1 to 15", play=partial(plays.untaken, count=3, credit=3), both=(whole, keeps_its_credit)),
+    case("credit", "Drills", "`credit` | full | 1 to 15", play=partial(plays.untaken, count=3, credit=3), both=(whole, keeps_its_credit)),
     case("dt-of-another-number", *TRANSPORT, play=said(plays.a_dt_beyond), both=(disconnects(133),)),
     case("unknown-tpdu", *TRANSPORT, play=said(lambda end: end.tpdu(b"\x02\x10\x00")), both=(disconnects(133),)),
     case("tpdu-cut-short", *TRANSPORT, play=said(lambda end: end.tpdu(b"\x06\xf0\x00")), both=(disconnects(138),)),
