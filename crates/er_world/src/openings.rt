@@ -18,7 +18,9 @@ use er_settings::Settings;
 use safety_automaton::{Role, Safe};
 use std::alloc::Global;
 
-/// A link of two ends that were just made, of which the first begins the set-up. In one place, since a prover reads both ends at each `?`.
+// An end that is let go at a `?` has a prover read how each of its parts is let go, at every such place. So here ends are let go in calls of `drop`.
+
+/// A link of two ends that were just made, of which the first begins the set-up.
 fn begun(
     alloc: Global,
     place: Place,
@@ -31,8 +33,13 @@ fn begun(
     ensures { IfOk result (λ link. LinkDoes (λ l. give l place.side Start) place.show place.number (new_link e r keys moment) link out.old.items out.new.items) }
 {
     let mut link = Link::new(alloc, e, r, keys, moment);
-    link.give(alloc, place, &EndEvent::Start, out)?;
-    Ok(link)
+    match link.give(alloc, place, &EndEvent::Start, out) {
+        Ok(()) => Ok(link),
+        Err(refused) => {
+            drop(link);
+            Err(refused)
+        }
+    }
 }
 
 /// A link between two ends that are connected under these session keys, the engine's first, opened at a moment.
@@ -110,13 +117,19 @@ pub fn stacked(
     let _ = &settings.window;
     let engine = engine.get();
     let rbc = rbc.get();
-    let e = DrillEnd::Stack(End::call(alloc, settings, engine, rbc, ke, rb, moment.get())?);
-    let r = DrillEnd::Stack(End::answer(alloc, settings, rbc, ra, moment.get())?);
+    let e = End::call(alloc, settings, engine, rbc, ke, rb, moment.get())?;
+    let r = match End::answer(alloc, settings, rbc, ra, moment.get()) {
+        Ok(r) => r,
+        Err(refused) => {
+            drop(e);
+            return Err(refused);
+        }
+    };
     begun(
         alloc,
         place,
-        e,
-        r,
+        DrillEnd::Stack(e),
+        DrillEnd::Stack(r),
         OneKey::new(engine, rbc, kr),
         moment,
         out,
@@ -134,7 +147,22 @@ pub fn wired(
     ensures { IfOk result (λ link. place.side ≡ E → (now : ℕ) → moment ≡ now
         → LinkWent (opened_link plan.now.settings now (OfStations plan.now.selective)) place.show place.number [] link out.old.items out.new.items) }
 {
-    let e = DrillEnd::Station(StationEnd::new(alloc, true, plan)?);
-    let r = DrillEnd::Station(StationEnd::new(alloc, false, plan)?);
-    begun(alloc, place, e, r, OneKey::new(0, 0, None), moment, out)
+    let e = StationEnd::new(alloc, true, plan)?;
+    let r = match StationEnd::new(alloc, false, plan) {
+        Ok(r) => r,
+        Err(refused) => {
+            drop(e);
+            return Err(refused);
+        }
+    };
+    let keys = OneKey::new(0, 0, None);
+    begun(
+        alloc,
+        place,
+        DrillEnd::Station(e),
+        DrillEnd::Station(r),
+        keys,
+        moment,
+        out,
+    )
 }

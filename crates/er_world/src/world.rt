@@ -276,7 +276,8 @@ impl World {
         ensures placed { self.new ≡ record self.old { links = slice_set self.old.links number (Some link) } }
         ensures inside { number < length self.old.links }
     {
-        self.places[number as usize] = Some(link);
+        // What may lie there is let go in a call: an assignment has a prover read how each part of a link is let go.
+        drop(self.places[number as usize].replace(link));
     }
 
     /// Opens link N with two ends that are connected under these session keys, the engine's first. Only level safe has such links.

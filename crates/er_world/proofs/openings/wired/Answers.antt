@@ -11,5 +11,5 @@ returns c =
     (λ link does is now at.
     opens_wired c.args.plan.now.selective _ _ _ c.args.moment _ link c.args.plan.now.settings c.args.place c.args.place.show c.args.place.number
     c.args.out.now.items c.begun.new.out.items
-    refl c.in_ok-new.ensures c.in_ok-new-2.ensures c.new-3.ensures (place_at c.args.place E is) does now at)
+    refl c.in_ok-e.ensures c.in-Ok.ensures c.new-keys.ensures (place_at c.args.place E is) does now at)
     c.begun.ensures
