@@ -2,4 +2,4 @@
 
 /// The version of the program, the kit by which it is proved, and the sum of the sources of which it is built.
 pub(crate) const VERSION: &str =
-    "euroradio 1.1\nkit rattle-kit-13f logic dac8208d650f15bf\nsources eab48502d1fa2e397a67b9b3e90d8dd6471f399719a60b218f2cd5b5e1f6863c\n";
+    "euroradio 1.1\nkit rattle-kit-13f logic dac8208d650f15bf\nsources 97adbefc8548b89257ab6a51d6bc2e15119ce22ea03a4f9bf370c9c21d75fd60\n";
