@@ -48,7 +48,6 @@ fn tell(rt: HostRuntime, line: Result<String, NoMemory>) {
 
 /// Why a run ended as it did, where it didn't end well. `last` is the last line that it printed.
 pub(crate) fn ended(rt: HostRuntime, words: &[String], ended: &Ended, last: &[u8]) {
-    let command = command_from(words);
     match ended.status.0 {
         1 => {
             tell(rt, misused(rt.alloc(), words));
@@ -65,7 +64,7 @@ pub(crate) fn ended(rt: HostRuntime, words: &[String], ended: &Ended, last: &[u8
             }
         }
         4 => {
-            if let Some(name) = keys_of(&command) {
+            if let Some(name) = keys_of(words) {
                 let text = octets_again(rt, name);
                 tell(rt, keys_refused(rt.alloc(), name, last, slice_of(&text)));
             }
@@ -140,13 +139,22 @@ fn kind_of(work: Work) -> FileKind {
     }
 }
 
-// The key file of a command.
-fn keys_of<'a>(command: &Command<'a>) -> Option<&'a str> {
-    match *command {
-        Command::File(FileCommand::Plain(PlainCommand::Migrate { keys })) => Some(keys),
-        Command::File(FileCommand::Plain(_)) => None,
+// The key file of the command that these words ask for.
+fn keys_of(words: &[String]) -> Option<&str> {
+    match command_from(words) {
+        Command::File(FileCommand::Plain(command)) => plain_keys_of(&command),
         Command::File(FileCommand::Keyed(command)) => Some(command.keys),
         Command::Line(command) => Some(command.key_file()),
+    }
+}
+
+fn plain_keys_of<'a>(command: &PlainCommand<'a>) -> Option<&'a str> {
+    match *command {
+        PlainCommand::Migrate { keys } => Some(keys),
+        PlainCommand::Misused
+        | PlainCommand::Drill { .. }
+        | PlainCommand::Bits { .. }
+        | PlainCommand::Bulk { .. } => None,
     }
 }
 
@@ -175,8 +183,7 @@ const READ_BY_OTHERS: u32 = 0o004;
 /// What in the key file of a command may not be what was meant; of a command that runs over wires also that others than its owner may
 /// read the file.
 pub(crate) fn hints(rt: HostRuntime, words: &[String]) {
-    let command = command_from(words);
-    let Some(name) = keys_of(&command) else {
+    let Some(name) = keys_of(words) else {
         return;
     };
     if let Some(octets) = octets_again(rt, name) {
@@ -186,11 +193,18 @@ pub(crate) fn hints(rt: HostRuntime, words: &[String]) {
             }
         }
     }
-    if matches!(command, Command::Line(_)) && is_read_by_others(rt, name) {
+    if runs_over_wires(words) && is_read_by_others(rt, name) {
         let mut line = String::new(rt.alloc());
         if put_text(&mut line, name).is_ok() {
             let _ = eprintln!(rt; "euroradio: warning: {line}: others than its owner may read it");
         }
+    }
+}
+
+fn runs_over_wires(words: &[String]) -> bool {
+    match command_from(words) {
+        Command::File(_) => false,
+        Command::Line(_) => true,
     }
 }
 
