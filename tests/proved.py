@@ -1,7 +1,7 @@
 """What the gate has proved of this tree, in numbers, and the sum of the program that it built; and the status line of README.md.
 
     tests/proved.py [PROGRAM]  prints both
-    tests/proved.py --passed   writes into README.md that the gate passed, today, on this tree: for whoever has just seen it pass
+    tests/proved.py --passed   writes into README.md that `rt ci` passed, today, on this tree: for whoever has just seen it pass
     tests/proved.py --write    brings version and kit there up to date, and leaves what it says of the gate
 """
 import datetime
@@ -46,7 +46,7 @@ def status(gate):
 
 
 def passed():
-    return f"The whole gate passed on {datetime.date.today()}, on sources {origin()[2][:12]}:\n{numbers()}."
+    return f"`rt ci` passed on {datetime.date.today()}, on sources {origin()[2][:12]}:\n{numbers()}."
 
 
 def faults(write=False, gate=None):
