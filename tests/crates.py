@@ -4,8 +4,8 @@
     tests/crates.py          compares the table with the tree; each difference is printed, the status is 1 where there is one
     tests/crates.py --write  writes the table anew
 
-Groups and their order are those of crates.txt. What a crate is, is the first sentence of its head (`//!`), without what stands in parentheses, and up to its
-first colon where enough stands before it.
+Groups and their order are those of crates.txt, each up to its first colon. What a crate is, is the first sentence of its head (`//!`), without what stands in
+parentheses, and up to its first colon where enough stands before it.
 """
 import os
 import re
@@ -44,7 +44,7 @@ def groups():
         for line in text:
             row = re.match(r"(\w+)(?: staticlib)?:", line)
             if line.startswith("# "):
-                found.append((line[2:].strip().rstrip("."), []))
+                found.append((line[2:].strip().rstrip(".").partition(": ")[0], []))
             elif row:
                 found[-1][1].append(row[1])
     return [(what, crates) for what, crates in found if crates]

@@ -52,25 +52,11 @@ then
   status=1
 fi
 
-# One word, one meaning: a public name of specs/ stands in one crate, but for those of docs/NAMES.md, each with what it says in each crate.
-if ! python3 - << 'PY'
-import collections, glob, re, sys
-homes, listed = collections.defaultdict(set), {}
-for path in glob.glob("crates/*/specs/**/*.antt", recursive=True):
-    for name in re.findall(r"^(?:abbrev|unfoldable) pub ([^\s:]+)", open(path, encoding="utf-8").read(), re.M):
-        homes[name].add(path.split("/")[1])
-for row in re.finditer(r"^\| (`[^|]+`) \| (`[^|]+`) \| [^|]+ \|$", open("docs/NAMES.md", encoding="utf-8").read(), re.M):
-    for name in re.findall(r"`([^`]+)`", row.group(1)):
-        listed[name] = set(re.findall(r"`(\w+)`", row.group(2)))
-homes = {name: crates for name, crates in homes.items() if len(crates) > 1}
-wrong = [name for name in sorted(homes.keys() | listed.keys()) if homes.get(name) != listed.get(name)]
-for name in wrong:
-    print(f"docs/NAMES.md: {name} stands in {sorted(homes.get(name, []))} and is listed in {sorted(listed.get(name, []))}")
-sys.exit(bool(wrong))
-PY
-then
-  status=1
-fi
+# One word, one meaning: a public name of specs/ stands in one crate, but for those of tests/names.txt.
+python3 tests/names.py || status=1
+
+# Each public law says in a comment what it claims, which docs/CLAIMS.md tells in short.
+python3 tests/laws.py > /dev/null || status=1
 
 # One manner: what a file is stands in `//!`, a section begins with `-- ----`, an attribute stands below the comment of its item.
 if sources | grep '/src/.*\.rt$' | xargs -r awk 'FNR == 1 && /^\/\/ / { print FILENAME ": begins with //"; found = 1 }

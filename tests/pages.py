@@ -10,9 +10,10 @@ What is looked for of a text in backticks; {A, B} behind /, . or :: stands for e
 | any other | each word, in any file of the tree but the pages; of `_name` a word that ends so |
 
 Comments of code and definitions don't count. Words of capitals alone stand for others, as NAME does, and what begins with / lies elsewhere. What the
-tree needn't have is in the list here. A row of a table, and a claim of docs/CLAIMS.md, says names of the crates that it names itself, by `CRATE/specs` or
-`CRATE::`: there each definition and type must stand in one of these, and of "`NAME` of CRATE" the name in that crate, on every page. Of counts those of
-crates, of must-fail edits, of claims and of wrong designs are looked at wherever a page tells ten or more; docs/CLAIMS.md names each design.
+tree needn't have is in the list here. A row of a table, and a claim of docs/CLAIMS.md, says names of the crates that it names itself or that the head of
+its section names, by `CRATE/specs` or `CRATE::`: there each definition and type must stand in one of these, and of "`NAME` of CRATE" the name in that crate,
+on every page. Of counts those of crates, of must-fail edits, of claims and of wrong designs are looked at wherever a page tells ten or more. Each file of
+tests/designs says what refuses its designs.
 
 And the pages can be read: no sentence above 50 words, no cell of a table above 300 characters, no line above 200 columns but in tables and code blocks, no
 day but in docs/SPEED.md and docs/DECISIONS.md, no entry of the latter above 60 words; README.md has at most 120 lines of at most 120 columns.
@@ -170,21 +171,25 @@ def counts(tree):
         r"crates": len(tree.crates),
         r"must-fail edits": sum(path.endswith(".edit") for path in tree.files),
         r"claims": listed.count("\n"),
-        r"wrong designs of the code": sum(path.startswith("tests/designs/") for path in tree.files),
+        r"wrong designs of the code": sum(path.startswith("tests/designs/") and path.endswith(".patch") for path in tree.files),
         r"lines of code, definitions and proofs": round(sum(read(path).count("\n") for path in of_code), -4),
     }
 
 
 def blocks_of(page):
-    """(line, text) of each row of a table, and of docs/CLAIMS.md of each claim: what stands below one heading of the third level."""
-    claim, begin = [], None
+    """(line, text) of each row of a table, and of docs/CLAIMS.md of each claim: what stands below one heading of the third level, behind what stands at
+    the head of its section, which may name crates for all of its claims."""
+    section, claim, begin = [], [], None
     for number, line in enumerate(read(page).split("\n") + ["#"], 1):
         if line.startswith("|"):
             yield number, line
         if line.startswith("#"):
             if begin:
-                yield begin, "\n".join(claim)
+                yield begin, "\n".join(section + claim)
+            elif claim and claim[0].startswith("## "):
+                section = claim
             claim, begin = [], number if line.startswith("### ") and page == "docs/CLAIMS.md" else None
+            section = [] if not line.startswith("### ") else section
         claim.append(line)
 
 
@@ -202,11 +207,14 @@ def lost_in_blocks(tree, page):
                 yield number, it
 
 
-def unnamed_designs(tree):
-    """Each wrong design of the code that docs/CLAIMS.md doesn't name."""
-    text = read("docs/CLAIMS.md")
-    names = sorted(os.path.splitext(os.path.basename(path))[0] for path in tree.files if path.startswith("tests/designs/"))
-    return [f"docs/CLAIMS.md: the design `{name}` isn't there" for name in names if f"`{name}`" not in text]
+def faults_of_designs(tree):
+    """What of the heads of the wrong designs isn't as it should be: each says what refuses it, by names that the tree has."""
+    for path in sorted(path for path in tree.files if path.startswith("tests/designs/")):
+        head = re.match(r"(?:# .*\n)*", read(path))[0] if path.endswith(".patch") else read(path)
+        if not re.search(r"refuse[sd]? (?:by|it)\b", head):
+            yield f"{path}: its first lines don't say what refuses it"
+        for text in re.findall(r"`([^`]+)`", head):
+            yield from (f"{path}: `{text}`: the tree has no {word}" for word in tree.lacks(text))
 
 
 def lost_of_crates(tree, page):
@@ -308,7 +316,7 @@ def main():
             passed += not lacking
             faults += [f"{page}:{line}: `{text}`: the tree has no {', '.join(lacking)}"] if lacking else []
         faults += [f"{page}:{line}: {what}" for line, what in faults_of(tree, page, counted)]
-    faults += crate_table.faults() + proved.faults() + unnamed_designs(tree)
+    faults += crate_table.faults() + proved.faults() + list(faults_of_designs(tree))
     needless = sorted(word for word in elsewhere if word in tree.all)
     if needless:
         faults.append(f"the list of what needn't be there names what is there: {', '.join(needless)}")

@@ -10,13 +10,14 @@ mod train;
 mod train_wires;
 
 use crate::numbers::Numbers;
-use crate::trains::loop_objects::{LoopClock, LoopSink};
+use crate::trains::loop_objects::{LoopClock, LoopSink, NoFiles};
 use crate::trains::train::CENTRE;
 use crate::trains::train_wires::TrainWires;
 use er_base::NoMemory;
 use er_settings::Settings;
 use er_users::{Echo, SafeUser};
 use key_store::KeyStore;
+use outside::Parts;
 use rand_core::SeedableRng;
 use rand_pcg::Lcg64Xsh32;
 use readiness_loop::{LinePlan, LoopFault, serve};
@@ -50,18 +51,10 @@ fn serve_once(
         turns: u64::MAX,
     };
     let mut words = Lcg64Xsh32::seed_from_u64(1);
-    let served = serve(
-        alloc,
-        keys,
-        &plan,
-        "here",
-        CENTRE,
-        users,
-        wires,
-        &mut LoopClock,
-        &mut words,
-        sink,
-    )?;
+    let mut files = NoFiles;
+    let mut clock = LoopClock;
+    let mut outside = Parts::new(&mut files, sink, wires, &mut clock, &mut words);
+    let served = serve(alloc, keys, &plan, "here", CENTRE, users, &mut outside)?;
     Ok(served.turns)
 }
 

@@ -1,3 +1,4 @@
+-- What this crate states: its definitions, by module.
 pub mod MacPieces
 pub mod FrameCounts
 pub mod BitFrameCounts

@@ -1,3 +1,4 @@
+-- What this crate states: its definitions, by module.
 pub mod Tables
 pub mod Boxes
 pub mod Des

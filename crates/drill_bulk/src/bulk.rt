@@ -1,3 +1,5 @@
+//! The scenario of a bulk run, drawn from a seed.
+
 ghost use Rattle.std.specs.Prelude.{◌≡◌, ◌++◌, ◌∷◌, [], IfOk, OnOk};
 ghost use Rattle.er_scenario.specs.declared.step.Step.TheVariants.{Drain};
 ghost use Rattle.rand_core.specs.Stream.{next_u32};

@@ -1,3 +1,5 @@
+//! The one key that the ends of a link can find.
+
 ghost use Rattle.std.specs.Prelude.{◌≡◌};
 ghost use Rattle.drill_ends.specs.Keys.{key_entries_of_pair, AreKeysSteady};
 

@@ -1,3 +1,5 @@
+//! A payload that a user may send.
+
 ghost use Rattle.std.specs.Prelude.{◌≡◌, ◌≤◌, ◌<◌, ◌⊎◌, length, MatchOption};
 
 use std::marker::Model;

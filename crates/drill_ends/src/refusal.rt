@@ -1,3 +1,5 @@
+//! Why a send is refused.
+
 ghost use Rattle.std.specs.Prelude.{◌≡◌};
 ghost use Rattle.safety_automaton.specs.Views.{refusal_view};
 ghost use Rattle.drill_model.specs.Ends.{send_refusal_from_safety};

@@ -1,3 +1,5 @@
+//! With what a drill's station of the link layer is made.
+
 ghost use Rattle.std.specs.Prelude.{◌≡◌, ◌≤◌, ◌*◌, true};
 
 use er_settings::Settings;

@@ -1,3 +1,4 @@
+-- What this crate states: its definitions, by module.
 pub mod Outcomes
 pub mod StationEnds
 pub mod StackEnds

@@ -1,3 +1,5 @@
+//! Why a step of a world isn't done.
+
 use er_base::{NoMemory, Side};
 
 /// Why a step of a world isn't done.

@@ -1,8 +1,17 @@
 //! An end, and what a program that embeds it has beside it.
 
+ghost use Rattle.std.specs.Prelude.{◌≡◌, ◌≤◌, ◌<◌, ◌∷◌, [], length, take, IfOk};
+ghost use Rattle.er_settings.specs.Making.{usual_settings};
+ghost use Rattle.safety_automaton.specs.Keys.{key_at};
+ghost use Rattle.er_end_model.specs.Ends.{Answer, Call, Come, Opening, Send, Start, Take};
+ghost use Rattle.er_end.specs.KeptEnds.{kept_opened};
+ghost use Rattle.er_end.specs.Standing.{IsAllowed};
+ghost use Rattle.embedded_end.specs.Sides.{IsSideOf, SideDid, SideHeard};
+
 use des_block::TripleKey;
 use er_base::{Moment, NoMemory};
 use er_end::End;
+use er_end_promises::laws::calls_in_turn;
 use er_settings::Settings;
 use key_store::KeyStore;
 use std::alloc::Global;
@@ -25,56 +34,95 @@ pub struct Side {
 
 impl Side {
     /// A radio block centre: its end waits for a call.
-    pub fn centre(alloc: Global, random: u64, now: Moment) -> Result<Side, NoMemory> {
+    pub fn centre(alloc: Global, random: u64, now: Moment) -> Result<Side, NoMemory>
+        ensures { IfOk result (λ side. IsSideOf (Answer usual_settings 9 random now) side) }
+    {
         let end = End::answer(alloc, &Settings::usual(), CENTRE, random, now.get())?;
         Side::new(alloc, end)
     }
 
-    /// An engine: its end calls the radio block centre.
+    /// An engine: its end is to call the radio block centre.
     pub fn engine(
         alloc: Global,
         kmac: TripleKey,
         random: u64,
         now: Moment,
-    ) -> Result<Side, NoMemory> {
+    ) -> Result<Side, NoMemory>
+        ensures { IfOk result (λ side. IsSideOf (Call usual_settings 5 9 kmac random now) side) }
+    {
         let settings = Settings::usual();
         let end = End::call(alloc, &settings, ENGINE, CENTRE, kmac, random, now.get())?;
-        let mut side = Side::new(alloc, end)?;
-        let deeds = side.end.start(now.get());
-        side.to_line.extend_from_slice(deeds.out)?;
-        Ok(side)
+        Side::new(alloc, end)
     }
 
-    /// Octets came from the line, and go to the end frame by frame.
-    pub fn receive(&mut self, keys: &KeyStore, now: Moment, octets: &[u8]) -> Result<(), NoMemory> {
-        let mut rest = octets;
-        while !rest.is_empty() {
-            let (used, deeds) = self.end.octets(keys, now.get(), rest);
-            self.to_line.extend_from_slice(deeds.out)?;
-            self.peer = self.peer.or(deeds.connected);
-            if let Some(taken) = self.end.take(now.get()) {
-                self.to_user.extend_from_slice(taken.text)?;
-                self.to_line.extend_from_slice(taken.out)?;
-            }
-            rest = &rest[used..];
-        }
-        Ok(())
-    }
-
-    /// The user sends a message; one that is refused isn't sent.
-    pub fn send(&mut self, now: Moment, message: &[u8]) -> Result<(), NoMemory> {
-        if let Ok(deeds) = self.end.send(now.get(), message) {
-            self.to_line.extend_from_slice(deeds.out)?;
-        }
-        Ok(())
-    }
-
-    fn new(alloc: Global, end: End) -> Result<Side, NoMemory> {
+    fn new(alloc: Global, end: End) -> Result<Side, NoMemory>
+        ensures { (opening : Opening) → IsAllowed opening → end ≡ kept_opened opening → IfOk result (λ side. IsSideOf opening side) }
+    {
         Ok(Side {
             end: Box::new(alloc, end)?,
             to_line: Vec::new(alloc),
             to_user: Vec::new(alloc),
             peer: None,
         })
+    }
+
+    /// An engine's end begins.
+    pub fn start(&mut self, now: Moment) -> Result<(), NoMemory>
+        ensures { IfOk result (λ _. SideDid (record { now = now; event = Start } ∷ []) self.old self.new) }
+    {
+        calls_in_turn();
+        let deeds = self.end.start(now.get());
+        self.to_line.extend_from_slice(deeds.out)?;
+        Ok(())
+    }
+
+    /// Octets came from the line, and go to the end frame by frame. What it accepts of them its user gets, in order.
+    pub fn receive(&mut self, keys: &KeyStore, now: Moment, octets: &[u8]) -> Result<(), NoMemory>
+        ensures { IfOk result (λ _. SideHeard octets.now self.old self.new) }
+    {
+        calls_in_turn();
+        let mut rest = octets;
+        while !rest.is_empty() {
+            let used = self.hear(keys, now, rest)?;
+            self.take(now)?;
+            rest = &rest[used..];
+        }
+        Ok(())
+    }
+
+    // Octets up to the first that closes a frame: how many these are.
+    fn hear(&mut self, keys: &KeyStore, now: Moment, octets: &[u8]) -> Result<usize, NoMemory>
+        ensures within { IfOk result (λ used. used ≤ length octets.now) }
+        ensures moves { 0 < length octets.now → IfOk result (λ used. 0 < used) }
+        ensures heard { IfOk result (λ used. SideHeard (take used octets.now) self.old self.new) }
+    {
+        calls_in_turn();
+        let (used, deeds) = self.end.octets(keys, now.get(), octets);
+        self.peer = self.peer.or(deeds.connected);
+        self.to_line.extend_from_slice(deeds.out)?;
+        Ok(used)
+    }
+
+    // The message that waits, where one does, goes to the user.
+    fn take(&mut self, now: Moment) -> Result<(), NoMemory>
+        ensures { IfOk result (λ _. SideHeard [] self.old self.new) }
+    {
+        calls_in_turn();
+        if let Some(taken) = self.end.take(now.get()) {
+            self.to_user.extend_from_slice(taken.text)?;
+            self.to_line.extend_from_slice(taken.out)?;
+        }
+        Ok(())
+    }
+
+    /// The user sends a message; one that is refused isn't sent.
+    pub fn send(&mut self, now: Moment, message: &[u8]) -> Result<(), NoMemory>
+        ensures { IfOk result (λ _. SideDid (record { now = now; event = Send message.now } ∷ []) self.old self.new) }
+    {
+        calls_in_turn();
+        if let Ok(deeds) = self.end.send(now.get(), message) {
+            self.to_line.extend_from_slice(deeds.out)?;
+        }
+        Ok(())
     }
 }

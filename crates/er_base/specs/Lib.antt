@@ -1,3 +1,4 @@
+-- What this crate states: its definitions, by module.
 pub mod Stored
 pub mod Octets
 pub mod OctetLaws

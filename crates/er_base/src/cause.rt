@@ -1,3 +1,5 @@
+//! Why this end releases a connection.
+
 ghost use Rattle.std.specs.Prelude.{◌≡◌};
 ghost use Rattle.er_base.specs.Causes.{by_this_end, release_of};
 

@@ -1,3 +1,5 @@
+//! Octets that are read from the front of a list.
+
 ghost use Rattle.std.specs.Prelude.{◌≡◌, ◌^◌, ℕ, List, length};
 ghost use Rattle.er_base.specs.Octets.{TakesNumberFromFront, one, two, three, eight};
 

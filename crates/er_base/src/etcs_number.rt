@@ -1,3 +1,5 @@
+//! ETCS numbers of trains and centres.
+
 ghost use Rattle.std.specs.Prelude.{◌≡◌, ◌≤◌, ◌<◌, MatchOption};
 
 use std::marker::Model;

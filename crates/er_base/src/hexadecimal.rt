@@ -1,3 +1,5 @@
+//! Octets that are spelled by two hexadecimal digits each.
+
 ghost use Rattle.std.specs.Prelude.{◌≡◌, ◌<◌, ◌%◌, ◌*◌, ◌++◌, ◌↔◌, true, false, codes, length, replicate, OnOk, OnErr};
 ghost use Rattle.std.specs.Char.{is_ascii_hexdigit};
 ghost use Rattle.std.specs.List.{list_all};

@@ -1,3 +1,5 @@
+//! Why one line of a text wasn't read.
+
 ghost use Rattle.std.specs.Prelude.{◌≡◌};
 ghost use Rattle.er_base.specs.declared.line_fault.LineFault.TheVariants as fault;
 

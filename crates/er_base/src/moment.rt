@@ -1,3 +1,5 @@
+//! Moments, in milliseconds.
+
 ghost use Rattle.std.specs.Prelude.{◌≡◌, ◌≤◌, ◌<◌, max, min, MatchOption};
 
 use std::marker::Model;

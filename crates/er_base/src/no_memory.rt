@@ -1,3 +1,5 @@
+//! Want of memory as an error.
+
 ghost use Rattle.std.specs.Prelude.{◌≡◌, ◌↔◌, IsSome};
 ghost use Rattle.std.specs.IoError.{error_kind};
 

@@ -1,3 +1,5 @@
+//! Numbers as octets, the most significant first.
+
 ghost use Rattle.std.specs.Prelude.{◌≡◌, ◌<◌, ◌^◌};
 ghost use Rattle.er_base.specs.Octets.{two, three, eight, number_in};
 

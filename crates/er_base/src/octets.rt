@@ -1,3 +1,5 @@
+//! A list of octets that contracts see as the list itself.
+
 ghost use Rattle.std.specs.Prelude.{◌≡◌, ℕ, List};
 
 use std::marker::Model;

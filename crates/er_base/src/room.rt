@@ -1,3 +1,5 @@
+//! A list of octets with room that is reserved once.
+
 ghost use Rattle.std.specs.Prelude.{◌≡◌, ◌+◌, [], length, IfOk};
 ghost use Rattle.er_base.specs.Stored.{HasRoom, Appends};
 

@@ -1,3 +1,5 @@
+//! The two ends of a link.
+
 ghost use Rattle.std.specs.Prelude.{◌≡◌};
 ghost use Rattle.er_base.specs.Sides.{other, side_word, side_of};
 

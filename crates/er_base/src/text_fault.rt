@@ -1,3 +1,5 @@
+//! Why a text wasn't read, and at which line.
+
 ghost use Rattle.std.specs.Prelude.{◌≡◌};
 ghost use Rattle.er_base.specs.TextFaults.{IsNoMemory};
 ghost use Rattle.er_base.specs.declared.text_fault.TextFault.TheVariants as fault;

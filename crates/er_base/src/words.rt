@@ -1,3 +1,5 @@
+//! The words of a line, parted by spaces.
+
 ghost use Rattle.std.specs.Prelude.{◌≡◌, ◌<◌, ◌≤◌, [], ◌∷◌, length, MatchOption, IfSome};
 ghost use Rattle.std.specs.List.{prefix_len};
 ghost use Rattle.er_base.specs.Words.{is_space, is_of_word, without_spaces, first_word, after_first_word, words_of};

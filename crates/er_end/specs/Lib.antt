@@ -1,3 +1,4 @@
+-- What this crate states: its definitions, by module.
 pub mod Inboxes
 pub mod KeptLayers
 pub mod FrameRoom

@@ -1,3 +1,5 @@
+//! What came up from the layers below.
+
 use crate::short_sapdu::ShortSapdu;
 use er_base::Release;
 

@@ -1,3 +1,5 @@
+//! What an event at an end came to.
+
 use er_base::Release;
 
 /// What an event at an end came to. Octets are lent from the end.

@@ -1,3 +1,5 @@
+//! The events of an end.
+
 use crate::deeds::{Deeds, SendRefused};
 
 /// What is given to an end.

@@ -1,3 +1,5 @@
+//! Messages that were accepted and wait to be taken.
+
 ghost use Rattle.std.specs.Prelude.{◌≡◌, ◌≤◌, ◌-◌, true, false, [], length, IfOk, if◌then◌else◌, slice_get, option_map};
 ghost use Rattle.er_end.specs.Inboxes.{empty, kept_more, kept_fewer, newest_of};
 

@@ -1,3 +1,5 @@
+//! The link layer of an end, with what it writes to the line.
+
 ghost use Rattle.std.specs.Prelude.{◌≡◌, ◌≤◌, ◌==◌, [], length, true, IfOk};
 ghost use Rattle.hdlc_frames.specs.Shown.{verdict_of_octets_found};
 ghost use Rattle.hdlc_balanced.specs.Kept.{kept_of};

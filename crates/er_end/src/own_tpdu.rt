@@ -1,3 +1,5 @@
+//! The TPDUs that an end gives beside those of its transport.
+
 use crate::short_sapdu::ShortSapdu;
 
 /// A TPDU that the end gives beside those of its transport.

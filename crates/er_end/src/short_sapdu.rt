@@ -1,3 +1,5 @@
+//! An SaPDU that is short enough for one DT TPDU.
+
 ghost use Rattle.std.specs.Prelude.{◌≡◌, ◌≤◌, ◌==◌, [], length};
 
 use arrayvec::ArrayVec;

@@ -1,3 +1,4 @@
+-- What this crate states: its definitions, by module.
 pub mod Slots
 pub mod Statuses
 pub mod Deeds

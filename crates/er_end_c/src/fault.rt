@@ -1,3 +1,5 @@
+//! Why no end is made.
+
 ghost use Rattle.std.specs.Prelude.{◌≡◌};
 ghost use Rattle.er_end_c.specs.Makings.{fault_status};
 

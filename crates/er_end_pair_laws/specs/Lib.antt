@@ -1,3 +1,4 @@
+-- What this crate states: its definitions, by module.
 pub mod Openings
 pub mod Reasons
 pub mod Links

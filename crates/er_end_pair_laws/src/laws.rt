@@ -108,8 +108,8 @@ pub fn greets()
 }
 
 /// Whatever a line that keeps its order lost and repeated, while no end was released, where the radio block centre finds the engine's KMAC: all that
-/// waits is given; a moment finds each T1 that runs expired, and the time for the set-up isn't spent; all that waits is given, and all that was
-/// accepted is taken. Then both ends are live and connected, and each accepted all that the other sent, in order. While frames are given and
+/// waits is given; a moment finds each T1 that runs expired, no end gives up, and the time for the set-up isn't spent; all that waits is given, and all
+/// that was accepted is taken. Then both ends are live and connected, and each accepted all that the other sent, in order. While frames are given and
 /// messages taken, and nothing else happens, no live end is released.
 pub fn recovery()
     ensures recovered { Recovery }

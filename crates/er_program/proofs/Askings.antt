@@ -1,6 +1,5 @@
 -- Which names were asked for, by how the parts of a run end.
 use Rattle.std.proofs.Common.{◌≡◌, ◌⊎◌, inl, inr, ℕ, Bool, List, [], ◌∷◌, length, Option, Some, None, Result, Ok, Err, IfOk, refl, sym, subst, ap, arith}
-use Rattle.er_base.specs.declared.no_memory.NoMemory.{NoMemory as Want}
 use Rattle.er_base.specs.declared.text_fault.TextFault.{TextFault}
 use Rattle.er_base.specs.declared.text_fault.TextFault.TheVariants as text
 use Rattle.er_trace.specs.declared.trace.Trace.{Trace}
@@ -14,22 +13,18 @@ use Rattle.er_tap.specs.declared.tap.Tap.{Tap}
 use Rattle.er_tap.specs.declared.tap_line.TapLine.{TapLine}
 use Rattle.tap_model.specs.Lines.{TapFault, NoLinkAt, TwiceAt, fault_of_tap_lines}
 use Rattle.safety_automaton.specs.Keys.{KmacEntry, key_at}
-use Rattle.key_store.specs.declared.key_file_fault.KeyFileFault.{KeyFileFault}
-use Rattle.key_store.specs.declared.key_file_fault.KeyFileFault.TheVariants as keys
 use Rattle.link_trait.specs.Outside.{Grew}
-use Rattle.link_trait.specs.Growth.{grew_then, grew_nothing}
-use Rattle.er_program.specs.Asking.{AskedNames, AsksLast, AsksKeys, AsksBoth, AsksBehindKeys, Asks}
-use Rattle.er_statuses.specs.Answers.{Answer, keys_answer}
+use Rattle.er_program.specs.Asking.{AskedNames, AsksLast, AsksKeys, AsksBoth, Asks}
+use Rattle.er_statuses.specs.Answers.{Answer}
 use Rattle.er_program.specs.Answers.{AllAreTaken, OneIsRefused, IsTraceAnswer, AllAreJudged, OneIsTold, verdict_answer, IsRecordingAnswer, lines_answer, tap_answer}
 use Rattle.er_program.specs.declared.work.Work.{Work}
 use Rattle.er_program.specs.declared.work.Work.TheVariants as work
 use Rattle.er_program.specs.CommandViews.{command_of_work}
 use Rattle.er_program.specs.KeyedWriting.{IsOfWork}
 use Rattle.er_program.specs.ReplayWriting.{EndsOne}
-use Rattle.er_statuses.specs.Writing.{GivesAnswer, EndsUnfetched}
+use Rattle.er_statuses.specs.Writing.{EndsUnfetched}
 use Rattle.er_statuses.specs.declared.status.Status.{Status}
 use Rattle.er_statuses.specs.declared.stop.Stop.{Stop}
-use Rattle.er_statuses.specs.declared.stop.Stop.TheVariants as stop
 
 -- ---- the file behind the key file
 
@@ -102,62 +97,15 @@ pub asks_lost : (name : List ℕ) (c d : ℕ) (before now : Option (List ℕ)) (
 asks_lost name c d before now f g (Ok s) ends = (λ h. omega (arith, ends.1), λ h. ends.2)
 asks_lost name c d before now f g (Err why) ends = tt
 
--- ---- behind the key file
-
-pub asks_good : (name : List ℕ) (asked asked_now : AskedNames) (before now : Option (List ℕ)) (r : Result Status Stop)
-    → IfOk r (λ s. Grew asked asked_now (name ∷ [])) → IfOk r (λ s. AsksLast name s.0 before now)
-    → IfOk r (λ s. AsksBehindKeys name s.0 asked asked_now before now)
-asks_good name asked asked_now before now (Ok s) grew last = inr (grew, last)
-asks_good name asked asked_now before now (Err why) grew last = tt
-
--- it is refused
-refused_so : (name : List ℕ) (asked : AskedNames) (before now : Option (List ℕ)) (status : ℕ) → status ≡ 4 → AsksBehindKeys name status asked asked before now
-refused_so name asked before now status is = inl (grew_nothing asked, is)
-
-pub asks_bad : (why : KeyFileFault) (name : List ℕ) (asked : AskedNames) (before now : Option (List ℕ)) (f g : ℕ) (r : Result Status Stop)
-    → ((want : Want) → why ≡ keys.NoMemory want → r ≡ Err (stop.NoMemory want)) → GivesAnswer (keys_answer why) before now f g r
-    → IfOk r (λ s. AsksBehindKeys name s.0 asked asked before now)
-asks_bad why name asked before now f g (Err stop) passed gives = tt
-asks_bad keys.Document name asked before now f g (Ok s) passed gives = refused_so name asked before now s.0 gives.0
-asks_bad (keys.Field entry field) name asked before now f g (Ok s) passed gives = refused_so name asked before now s.0 gives.0
-asks_bad (keys.Hex entry) name asked before now f g (Ok s) passed gives = refused_so name asked before now s.0 gives.0
-asks_bad (keys.Number entry) name asked before now f g (Ok s) passed gives = refused_so name asked before now s.0 gives.0
-asks_bad (keys.Range entry) name asked before now f g (Ok s) passed gives = refused_so name asked before now s.0 gives.0
-asks_bad (keys.Twice first second) name asked before now f g (Ok s) passed gives = refused_so name asked before now s.0 gives.0
-asks_bad (keys.Version n) name asked before now f g (Ok s) passed gives = refused_so name asked before now s.0 gives.0
-asks_bad (keys.NoMemory want) name asked before now f g (Ok s) passed gives =
-    let never : Ok s ≡ Err (stop.NoMemory want) = passed want refl in
-    absurd (cc)
-
 -- ---- the words
 
-behind_words : (keys_name name : List ℕ) (status : ℕ) (a b c : AskedNames) (before now : Option (List ℕ))
-    → Grew a b (keys_name ∷ []) → AsksBehindKeys name status b c before now → AsksKeys keys_name status a c before now ⊎ AsksBoth keys_name name status a c before now
-behind_words keys_name name status a b c before now first further =
-    elim further [
-      | inl bad ↦ inl (record {
-        asked_for = grew_then a b c (keys_name ∷ []) [] first bad.0;
-        ends = inr bad.1;
-        written = λ h. absurd (omega (arith, bad.1));
-      })
-      | inr good ↦ inr (record { asked_for = grew_then a b c (keys_name ∷ []) (name ∷ []) first good.0; last = good.1 })
-    ]
-
-asks_of : (w : Work) (keys_name name : List ℕ) (status : ℕ) (a c : AskedNames) (before now : Option (List ℕ))
+pub asks_of : (w : Work) (keys_name name : List ℕ) (status : ℕ) (a c : AskedNames) (before now : Option (List ℕ))
     → AsksKeys keys_name status a c before now ⊎ AsksBoth keys_name name status a c before now → Asks (command_of_work w keys_name name) status a c before now
 asks_of work.Replay keys_name name status a c before now asks = asks
 asks_of work.Check keys_name name status a c before now asks = asks
 asks_of (work.Audit ends) keys_name name status a c before now asks = asks
 
--- the key file was fetched
-pub asks_words : (w : Work) (keys_name name : List ℕ) (a b c : AskedNames) (before now : Option (List ℕ)) (r : Result Status Stop)
-    → Grew a b (keys_name ∷ []) → IfOk r (λ s. AsksBehindKeys name s.0 b c before now)
-    → IfOk r (λ s. Asks (command_of_work w keys_name name) s.0 a c before now)
-asks_words w keys_name name a b c before now (Ok s) first further =
-    asks_of w keys_name name s.0 a c before now (behind_words keys_name name s.0 a b c before now first further)
-asks_words w keys_name name a b c before now (Err why) first further = tt
-
--- or not
+-- the key file wasn't fetched
 pub asks_words_lost : (w : Work) (keys_name name : List ℕ) (a b : AskedNames) (c d : ℕ) (before now : Option (List ℕ)) (f g : ℕ) (r : Result Status Stop)
     → IfOk r (λ s. Grew a b (keys_name ∷ [])) → EndsUnfetched keys_name c d before now f g r
     → IfOk r (λ s. Asks (command_of_work w keys_name name) s.0 a b before now)

@@ -21,9 +21,8 @@ use Rattle.outside.specs.Doings.{Told, Did}
 use Rattle.outside.specs.Scripts.{End, With, Sunk, OutOfMemory, Script, printing, says_last, RunsScript}
 use Rattle.outside.specs.SinkTexts.{nothing_left_by, fetches_none}
 use Rattle.er_statuses.specs.Answers.{Answer, Files}
-use Rattle.er_statuses.specs.LastLines.{fault_line, memory_line, why_word}
+use Rattle.er_statuses.specs.LastLines.{fault_line, why_word}
 use Rattle.er_statuses.specs.ScriptEnds.{end_of_run}
-use Rattle.er_statuses.specs.Writing.{GivesAnswer}
 use Rattle.er_statuses.specs.declared.status.Status.{Status}
 use Rattle.er_statuses.specs.declared.stop.Stop.{Stop}
 use Rattle.er_statuses.specs.declared.stop.Stop.TheVariants as stop
@@ -196,15 +195,6 @@ got_drills s a b f g acts (Err stop.Sink) sinks got = record {
 got_drills s a b f g acts (Err (stop.NoMemory want)) sinks got =
     (record { count = got.0; are_done = got.1; grew = subst (λ (octets : List ℕ). Grew a b octets) (sym got.2) sinks.0.grew }, sinks.1.later)
 
--- what the definition of a fault of a file doesn't come to
-ends_wanted : (want : Want) (a b : Option (List ℕ)) (f g : ℕ) (r : Result Status Stop) → GivesAnswer (record { status = 7; text = memory_line }) a b f g r
-    → EndsFile (Err (text.NoMemory want)) a b f g r
-ends_wanted want a b f g (Ok status) gives =
-    record { readable = tt; answer = record { status = 7; text = memory_line }; is = refl; stated = gives.0; printed = gives.1; later = gives.2 }
-ends_wanted want a b f g (Err stop.Sink) gives =
-    record { readable = tt; answer = record { status = 7; text = memory_line }; is = refl; part = gives.0; rose = gives.1 }
-ends_wanted want a b f g (Err (stop.NoMemory other)) gives = record { first = inl gives.0; later = gives.1 }
-
 gives_read : TextGrows → (read : Result Scenario TextFault) (a b : Option (List ℕ)) (f g : ℕ) (acts : List Act) (r : Result Status Stop)
     → RunsScript (drills_read read) acts (end_of_run r) → Sinks a b f g acts → EndsFile read a b f g r
 unfolding RunsScript
@@ -219,9 +209,11 @@ gives_read grows (Ok s) a b f g acts r (inr p) sinks =
 gives_read grows (Err (text.At line why)) a b f g acts r runs sinks =
     let answer : Answer = record { status = 3; text = fault_line line (why_word why) } in
     ends_refused (Err (text.At line why)) line why a b f g r refl (gives_answer answer a b f g r (gives_said answer a b f g acts r runs sinks))
-gives_read grows (Err (text.NoMemory want)) a b f g acts r runs sinks =
-    let answer : Answer = record { status = 7; text = memory_line } in
-    ends_wanted want a b f g r (gives_answer answer a b f g r (gives_said answer a b f g acts r runs sinks))
+gives_read grows (Err (text.NoMemory want)) a b f g acts r (inl p) sinks = absurd p.0
+gives_read grows (Err (text.NoMemory want)) a b f g acts r (inr p) sinks =
+    let spent : (more : Want) × (r ≡ Err (stop.NoMemory more)) = is_spent r p.1 in
+    let nothing : Grew a b [] = nothing_left_by a b (subst (λ (ys : List Act). GrewBy PutsInSink a b ys) p.0 sinks.0) in
+    subst (λ (x : Result Status Stop). EndsFile (Err (text.NoMemory want)) a b f g x) (sym spent.1) (record { first = inl nothing; later = sinks.1.later })
 
 -- ---- it asks for no other file
 
@@ -248,7 +240,8 @@ unfolding RunsScript
 quiet_read (Ok s) acts end (inl p) = quiet_steps (plan_of s) [] s.steps acts end p.1
 quiet_read (Ok s) acts end (inr p) = subst (λ (ys : List Act). IsFalse (list_any is_fetch ys)) (sym p.0) refl
 quiet_read (Err (text.At line why)) acts end runs = fetches_none (λ text. text ≡ fault_line line (why_word why)) 3 acts end runs
-quiet_read (Err (text.NoMemory want)) acts end runs = fetches_none (λ text. text ≡ memory_line) 7 acts end runs
+quiet_read (Err (text.NoMemory want)) acts end (inl p) = absurd p.0
+quiet_read (Err (text.NoMemory want)) acts end (inr p) = subst (λ (ys : List Act). IsFalse (list_any is_fetch ys)) (sym p.0) refl
 
 -- ---- the whole script
 

@@ -4,7 +4,7 @@ use Rattle.std.specs.List.{list_any}
 use Rattle.link_trait.specs.Outside.{Grew, GrewPart, HasFile}
 use Rattle.link_trait.specs.Growth.{part_whole}
 use Rattle.er_base.specs.declared.no_memory.NoMemory.{NoMemory}
-use Rattle.outside.specs.Acts.{Fetch, Gave, Failed, Spent, Act, Fetched, Wrote, Called, Asked, Drew, is_fetch, is_sink_fault}
+use Rattle.outside.specs.Acts.{Fetch, Gave, Failed, Spent, Act, Fetched, Wrote, Called, Asked, Drew, is_fetch, is_cabinet_fault, is_sink_fault}
 use Rattle.outside.specs.Ties.{GrewBy, Counts, AsksFor, AreFiled, PutsInSink}
 use Rattle.outside.specs.Doings.{Told, Did}
 use Rattle.outside.specs.Scripts.{End, With, Sunk, OutOfMemory, Script, Ends, Prints, IsFetchThen, printing, RunsScript}
@@ -95,12 +95,66 @@ pub if_ok : {A : Type 0} (r : Result Status Stop) → A → IfOk r (λ s. A)
 if_ok (Ok s) a = a
 if_ok (Err stop) a = tt
 
-not_ok : (A : Type 0) (r : Result Status Stop) → end_of_run r ≡ OutOfMemory → IfOk r (λ s. A)
-not_ok A (Ok s) e = absurd cc
-not_ok A (Err stop) e = tt
+pub not_ok : (P : Status → Type 0) (r : Result Status Stop) → end_of_run r ≡ OutOfMemory → IfOk r P
+not_ok P (Ok s) e = absurd cc
+not_ok P (Err stop) e = tt
+
+-- ---- what acts left in the cabinet and in the sink
+
+-- the files that were fetched, how often a fetch failed, and what the sink got
+pub record Leaves (files : Files) (c d : ℕ) (a b : Option (List ℕ)) (f g : ℕ) (acts : List Act) : Type 0 where
+  pub filed : AreFiled files acts
+  pub unfetched : Counts is_cabinet_fault c d acts
+  pub sinks : Sinks a b f g acts
+
+pub leaves_of : (before now : Told) (acts : List Act) → Did before now acts
+    → Leaves now.cabinet.files before.cabinet.faults now.cabinet.faults before.sink.held now.sink.held before.sink.faults now.sink.faults acts
+leaves_of before now acts did = record { filed = did.cabinet.filed; unfetched = did.cabinet.faults; sinks = (did.sink.held, did.sink.faults) }
+
+-- behind a fetch
+filed_behind : (files : Files) (name : List ℕ) (answer : Fetch) (acts : List Act) → AreFiled files (Fetched name answer ∷ acts) → AreFiled files acts
+unfolding AreFiled
+filed_behind files name (Gave file) acts p = p.1
+filed_behind files name Failed acts p = p
+filed_behind files name Spent acts p = p
+
+unfetched_behind : (c d : ℕ) (name : List ℕ) (answer : Fetch) (acts : List Act) → Counts is_cabinet_fault c d (Fetched name answer ∷ acts) → Counts is_cabinet_fault c d acts
+unfetched_behind c d name (Gave file) acts p = record { later = p.later; rose = λ h. p.rose h }
+unfetched_behind c d name Failed acts p = record { later = p.later; rose = λ h. p.rose refl }
+unfetched_behind c d name Spent acts p = record { later = p.later; rose = λ h. p.rose h }
+
+pub leaves_behind : (files : Files) (c d : ℕ) (a b : Option (List ℕ)) (f g : ℕ) (name : List ℕ) (answer : Fetch) (acts : List Act)
+    → Leaves files c d a b f g (Fetched name answer ∷ acts) → Leaves files c d a b f g acts
+leaves_behind files c d a b f g name answer acts p = record {
+  filed = filed_behind files name answer acts p.filed;
+  unfetched = unfetched_behind c d name answer acts p.unfetched;
+  sinks = sinks_behind a b f g name answer acts p.sinks.0 p.sinks.1;
+}
 
 module _ (name : List ℕ) (behind : List ℕ → Script) where
   -- how the run ended, by how it ends behind a file, without one, and where nothing was written for want of memory
+  module _ (Of : Type 0) (r : Result Status Stop) (files : Files) (c d : ℕ) (a b : Option (List ℕ)) (f g : ℕ) where
+    pub fetch_ends : ((file : List ℕ) (rest : List Act) → HasFile files name file → RunsScript (behind file) rest (end_of_run r) → Leaves files c d a b f g rest → Of)
+        → (EndsUnfetched name c d a b f g r → Of) → (end_of_run r ≡ OutOfMemory → Grew a b [] → f ≤ g → Of)
+        → (acts : List Act) → Leaves files c d a b f g acts → RunsScript (fetches_file name behind) acts (end_of_run r) → Of
+    unfolding RunsScript IsFetchThen AreFiled
+    fetch_ends had none spent [] left runs = spent runs (nothing_left_by a b left.sinks.0) left.sinks.1.later
+    fetch_ends had none spent (Fetched asked (Gave file) ∷ rest) left runs =
+        had file rest (subst (λ (n : List ℕ). HasFile files n file) runs.0 left.filed.0) runs.1 (leaves_behind files c d a b f g asked (Gave file) rest left)
+    fetch_ends had none spent (Fetched asked Failed ∷ rest) left runs =
+        let behind_it : Leaves files c d a b f g rest = leaves_behind files c d a b f g asked Failed rest left in
+        none (ends_unfetched name c d a b f g r (left.unfetched.rose refl)
+        (gives_answer (record { status = 2; text = fetch_line name }) a b f g r
+        (gives_said (record { status = 2; text = fetch_line name }) a b f g rest r runs.1 behind_it.sinks)))
+    fetch_ends had none spent (Fetched asked Spent ∷ rest) left runs =
+        let behind_it : Leaves files c d a b f g rest = leaves_behind files c d a b f g asked Spent rest left in
+        spent runs.2 (nothing_left_by a b (subst (λ (xs : List Act). GrewBy PutsInSink a b xs) runs.1 behind_it.sinks.0)) left.sinks.1.later
+    fetch_ends had none spent (Wrote piece done ∷ rest) left runs = absurd runs
+    fetch_ends had none spent (Called call ∷ rest) left runs = absurd runs
+    fetch_ends had none spent (Asked moment ∷ rest) left runs = absurd runs
+    fetch_ends had none spent (Drew word ∷ rest) left runs = absurd runs
+
+  -- the same of what was done to an outside
   pub file_ends : (Of : Files → (c d : ℕ) → Option (List ℕ) → Option (List ℕ) → (f g : ℕ) → Result Status Stop → Type 0) (before now : Told) (r : Result Status Stop)
       → ((file : List ℕ) (files : Files) (c d : ℕ) (a b : Option (List ℕ)) (f g : ℕ) (acts : List Act) → HasFile files name file → RunsScript (behind file) acts (end_of_run r) → Sinks a b f g acts
       → Of files c d a b f g r)
@@ -108,42 +162,30 @@ module _ (name : List ℕ) (behind : List ℕ → Script) where
       → ((files : Files) (c d : ℕ) (a b : Option (List ℕ)) (f g : ℕ) → end_of_run r ≡ OutOfMemory → Grew a b [] → f ≤ g → Of files c d a b f g r)
       → (acts : List Act) → Did before now acts → RunsScript (fetches_file name behind) acts (end_of_run r)
       → Of now.cabinet.files before.cabinet.faults now.cabinet.faults before.sink.held now.sink.held before.sink.faults now.sink.faults r
-  unfolding RunsScript IsFetchThen AreFiled
-  file_ends Of before now r had none spent [] did runs =
-      spent now.cabinet.files before.cabinet.faults now.cabinet.faults before.sink.held now.sink.held before.sink.faults now.sink.faults runs
-      (nothing_left_by before.sink.held now.sink.held did.sink.held) did.sink.faults.later
-  file_ends Of before now r had none spent (Fetched asked (Gave file) ∷ rest) did runs =
-      had file now.cabinet.files before.cabinet.faults now.cabinet.faults before.sink.held now.sink.held before.sink.faults now.sink.faults rest
-      (subst (λ (n : List ℕ). HasFile now.cabinet.files n file) runs.0 did.cabinet.filed.0) runs.1
-      (sinks_behind before.sink.held now.sink.held before.sink.faults now.sink.faults asked (Gave file) rest did.sink.held did.sink.faults)
-  file_ends Of before now r had none spent (Fetched asked Failed ∷ rest) did runs =
-      none now.cabinet.files before.cabinet.faults now.cabinet.faults before.sink.held now.sink.held before.sink.faults now.sink.faults
-      (ends_unfetched name before.cabinet.faults now.cabinet.faults before.sink.held now.sink.held before.sink.faults now.sink.faults r (did.cabinet.faults.rose refl)
-      (gives_answer (record { status = 2; text = fetch_line name }) before.sink.held now.sink.held before.sink.faults now.sink.faults r
-      (gives_said (record { status = 2; text = fetch_line name }) before.sink.held now.sink.held before.sink.faults now.sink.faults rest r runs.1
-      (sinks_behind before.sink.held now.sink.held before.sink.faults now.sink.faults asked Failed rest did.sink.held did.sink.faults))))
-  file_ends Of before now r had none spent (Fetched asked Spent ∷ rest) did runs =
-      spent now.cabinet.files before.cabinet.faults now.cabinet.faults before.sink.held now.sink.held before.sink.faults now.sink.faults runs.2
-      (nothing_left_by before.sink.held now.sink.held (subst (λ (xs : List Act). GrewBy PutsInSink before.sink.held now.sink.held xs) runs.1
-      (behind_fetched before.sink.held now.sink.held asked Spent rest did.sink.held))) did.sink.faults.later
-  file_ends Of before now r had none spent (Wrote piece done ∷ rest) did runs = absurd runs
-  file_ends Of before now r had none spent (Called call ∷ rest) did runs = absurd runs
-  file_ends Of before now r had none spent (Asked moment ∷ rest) did runs = absurd runs
-  file_ends Of before now r had none spent (Drew word ∷ rest) did runs = absurd runs
+  file_ends Of before now r had none spent acts did runs =
+      let files : Files = now.cabinet.files in
+      let c : ℕ = before.cabinet.faults in
+      let d : ℕ = now.cabinet.faults in
+      let a : Option (List ℕ) = before.sink.held in
+      let b : Option (List ℕ) = now.sink.held in
+      let f : ℕ = before.sink.faults in
+      let g : ℕ = now.sink.faults in
+      fetch_ends (Of files c d a b f g r) r files c d a b f g (λ file rest has run left. had file files c d a b f g rest has run left.sinks) (none files c d a b f g)
+      (spent files c d a b f g) acts (leaves_of before now acts did) runs
 
   -- what follows asks for no file
   module _ (quiet : (file : List ℕ) (acts : List Act) (end : End) → RunsScript (behind file) acts end → IsFalse (list_any is_fetch acts)) where
     pub file_asks : (before now : Told) (r : Result Status Stop) (acts : List Act) → Did before now acts → RunsScript (fetches_file name behind) acts (end_of_run r)
         → IfOk r (λ s. Grew before.cabinet.asked now.cabinet.asked (name ∷ []))
     unfolding RunsScript IsFetchThen
-    file_asks before now r [] did runs = not_ok (Grew before.cabinet.asked now.cabinet.asked (name ∷ [])) r runs
+    file_asks before now r [] did runs = not_ok (λ s. Grew before.cabinet.asked now.cabinet.asked (name ∷ [])) r runs
     file_asks before now r (Fetched asked (Gave file) ∷ rest) did runs =
         if_ok r (subst (λ (n : List ℕ). Grew before.cabinet.asked now.cabinet.asked (n ∷ [])) runs.0
         (name_asked_by before.cabinet.asked now.cabinet.asked asked (Gave file) rest (λ names is. is) (quiet file rest (end_of_run r) runs.1) did.cabinet.asked))
     file_asks before now r (Fetched asked Failed ∷ rest) did runs =
         if_ok r (subst (λ (n : List ℕ). Grew before.cabinet.asked now.cabinet.asked (n ∷ [])) runs.0
         (name_asked_by before.cabinet.asked now.cabinet.asked asked Failed rest (λ names is. is) (fetches_none (λ line. line ≡ fetch_line name) 2 rest (end_of_run r) runs.1) did.cabinet.asked))
-    file_asks before now r (Fetched asked Spent ∷ rest) did runs = not_ok (Grew before.cabinet.asked now.cabinet.asked (name ∷ [])) r runs.2
+    file_asks before now r (Fetched asked Spent ∷ rest) did runs = not_ok (λ s. Grew before.cabinet.asked now.cabinet.asked (name ∷ [])) r runs.2
     file_asks before now r (Wrote piece done ∷ rest) did runs = absurd runs
     file_asks before now r (Called call ∷ rest) did runs = absurd runs
     file_asks before now r (Asked moment ∷ rest) did runs = absurd runs

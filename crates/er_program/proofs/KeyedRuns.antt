@@ -1,6 +1,5 @@
 -- How a command ends that reads a key file and another file, from how its parts end.
-use Rattle.std.proofs.Common.{◌≡◌, inl, inr, ℕ, ◌≤◌, Bool, List, [], ◌++◌, Option, Some, None, Result, Ok, Err, refl, sym, subst, append-nil, arith}
-use Rattle.er_base.specs.declared.no_memory.NoMemory.{NoMemory as Want}
+use Rattle.std.proofs.Common.{◌≡◌, inl, inr, ℕ, ◌≤◌, Bool, List, [], Option, Some, None, Result, Ok, Err, refl, sym, subst, arith}
 use Rattle.er_base.specs.declared.text_fault.TextFault.{TextFault}
 use Rattle.er_trace.specs.declared.trace.Trace.{Trace}
 use Rattle.er_trace.specs.Files.{trace_of}
@@ -8,11 +7,8 @@ use Rattle.er_tap.specs.declared.tap.Tap.{Tap}
 use Rattle.er_tap.specs.Files.{tap_of}
 use Rattle.safety_automaton.specs.Keys.{KmacEntry}
 use Rattle.key_store.specs.declared.key_file_fault.KeyFileFault.{KeyFileFault}
-use Rattle.key_store.specs.declared.key_file_fault.KeyFileFault.TheVariants as keys
-use Rattle.key_store.specs.Answers.{RefusesAsKeyFileSays}
 use Rattle.key_store.specs.KeyFiles.{keys_of}
-use Rattle.link_trait.specs.Outside.{Grew, GrewPart, HasFile}
-use Rattle.link_trait.specs.Growth.{grew_then}
+use Rattle.link_trait.specs.Outside.{HasFile}
 use Rattle.er_statuses.specs.LastLines.{fetch_line}
 use Rattle.er_statuses.specs.Answers.{Answer, Files, HasFetched, keys_answer}
 use Rattle.er_statuses.specs.Writing.{GivesAnswer, EndsUnfetched}
@@ -49,12 +45,6 @@ ends_other Is Other IsBegun OtherBegun before now f g (Err stop.Sink) so begun e
     record { answer = ends.answer; is = so ends.answer ends.is; part = ends.part; rose = ends.rose }
 ends_other Is Other IsBegun OtherBegun before now f g (Err (stop.NoMemory want)) so begun ends =
     record { text = ends.text; begun = begun ends.text ends.begun; written = ends.written; later = ends.later }
-
--- nothing came behind a beginning
-pub part_still : (before mid now : Option (List ℕ)) (all : List ℕ) → GrewPart before mid all → Grew mid now [] → GrewPart before now all
-part_still before mid now all p none =
-    let grew : Grew before now (p.part ++ []) = grew_then before mid now p.part [] p.grew none in
-    record { part = p.part; rest = p.rest; is = p.is; grew = rw (append-nil p.part) at grew }
 
 -- ---- the file, whatever is done with it
 
@@ -98,24 +88,9 @@ module _ (Is : List KmacEntry → List ℕ → Answer → Type 0) (Begins : List
     ends_good read known is ends = subst Behind (sym is) (good_so known ends)
 
     -- it is refused
-    bad_so : (read : Result (List KmacEntry) KeyFileFault) (why : KeyFileFault) → read ≡ Err why → GivesAnswer (keys_answer why) before now f g r → Behind read
-    bad_so read why is gives =
-        subst Behind (sym is)
-        (ends_gives (IsAnswerBehindKeys Is (Err why) name files b c) (BeginsBehindKeys Begins (Err why) name files) (keys_answer why) before now f g r refl (inl refl) gives)
-
-    pub ends_bad : (read : Result (List KmacEntry) KeyFileFault) (why : KeyFileFault) → RefusesAsKeyFileSays why read
-        → ((want : Want) → why ≡ keys.NoMemory want → r ≡ Err (stop.NoMemory want)) → GivesAnswer (keys_answer why) before now f g r
-        → EndsOne (IsAnswerBehindKeys Is read name files b c) (BeginsBehindKeys Begins read name files) before now f g r
-    ends_bad read keys.Document is passed gives = bad_so read keys.Document is gives
-    ends_bad read (keys.Field entry field) is passed gives = bad_so read (keys.Field entry field) is gives
-    ends_bad read (keys.Hex entry) is passed gives = bad_so read (keys.Hex entry) is gives
-    ends_bad read (keys.Number entry) is passed gives = bad_so read (keys.Number entry) is gives
-    ends_bad read (keys.Range entry) is passed gives = bad_so read (keys.Range entry) is gives
-    ends_bad read (keys.Twice first second) is passed gives = bad_so read (keys.Twice first second) is gives
-    ends_bad read (keys.Version n) is passed gives = bad_so read (keys.Version n) is gives
-    ends_bad read (keys.NoMemory want) is passed gives =
-        let given : GivesAnswer (keys_answer (keys.NoMemory want)) before now f g (Err (stop.NoMemory want)) = rw (passed want refl) at gives in
-        rw (passed want refl) (record { text = []; begun = inl refl; written = given.0; later = given.1 })
+    pub ends_keyless : (why : KeyFileFault) → GivesAnswer (keys_answer why) before now f g r → Behind (Err why)
+    ends_keyless why gives =
+        ends_gives (IsAnswerBehindKeys Is (Err why) name files b c) (BeginsBehindKeys Begins (Err why) name files) (keys_answer why) before now f g r refl (inl refl) gives
 
   -- ---- the words
 

@@ -25,7 +25,7 @@ text_append s f before (x ∷ xs) ys =
     ∙ sym (append_assoc (entry_text s f before x) (entries_text s f (before ++ x ∷ []) xs) (entries_text s f (before ++ x ∷ xs) ys))
 
 -- the text of events, and of others behind them
-printed_more : (s : Settings) (f : Finds) (xs ys : List Entry) → text_of_trace s f (xs ++ ys) ≡ text_of_trace s f xs ++ entries_text s f xs ys
+pub printed_more : (s : Settings) (f : Finds) (xs ys : List Entry) → text_of_trace s f (xs ++ ys) ≡ text_of_trace s f xs ++ entries_text s f xs ys
 printed_more s f xs ys =
     ap (λ t. line_text (header_words s) ++ t) (text_append s f [] xs ys)
     ∙ sym (append_assoc (line_text (header_words s)) (entries_text s f [] xs) (entries_text s f xs ys))
@@ -49,7 +49,7 @@ split_more (a ∷ xs) e (b ∷ ys) y zs is =
 pub taken_none : (s : Settings) (f : Finds) → AreTaken s f []
 taken_none s f = λ first entry rest is. absurd (omega (arith, ap length is, length-append first (entry ∷ rest)))
 
-taken_more : (s : Settings) (f : Finds) (xs : List Entry) (e : Entry) → AreTaken s f xs → fault_of_trace_event s f xs e ≡ None → AreTaken s f (xs ++ e ∷ [])
+pub taken_more : (s : Settings) (f : Finds) (xs : List Entry) (e : Entry) → AreTaken s f xs → fault_of_trace_event s f xs e ≡ None → AreTaken s f (xs ++ e ∷ [])
 taken_more s f xs e taken none = λ first entry rest is.
     elim (split_more xs e first entry rest is) [
       | inl last ↦ rw (last.0, last.1) none

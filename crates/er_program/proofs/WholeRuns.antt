@@ -1,11 +1,13 @@
 -- What a run means by its status, for the command that it was: the facts of its parts, put together.
-use Rattle.std.proofs.Common.{◌≡◌, ◌≢◌, ◌⊎◌, inl, inr, ℕ, false, List, [], Option, refl, arith}
+use Rattle.std.proofs.Common.{◌≡◌, ◌≢◌, ◌⊎◌, inl, inr, ℕ, false, List, [], Option, refl, sym, ◌∙◌, true≢false, arith}
+use Rattle.outside.specs.Doings.{Told}
 use Rattle.er_statuses.specs.Answers.{Files}
 use Rattle.er_serving.specs.LineCommands.{LineCommand}
 use Rattle.er_serving.specs.LineCommands as line
 use Rattle.er_serving.specs.LineRuns.{GivenToLoop, IsLineStatus}
 use Rattle.er_serving.specs.LineStatuses.{IsLineRun}
 use Rattle.er_serving.specs.Outsides.{Outside, Traffic, IsSteady}
+use Rattle.er_serving.specs.RecordedLines.{IsLineRecorded}
 use Rattle.er_program.specs.Commands.{Command, Misused, Drill, Bits, Migrate, Replay, Check, Audit, Bulk, Serve, Call, needs_wires}
 use Rattle.er_program.specs.CommandViews.{command_of_work, command_of_line, file_view}
 use Rattle.er_program.specs.declared.file_command.FileCommand.{FileCommand}
@@ -14,6 +16,7 @@ use Rattle.er_program.specs.declared.file_command.PlainCommand.TheVariants as pl
 use Rattle.er_program.specs.declared.work.Work.{Work}
 use Rattle.er_program.specs.declared.work.Work.TheVariants as work
 use Rattle.er_program.specs.FileMeans.{FileMeans, AskedNames}
+use Rattle.er_program.specs.RecordedRuns.{IsRunRecorded}
 use Rattle.er_program.specs.Statuses.{IsFileStatus, AreAsked, IsRun}
 
 -- ---- a command that needs no wires
@@ -317,3 +320,11 @@ off_line (file.Plain (plain.Bits name)) = refl
 off_line (file.Plain (plain.Migrate keys)) = refl
 off_line (file.Plain (plain.Bulk seed count)) = refl
 off_line (file.Keyed command) = off_work command.work command.keys.now command.name.now
+
+-- ---- recorded before it goes
+
+pub file_recorded : (command : FileCommand) (before now : Told) → IsRunRecorded (file_view command) before now
+file_recorded command before now needs = absurd (true≢false (sym needs ∙ off_line command))
+
+pub line_recorded : (command : LineCommand) (before now : Told) → IsLineRecorded before now → IsRunRecorded (command_of_line command) before now
+line_recorded command before now recorded needs = recorded

@@ -23,11 +23,6 @@ pub record AsksBoth (keys name : List ℕ) (status : ℕ) (asked asked_now : Ask
   pub asked_for : Grew asked asked_now (keys ∷ name ∷ [])
   pub last : AsksLast name status before now
 
--- behind the key file: it is refused, and nothing more was asked for; or the trace was
-abbrev pub AsksBehindKeys : (name : List ℕ) → ℕ → AskedNames → AskedNames → Option (List ℕ) → Option (List ℕ) → Type 0
-AsksBehindKeys name status asked asked_now before now =
-    (Grew asked asked_now [] × (status ≡ 4)) ⊎ (Grew asked asked_now (name ∷ []) × AsksLast name status before now)
-
 -- the file words are asked for in their order, each once: all of them, but where a key file is asked for first and isn't fetched or good
 abbrev pub Asks : Command → ℕ → AskedNames → AskedNames → Option (List ℕ) → Option (List ℕ) → Type 0
 Asks Misused status asked asked_now before now = Grew asked asked_now []

@@ -1,11 +1,12 @@
 -- Representation: what the audit of a tap writes to the sink, and how it ends; no claim rests on it.
-use Rattle.std.specs.Prelude.{◌≡◌, ◌⊎◌, ℕ, Bool, ◌≤◌, List, [], ◌++◌, Option, None, Result, Ok, Err, codes}
+use Rattle.std.specs.Prelude.{◌≡◌, ◌⊎◌, ℕ, Bool, List, [], ◌++◌, None, Result, Ok, Err, codes}
 use Rattle.er_base.specs.declared.text_fault.TextFault.{TextFault}
 use Rattle.er_tap.specs.declared.tap.Tap.{Tap}
 use Rattle.er_tap.specs.declared.tap_line.TapLine.{TapLine}
 use Rattle.er_end_model.specs.Steps.{Finds}
 use Rattle.safety_automaton.specs.Keys.{KmacEntry, key_at}
-use Rattle.link_trait.specs.Outside.{Grew}
+use Rattle.outside.specs.Doings.{Told}
+use Rattle.outside.specs.Scripts.{End, Sunk, OutOfMemory, Does, says_last}
 use Rattle.tap_model.specs.declared.audit_fault.AuditFault.{AuditFault}
 use Rattle.tap_model.specs.declared.audit_fault.AuditFault.TheVariants.{NoLink, LinkTwice, Sink, NoMemory}
 use Rattle.tap_model.specs.Lines.{fault_of_tap_lines}
@@ -13,10 +14,6 @@ use Rattle.tap_model.specs.EndTexts.{text_of_audit}
 use Rattle.er_statuses.specs.LastLines.{fault_line}
 use Rattle.er_statuses.specs.Answers.{Answer}
 use Rattle.er_program.specs.Answers.{lines_answer, tap_answer}
-use Rattle.er_statuses.specs.Writing.{GivesAnswer}
-use Rattle.er_statuses.specs.declared.status.Status.{Status}
-use Rattle.er_statuses.specs.declared.stop.Stop.{Stop}
-use Rattle.er_statuses.specs.declared.stop.Stop.TheVariants as stop
 
 -- ---- the answers, as kinds of one
 
@@ -47,9 +44,9 @@ BeginsTap ends keys read text = (text ≡ []) ⊎ BeginsSpelledTap ends keys rea
 
 -- ---- the fault of an audit
 
--- a line's refusal was told; where the sink failed or memory ran out, nothing more was written
-abbrev pub TellsTapFault : AuditFault → Option (List ℕ) → Option (List ℕ) → ℕ → ℕ → Result Status Stop → Type 0
-TellsTapFault (NoLink line n) before now f g r = GivesAnswer (record { status = 3; text = fault_line line (codes "nolink") }) before now f g r
-TellsTapFault (LinkTwice line n) before now f g r = GivesAnswer (record { status = 3; text = fault_line line (codes "twice") }) before now f g r
-TellsTapFault Sink before now f g r = (r ≡ Err stop.Sink) × Grew before now [] × (f ≤ g)
-TellsTapFault (NoMemory want) before now f g r = (r ≡ Err (stop.NoMemory want)) × Grew before now [] × (f ≤ g)
+-- a line's refusal was told; where a write had failed or memory had run out, nothing was done
+abbrev pub TellsTapFault : AuditFault → (before now : Told) → End → Type 0
+TellsTapFault (NoLink line n) before now end = Does (says_last 3 (fault_line line (codes "nolink"))) before now end
+TellsTapFault (LinkTwice line n) before now end = Does (says_last 3 (fault_line line (codes "twice"))) before now end
+TellsTapFault Sink before now end = (now ≡ before) × (end ≡ Sunk)
+TellsTapFault (NoMemory want) before now end = (now ≡ before) × (end ≡ OutOfMemory)

@@ -1,23 +1,20 @@
--- Representation: what a command that reads a key file and another file writes to the sink, and how it ends; no claim rests on it.
+-- Representation: what a command that reads a key file and another file answers, and what is written where memory runs out; no claim rests on it.
 use Rattle.std.specs.Prelude.{◌≡◌, ◌⊎◌, ℕ, List, [], Result, Ok, Err}
 use Rattle.er_trace.specs.Files.{trace_of}
 use Rattle.er_tap.specs.Files.{tap_of}
 use Rattle.safety_automaton.specs.Keys.{KmacEntry}
 use Rattle.key_store.specs.declared.key_file_fault.KeyFileFault.{KeyFileFault}
 use Rattle.link_trait.specs.Outside.{HasFile}
-use Rattle.link_trait.specs.States.{CabinetState, SinkState}
 use Rattle.er_statuses.specs.Answers.{Answer, Files}
-use Rattle.er_statuses.specs.declared.status.Status.{Status}
-use Rattle.er_statuses.specs.declared.stop.Stop.{Stop}
 use Rattle.er_program.specs.declared.work.Work.{Work}
 use Rattle.er_program.specs.declared.work.Work.TheVariants as work
-use Rattle.er_program.specs.Answers.{IsReplayOfFile, IsCheckOfFile, IsAuditOfFile, IsSecondFileAnswer, IsAnswerBehindKeys}
+use Rattle.er_program.specs.Answers.{IsReplayOfFile, IsCheckOfFile, IsAuditOfFile}
 use Rattle.er_program.specs.AuditRuns.{HasTapStatus}
 use Rattle.er_program.specs.CheckRuns.{HasRecordingStatus}
 use Rattle.er_program.specs.Runs.{HasTraceStatus}
 use Rattle.er_program.specs.AuditWriting.{BeginsTap}
 use Rattle.er_program.specs.CheckWriting.{IsNothing}
-use Rattle.er_program.specs.ReplayWriting.{EndsOneTo, BeginsTrace}
+use Rattle.er_program.specs.ReplayWriting.{BeginsTrace}
 
 -- the answer to the octets of a file
 abbrev pub IsOfWork : Work → List KmacEntry → (file : List ℕ) → Answer → Type 0
@@ -53,19 +50,3 @@ BeginsGood Begins (Ok keys) name files text = BeginsFile Begins keys name files 
 
 abbrev pub BeginsBehindKeys : (List KmacEntry → List ℕ → List ℕ → Type 0) → Result (List KmacEntry) KeyFileFault → (name : List ℕ) → Files → List ℕ → Type 0
 BeginsBehindKeys Begins read name files text = (text ≡ []) ⊎ BeginsGood Begins read name files text
-
--- ---- how it ends, by what the cabinet and the sink tell
-
--- the file of that name, with these entries
-abbrev pub EndsSecondFile : Work → List KmacEntry → (name : List ℕ) → (cabinet cabinet_now : CabinetState) → (sink sink_now : SinkState)
-    → Result Status Stop → Type 0
-EndsSecondFile work keys name cabinet cabinet_now sink sink_now result =
-    EndsOneTo (IsSecondFileAnswer (IsOfWork work) keys name cabinet_now.files cabinet.faults cabinet_now.faults)
-    (BeginsSecondFile (BeginsOfWork work) keys name cabinet_now.files) sink sink_now result
-
--- the same with what a key file was read as
-abbrev pub EndsBehindKeys : Work → Result (List KmacEntry) KeyFileFault → (name : List ℕ) → (cabinet cabinet_now : CabinetState)
-    → (sink sink_now : SinkState) → Result Status Stop → Type 0
-EndsBehindKeys work read name cabinet cabinet_now sink sink_now result =
-    EndsOneTo (IsAnswerBehindKeys (IsOfWork work) read name cabinet_now.files cabinet.faults cabinet_now.faults)
-    (BeginsBehindKeys (BeginsOfWork work) read name cabinet_now.files) sink sink_now result

@@ -1,3 +1,4 @@
+-- What this crate states: its definitions, by module.
 pub mod Commands
 pub mod CommandViews
 pub mod Answers
@@ -24,6 +25,9 @@ pub mod Asking
 pub mod Statuses
 pub mod FileMeans
 pub mod CommandAnswers
+pub mod KeyedScripts
+pub mod EventWriting
 pub mod CommandScripts
+pub mod RecordedRuns
 pub mod RelayCommands
 pub mod RelayRuns

@@ -5,17 +5,12 @@ use Rattle.er_settings.specs.Values.{Settings}
 use Rattle.er_trace.specs.declared.entry.Entry.{Entry as TraceEntry}
 use Rattle.er_trace.specs.declared.trace.Trace.{Trace}
 use Rattle.er_end_model.specs.Steps.{Finds}
-use Rattle.trace_model.specs.declared.replay_fault.ReplayFault.{ReplayFault}
-use Rattle.trace_model.specs.declared.replay_fault.ReplayFault.TheVariants.{NoConn, ConnTwice, MomentBack, NoKey, Many, Sink, NoMemory}
 use Rattle.trace_model.specs.Printed.{text_of_trace}
 use Rattle.trace_model.specs.Replays.{AreTaken}
 use Rattle.safety_automaton.specs.Keys.{KmacEntry, key_at}
 use Rattle.link_trait.specs.Outside.{Grew}
-use Rattle.link_trait.specs.States.{SinkState}
-use Rattle.er_program.specs.Answers.{replay_fault_line}
 use Rattle.er_statuses.specs.Answers.{Answer}
 use Rattle.er_program.specs.KeyWriting.{GaveOne, BrokeOne}
-use Rattle.er_statuses.specs.Writing.{GivesAnswer}
 use Rattle.er_statuses.specs.declared.status.Status.{Status}
 use Rattle.er_statuses.specs.declared.stop.Stop.{Stop}
 use Rattle.er_statuses.specs.declared.stop.Stop.TheVariants as stop
@@ -35,9 +30,6 @@ EndsOne Is IsBegun before now f g (Ok s) = GaveOne Is before now f g s.0
 EndsOne Is IsBegun before now f g (Err stop.Sink) = BrokeOne Is before now f g
 EndsOne Is IsBegun before now f g (Err (stop.NoMemory want)) = BeganOne IsBegun before now f g
 
-abbrev pub EndsOneTo : (Answer → Type 0) → (List ℕ → Type 0) → (before now : SinkState) → Result Status Stop → Type 0
-EndsOneTo Is IsBegun before now result = EndsOne Is IsBegun before.held now.held before.faults now.faults result
-
 -- ---- what is written where memory runs out
 
 -- a beginning of the printed text of some first events, which are taken
@@ -56,18 +48,3 @@ BeginsSpelled keys (Ok trace) text = BeginsEvents trace.settings (key_at keys) t
 
 abbrev pub BeginsTrace : List KmacEntry → Result Trace TextFault → List ℕ → Type 0
 BeginsTrace keys read text = (text ≡ []) ⊎ BeginsSpelled keys read text
-
--- ---- the fault of a replay
-
--- an event's refusal was told; where the sink failed or memory ran out, nothing more was written
-abbrev pub TellsRefusal : ReplayFault → Option (List ℕ) → Option (List ℕ) → ℕ → ℕ → Result Status Stop → Type 0
-TellsRefusal (NoConn line conn) before now f g r = GivesAnswer (record { status = 3; text = replay_fault_line (NoConn line conn) }) before now f g r
-TellsRefusal (ConnTwice line conn) before now f g r = GivesAnswer (record { status = 3; text = replay_fault_line (ConnTwice line conn) }) before now f g r
-TellsRefusal (MomentBack line was moment) before now f g r = GivesAnswer (record { status = 3; text = replay_fault_line (MomentBack line was moment) }) before now f g r
-TellsRefusal (NoKey line engine rbc) before now f g r = GivesAnswer (record { status = 3; text = replay_fault_line (NoKey line engine rbc) }) before now f g r
-TellsRefusal (Many line live) before now f g r = GivesAnswer (record { status = 3; text = replay_fault_line (Many line live) }) before now f g r
-TellsRefusal Sink before now f g r = (r ≡ Err stop.Sink) × Grew before now [] × (f ≤ g)
-TellsRefusal (NoMemory want) before now f g r = (r ≡ Err (stop.NoMemory want)) × Grew before now [] × (f ≤ g)
-
-abbrev pub TellsRefusalTo : ReplayFault → (before now : SinkState) → Result Status Stop → Type 0
-TellsRefusalTo fault before now result = TellsRefusal fault before.held now.held before.faults now.faults result

@@ -11,8 +11,8 @@ use Rattle.drill_model.specs.declared.world_fault.WorldFault.{WorldFault}
 use Rattle.drill_model.specs.Worlds.{DrillPlan, plan_of}
 use Rattle.drill_model.specs.Faults.{or_else, fault_behind}
 use Rattle.drill_model.specs.Texts.{step_lines, last_lines}
-use Rattle.outside.specs.Scripts.{Script, Prints, Knowing, says_last}
-use Rattle.er_statuses.specs.LastLines.{fault_line, memory_line, why_word}
+use Rattle.outside.specs.Scripts.{Script, Ends, Prints, Knowing, says_last}
+use Rattle.er_statuses.specs.LastLines.{fault_line, why_word}
 use Rattle.er_statuses.specs.FileScripts.{answers, fetches_file}
 use Rattle.er_program.specs.Answers.{fault_answer}
 use Rattle.er_program.specs.BulkTexts.{bulk_plan, steps_of_bulk, totals_of_bulk, totals_line}
@@ -30,11 +30,12 @@ drills_steps plan done [] = says_last 0 (last_lines plan done)
 drills_steps plan done (x ∷ rest) =
     prints_or_ends (fault_behind plan done x.step) x.line (step_lines plan done x.step) (drills_steps plan (done ++ x.step ∷ []) rest)
 
--- a file that spells a scenario is drilled, and what it spells is in its ranges; a fault of its grammar has its line printed alone
+-- a file that spells a scenario is drilled, and what it spells is in its ranges; a fault of its grammar has its line printed alone. What a
+-- file says is never want of memory
 abbrev pub drills_read : Result Scenario TextFault → Script
 drills_read (Ok s) = Knowing (CanBeRead s) (drills_steps (plan_of s) [] s.steps)
 drills_read (Err (text.At line why)) = says_last 3 (fault_line line (why_word why))
-drills_read (Err (text.NoMemory want)) = says_last 7 memory_line
+drills_read (Err (text.NoMemory want)) = Knowing ⊥ (Ends 7)
 
 -- `drill SCENARIO`
 abbrev pub drills : (name : List ℕ) → Script

@@ -1,3 +1,5 @@
+//! Why a drill stops at a step.
+
 use er_world::WorldFault;
 
 /// Why a drill stops at a step.

@@ -17,7 +17,7 @@ mod halt;
 mod keyed;
 mod message_count;
 mod migrate;
-mod plain;
+mod off_line;
 mod relay;
 mod replay;
 mod stdout_sink;
@@ -26,7 +26,8 @@ mod work;
 
 pub use command::{Command, command_from};
 pub use er_serving::{LineCommand, MachineClock};
-pub use er_statuses::{Status, unmade};
+pub use er_statuses::Status;
+pub use er_statuses::acting::out_of_memory;
 pub use file_cabinet::{FileCabinet, FileFault, MOST_FILE_OCTETS};
 pub use file_command::{FileCommand, KeyedCommand, PlainCommand};
 pub use link_trait::{Cabinet, Clock, Failed, FetchFault, Sink, Wires};

@@ -1,3 +1,5 @@
+//! How many messages a bulk run sends.
+
 ghost use Rattle.std.specs.Prelude.{◌≡◌, ◌≤◌};
 
 use std::marker::Model;

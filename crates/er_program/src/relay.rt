@@ -96,7 +96,7 @@ fn relayed<O: Outside>(
     outside: &mut O,
 ) -> Result<Status, Stop>
     requires range { IsScriptInRange script.now }
-    ensures ends { EndsLoop script.now (O.told outside.old) (O.told outside.new) (end_of_run result) }
+    ensures ends { EndsLoop script.now command.now.dial.now (O.told outside.old) (O.told outside.new) (end_of_run result) }
 {
     if !is_address(command.dial) {
         return last(6, b"! wires\n", outside);
@@ -123,7 +123,7 @@ fn scripted<O: Outside>(
     command: &RelayCommand<'_>,
     outside: &mut O,
 ) -> Result<Status, Stop>
-    ensures ends { EndsScript (script_of octets.now) (O.told outside.old) (O.told outside.new) (end_of_run result) }
+    ensures ends { EndsScript (script_of octets.now) command.now.dial.now (O.told outside.old) (O.told outside.new) (end_of_run result) }
 {
     match read(alloc, octets) {
         Ok(script) => relayed(alloc, &script, command, outside),
@@ -138,7 +138,7 @@ fn ran<O: Outside>(
     command: &RelayCommand<'_>,
     outside: &mut O,
 ) -> Result<Status, Stop>
-    ensures ends { EndsRelay command.now.script.now (O.told outside.old) (O.told outside.new) (end_of_run result) }
+    ensures ends { EndsRelay command.now.script.now command.now.dial.now (O.told outside.old) (O.told outside.new) (end_of_run result) }
 {
     match outside.fetch(alloc, command.script) {
         Ok(octets) => scripted(alloc, octets.as_slice(), command, outside),
@@ -161,16 +161,16 @@ fn exhausted<O: Outside>(outside: &mut O) -> Status
 /// dialled to DIAL for it, but for what the script says, for TURNS turns at the most. It prints what came and what is given, each line before that is done.
 /// Answers with what status the program is to end:
 ///
-/// - 0: all turns were done.
+/// - 0: all turns were done, or the wires ended.
 /// - 2: the fetch of the script failed; `! fetch NAME` is printed.
 /// - 3: the script is out of its grammar; `! line LINE WHY` is printed alone.
-/// - 5: a write to the sink failed, in place of any other status; nothing is written after it.
+/// - 5: a write to the sink failed, in place of any other status.
 /// - 6: DIAL is no address, or a listen or turn of the wires failed; behind what was printed, `! wires` is printed.
 /// - 7: memory ran out; what was printed stays, and `! memory` is printed.
 pub fn relay_run<O: Outside>(alloc: Global, command: &RelayCommand<'_>, outside: &mut O) -> Status
     // The list of statuses is closed.
     ensures known { IsRelayStatus result.0 }
-    ensures runs { RunsRelay command.now.script.now (O.told outside.old) (O.told outside.new) result.0 }
+    ensures runs { RunsRelay command.now.script.now command.now.dial.now (O.told outside.old) (O.told outside.new) result.0 }
 {
     match ran(alloc, command, outside) {
         Ok(status) => status,

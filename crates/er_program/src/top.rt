@@ -1,92 +1,56 @@
 //! The top call: what the program does with its words.
 
-ghost use Rattle.std.specs.Prelude.{◌≡◌, length, map};
-ghost use Rattle.er_program.specs.Commands.{command_of, octets_of_words};
-ghost use Rattle.er_program.specs.CommandAnswers.{Answered};
-ghost use Rattle.er_program.specs.CommandViews.{command_view, file_view};
+ghost use Rattle.std.specs.Prelude.{length, map};
 ghost use Rattle.er_serving.specs.LineRuns.{GivenToLoop, given_to_loop};
-ghost use Rattle.er_serving.specs.Outsides.{Traffic, outside_of, beside, IsSteady};
+ghost use Rattle.er_serving.specs.Outsides.{outside_of, IsSteady};
+ghost use Rattle.er_program.specs.Commands.{command_of, octets_of_words};
+ghost use Rattle.er_program.specs.CommandScripts.{DoesFile, file_script};
+ghost use Rattle.er_program.specs.CommandViews.{command_view, file_view};
+ghost use Rattle.er_program.specs.RecordedRuns.{IsRunRecorded};
 ghost use Rattle.er_program.specs.Statuses.{IsStatusOf, Means, IsIdle, AreAsked, IsComplete, IsRun};
 
 use crate::command::{Command, command_from};
 use crate::file_command::FileCommand;
-use crate::keyed::keyed_run;
-use crate::plain::plain_run;
-use er_serving::{Outside, run_on_line};
-use er_statuses::{Status, Stop, out_of_memory};
+use crate::off_line::file_run;
+use er_serving::run_on_line;
+use er_statuses::Status;
+use er_statuses::acting::exits;
 use er_users::SafeUser;
-use link_trait::{Cabinet, Clock, Sink, Wires};
-use rand_core::Rng;
+use outside::Outside;
 use std::alloc::Global;
-
-// What a command that needs no wires asks for, done and answered, or why it broke off.
-fn answered<F: Cabinet, K: Sink>(
-    alloc: Global,
-    command: &FileCommand<'_>,
-    cabinet: &mut F,
-    told: &mut Vec<u8>,
-    sink: &mut K,
-) -> Result<Status, Stop>
-    ensures answered { Answered (file_view command.now) (F.state cabinet.old) (F.state cabinet.new) (K.state sink.old) (K.state sink.new) result }
-{
-    match command {
-        FileCommand::Plain(command) => plain_run(alloc, command, cabinet, sink),
-        FileCommand::Keyed(command) => {
-            keyed_run(
-                alloc,
-                command.work,
-                command.keys,
-                command.name,
-                cabinet,
-                told,
-                sink,
-            )
-        }
-    }
-}
 
 /// Does what a command asks for that needs no wires, and answers with what status the program is to end, as [`run`] does. An audit that reads its tap to
 /// the end appends to `told` the line of each stream's end, whether these are printed or not.
-pub fn run_off_line<F: Cabinet, K: Sink>(
+pub fn run_off_line<O: Outside>(
     alloc: Global,
     command: &FileCommand<'_>,
-    cabinet: &mut F,
     told: &mut Vec<u8>,
-    sink: &mut K,
+    outside: &mut O,
 ) -> Status
-    // Whatever wires, clock and random words there are beside its cabinet and sink, they are left alone.
-    ensures run { (g : GivenToLoop) (rest : Traffic) → IsRun (file_view command.now) g (beside rest F.Cabinet K.Sink cabinet.old sink.old)
-        (beside rest F.Cabinet K.Sink cabinet.new sink.new) result.0 }
+    // It does the acts of its script, and behind want of memory its last line, and nothing else.
+    ensures does { DoesFile (file_script command.now) (O.told outside.old) (O.told outside.new) result.0 }
+    ensures run { (g : GivenToLoop) → IsRun (file_view command.now) g (outside_of (O.told outside.old)) (outside_of (O.told outside.new)) result.0 }
 {
+    drill_model::laws::runs_grow();
+    drill_laws::laws::worlds();
     drill_laws::laws::holds();
-    match answered(alloc, command, cabinet, told, sink) {
-        Ok(status) => status,
-        Err(Stop::Sink) => Status(5),
-        Err(Stop::NoMemory(want)) => out_of_memory(want, sink),
-    }
+    let ended = file_run(alloc, command, told, outside);
+    exits(ended, outside)
 }
 
 // A command that needs no wires is run without them, and any other over them.
-fn dispatched<F: Cabinet, K: Sink, W: Wires, C: Clock, R: Rng>(
+fn dispatched<O: Outside>(
     alloc: Global,
     command: &Command<'_>,
     users: Vec<Box<dyn SafeUser>>,
-    outside: &mut Outside<F, K, W, C, R>,
+    outside: &mut O,
 ) -> Status
-    ensures run { IsRun (command_view command.now) (given_to_loop (length users.items) (map mind users.items) (R.stream outside.old.randoms)) outside.old.seen outside.new.seen
-        result.0 }
-    ensures names { outside.new.names ≡ outside.old.names }
+    ensures run { IsRun (command_view command.now) (given_to_loop (length users.items) (map mind users.items) (O.told outside.old).words) (outside_of (O.told outside.old))
+        (outside_of (O.told outside.new)) result.0 }
+    ensures recorded { IsRunRecorded (command_view command.now) (O.told outside.old) (O.told outside.new) }
 {
     match command {
-        Command::File(command) => {
-            run_off_line(
-                alloc,
-                command,
-                outside.cabinet,
-                &mut Vec::new(alloc),
-                outside.sink,
-            )
-        }
+        Command::File(command) => run_off_line(alloc, command, &mut Vec::new(alloc), outside),
         Command::Line(command) => run_on_line(alloc, command, users, outside),
     }
 }
@@ -128,59 +92,27 @@ fn dispatched<F: Cabinet, K: Sink, W: Wires, C: Clock, R: Rng>(
 ///   run alone, `! overfull LINK S MOST` is printed.
 /// - 9: a line of a checked trace isn't what the replay prints there, or isn't ended, or is missing: `! line LINE` is
 ///   printed with `differs`, `cut` or `missing`, alone.
-pub fn run<F: Cabinet, K: Sink, W: Wires, C: Clock, R: Rng>(
+pub fn run<O: Outside>(
     alloc: Global,
     words: &[String],
-    cabinet: &mut F,
-    sink: &mut K,
-    wires: &mut W,
-    clock: &mut C,
-    randoms: &mut R,
     users: Vec<Box<dyn SafeUser>>,
+    outside: &mut O,
 ) -> Status
     // The list of statuses is closed, and each has its cause. With `complete` each comes exactly where its cause is met.
     ensures known { IsStatusOf (command_of (octets_of_words words.now)) result.0 }
-    ensures means { Means (command_of (octets_of_words words.now)) (given_to_loop (length users.items) (map mind users.items) (R.stream randoms.old))
-        (outside_of F.Cabinet K.Sink W.Wires C.Clock cabinet.old sink.old wires.old clock.old)
-        (outside_of F.Cabinet K.Sink W.Wires C.Clock cabinet.new sink.new wires.new clock.new) result.0 }
+    ensures means { Means (command_of (octets_of_words words.now)) (given_to_loop (length users.items) (map mind users.items) (O.told outside.old).words)
+        (outside_of (O.told outside.old)) (outside_of (O.told outside.new)) result.0 }
     // The wires of a command that needs none get no call; `serve` and `call` make none before the key file is good.
-    ensures idle { IsIdle (command_of (octets_of_words words.now))
-        (outside_of F.Cabinet K.Sink W.Wires C.Clock cabinet.old sink.old wires.old clock.old)
-        (outside_of F.Cabinet K.Sink W.Wires C.Clock cabinet.new sink.new wires.new clock.new) result.0 }
+    ensures idle { IsIdle (command_of (octets_of_words words.now)) (outside_of (O.told outside.old)) (outside_of (O.told outside.new)) result.0 }
     // The file words are asked for in their order, each once, and nothing else is.
-    ensures asked { AreAsked (command_of (octets_of_words words.now))
-        (outside_of F.Cabinet K.Sink W.Wires C.Clock cabinet.old sink.old wires.old clock.old)
-        (outside_of F.Cabinet K.Sink W.Wires C.Clock cabinet.new sink.new wires.new clock.new) result.0 }
+    ensures asked { AreAsked (command_of (octets_of_words words.now)) (outside_of (O.told outside.old)) (outside_of (O.told outside.new)) result.0 }
     // Where no count of faults rose, the words and the files give their status, want of memory aside.
-    ensures complete { IsComplete (command_of (octets_of_words words.now))
-        (outside_of F.Cabinet K.Sink W.Wires C.Clock cabinet.old sink.old wires.old clock.old)
-        (outside_of F.Cabinet K.Sink W.Wires C.Clock cabinet.new sink.new wires.new clock.new) result.0 }
+    ensures complete { IsComplete (command_of (octets_of_words words.now)) (outside_of (O.told outside.old)) (outside_of (O.told outside.new)) result.0 }
     // The cabinet's files stay, and no count of faults falls.
-    ensures steady { IsSteady
-        (outside_of F.Cabinet K.Sink W.Wires C.Clock cabinet.old sink.old wires.old clock.old)
-        (outside_of F.Cabinet K.Sink W.Wires C.Clock cabinet.new sink.new wires.new clock.new) }
+    ensures steady { IsSteady (outside_of (O.told outside.old)) (outside_of (O.told outside.new)) }
+    // Of `serve` and `call` the lines that tell of what goes to a connection are written before it goes; behind a write that failed nothing goes.
+    ensures recorded { IsRunRecorded (command_of (octets_of_words words.now)) (O.told outside.old) (O.told outside.new) }
 {
     let command = command_from(words);
-    let mut outside = Outside {
-        cabinet,
-        sink,
-        wires,
-        clock,
-        randoms,
-    };
-    let status = dispatched(alloc, &command, users, &mut outside);
-    let Outside {
-        cabinet,
-        sink,
-        wires,
-        clock,
-        randoms,
-    } = outside;
-    // What is lent is given back here, which the clauses speak of.
-    let _ = &cabinet;
-    let _ = &sink;
-    let _ = &wires;
-    let _ = &clock;
-    let _ = &randoms;
-    status
+    dispatched(alloc, &command, users, outside)
 }

@@ -1,3 +1,4 @@
+-- What this crate states: its definitions, by module.
 pub mod StepRanges
 pub mod StepNumbers
 pub mod Table

@@ -1,3 +1,5 @@
+//! How much of the stack a drill runs.
+
 ghost use Rattle.std.specs.Prelude.{◌≡◌};
 ghost use Rattle.er_scenario.specs.Table.{level_word, level_named};
 ghost use Rattle.er_scenario.specs.Choices.{is_narrow};

@@ -1,3 +1,5 @@
+//! A step of a scenario with the number of its line.
+
 use crate::step::Step;
 
 /// A step and the line of its file.

@@ -1,3 +1,5 @@
+//! A line of a scenario, read.
+
 use crate::choices::Choices;
 use crate::step::Step;
 

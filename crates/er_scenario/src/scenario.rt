@@ -1,3 +1,5 @@
+//! A scenario: its settings, and its steps in order.
+
 use crate::level::Level;
 use crate::step_list::StepList;
 use er_settings::Settings;

@@ -1,3 +1,5 @@
+//! The steps of a scenario.
+
 use des_block::TripleKey;
 use er_base::{Octets, Side};
 

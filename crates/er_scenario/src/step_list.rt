@@ -1,3 +1,5 @@
+//! The steps of a scenario, kept.
+
 ghost use Rattle.std.specs.Prelude.{◌≡◌};
 
 use crate::numbered::Numbered;

@@ -1,3 +1,5 @@
+//! The lines of a drill file that are steps, by their first words.
+
 ghost use Rattle.std.specs.Prelude.{◌≡◌};
 ghost use Rattle.er_base.specs.declared.why.Why.TheVariants as why;
 ghost use Rattle.er_base.specs.LineFaults.{demand};

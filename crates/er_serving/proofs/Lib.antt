@@ -1,3 +1,5 @@
+pub mod RecordedLines
+pub mod Sayings
 pub mod LineEndings
 pub mod LineMeanings
 pub mod Recordings

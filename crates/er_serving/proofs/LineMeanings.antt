@@ -1,21 +1,33 @@
 -- What a run of `serve` or `call` means by its status, from how it ended.
-use Rattle.std.proofs.Common.{◌≡◌, ◌≢◌, inl, inr, ℕ, ◌≤◌, List, [], ◌∷◌, Option, Result, Ok, Err, refl, sym, subst, arith}
+use Rattle.std.proofs.Common.{◌≡◌, ◌≢◌, ◌⊎◌, inl, inr, ℕ, ◌≤◌, List, [], ◌∷◌, ◌++◌, Option, Result, Ok, Err, false, refl, sym, subst, arith, append-nil}
 use Rattle.safety_automaton.specs.Keys.{KmacEntry}
 use Rattle.key_store.specs.declared.key_file_fault.KeyFileFault.{KeyFileFault}
 use Rattle.key_store.specs.declared.key_file_fault.KeyFileFault.TheVariants as keys
 use Rattle.key_store.specs.KeyFiles.{keys_of}
-use Rattle.link_trait.specs.Outside.{Grew, GrewPart, Rose, HasFile, HasStayedAsTold}
+use Rattle.link_trait.specs.Outside.{Grew, GrewPart, Rose, HasFile}
 use Rattle.link_trait.specs.Growth.{grew_nothing}
 use Rattle.er_statuses.specs.Answers.{keys_answer}
 use Rattle.er_statuses.specs.KeyLines.{keys_line}
 use Rattle.er_statuses.specs.LastLines.{memory_line}
 use Rattle.er_serving.specs.LineCommands.{LineCommand, Serve, Call, key_file_of, AsksClock}
-use Rattle.er_serving.specs.Outsides.{Outside, traffic_of, IsLeftAlone, IsSteady}
+use Rattle.er_serving.specs.Outsides.{Outside, outside_of, Traffic, traffic_of, traffic_at, IsLeftAlone, IsSteady}
 use Rattle.er_serving.specs.LineRuns.{GivenToLoop, Looped, FailsWith, LacksKey, HasLineStatus, IsStatusOfLoop, RunsOut, BeforeLoop, Spent, with_sink, wires_line}
-use Rattle.er_serving.specs.LineWriting.{HasLooped, WiresFailed, KeyLacks, FileEnded, LineEnded, NotFetched, WasRead, LineMeans}
+use Rattle.er_serving.specs.LineWriting.{HasLooped, WiresFailed, KeyLacks, FileEnded, LineEnded, NotFetched, WasRead, LineEnds, LineMeans}
 use Rattle.er_serving.specs.LineStatuses.{LineBroke, IsLineRun}
-use Rattle.er_statuses.specs.Writing.{Exhausts}
+use Rattle.er_base.specs.declared.no_memory.NoMemory.{NoMemory}
+use Rattle.link_trait.specs.States.{CabinetState}
+use Rattle.outside.specs.Acts.{Act, Wrote}
+use Rattle.outside.specs.Doings.{Told, Did}
+use Rattle.outside.specs.Scripts.{printing}
+use Rattle.outside.specs.SinkTexts.{text_printed_by, text_begun_by}
+use Rattle.er_statuses.specs.ScriptEnds.{end_of_run, ExitsBy}
 use Rattle.er_statuses.specs.declared.status.Status.{Status}
+use Rattle.er_statuses.specs.declared.stop.Stop.{Stop}
+use Rattle.er_statuses.specs.declared.stop.Stop.TheVariants as stop
+use Rattle.er_serving.specs.OutsideViews.{AsksOne}
+use Rattle.er_serving.specs.RecordedLines.{IsLineRecorded}
+use Rattle.er_serving.proofs.RecordedLines.{recorded_then, all_done}
+use Rattle.er_serving.proofs.Sayings.{OnlyWrites, only_printed, only_failed, traffic_before}
 
 -- ---- status 0
 
@@ -199,12 +211,16 @@ means_line_ended command g before now status (NotFetched is rose printed alone) 
 
 -- ---- memory ran out
 
-pub means_line_spent : (command : LineCommand) (g : GivenToLoop) (before now : Outside) (held : Option (List ℕ)) (sunk : ℕ) (s : Status)
-    → before.sunk ≤ sunk → RunsOut command g now.files (traffic_of before) (with_sink (traffic_of now) held sunk) → Exhausts held now.held sunk now.sunk s
-    → LineMeans command g before now s.0
-means_line_spent command g before now held sunk s later out (inl told) =
-    means_forgot command g before now s.0 held sunk told.0 out told.1
-means_line_spent command g before now held sunk s later out (inr failed) =
+-- the last line was written, or a beginning of it
+abbrev ForgotSo : (held now : Option (List ℕ)) (sunk sunk_now status : ℕ) → Type 0
+ForgotSo held now sunk sunk_now status = ((status ≡ 7) × Grew held now memory_line) ⊎ ((status ≡ 5) × GrewPart held now memory_line × Rose sunk sunk_now)
+
+means_line_spent : (command : LineCommand) (g : GivenToLoop) (before now : Outside) (held : Option (List ℕ)) (sunk status : ℕ)
+    → before.sunk ≤ sunk → RunsOut command g now.files (traffic_of before) (with_sink (traffic_of now) held sunk) → ForgotSo held now.held sunk now.sunk status
+    → LineMeans command g before now status
+means_line_spent command g before now held sunk status later out (inl told) =
+    means_forgot command g before now status held sunk told.0 out told.1
+means_line_spent command g before now held sunk status later out (inr failed) =
     subst (λ (n : ℕ). LineMeans command g before now n) (sym failed.0)
     (means_line_sunk command g before now (record {
       rose = omega (arith, later, failed.2);
@@ -231,13 +247,47 @@ line_run command g before now status m asked part steady = record {
   steady = steady;
 }
 
+-- the cabinet's files stay, and no count of faults falls
+steady_so : (before now : Told) → IsLineRecorded before now → IsSteady (outside_of before) (outside_of now)
+steady_so before now p = let all = all_done before now p in record { files = all.did.cabinet.files; unfetched = all.did.cabinet.faults.later; sunk = all.did.sink.faults.later }
+
 -- memory ran out, and the last line was written, or a beginning of it
-pub spent_run : (command : LineCommand) (g : GivenToLoop) (before now : Outside) (held : Option (List ℕ)) (sunk : ℕ) (s : Status)
-    → before.sunk ≤ sunk → sunk ≤ now.sunk
-    → RunsOut command g now.files (traffic_of before) (with_sink (traffic_of now) held sunk) → Exhausts held now.held sunk now.sunk s
-    → GrewPart before.asked now.asked (key_file_of command ∷ []) → HasStayedAsTold before.files now.files → before.unfetched ≤ now.unfetched
-    → IsLineRun command g before now s.0
-spent_run command g before now held sunk s later more out told part kept count =
-    line_run command g before now s.0 (means_line_spent command g before now held sunk s later out told)
-    (λ five seven. elim told [ inl whole ↦ absurd (seven whole.0) | inr cut ↦ absurd (five cut.0) ])
-    part (record { files = kept; unfetched = count; sunk = omega (arith, later, more) })
+forgot_run : (command : LineCommand) (g : GivenToLoop) (before mid now : Told) (status : ℕ) (want : NoMemory)
+    → LineEnds command g (outside_of before) (outside_of mid) (Err (stop.NoMemory want)) → AsksOne (key_file_of command) before mid (Err (stop.NoMemory want))
+    → OnlyWrites mid now → (status ≢ 5 → status ≡ 7) → ForgotSo mid.sink.held now.sink.held mid.sink.faults now.sink.faults status
+    → IsLineRun command g (outside_of before) (outside_of now) status
+forgot_run command g before mid now status want ends asks only is told =
+    line_run command g (outside_of before) (outside_of now) status
+    (means_line_spent command g (outside_of before) (outside_of now) mid.sink.held mid.sink.faults status (all_done before mid asks.recorded).did.sink.faults.later
+    (subst (λ (z : CabinetState). RunsOut command g z.files (traffic_at before) (with_sink (traffic_at now) mid.sink.held mid.sink.faults)) (sym only.cabinet)
+    (subst (λ (z : Traffic). RunsOut command g mid.cabinet.files (traffic_at before) z) (traffic_before mid now only) ends)) told)
+    (λ five seven. absurd (seven (is five)))
+    (subst (λ (z : CabinetState). GrewPart before.cabinet.asked z.asked (key_file_of command ∷ [])) (sym only.cabinet) asks.part)
+    (steady_so before now (recorded_then before mid now asks.recorded only.done))
+
+-- the run, however it ended before its exit
+pub run_exits : (command : LineCommand) (g : GivenToLoop) (before mid now : Told) (r : Result Status Stop) (status : ℕ)
+    → LineEnds command g (outside_of before) (outside_of mid) r → AsksOne (key_file_of command) before mid r → ExitsBy (end_of_run r) mid now status
+    → IsLineRun command g (outside_of before) (outside_of now) status
+run_exits command g before mid now (Ok s) status ends asks exit =
+    subst (λ (z : ℕ). IsLineRun command g (outside_of before) (outside_of now) z) (sym exit.0)
+    (subst (λ (z : Told). IsLineRun command g (outside_of before) (outside_of z) s.0) (sym exit.1)
+    (line_run command g (outside_of before) (outside_of mid) s.0 (means_line_ended command g (outside_of before) (outside_of mid) s.0 ends) (λ five seven. asks.asked) asks.part (steady_so before mid asks.recorded)))
+run_exits command g before mid now (Err stop.Sink) status ends asks exit =
+    subst (λ (z : ℕ). IsLineRun command g (outside_of before) (outside_of now) z) (sym exit.0)
+    (subst (λ (z : Told). IsLineRun command g (outside_of before) (outside_of z) 5) (sym exit.1)
+    (line_run command g (outside_of before) (outside_of mid) 5 (means_line_sunk command g (outside_of before) (outside_of mid) ends) (λ five seven. absurd (five refl)) asks.part (steady_so before mid asks.recorded)))
+run_exits command g before mid now (Err (stop.NoMemory want)) status ends asks (inl told) =
+    let p : Did mid now (printing memory_line ++ []) = subst (λ (z : List Act). Did mid now z) (sym (append-nil (printing memory_line))) told.1 in
+    forgot_run command g before mid now status want ends asks
+    (only_printed memory_line mid now p) (λ five. told.0) (inl (told.0, text_printed_by mid.sink.held now.sink.held memory_line p.sink.held))
+run_exits command g before mid now (Err (stop.NoMemory want)) status ends asks (inr failed) =
+    forgot_run command g before mid now status want ends asks
+    (only_failed memory_line mid now failed.1) (λ five. absurd (five failed.0)) (inr (failed.0, text_begun_by mid.sink.held now.sink.held memory_line failed.1.sink.held, failed.1.sink.faults.rose refl))
+
+pub exit_recorded : (command : LineCommand) (before mid now : Told) (r : Result Status Stop) (status : ℕ) → AsksOne (key_file_of command) before mid r → ExitsBy (end_of_run r) mid now status → IsLineRecorded before now
+exit_recorded command before mid now (Ok s) status asks exit = subst (λ (z : Told). IsLineRecorded before z) (sym exit.1) asks.recorded
+exit_recorded command before mid now (Err stop.Sink) status asks exit = subst (λ (z : Told). IsLineRecorded before z) (sym exit.1) asks.recorded
+exit_recorded command before mid now (Err (stop.NoMemory want)) status asks (inl told) =
+    recorded_then before mid now asks.recorded (only_printed memory_line mid now (subst (λ (z : List Act). Did mid now z) (sym (append-nil (printing memory_line))) told.1)).done
+exit_recorded command before mid now (Err (stop.NoMemory want)) status asks (inr failed) = recorded_then before mid now asks.recorded (only_failed memory_line mid now failed.1).done

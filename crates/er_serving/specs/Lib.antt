@@ -1,4 +1,6 @@
+-- What this crate states: its definitions, by module.
 pub mod Outsides
+pub mod RecordedLines
 pub mod OutsideViews
 pub mod LineCommands
 pub mod LineCommandViews

@@ -1,15 +1,18 @@
 -- Representation: how the parts of a run of `serve` or `call` end; no claim rests on it.
-use Rattle.std.specs.Prelude.{◌≡◌, ◌≤◌, ◌⊎◌, ℕ, List, [], ◌∷◌, Result, Ok, Err}
+use Rattle.std.specs.Prelude.{◌≡◌, ◌⊎◌, ℕ, false, List, [], ◌∷◌, Result, Ok, Err}
 use Rattle.safety_automaton.specs.Keys.{KmacEntry}
 use Rattle.key_store.specs.declared.key_file_fault.KeyFileFault.{KeyFileFault}
 use Rattle.key_store.specs.KeyFiles.{keys_of}
 use Rattle.link_trait.specs.Outside.{Grew, GrewPart, Rose, HasFile}
-use Rattle.link_trait.specs.States.{SinkState}
+use Rattle.outside.specs.Acts.{Wrote}
+use Rattle.outside.specs.Doings.{Told, Did}
+use Rattle.outside.specs.Scripts.{With, Sunk, OutOfMemory, printing}
 use Rattle.loop_session.specs.declared.loop_fault.LoopFault.{LoopFault}
 use Rattle.loop_session.specs.declared.loop_fault.LoopFault.TheVariants as fault
 use Rattle.readiness_loop.specs.declared.line_plan.Served.{Served}
 use Rattle.er_statuses.specs.Answers.{keys_answer, AreKeysRefused}
 use Rattle.er_statuses.specs.LastLines.{fetch_line, memory_line}
+use Rattle.er_statuses.specs.ScriptEnds.{end_of_run}
 use Rattle.er_statuses.specs.declared.status.Status.{Status}
 use Rattle.er_statuses.specs.declared.stop.Stop.{Stop}
 use Rattle.er_statuses.specs.declared.stop.Stop.TheVariants as stop
@@ -20,19 +23,18 @@ use Rattle.er_serving.specs.LineStatuses.{LineBroke}
 
 -- ---- how the loop ended
 
--- its end was told: nothing was written but the last line where the wires failed
-abbrev pub LoopTold : Result Served LoopFault → SinkState → SinkState → Result Status Stop → Type 0
-LoopTold (Ok served) before now (Ok s) = (s.0 ≡ 0) × (before ≡ now)
-LoopTold (Ok served) before now (Err why) = ⊥
-LoopTold (Err fault.Wires) before now (Ok s) = (s.0 ≡ 6) × Grew before.held now.held wires_line × (before.faults ≤ now.faults)
-LoopTold (Err fault.Wires) before now (Err stop.Sink) = GrewPart before.held now.held wires_line × Rose before.faults now.faults
-LoopTold (Err fault.Wires) before now (Err (stop.NoMemory want)) = ⊥
-LoopTold (Err fault.Sink) before now (Ok s) = ⊥
-LoopTold (Err fault.Sink) before now (Err stop.Sink) = before ≡ now
-LoopTold (Err fault.Sink) before now (Err (stop.NoMemory want)) = ⊥
-LoopTold (Err (fault.NoMemory want)) before now (Ok s) = ⊥
-LoopTold (Err (fault.NoMemory want)) before now (Err stop.Sink) = ⊥
-LoopTold (Err (fault.NoMemory want)) before now (Err (stop.NoMemory wanted)) = before ≡ now
+-- the last line was said where the wires failed, or its write failed
+abbrev pub WiresTold : (before now : Told) → Result Status Stop → Type 0
+WiresTold before now (Ok s) = (s.0 ≡ 6) × Did before now (printing wires_line)
+WiresTold before now (Err stop.Sink) = Did before now (Wrote wires_line false ∷ [])
+WiresTold before now (Err (stop.NoMemory want)) = ⊥
+
+-- its end was told: nothing else was done
+abbrev pub LoopTold : Result Served LoopFault → (before now : Told) → Result Status Stop → Type 0
+LoopTold (Ok served) before now result = (end_of_run result ≡ With 0) × (now ≡ before)
+LoopTold (Err fault.Wires) before now result = WiresTold before now result
+LoopTold (Err fault.Sink) before now result = (end_of_run result ≡ Sunk) × (now ≡ before)
+LoopTold (Err (fault.NoMemory want)) before now result = (end_of_run result ≡ OutOfMemory) × (now ≡ before)
 
 -- ---- with these entries of the key file
 

@@ -1,11 +1,8 @@
 -- The program's outside, as its clauses see it: a cabinet of files, a sink, wires and a clock (this profile).
 use Rattle.std.specs.Prelude.{◌≡◌, ◌≤◌, ◌⊎◌, ℕ, Bool, List, [], ◌∷◌, Option}
-use Rattle.link_trait.specs.declared.cabinet.Cabinet as cabinet
-use Rattle.link_trait.specs.declared.sink.Sink as sink
-use Rattle.link_trait.specs.declared.wires.Wires as wires
-use Rattle.link_trait.specs.declared.clock.Clock as clock
 use Rattle.link_trait.specs.Outside.{Grew, HasStayedAsTold}
 use Rattle.link_trait.specs.Wires.{Call as WiresCall}
+use Rattle.outside.specs.Doings.{Told}
 use Rattle.readiness_loop.specs.Claims as loop
 
 pub record Outside : Type 0 where
@@ -24,19 +21,19 @@ pub record Outside : Type 0 where
   -- the clock: its answers
   pub clock : Option (List ℕ)
 
--- what these objects tell
-abbrev pub outside_of : {F K W C : Type 0} → cabinet.Ghosts F → sink.Ghosts K → wires.Ghosts W → clock.Ghosts C → F → K → W → C → Outside
-outside_of f k w c files octets connections moments = record {
-  files = (f.state files).files;
-  asked = (f.state files).asked;
-  unfetched = (f.state files).faults;
-  held = (k.state octets).held;
-  sunk = (k.state octets).faults;
-  calls = (w.state connections).calls;
-  failed = (w.state connections).faults;
-  turns_failed = (w.state connections).turn_faults;
-  listening = (w.state connections).listening;
-  clock = (c.state moments).answers;
+-- what an outside tells
+abbrev pub outside_of : Told → Outside
+outside_of told = record {
+  files = told.cabinet.files;
+  asked = told.cabinet.asked;
+  unfetched = told.cabinet.faults;
+  held = told.sink.held;
+  sunk = told.sink.faults;
+  calls = told.wires.calls;
+  failed = told.wires.faults;
+  turns_failed = told.wires.turn_faults;
+  listening = told.wires.listening;
+  clock = told.clock.answers;
 }
 
 -- all of it but the cabinet
@@ -60,28 +57,13 @@ traffic_of o = record {
   clock = o.clock;
 }
 
+-- the same of what an outside tells
+abbrev pub traffic_at : Told → Traffic
+traffic_at told = traffic_of (outside_of told)
+
 -- the part of it of which the readiness loop's claims speak
 abbrev pub of_loop : Traffic → loop.LoopOutside
-of_loop o = record {
-  seen = record { held = o.held; sunk = o.sunk; calls = o.calls; failed = o.failed };
-  listening = o.listening;
-  clock = o.clock;
-}
-
--- an outside with this cabinet and sink, and the rest as it was
-abbrev pub beside : {F K : Type 0} → Traffic → cabinet.Ghosts F → sink.Ghosts K → F → K → Outside
-beside rest f k files octets = record {
-  files = (f.state files).files;
-  asked = (f.state files).asked;
-  unfetched = (f.state files).faults;
-  held = (k.state octets).held;
-  sunk = (k.state octets).faults;
-  calls = rest.calls;
-  failed = rest.failed;
-  turns_failed = rest.turns_failed;
-  listening = rest.listening;
-  clock = rest.clock;
-}
+of_loop o = record { held = o.held; sunk = o.sunk; calls = o.calls; failed = o.failed; listening = o.listening; clock = o.clock }
 
 -- ---- what a run leaves alone
 

@@ -1,4 +1,4 @@
-//! `serve` and `call`: the readiness loop over a key file, an address and the outside objects that a run is handed; and the machine's clock.
+//! `serve` and `call`: the readiness loop over a key file, an address and the outside that a run is handed; and the machine's clock.
 //!
 //! The loop itself is `readiness_loop`'s; here stands what a command makes of it: which keys it takes, with what status the run ends, and what is
 //! printed last. What it prints before is a recording, which replays to itself (`laws`).
@@ -6,13 +6,11 @@
 
 pub mod laws;
 mod line_command;
-mod loop_outside;
 mod looping;
 mod machine_clock;
 mod on_line;
 mod pair;
 
 pub use line_command::LineCommand;
-pub use loop_outside::Outside;
 pub use machine_clock::MachineClock;
 pub use on_line::run_on_line;

@@ -1,3 +1,5 @@
+//! The commands that run the readiness loop.
+
 ghost use Rattle.std.specs.Prelude.{◌≡◌};
 ghost use Rattle.er_serving.specs.LineCommands.{key_file_of};
 ghost use Rattle.er_serving.specs.LineCommandViews.{line_view};

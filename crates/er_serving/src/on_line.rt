@@ -8,30 +8,31 @@ ghost use Rattle.er_serving.specs.LineRuns.{given_to_loop};
 ghost use Rattle.er_serving.specs.LineStatuses.{IsLineRun};
 ghost use Rattle.er_serving.specs.LineWriting.{LoopEnds, FileEnds, LineEnds};
 ghost use Rattle.er_serving.specs.OutsideViews.{KeepsCabinet, AsksOne};
-ghost use Rattle.er_serving.specs.Outsides.{traffic_of};
+ghost use Rattle.er_serving.specs.Outsides.{outside_of, traffic_at};
+ghost use Rattle.er_serving.specs.RecordedLines.{IsLineRecorded};
 
 use crate::line_command::LineCommand;
-use crate::loop_outside::Outside;
 use crate::looping::{call_with, serve_with};
 use crate::pair::Pair;
-use er_statuses::{Status, Stop, fetched, keys_refused, out_of_memory};
+use er_statuses::acting::{exits, keys_refused, unfetched};
+use er_statuses::{Status, Stop};
 use er_users::SafeUser;
 use key_store::KeyStore;
-use link_trait::{Cabinet, Clock, Sink, Wires};
-use rand_core::Rng;
+use link_trait::FetchFault;
+use outside::Outside;
 use std::alloc::Global;
 
 // The loop of a command, with the keys of a store.
-fn looped<F: Cabinet, K: Sink, W: Wires, C: Clock, R: Rng>(
+fn looped<O: Outside>(
     alloc: Global,
     store: &KeyStore,
     command: &LineCommand<'_>,
     users: Vec<Box<dyn SafeUser>>,
-    outside: &mut Outside<F, K, W, C, R>,
+    outside: &mut O,
 ) -> Result<Status, Stop>
-    ensures ends { LoopEnds (line_view command.now) store.now (given_to_loop (length users.items) (map mind users.items) (R.stream outside.old.randoms))
-        (traffic_of outside.old.seen) (traffic_of outside.new.seen) result }
-    ensures keeps { KeepsCabinet outside.old outside.new }
+    ensures ends { LoopEnds (line_view command.now) store.now (given_to_loop (length users.items) (map mind users.items) (O.told outside.old).words)
+        (traffic_at (O.told outside.old)) (traffic_at (O.told outside.new)) result }
+    ensures keeps { KeepsCabinet (O.told outside.old) (O.told outside.new) }
 {
     match *command {
         LineCommand::Serve {
@@ -59,57 +60,55 @@ fn looped<F: Cabinet, K: Sink, W: Wires, C: Clock, R: Rng>(
 }
 
 // The same with the octets of the key file.
-fn keyed<F: Cabinet, K: Sink, W: Wires, C: Clock, R: Rng>(
+fn keyed<O: Outside>(
     alloc: Global,
     octets: &[u8],
     command: &LineCommand<'_>,
     users: Vec<Box<dyn SafeUser>>,
-    outside: &mut Outside<F, K, W, C, R>,
+    outside: &mut O,
 ) -> Result<Status, Stop>
-    ensures ends { FileEnds (line_view command.now) (keys_of octets.now) (given_to_loop (length users.items) (map mind users.items) (R.stream outside.old.randoms))
-        (traffic_of outside.old.seen) (traffic_of outside.new.seen) result }
-    ensures keeps { KeepsCabinet outside.old outside.new }
+    ensures ends { FileEnds (line_view command.now) (keys_of octets.now) (given_to_loop (length users.items) (map mind users.items) (O.told outside.old).words)
+        (traffic_at (O.told outside.old)) (traffic_at (O.told outside.new)) result }
+    ensures keeps { KeepsCabinet (O.told outside.old) (O.told outside.new) }
 {
     match KeyStore::from_bytes(alloc, octets) {
         Ok(store) => looped(alloc, &store, command, users, outside),
-        Err(fault) => keys_refused(alloc, fault, outside.sink),
+        Err(fault) => keys_refused(alloc, fault, outside),
     }
 }
 
 // The same with the name of the key file, which is fetched.
-fn answered<F: Cabinet, K: Sink, W: Wires, C: Clock, R: Rng>(
+fn answered<O: Outside>(
     alloc: Global,
     command: &LineCommand<'_>,
     users: Vec<Box<dyn SafeUser>>,
-    outside: &mut Outside<F, K, W, C, R>,
+    outside: &mut O,
 ) -> Result<Status, Stop>
-    ensures ends { LineEnds (line_view command.now) (given_to_loop (length users.items) (map mind users.items) (R.stream outside.old.randoms))
-        outside.old.seen outside.new.seen result }
-    ensures asks { AsksOne (key_file_of (line_view command.now)) outside.old outside.new result }
+    ensures ends { LineEnds (line_view command.now) (given_to_loop (length users.items) (map mind users.items) (O.told outside.old).words)
+        (outside_of (O.told outside.old)) (outside_of (O.told outside.new)) result }
+    ensures asks { AsksOne (key_file_of (line_view command.now)) (O.told outside.old) (O.told outside.new) result }
 {
-    match fetched(alloc, command.key_file(), outside.cabinet, outside.sink) {
+    let name = command.key_file();
+    match outside.fetch(alloc, name) {
         Ok(octets) => keyed(alloc, octets.as_slice(), command, users, outside),
-        Err(ended) => ended,
+        Err(FetchFault::Failed) => unfetched(alloc, name, outside),
+        Err(FetchFault::NoMemory(want)) => Err(Stop::NoMemory(want)),
     }
 }
 
 /// Does what `serve` or `call` asks for, with the usual settings, and answers with what status the program is to end: 0 where the loop stopped, 2
 /// where the key file can't be fetched, 4 where it is refused or has no key of the pair, 5 where a write failed, 6 where a listen, dial or turn
 /// of the wires failed, 7 for want of memory.
-pub fn run_on_line<F: Cabinet, K: Sink, W: Wires, C: Clock, R: Rng>(
+pub fn run_on_line<O: Outside>(
     alloc: Global,
     command: &LineCommand<'_>,
     users: Vec<Box<dyn SafeUser>>,
-    outside: &mut Outside<F, K, W, C, R>,
+    outside: &mut O,
 ) -> Status
-    ensures run { IsLineRun (line_view command.now) (given_to_loop (length users.items) (map mind users.items) (R.stream outside.old.randoms))
-        outside.old.seen outside.new.seen result.0 }
-    // The outside's objects stay the same ones.
-    ensures names { outside.new.names ≡ outside.old.names }
+    ensures run { IsLineRun (line_view command.now) (given_to_loop (length users.items) (map mind users.items) (O.told outside.old).words)
+        (outside_of (O.told outside.old)) (outside_of (O.told outside.new)) result.0 }
+    ensures recorded { IsLineRecorded (O.told outside.old) (O.told outside.new) }
 {
-    match answered(alloc, command, users, outside) {
-        Ok(status) => status,
-        Err(Stop::Sink) => Status(5),
-        Err(Stop::NoMemory(want)) => out_of_memory(want, outside.sink),
-    }
+    let ended = answered(alloc, command, users, outside);
+    exits(ended, outside)
 }

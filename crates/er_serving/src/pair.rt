@@ -1,3 +1,5 @@
+//! An engine and the radio block centre that it calls.
+
 use er_base::EtcsNumber;
 
 /// An engine and the radio block centre that it calls.

@@ -1,3 +1,5 @@
+//! The names of settings, as texts spell them.
+
 ghost use Rattle.std.specs.Prelude.{◌≡◌, ◌<◌, ◌≤◌};
 ghost use Rattle.er_settings.specs.Ranges.{is_allowed};
 ghost use Rattle.er_settings.specs.Names.{setting_word, setting_named};

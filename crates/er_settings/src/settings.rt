@@ -1,3 +1,5 @@
+//! The settings of an end: timers, window, retries and credit.
+
 ghost use Rattle.std.specs.Prelude.{◌≡◌, MatchResult, IfOk};
 ghost use Rattle.er_settings.specs.Ranges.{Allows, IsModulo, AllAllowed};
 ghost use Rattle.er_settings.specs.Making.{IsFirstRefusedSetting, settings_of, usual_settings};

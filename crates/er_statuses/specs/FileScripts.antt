@@ -3,8 +3,10 @@
 use Rattle.std.specs.Prelude.{ℕ, List, Option, Some, None, Result, Ok, Err}
 use Rattle.safety_automaton.specs.Keys.{KmacEntry}
 use Rattle.key_store.specs.declared.key_file_fault.KeyFileFault.{KeyFileFault}
-use Rattle.outside.specs.Scripts.{Script, Fetches, says_last}
-use Rattle.er_statuses.specs.Answers.{Answer, keys_answer}
+use Rattle.key_store.specs.declared.key_file_fault.KeyFileFault.TheVariants as keys
+use Rattle.outside.specs.Scripts.{Script, Ends, Fetches, Knowing, says_last}
+use Rattle.er_statuses.specs.Answers.{Answer}
+use Rattle.er_statuses.specs.KeyLines.{keys_line}
 use Rattle.er_statuses.specs.LastLines.{fetch_line}
 
 -- behind a fetch: the octets of the file, or none
@@ -20,7 +22,14 @@ fetches_file name behind = Fetches name (behind_fetch name behind)
 abbrev pub answers : Answer → Script
 answers answer = says_last answer.status answer.text
 
--- a key file that is refused prints its first fault alone; with the entries of any other this is done
+-- a key file that is refused prints its first fault alone; with the entries of any other this is done. What a file says is never want of memory
 abbrev pub behind_keys : Result (List KmacEntry) KeyFileFault → (List KmacEntry → Script) → Script
 behind_keys (Ok entries) behind = behind entries
-behind_keys (Err fault) behind = answers (keys_answer fault)
+behind_keys (Err keys.Document) behind = says_last 4 (keys_line keys.Document)
+behind_keys (Err (keys.Field entry name)) behind = says_last 4 (keys_line (keys.Field entry name))
+behind_keys (Err (keys.Hex entry)) behind = says_last 4 (keys_line (keys.Hex entry))
+behind_keys (Err (keys.Number entry)) behind = says_last 4 (keys_line (keys.Number entry))
+behind_keys (Err (keys.Range entry)) behind = says_last 4 (keys_line (keys.Range entry))
+behind_keys (Err (keys.Twice first second)) behind = says_last 4 (keys_line (keys.Twice first second))
+behind_keys (Err (keys.Version n)) behind = says_last 4 (keys_line (keys.Version n))
+behind_keys (Err (keys.NoMemory want)) behind = Knowing ⊥ (Ends 7)

@@ -1,3 +1,4 @@
+-- What this crate states: its definitions, by module.
 pub mod LastLines
 pub mod KeyLines
 pub mod Answers
@@ -5,3 +6,4 @@ pub mod Writing
 pub mod Fetching
 pub mod FileScripts
 pub mod ScriptEnds
+pub mod FileSteps

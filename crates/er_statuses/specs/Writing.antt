@@ -1,18 +1,11 @@
--- Contract: what the parts of a run of the program write to the sink, and how they end.
+-- Representation: what the parts of a run of the program write to the sink, and how they end; no claim rests on it.
 use Rattle.std.specs.Prelude.{◌≡◌, ◌⊎◌, ℕ, ◌≤◌, List, [], Option, Result, Ok, Err}
 use Rattle.link_trait.specs.Outside.{Grew, GrewPart, Rose}
-use Rattle.link_trait.specs.States.{CabinetState, SinkState}
-use Rattle.link_trait.specs.declared.sink.Failed.{Failed}
 use Rattle.er_statuses.specs.Answers.{Answer}
 use Rattle.er_statuses.specs.LastLines.{fetch_line, memory_line}
 use Rattle.er_statuses.specs.declared.status.Status.{Status}
 use Rattle.er_statuses.specs.declared.stop.Stop.{Stop}
 use Rattle.er_statuses.specs.declared.stop.Stop.TheVariants as stop
-
--- a text was written, or a beginning of it where the sink failed
-abbrev pub Writes : List ℕ → Option (List ℕ) → Option (List ℕ) → ℕ → ℕ → Result (Unit {0}) Failed → Type 0
-Writes text before now f g (Ok done) = Grew before now text × (f ≤ g)
-Writes text before now f g (Err failed) = GrewPart before now text × Rose f g
 
 -- an answer was given: its text was written, or a beginning of it where the sink failed, or nothing where memory ran out
 abbrev pub GivesAnswer : Answer → Option (List ℕ) → Option (List ℕ) → ℕ → ℕ → Result Status Stop → Type 0
@@ -29,18 +22,3 @@ abbrev pub EndsUnfetched : (name : List ℕ) → (c d : ℕ) → Option (List �
 EndsUnfetched name c d before now f g (Ok s) = Rose c d × (s.0 ≡ 2) × Grew before now (fetch_line name) × (f ≤ g)
 EndsUnfetched name c d before now f g (Err stop.Sink) = Rose c d × GrewPart before now (fetch_line name) × Rose f g
 EndsUnfetched name c d before now f g (Err (stop.NoMemory want)) = Grew before now [] × (f ≤ g)
-
--- ---- the same by what the cabinet and the sink tell
-
-abbrev pub WritesTo : List ℕ → (before now : SinkState) → Result (Unit {0}) Failed → Type 0
-WritesTo text before now result = Writes text before.held now.held before.faults now.faults result
-
-abbrev pub GivesAnswerTo : Answer → (before now : SinkState) → Result Status Stop → Type 0
-GivesAnswerTo answer before now result = GivesAnswer answer before.held now.held before.faults now.faults result
-
-abbrev pub ExhaustsTo : (before now : SinkState) → Status → Type 0
-ExhaustsTo before now status = Exhausts before.held now.held before.faults now.faults status
-
-abbrev pub EndsUnfetchedTo : (name : List ℕ) → (cabinet cabinet_now : CabinetState) → (before now : SinkState) → Result Status Stop → Type 0
-EndsUnfetchedTo name cabinet cabinet_now before now result =
-    EndsUnfetched name cabinet.faults cabinet_now.faults before.held now.held before.faults now.faults result

@@ -1,6 +1,7 @@
 //! How a run ends, in acts of its outside: its last line and the status that goes with it, a file that can't be had, and a key file that is refused.
 
-ghost use Rattle.std.specs.Prelude.{◌≡◌, ◌∷◌, [], codes, map, string_bytes};
+ghost use Rattle.std.specs.Prelude.{◌≡◌, ◌∷◌, [], codes, map, string_bytes, IfOk};
+ghost use Rattle.std.specs.Fmt.{signed_decimal};
 ghost use Rattle.er_base.specs.LineTexts.{line_text};
 ghost use Rattle.er_base.specs.Printing.{word_printed};
 ghost use Rattle.key_store.specs.declared.key_file_fault.KeyFileFault.TheVariants as keys;
@@ -8,14 +9,13 @@ ghost use Rattle.outside.specs.Doings.{Did};
 ghost use Rattle.outside.specs.Scripts.{Does, says_last};
 ghost use Rattle.er_statuses.specs.KeyLines.{keys_line};
 ghost use Rattle.er_statuses.specs.LastLines.{usage_line, fetch_line, fault_line, why_word};
-ghost use Rattle.er_statuses.specs.ScriptEnds.{end_of_run, said_acts, EndsRefused};
+ghost use Rattle.er_statuses.specs.ScriptEnds.{end_of_run, said_acts, EndsRefused, EndsSpent, ExitsBy};
 
-use crate::key_lines::decimal_text;
 use crate::last_lines::{fault_line, fetch_line, why_octets};
 use crate::status::Status;
 use crate::stop::Stop;
 use er_base::PrintedWord::{Decimal, Plain};
-use er_base::{PrintedWord, Why, put_line};
+use er_base::{NoMemory, PrintedWord, Why, put_line};
 use key_store::KeyFileFault;
 use link_trait::Failed;
 use outside::Outside;
@@ -38,6 +38,27 @@ pub fn last<O: Outside>(status: u8, text: &[u8], outside: &mut O) -> Result<Stat
     match say(text, outside) {
         Ok(()) => Ok(Status(status)),
         Err(Failed) => Err(Stop::Sink),
+    }
+}
+
+/// The last line of a run for which memory didn't suffice, and its status.
+pub fn out_of_memory<O: Outside>(outside: &mut O) -> Status
+    ensures ends { EndsSpent (O.told outside.old) (O.told outside.new) result.0 }
+{
+    match say(b"! memory\n", outside) {
+        Ok(()) => Status(7),
+        Err(Failed) => Status(5),
+    }
+}
+
+/// The status of a run that ended so, behind the last line where memory didn't suffice.
+pub fn exits<O: Outside>(ended: Result<Status, Stop>, outside: &mut O) -> Status
+    ensures exits { ExitsBy (end_of_run ended) (O.told outside.old) (O.told outside.new) result.0 }
+{
+    match ended {
+        Ok(status) => status,
+        Err(Stop::Sink) => Status(5),
+        Err(Stop::NoMemory(_want)) => out_of_memory(outside),
     }
 }
 
@@ -98,6 +119,13 @@ pub fn say_keys<O: Outside>(
     let mut line = Vec::new(alloc);
     put_line(&Plain(b"!"), words, &mut line)?;
     last(4, line.as_slice(), outside)
+}
+
+// A number with its sign.
+fn decimal_text(alloc: Global, number: i64) -> Result<String, NoMemory>
+    ensures { IfOk result (λ text. string_bytes text ≡ signed_decimal number) }
+{
+    Ok(number.to_string(alloc)?)
 }
 
 // The key file has a version that is unknown.

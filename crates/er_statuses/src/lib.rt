@@ -5,16 +5,10 @@
 #![tactic(auto)]
 
 pub mod acting;
-mod endings;
-mod files;
-mod key_lines;
 mod last_lines;
 mod status;
 mod stop;
 
-pub use endings::{last, out_of_form, out_of_memory, say, unmade};
-pub use files::fetched;
-pub use key_lines::{keys_refused, say_keys};
 pub use last_lines::{fault_line, overfull_line};
 pub use status::Status;
 pub use stop::Stop;

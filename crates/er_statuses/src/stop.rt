@@ -1,3 +1,5 @@
+//! Why a run breaks off.
+
 ghost use Rattle.er_statuses.specs.declared.stop.Stop.TheVariants as stop;
 ghost use Rattle.std.specs.Prelude.{◌≡◌};
 

@@ -1,3 +1,5 @@
+//! The first words of a tap's lines.
+
 ghost use Rattle.std.specs.Prelude.{◌≡◌};
 ghost use Rattle.er_tap.specs.Table.{line_word, line_named};
 

@@ -1,3 +1,5 @@
+//! A tap: what was heard of many lines.
+
 use crate::tap_list::TapList;
 
 /// What a tap says.

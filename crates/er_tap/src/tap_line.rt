@@ -1,3 +1,5 @@
+//! A line of a tap, read.
+
 use crate::tap_step::TapStep;
 
 /// What a line of a tap says, and the line of its file.

@@ -1,3 +1,5 @@
+//! The lines of a tap, kept.
+
 ghost use Rattle.std.specs.Prelude.{◌≡◌};
 
 use crate::tap_line::TapLine;

@@ -1,3 +1,5 @@
+//! A line of a tap: a direction and the octets that went there.
+
 use er_base::{Octets, Side};
 
 /// What a line of a tap says. Links are numbered from 1 to 64.

@@ -1,3 +1,4 @@
+-- What this crate states: its definitions, by module.
 pub mod Ranges
 pub mod Table
 pub mod Headers

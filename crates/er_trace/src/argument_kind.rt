@@ -1,3 +1,5 @@
+//! The kinds of arguments of a trace's lines.
+
 ghost use Rattle.std.specs.Prelude.{◌≡◌};
 ghost use Rattle.er_base.specs.Rows.{AnswersAsWordsSay};
 ghost use Rattle.er_trace.specs.Readings.{is_argument};

@@ -1,3 +1,5 @@
+//! An event of a trace, with its moment and connection.
+
 use crate::event::Event;
 
 /// An event of a trace.

@@ -1,3 +1,5 @@
+//! The events of a trace, kept.
+
 ghost use Rattle.std.specs.Prelude.{◌≡◌};
 
 use crate::entry::Entry;

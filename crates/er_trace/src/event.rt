@@ -1,3 +1,5 @@
+//! The events of a trace.
+
 use er_base::Octets;
 
 /// What came at the end of a connection.

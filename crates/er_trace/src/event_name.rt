@@ -1,3 +1,5 @@
+//! The names of events, as traces spell them.
+
 ghost use Rattle.std.specs.Prelude.{◌≡◌, length};
 ghost use Rattle.er_trace.specs.Table.{event_word, event_named, event_kinds};
 

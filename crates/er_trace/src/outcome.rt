@@ -1,3 +1,5 @@
+//! The outcomes of a trace.
+
 use er_base::Release;
 
 /// What came of an event at the end of a connection.

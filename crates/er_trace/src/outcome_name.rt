@@ -1,3 +1,5 @@
+//! The names of outcomes, as traces spell them.
+
 ghost use Rattle.std.specs.Prelude.{◌≡◌};
 ghost use Rattle.er_trace.specs.Table.{outcome_word, outcome_named, outcome_kinds};
 

@@ -1,3 +1,5 @@
+//! Why a send was refused, as a trace spells it.
+
 ghost use Rattle.std.specs.Prelude.{◌≡◌};
 ghost use Rattle.er_trace.specs.Table.{refusal_word, refusal_named, refusal_kinds};
 

@@ -1,3 +1,5 @@
+//! A line of a trace, read.
+
 use crate::event::Event;
 
 /// What a line behind the header says.

@@ -1,3 +1,5 @@
+//! A trace: what happened at connections, and what came of it.
+
 use crate::entry_list::EntryList;
 use er_settings::Settings;
 

@@ -1,3 +1,4 @@
+-- What this crate states: its definitions, by module.
 pub mod Pairs
 pub mod PairKeys
 pub mod Changes

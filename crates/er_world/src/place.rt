@@ -1,3 +1,5 @@
+//! An end of a link of a drill, as its lines name it.
+
 ghost use Rattle.std.specs.Prelude.{◌≡◌};
 ghost use Rattle.er_base.specs.Sides.{other};
 

@@ -1,3 +1,5 @@
+//! The texts that were sealed, each under its session keys.
+
 ghost use Rattle.std.specs.Prelude.{◌≡◌, [], ◌∷◌, OnOk};
 ghost use Rattle.std.specs.List.{list_any};
 ghost use Rattle.safety_pair_laws.specs.Facts.{is_sealing};

@@ -1,3 +1,5 @@
+//! How a run ended.
+
 use er_program::{FileFault, Status};
 use mio_wires::WireFault;
 

@@ -5,35 +5,30 @@ mod ended;
 mod listening_wires;
 mod objects;
 mod origin;
-mod recorded_wires;
-mod recording;
 mod relaying;
 mod streams;
 mod system_words;
-mod telling_wires;
+mod telling_outside;
 mod told;
-mod watched_cabinet;
 
 use crate::ended::Ended;
 use crate::objects::position_reports;
-use crate::recorded_wires::RecordedWires;
-use crate::recording::{Recording, RecordingSink};
 use crate::relaying::relay;
 use crate::streams::stand_ins;
 use crate::system_words::SystemWords;
-use crate::telling_wires::TellingWires;
-use crate::watched_cabinet::WatchedCabinet;
+use crate::telling_outside::TellingOutside;
 use er_base::{NoMemory, decimal};
 use er_program::{
     Clock, Command, FileCabinet, FileCommand, LineCommand, MachineClock, Sink, Status, StdoutSink,
-    command_from, relay_from, run, run_off_line, unmade,
+    command_from, out_of_memory, relay_from, run, run_off_line,
 };
 use er_users::{Echo, SafeUser};
 use mio_wires::MioWires;
+use outside::{Absent, Parts, off_line};
 use rand_chacha::ChaCha20Rng;
 use readiness_loop::MOST_LIVE;
+use recorded::Recorded;
 use std::alloc::Global;
-use std::cell::RefCell;
 use std::process::ExitCode;
 use std::{env, io};
 use telling::{Ears, LastLine, Watch};
@@ -41,11 +36,11 @@ use telling::{Ears, LastLine, Watch};
 // The connections that `serve` serves in its life, one user each.
 const MOST_SERVED: usize = 65_536;
 
-// A page less than the largest block from whose end glibc learns.
+// What `keep_memory` takes and lets go: a page less than the largest block that moves glibc's bound.
 const LARGEST_BLOCK: usize = 33_550_336;
 
-// How long the end of `serve` or `call` waits for peers to close, in milliseconds.
-const MOST_LINGER: u64 = 2_000;
+// How long the end of a command over wires waits for peers to close, in milliseconds.
+pub(crate) const MOST_LINGER: u64 = 2_000;
 
 // The words behind the program's name, or None where they aren't UTF-8.
 fn words(rt: &HostRuntime) -> Result<Option<Vec<String>>, NoMemory> {
@@ -66,6 +61,52 @@ fn radio_block_centre(words: &[String]) -> Option<u64> {
     }
 }
 
+// How a run over wires went, and what was heard of it.
+#[derive(Drop)]
+struct Ran {
+    ended: Ended,
+    watch: Watch,
+    ears: Ears,
+}
+
+// A run over these sockets, whose recording goes first. None where there is no memory for the objects.
+fn run_over<K: Sink>(
+    rt: HostRuntime,
+    words: &[String],
+    randoms: &mut SystemWords<ChaCha20Rng>,
+    users: Vec<Box<dyn SafeUser>>,
+    sink: &mut K,
+    sockets: &mut MioWires<HostRuntime>,
+) -> Option<Ran> {
+    let watch = Watch::new(rt.alloc(), radio_block_centre(words)).ok()?;
+    let ears = Ears::new(rt.alloc(), MOST_LIVE).ok()?;
+    let mut cabinet = FileCabinet::new(rt);
+    let mut clock = MachineClock::new(rt);
+    sockets.keep_time(clock.now());
+    let parts = Parts::new(&mut cabinet, sink, sockets, &mut clock, randoms);
+    let recorded = Recorded::new(rt.alloc(), parts).ok()?;
+    let mut outside = TellingOutside::new(recorded, watch, ears, rt);
+    let status = run(rt.alloc(), words, users, &mut outside);
+    // What the last turn told waits still.
+    let status = match outside.outside.write_out() {
+        Ok(()) => status,
+        Err(_) => Status(5),
+    };
+    let TellingOutside {
+        outside: recorded,
+        watch,
+        ears,
+        ..
+    } = outside;
+    drop(recorded);
+    let ended = Ended {
+        status,
+        file: cabinet.why(),
+        wires: sockets.fault(),
+    };
+    Some(Ran { ended, watch, ears })
+}
+
 // A command that runs over wires, with these random words and users. None where there is no memory for the objects.
 fn on_line<K: Sink>(
     rt: HostRuntime,
@@ -74,45 +115,14 @@ fn on_line<K: Sink>(
     users: Vec<Box<dyn SafeUser>>,
     sink: &mut K,
 ) -> Option<Ended> {
-    let rbc = radio_block_centre(words);
-    let watch = Watch::new(rt.alloc(), rbc).ok()?;
-    let recording = RefCell::new(Recording::new(rt.alloc(), sink, watch).ok()?);
-    let mut lines = RecordingSink::new(&recording);
-    let mut cabinet = WatchedCabinet::new(FileCabinet::new(rt), &recording, rbc, rt);
-    let mut clock = MachineClock::new(rt);
-    let bare = MioWires::new(rt.alloc(), rt).ok()?;
-    let ears = Ears::new(rt.alloc(), MOST_LIVE).ok()?;
-    let sockets = TellingWires::new(bare, ears, &recording, rt);
-    let mut wires = RecordedWires::new(sockets, &recording);
-    wires.wires.wires.keep_time(clock.now());
-    let status = run(
-        rt.alloc(),
-        words,
-        &mut cabinet,
-        &mut lines,
-        &mut wires,
-        &mut clock,
-        randoms,
-        users,
-    );
-    // What the last turn told waits still.
-    let status = match wires.write_out() {
-        Ok(()) => status,
-        Err(_) => Status(5),
-    };
-    let ended = Ended {
-        status,
-        file: cabinet.cabinet.why(),
-        wires: wires.wires.wires.fault(),
-    };
-    wires.wires.wires.finish(MOST_LINGER);
-    if let Ok(recording) = recording.try_borrow() {
-        told::counted(rt, &ended, &recording.watch, &wires.wires.ears);
-        if status.0 == 0 && rbc.is_none() {
-            told::called(rt, words, &recording.watch.tally);
-        }
+    let mut sockets = MioWires::new(rt.alloc(), rt).ok()?;
+    let ran = run_over(rt, words, randoms, users, sink, &mut sockets)?;
+    sockets.finish(MOST_LINGER);
+    told::counted(rt, &ran.ended, &ran.watch, &ran.ears);
+    if ran.ended.status.0 == 0 && ran.watch.rbc.is_none() {
+        told::called(rt, words, &ran.watch.tally);
     }
-    Some(ended)
+    Some(ran.ended)
 }
 
 // Has the C library keep the memory of connections that closed for those that come. glibc gives back to the system what is free at the end of
@@ -157,19 +167,28 @@ fn call<K: Sink>(
 }
 
 // What a command without wires asks for; what an audit tells of ends is given back.
-fn off_line<K: Sink>(
+fn without_wires<K: Sink>(
     rt: HostRuntime,
     command: &FileCommand<'_>,
     ends: &mut Vec<u8>,
     sink: &mut K,
 ) -> Ended {
     let mut cabinet = FileCabinet::new(rt);
-    let status = run_off_line(rt.alloc(), command, &mut cabinet, ends, sink);
+    let mut absent = Absent::new();
+    let mut parts = off_line(&mut cabinet, sink, &mut absent);
+    let status = run_off_line(rt.alloc(), command, ends, &mut parts);
     Ended {
         status,
         file: cabinet.why(),
         wires: None,
     }
+}
+
+// The last line of a run whose objects can't be made, and its status.
+fn unmade<K: Sink>(rt: HostRuntime, sink: &mut K) -> Status {
+    let mut cabinet = FileCabinet::new(rt);
+    let mut absent = Absent::new();
+    out_of_memory(&mut off_line(&mut cabinet, sink, &mut absent))
 }
 
 // What the words ask for. None where the objects can't be made, or the system gives no seed.
@@ -184,7 +203,7 @@ fn answered<K: Sink>(
         return relay(rt, &command, &mut randoms, sink);
     }
     match command_from(words) {
-        Command::File(command) => Some(off_line(rt, &command, ends, sink)),
+        Command::File(command) => Some(without_wires(rt, &command, ends, sink)),
         Command::Line(command) => {
             let mut randoms = SystemWords::new(&rt).ok()?;
             match command {
@@ -203,7 +222,7 @@ fn status_of(rt: HostRuntime, words: &[String]) -> Status {
     let ended = match answered(rt, words, &mut ends, &mut sink) {
         Some(ended) => ended,
         None => Ended {
-            status: unmade(&mut sink),
+            status: unmade(rt, &mut sink),
             file: None,
             wires: None,
         },
@@ -221,7 +240,7 @@ fn status(rt: HostRuntime) -> Status {
         },
         // Words that aren't UTF-8 fit no command.
         Ok(None) => status_of(rt, &[]),
-        Err(_want) => unmade(&mut StdoutSink::new(io::writer(&rt))),
+        Err(_want) => unmade(rt, &mut StdoutSink::new(io::writer(&rt))),
     }
 }
 

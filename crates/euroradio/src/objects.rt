@@ -1,4 +1,4 @@
-//! The real objects of the two commands that run over wires.
+//! The user of a train that calls.
 
 use er_base::NoMemory;
 use er_users::Lister;

@@ -1,5 +1,6 @@
 //! `relay`: its objects, and its run.
 
+use crate::MOST_LINGER;
 use crate::ended::Ended;
 use crate::listening_wires::ListeningWires;
 use er_program::{
@@ -9,9 +10,6 @@ use mio_wires::MioWires;
 use outside::Parts;
 use rand::Rng;
 use std::alloc::Global;
-
-// How long the end of `relay` waits for peers to close, in milliseconds.
-const MOST_LINGER: u64 = 2_000;
 
 // The run over objects that are lent.
 fn run_over<F: Cabinet, K: Sink, W: Wires, C: Clock, R: Rng>(

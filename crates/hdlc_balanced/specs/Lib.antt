@@ -1,3 +1,4 @@
+-- What this crate states: its definitions, by module.
 pub mod Kept
 pub mod Told
 pub mod Alike

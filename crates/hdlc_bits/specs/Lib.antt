@@ -1,3 +1,4 @@
+-- What this crate states: its definitions, by module.
 pub mod Framing
 pub mod Stuffing
 pub mod Keeping

@@ -1,3 +1,5 @@
+//! A list of bits with room that is reserved once.
+
 ghost use Rattle.std.specs.Prelude.{◌≡◌, ◌+◌, [], ◌∷◌, length, IfOk};
 ghost use Rattle.hdlc_fcs.specs.FrameCheck.{sent_bits};
 ghost use Rattle.hdlc_bits.specs.Rooms.{HasRoomForBits, AppendsBits, filled_up, bit_of};

@@ -1,3 +1,4 @@
+-- What this crate states: its definitions, by module.
 pub mod FrameCheck
 pub mod Register
 pub mod Contents

@@ -7,6 +7,7 @@ pub mod FirstCloseLaws
 pub mod SpellingLaws
 pub mod WritingLaws
 pub mod ControlLaws
+pub mod BlockLaws
 pub mod ScanningLaws
 pub mod StreamOfLaws
 pub mod WrittenLaws

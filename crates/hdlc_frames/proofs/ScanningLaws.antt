@@ -1,10 +1,10 @@
 -- Going through octets many at a time.
-use Rattle.std.proofs.Common.{◌≡◌, ◌≢◌, ℕ, zero, suc, ◌+◌, ◌<◌, ◌≤◌, Bool, true, false, ◌==◌, List, [], ◌∷◌, ◌++◌, length, take, drop, None, refl, sym, ◌∙◌, ap, arith, append_assoc, append-nil, bit_xor, get_or, inl, inr}
+use Rattle.std.proofs.Common.{◌≡◌, ◌≢◌, ℕ, zero, suc, ◌+◌, ◌-◌, ◌<◌, ◌≤◌, Bool, true, false, ◌==◌, List, [], ◌∷◌, ◌++◌, length, take, drop, None, Some, refl, sym, ◌∙◌, ap, arith, append_assoc, append-nil, bit_xor, get_or, inl, inr, eq-eqb}
 use Rattle.std.proofs.lemmas.Bool.{ne_eqb, cases_lt}
-use Rattle.std.proofs.lemmas.List.{take_all, take-append-le, length-take-le, length-take, length-drop, drop-drop}
+use Rattle.std.proofs.lemmas.List.{take_all, take-append-le, length-take-le, length-take, length-drop, drop-drop, get_or-drop}
 use Rattle.hdlc_frames.specs.Framing.{flag, escape}
 use Rattle.hdlc_frames.specs.Deframing.{KeptDeframer, Feeding}
-use Rattle.hdlc_frames.specs.Scanning.{kept_content, after_octet, verdict_at, octet_scan, scan_of, Advances, NoFlagBefore, PlainBefore}
+use Rattle.hdlc_frames.specs.Scanning.{kept_content, after_octet, verdict_at, octet_scan, scan_of, Advances, NoFlagBefore, PlainBefore, EscapesAt}
 
 pub goes_nowhere : (k : KeptDeframer) (piece : List ℕ) → Advances k piece 0 k
 goes_nowhere k piece = record { within = omega arith; used = omega arith; verdict = refl; kept = refl }
@@ -113,3 +113,68 @@ goes_run (suc n) content (x ∷ xs) inside plain short =
 pub goes_run_of : (begun escaping : Bool) (content next piece : List ℕ) (n : ℕ) → begun ≡ true → escaping ≡ false → n ≤ length piece → PlainBefore piece n → length content ≤ 1033 → next ≡ take 1033 (content ++ take n piece)
     → Advances (record { begun = begun; escaping = escaping; content = content }) piece n (record { begun = begun; escaping = escaping; content = next })
 goes_run_of begun escaping content next piece n is_begun is_shut inside plain short e = rw (is_begun, is_shut, e) (goes_run n content piece inside plain short)
+
+-- ---- behind a place of a piece
+
+-- a part, and then another of what is left
+pub goes_behind : (k next last : KeptDeframer) (piece left : List ℕ) (m n : ℕ) → left ≡ take (length piece - m) (drop m piece) → Advances k piece m next → Advances next left n last → Advances k piece (m + n) last
+goes_behind k next last piece left m n e g h =
+    let same : left ≡ drop m piece = e ∙ take_all (length piece - m) (drop m piece) (omega (arith, length-drop m piece)) in
+    goes_further k next last piece m n g (rw same at h)
+
+-- what one octet leaves of what the code keeps, where content comes and no escape is open
+plain_step : (begun escaping : Bool) (content : List ℕ) (x : ℕ) → begun ≡ true → escaping ≡ false → (x == flag) ≡ false → (x == escape) ≡ false
+    → after_octet (record { begun = begun; escaping = escaping; content = content }) x ≡ record { begun = begun; escaping = escaping; content = kept_content content x }
+plain_step begun escaping content x b s f e = rw (f, b, s, e) refl
+
+open_step : (begun escaping : Bool) (content : List ℕ) (x : ℕ) → begun ≡ true → escaping ≡ false → (x == flag) ≡ false → (x == escape) ≡ true
+    → after_octet (record { begun = begun; escaping = escaping; content = content }) x ≡ record { begun = begun; escaping = true; content = content }
+open_step begun escaping content x b s f e = rw (f, b, s, e) refl
+
+shut_step : (begun escaping : Bool) (content : List ℕ) (y : ℕ) → begun ≡ true → escaping ≡ false → (y == flag) ≡ false
+    → after_octet (record { begun = begun; escaping = true; content = content }) y ≡ record { begun = begun; escaping = escaping; content = kept_content content (bit_xor y 0x20) }
+shut_step begun escaping content y b s f = rw (f, b, s) refl
+
+-- the octet at a place of a piece
+goes_at : (k mid last : KeptDeframer) (piece : List ℕ) (at : ℕ) → Advances k piece at mid → at < length piece → get_or piece at 0 ≢ flag → after_octet mid (get_or piece at 0) ≡ last → Advances k piece (at + 1) last
+goes_at k mid last piece at g inside other e =
+    let plus : at + 0 ≡ at = omega arith in
+    let first : get_or (drop at piece) 0 0 ≡ get_or piece at 0 = get_or-drop at piece 0 0 ∙ ap (λ i. get_or piece i 0) plus in
+    goes_further k mid last piece at 1 g (goes_one mid last (drop at piece) (omega (arith, length-drop at piece)) (rw first other) (rw first e))
+
+pub goes_plain_at : (k : KeptDeframer) (begun escaping : Bool) (content next piece : List ℕ) (at : ℕ)
+    → Advances k piece at (record { begun = begun; escaping = escaping; content = content }) → begun ≡ true → escaping ≡ false → at < length piece → get_or piece at 0 ≢ flag → get_or piece at 0 ≢ escape
+    → next ≡ kept_content content (get_or piece at 0) → Advances k piece (at + 1) (record { begun = begun; escaping = escaping; content = next })
+goes_plain_at k begun escaping content next piece at g b s inside f e kept =
+    let x : ℕ = get_or piece at 0 in
+    rw kept (goes_at k (record { begun = begun; escaping = escaping; content = content }) (record { begun = begun; escaping = escaping; content = kept_content content x }) piece at g inside f
+    (plain_step begun escaping content x b s (ne_eqb x flag f) (ne_eqb x escape e)))
+
+-- an escape at a place of a piece, with nothing behind it that it escapes
+pub goes_open_at : (k : KeptDeframer) (begun escaping : Bool) (content piece : List ℕ) (at : ℕ)
+    → Advances k piece at (record { begun = begun; escaping = escaping; content = content }) → begun ≡ true → escaping ≡ false → at < length piece → get_or piece at 0 ≡ escape
+    → Advances k piece (at + 1) (record { begun = begun; escaping = true; content = content })
+goes_open_at k begun escaping content piece at g b s inside e =
+    let x : ℕ = get_or piece at 0 in
+    let other : x ≢ flag = λ (f : x ≡ flag). absurd (omega (arith, e, f)) in
+    goes_at k (record { begun = begun; escaping = escaping; content = content }) (record { begun = begun; escaping = true; content = content }) piece at g inside other
+    (open_step begun escaping content x b s (ne_eqb x flag other) (eq-eqb x escape e))
+
+-- an escape at a place of a piece, and the octet that it escapes
+pub goes_escaped_at : (k : KeptDeframer) (begun escaping : Bool) (content next piece : List ℕ) (at y : ℕ)
+    → Advances k piece at (record { begun = begun; escaping = escaping; content = content }) → begun ≡ true → escaping ≡ false → at < length piece → get_or piece at 0 ≡ escape
+    → EscapesAt piece (at + 1) (Some y) → next ≡ kept_content content (bit_xor y 0x20) → Advances k piece (at + 2) (record { begun = begun; escaping = escaping; content = next })
+goes_escaped_at k begun escaping content next piece at y g b s inside e escapes kept =
+    let opened : KeptDeframer = record { begun = begun; escaping = true; content = content } in
+    let there : get_or piece (at + 1) 0 ≡ y = escapes.1.0 in
+    let other : get_or piece (at + 1) 0 ≢ flag = rw there escapes.1.1 in
+    let two : at + 2 ≡ (at + 1) + 1 = omega arith in
+    let step : after_octet opened (get_or piece (at + 1) 0) ≡ record { begun = begun; escaping = escaping; content = kept_content content (bit_xor y 0x20) } =
+    ap (after_octet opened) there ∙ shut_step begun escaping content y b s (ne_eqb y flag escapes.1.1) in
+    rw (two, kept) (goes_at k opened (record { begun = begun; escaping = escaping; content = kept_content content (bit_xor y 0x20) }) piece (at + 1)
+    (goes_open_at k begun escaping content piece at g b s inside e) escapes.0 other step)
+
+-- a flag isn't reached at once where none stands first
+pub flag_comes_later : (piece : List ℕ) (at : ℕ) → get_or piece 0 0 ≢ flag → get_or piece at 0 ≡ flag → 0 < at
+flag_comes_later piece zero other e = absurd (other e)
+flag_comes_later piece (suc n) other e = omega arith

@@ -1,3 +1,4 @@
+-- What this crate states: its definitions, by module.
 pub mod Framing
 pub mod Spelling
 pub mod Deframing

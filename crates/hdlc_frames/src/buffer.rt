@@ -1,19 +1,17 @@
 //! The octets since the newest flag, in a buffer of fixed size.
 
-ghost use Rattle.std.specs.Prelude.{◌≡◌, ◌≢◌, ◌≤◌, ◌<◌, ◌++◌, length, take, slice_index, IfSome, option_map, false, true, []};
+ghost use Rattle.std.specs.Prelude.{◌≡◌, ◌≢◌, ◌≤◌, ◌<◌, ◌+◌, ◌++◌, ℕ, length, take, slice_index, IfSome, option_map, false, true, []};
 ghost use Rattle.hdlc_frames.specs.Judgements.{verdict_of, EndsWithin};
 ghost use Rattle.hdlc_frames.specs.Scanning.{kept_content, EscapesAt};
 
 use crate::judgement::{Judgement, judge};
-use crate::transparency::{ESCAPE, ESCAPE_BIT, FLAG, before_flag, before_flag_or_escape};
+use crate::transparency::{
+    BLOCK, ESCAPE, ESCAPE_BIT, FLAG, before_flag, before_flag_or_escape, plain_in_block,
+};
 use hdlc_fcs::LONGEST;
 
 /// The buffer keeps one octet more than a frame may have, so that it shows content that is too long.
 const CAPACITY: usize = LONGEST + 1;
-
-/// So many octets of a run are taken one by one before the rest of it is searched for: most runs between
-/// escapes are as short where escapes are many, and a search costs more than they.
-const SHORT_RUN: usize = 8;
 
 /// What is kept of a stream since its newest flag.
 #[derive(Drop)]
@@ -117,35 +115,54 @@ impl Buffer {
         ensures goes { Advances (kept_by self.old) rest.now result (kept_by self.new) }
         ensures moves { 0 < result }
     {
-        let mut len = self.len;
-        let mut plain = 0;
         let mut at = 0;
         while at < rest.len() {
+            at += self.take_block(&rest[at..]);
+            if at == rest.len() {
+                return at;
+            }
             let octet = rest[at];
             if octet == FLAG {
-                break;
+                return at;
             }
             if octet == ESCAPE {
                 let Some(escaped) = escaped_at(rest, at + 1) else {
-                    self.len = len;
                     self.escaping = true;
                     return at + 1;
                 };
-                len = keep(&mut self.octets, len, escaped ^ ESCAPE_BIT);
+                self.len = keep(&mut self.octets, self.len, escaped ^ ESCAPE_BIT);
                 at += 2;
-                plain = 0;
             } else {
-                len = keep(&mut self.octets, len, octet);
+                self.len = keep(&mut self.octets, self.len, octet);
                 at += 1;
-                plain += 1;
-                if plain == SHORT_RUN {
-                    self.len = len;
-                    return at + self.take_run(&rest[at..]);
-                }
             }
         }
-        self.len = len;
         at
+    }
+
+    // Takes the octets before the next flag or escape, and answers how many, where a block of octets is there and the buffer has places
+    // for it; else none.
+    #[inline(always)]
+    fn take_block(&mut self, rest: &[u8]) -> usize
+        requires begun { self.old.begun ≡ true }
+        requires shut { self.old.escaping ≡ false }
+        ensures goes { Advances (kept_by self.old) rest.now result (kept_by self.new) }
+        ensures begun { self.new.begun ≡ true }
+        ensures shut { self.new.escaping ≡ false }
+    {
+        if rest.len() < BLOCK {
+            return 0;
+        }
+        if self.len > CAPACITY - BLOCK {
+            return 0;
+        }
+        let count = plain_in_block(rest);
+        keep_block(&mut self.octets, self.len, rest);
+        self.len += count;
+        if count < BLOCK {
+            return count;
+        }
+        BLOCK + self.take_run(&rest[BLOCK..])
     }
 
     // Takes the octets before the next flag or escape, at once.
@@ -154,6 +171,8 @@ impl Buffer {
         requires begun { self.old.begun ≡ true }
         requires shut { self.old.escaping ≡ false }
         ensures goes { Advances (kept_by self.old) rest.now result (kept_by self.new) }
+        ensures begun { self.new.begun ≡ true }
+        ensures shut { self.new.escaping ≡ false }
     {
         let count = before_flag_or_escape(rest);
         self.len = keep_all(&mut self.octets, self.len, &rest[..count]);
@@ -173,6 +192,16 @@ fn keep(octets: &mut [u8; CAPACITY], len: usize, octet: u8) -> usize
         return len + 1;
     }
     len
+}
+
+// Keeps the octets of a block behind `len` others. Of those behind the content the next ones take the places.
+#[inline(always)]
+fn keep_block(octets: &mut [u8; CAPACITY], len: usize, block: &[u8])
+    requires fits { len + 16 ≤ 1033 }
+    requires block { 16 ≤ length block.now }
+    ensures { (n : ℕ) → n ≤ 16 → take (len + n) octets.new ≡ take len octets.old ++ take n block.now }
+{
+    octets[len..len + BLOCK].copy_from_slice(&block[..BLOCK]);
 }
 
 // Keeps octets of content behind `len` others as far as the buffer has places, and answers how many are kept.

@@ -4,7 +4,11 @@ ghost use Rattle.std.specs.Prelude.{◌≡◌, length};
 ghost use Rattle.hdlc_frames.specs.Framing.{verdict_on_content};
 ghost use Rattle.hdlc_frames.specs.Judgements.{verdict_of, EndsWithin};
 
-use hdlc_fcs::{LONGEST, SHORTEST, is_intact};
+use hdlc_fcs::laws::residue_tells_intact;
+use hdlc_fcs::{LONGEST, SHORTEST, fcs};
+
+/// The check sequence of a content with its own check sequence behind it, and of no other (ISO/IEC 13239).
+const RESIDUE: u16 = 0x0f47;
 
 /// The verdict on a frame that was closed; its body ends before the octet `end` of the buffer.
 #[derive(Clone, Copy)]
@@ -28,7 +32,8 @@ pub(crate) fn judge(content: &[u8]) -> Judgement
     if content.len() < SHORTEST {
         return Judgement::TooShort;
     }
-    if is_intact(content) {
+    residue_tells_intact();
+    if fcs(content) == RESIDUE {
         Judgement::Frame {
             end: content.len() - 2,
         }

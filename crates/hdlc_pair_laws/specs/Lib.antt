@@ -1,3 +1,4 @@
+-- What this crate states: its definitions, by module.
 pub mod Links
 pub mod Laws
 pub mod Invariant

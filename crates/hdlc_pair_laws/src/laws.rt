@@ -91,8 +91,8 @@ pub fn loss_free_keeps()
     control_reads_back();
 }
 
-/// Whatever a line lost and repeated, while no end was released: all that waits is given; a moment finds each T1 that runs expired; all that
-/// waits is given. Then each end took all that the other was handed: the calling one where it was handed a payload itself.
+/// Whatever a line lost and repeated, while no end was released: all that waits is given; a moment finds each T1 that runs expired, and neither station
+/// gives up; all that waits is given. Then each end took all that the other was handed: the calling one where it was handed a payload itself.
 pub fn recovery()
     ensures recovered { Recovery }
     ensures live { PassesRelease }

@@ -1,3 +1,4 @@
+-- What this crate states: its definitions, by module.
 pub mod Places
 pub mod Rings
 pub mod Kept

@@ -1,3 +1,4 @@
+-- What this crate states: its definitions, by module.
 pub mod FrameCauses
 pub mod LastSaid
 pub mod Received

@@ -1,3 +1,4 @@
+-- What this crate states: its definitions, by module.
 pub mod Frames
 pub mod Stations
 pub mod Sending

@@ -1,3 +1,4 @@
+-- What this crate states: its definitions, by module.
 pub mod Fields
 pub mod KeyFiles
 pub mod Ranges

@@ -1,3 +1,5 @@
+//! The names of an entry's fields in a key file.
+
 ghost use Rattle.std.specs.Prelude.{◌≡◌};
 ghost use Rattle.key_store.specs.Fields.{field_word};
 

@@ -1,3 +1,5 @@
+//! Why a key file wasn't read.
+
 ghost use Rattle.std.specs.Prelude.{◌≡◌};
 ghost use Rattle.key_store.specs.declared.key_file_fault.KeyFileFault.TheVariants as fault;
 

@@ -1,3 +1,5 @@
+//! The entries of a key file, kept.
+
 ghost use Rattle.std.specs.Prelude.{◌≡◌, Ok, IfOk, map};
 ghost use Rattle.key_store.specs.KeyFiles.{keys_of};
 ghost use Rattle.key_store.specs.Answers.{AnswersAsKeyFileSays};

@@ -1,77 +1,111 @@
--- What was written, part by part.
-use Rattle.std.proofs.Common.{◌≡◌, ◌≤◌, ℕ, List, [], ◌++◌, Option, Some, None, Result, Ok, Err, sym, ◌∙◌, ap, arith, append-nil, append_assoc, subst}
-use Rattle.link_trait.specs.Outside.{Grew, GrewPart, Rose}
+-- What was written, line by line.
+use Rattle.std.proofs.Common.{◌≡◌, ◌<◌, ◌∙◌, ℕ, Bool, true, false, List, [], ◌∷◌, ◌++◌, length, Result, Ok, Err, arith, refl, sym, ap, append_assoc, subst}
+use Rattle.outside.specs.Acts.{Act, Wrote}
+use Rattle.outside.specs.Chains.{did_nothing, did_then}
+use Rattle.outside.specs.Doings.{Told, Did}
+use Rattle.outside.specs.Scripts.{printing}
 use Rattle.tap_model.specs.declared.audit_fault.AuditFault.{AuditFault}
 use Rattle.tap_model.specs.declared.audit_fault.AuditFault.TheVariants.{NoLink, LinkTwice, Sink, NoMemory}
-use Rattle.link_audit.specs.Writes.{Writes, LeadsToSameWriting}
+use Rattle.er_base.specs.declared.side.Side.{Side}
+use Rattle.er_base.specs.LineTexts.{line_text}
+use Rattle.link_audit.specs.declared.told.Told.{Told as ToldEnd}
+use Rattle.link_audit.specs.Counts.{told_words}
+use Rattle.link_audit.specs.Writes.{writing, lines_of_told, SankAmong, SpentAmong, WritesLines, LeadsToSameWriting}
 
-pub grew_nothing : {A : Type 0} (a : Option (List A)) → Grew a a []
-grew_nothing None = tt
-grew_nothing (Some before) = sym (append-nil before)
+writing_then : (xs ys : List (List ℕ)) → writing (xs ++ ys) ≡ writing xs ++ writing ys
+unfolding writing
+writing_then [] ys = refl
+writing_then (line ∷ xs) ys = ap (λ (acts : List Act). printing line ++ acts) (writing_then xs ys) ∙ sym (append_assoc (printing line) (writing xs) (writing ys))
 
-grew_then : {A : Type 0} (a b c : Option (List A)) (xs ys : List A) → Grew a b xs → Grew b c ys → Grew a c (xs ++ ys)
-grew_then None None None xs ys p q = tt
-grew_then None None (Some now) xs ys p q = q
-grew_then None (Some mid) c xs ys p q = absurd p
-grew_then (Some before) b None xs ys p q = tt
-grew_then (Some before) None (Some now) xs ys p q = absurd q
-grew_then (Some before) (Some mid) (Some now) xs ys p q = q ∙ ap (λ zs. zs ++ ys) p ∙ append_assoc before xs ys
+-- nothing was written
+pub wrote_none : (t : Told) → Did t t (writing [])
+unfolding writing
+wrote_none t = did_nothing t
 
-part_then : {A : Type 0} (a b c : Option (List A)) (xs ys : List A) → Grew a b xs → GrewPart b c ys → GrewPart a c (xs ++ ys)
-part_then a b c xs ys p q = record {
-  part = xs ++ q.part;
+-- memory ran out before the first line
+pub spent_before : (lines : List (List ℕ)) (t : Told) → SpentAmong lines t t
+spent_before lines t = record { first = []; rest = lines; are = refl; did = wrote_none t }
+
+-- lines behind those that were written
+pub writes_then : (a b c : Told) (xs ys : List (List ℕ)) (result : Result (Unit {0}) AuditFault) → Did a b (writing xs) → WritesLines b c ys result
+    → WritesLines a c (xs ++ ys) result
+writes_then a b c xs ys (Ok done) p q = subst (λ (acts : List Act). Did a c acts) (sym (writing_then xs ys)) (did_then a b c (writing xs) (writing ys) p q)
+writes_then a b c xs ys (Err (NoLink line n)) p q = absurd q
+writes_then a b c xs ys (Err (LinkTwice line n)) p q = absurd q
+writes_then a b c xs ys (Err Sink) p q = record {
+  first = xs ++ q.first;
+  line = q.line;
   rest = q.rest;
-  is = append_assoc xs q.part q.rest ∙ ap (λ zs. xs ++ zs) q.is;
-  grew = grew_then a b c xs q.part p q.grew;
+  are = ap (λ (zs : List (List ℕ)). xs ++ zs) q.are ∙ sym (append_assoc xs q.first (q.line ∷ q.rest));
+  did =
+      subst (λ (acts : List Act). Did a c acts)
+      (sym (append_assoc (writing xs) (writing q.first) (Wrote q.line false ∷ [])) ∙ ap (λ (acts : List Act). acts ++ Wrote q.line false ∷ []) (sym (writing_then xs q.first)))
+      (did_then a b c (writing xs) (writing q.first ++ Wrote q.line false ∷ []) p q.did);
+}
+writes_then a b c xs ys (Err (NoMemory want)) p q = record {
+  first = xs ++ q.first;
+  rest = q.rest;
+  are = ap (λ (zs : List (List ℕ)). xs ++ zs) q.are ∙ sym (append_assoc xs q.first q.rest);
+  did = subst (λ (acts : List Act). Did a c acts) (sym (writing_then xs q.first)) (did_then a b c (writing xs) (writing q.first) p q.did);
 }
 
-part_more : {A : Type 0} (a b : Option (List A)) (xs ys : List A) → GrewPart a b xs → GrewPart a b (xs ++ ys)
-part_more a b xs ys p = record {
-  part = p.part;
-  rest = p.rest ++ ys;
-  is = sym (append_assoc p.part p.rest ys) ∙ ap (λ zs. zs ++ ys) p.is;
-  grew = p.grew;
-}
+-- the same lines in other words
+pub writes_as : (before now : Told) (lines other : List (List ℕ)) (result : Result (Unit {0}) AuditFault) → lines ≡ other → WritesLines before now lines result
+    → WritesLines before now other result
+writes_as before now lines other result is w = subst (λ (t : List (List ℕ)). WritesLines before now t result) is w
 
-rose_later : (c f g : ℕ) → c ≤ f → Rose f g → Rose c g
-rose_later c f g p q = omega arith
-
--- a text behind one that was written
-pub writes_then : (a b c : Option (List ℕ)) (f g h : ℕ) (xs ys : List ℕ) (result : Result (Unit {0}) AuditFault) → f ≤ g → Grew a b xs
-    → Writes b c g h ys result → Writes a c f h (xs ++ ys) result
-writes_then a b c f g h xs ys (Ok done) later p q = grew_then a b c xs ys p q
-writes_then a b c f g h xs ys (Err (NoLink line n)) later p q = absurd q
-writes_then a b c f g h xs ys (Err (LinkTwice line n)) later p q = absurd q
-writes_then a b c f g h xs ys (Err Sink) later p q = (part_then a b c xs ys p q.0, rose_later f g h later q.1)
-writes_then a b c f g h xs ys (Err (NoMemory want)) later p q = part_then a b c xs ys p q
-
--- the same text in other words
-pub writes_as : (before now : Option (List ℕ)) (f g : ℕ) (text other : List ℕ) (result : Result (Unit {0}) AuditFault) → text ≡ other → Writes before now f g text result
-    → Writes before now f g other result
-writes_as before now f g text other result is w = subst (λ (t : List ℕ). Writes before now f g t result) is w
-
-pub grew_as : (before now : Option (List ℕ)) (text other : List ℕ) → text ≡ other → Grew before now text → Grew before now other
-grew_as before now text other is w = subst (λ (t : List ℕ). Grew before now t) is w
+pub did_as : (before now : Told) (lines other : List (List ℕ)) → lines ≡ other → Did before now (writing lines) → Did before now (writing other)
+did_as before now lines other is w = subst (λ (t : List (List ℕ)). Did before now (writing t)) is w
 
 -- what wasn't written wholly is a beginning of all
-pub writes_part : (a b : Option (List ℕ)) (f g : ℕ) (xs ys : List ℕ) (fault : AuditFault) → Writes a b f g xs (Err fault) → Writes a b f g (xs ++ ys) (Err fault)
-writes_part a b f g xs ys (NoLink line n) q = absurd q
-writes_part a b f g xs ys (LinkTwice line n) q = absurd q
-writes_part a b f g xs ys Sink q = (part_more a b xs ys q.0, q.1)
-writes_part a b f g xs ys (NoMemory want) q = part_more a b xs ys q
+pub writes_part : (a b : Told) (xs ys : List (List ℕ)) (fault : AuditFault) → WritesLines a b xs (Err fault) → WritesLines a b (xs ++ ys) (Err fault)
+writes_part a b xs ys (NoLink line n) q = absurd q
+writes_part a b xs ys (LinkTwice line n) q = absurd q
+writes_part a b xs ys Sink q = record {
+  first = q.first;
+  line = q.line;
+  rest = q.rest ++ ys;
+  are = ap (λ (zs : List (List ℕ)). zs ++ ys) q.are ∙ append_assoc q.first (q.line ∷ q.rest) ys;
+  did = q.did;
+}
+writes_part a b xs ys (NoMemory want) q = record {
+  first = q.first;
+  rest = q.rest ++ ys;
+  are = ap (λ (zs : List (List ℕ)). zs ++ ys) q.are ∙ append_assoc q.first q.rest ys;
+  did = q.did;
+}
+
+-- one line was written
+pub wrote_alone : (before now : Told) (line : List ℕ) → 0 < length line → Did before now (Wrote line true ∷ []) → Did before now (writing (line ∷ []))
+unfolding writing
+wrote_alone before now [] some did = absurd (omega (arith, some))
+wrote_alone before now (octet ∷ octets) some did = did
+
+-- or the write of it failed
+pub sank_alone : (before now : Told) (line : List ℕ) → Did before now (Wrote line false ∷ []) → SankAmong (line ∷ []) before now
+unfolding writing
+sank_alone before now line did = record { first = []; line = line; rest = []; are = refl; did = did }
 
 -- ---- what is left leads to the end
 
-module _ (a : Option (List ℕ)) (f : ℕ) (all : List ℕ) (here : Option (List ℕ)) (h : ℕ) (xs ys left : List ℕ) (is : left ≡ xs ++ ys) (l : LeadsToSameWriting a f all here h left) where
-  pub leads_then : (mid : Option (List ℕ)) (m : ℕ) → h ≤ m → Grew here mid xs → LeadsToSameWriting a f all mid m ys
-  leads_then mid m later p = record {
-    leads = λ now g result w. l.leads now g result (rw is (writes_then here mid now h m g xs ys result later p w));
-    later = let first = l.later in omega (arith, first, later);
-  }
+module _ (a : Told) (all : List (List ℕ)) (here : Told) (xs ys left : List (List ℕ)) (is : left ≡ xs ++ ys) (l : LeadsToSameWriting a all here left) where
+  pub leads_then : (mid : Told) → Did here mid (writing xs) → LeadsToSameWriting a all mid ys
+  leads_then mid p = λ now result w. l now result (rw is (writes_then here mid now xs ys result p w))
 
-  pub leads_fault : (now : Option (List ℕ)) (g : ℕ) (fault : AuditFault) → Writes here now h g xs (Err fault) → Writes a now f g all (Err fault)
-  leads_fault now g fault w =
-      l.leads now g (Err fault) (subst (λ (t : List ℕ). Writes here now h g t (Err fault)) (sym is) (writes_part here now h g xs ys fault w))
+  pub leads_fault : (now : Told) (fault : AuditFault) → WritesLines here now xs (Err fault) → WritesLines a now all (Err fault)
+  leads_fault now fault w =
+      l now (Err fault) (subst (λ (t : List (List ℕ)). WritesLines here now t (Err fault)) (sym is) (writes_part here now xs ys fault w))
 
-pub leads_end : (a : Option (List ℕ)) (f : ℕ) (all : List ℕ) (here : Option (List ℕ)) (h : ℕ) (left : List ℕ) → left ≡ [] → LeadsToSameWriting a f all here h left → Grew a here all
-leads_end a f all here h left is l = l.leads here h (Ok tt) (rw is (grew_nothing here))
+pub leads_end : (a : Told) (all : List (List ℕ)) (here : Told) (left : List (List ℕ)) → left ≡ [] → LeadsToSameWriting a all here left → Did a here (writing all)
+leads_end a all here left is l = l here (Ok tt) (rw is (wrote_none here))
+
+-- ---- the end of a side
+
+pub told_none : (ends : Bool) (n : ℕ) (side : Side) (told : ToldEnd) (t : Told) → ends ≡ false → Did t t (writing (lines_of_told ends n side told))
+told_none false n side told t none = wrote_none t
+told_none true n side told t none = absurd (cc)
+
+pub told_one : (ends : Bool) (n : ℕ) (side : Side) (told : ToldEnd) (before now : Told) (result : Result (Unit {0}) AuditFault) → ends ≡ true
+    → WritesLines before now (line_text (told_words n side told) ∷ []) result → WritesLines before now (lines_of_told ends n side told) result
+told_one false n side told before now result some w = absurd (cc)
+told_one true n side told before now result some w = w

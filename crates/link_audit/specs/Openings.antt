@@ -5,7 +5,8 @@ use Rattle.tap_model.specs.declared.audit_fault.AuditFault.{AuditFault}
 use Rattle.tap_model.specs.declared.audit_fault.AuditFault.TheVariants.{NoLink, LinkTwice, Sink, NoMemory}
 use Rattle.tap_model.specs.Lines.{TapOpening, NoLinkAt, TwiceAt, has, fault_at, links_opened_behind, fault_of_tap_lines, opens_link, first_opening, tap_opening_of_link}
 use Rattle.er_end_model.specs.Steps.{Finds}
-use Rattle.tap_model.specs.EndTexts.{link_text_asked, ends_of_link}
+use Rattle.tap_model.specs.EndTexts.{ends_of_link}
+use Rattle.link_audit.specs.AuditLines.{lines_of_link}
 use Rattle.link_audit.specs.declared.opening.Opening.{Opening}
 use Rattle.link_audit.specs.declared.openings.Openings.{Openings}
 
@@ -20,10 +21,10 @@ shown_of (Some o) = Some (tap_opening_of_kept o)
 unfoldable pub opening_at : Openings → ℕ → Option TapOpening
 opening_at o n = shown_of (slice_index_or o.links (n - 1) None)
 
--- the text of the links from number n on, so many, by how they were opened
-unfoldable pub links_opened : (ends : Bool) → Finds → List TapLine → Openings → (n count : ℕ) → List ℕ
+-- the lines of the links from number n on, so many, by how they were opened
+unfoldable pub links_opened : (ends : Bool) → Finds → List TapLine → Openings → (n count : ℕ) → List (List ℕ)
 links_opened ends finds lines o n zero = []
-links_opened ends finds lines o n (suc count) = link_text_asked ends finds lines n (opening_at o n) ++ links_opened ends finds lines o (n + 1) count
+links_opened ends finds lines o n (suc count) = lines_of_link ends finds lines n (opening_at o n) ++ links_opened ends finds lines o (n + 1) count
 
 -- of each link: whether it is among those that were opened
 abbrev pub StandsForOpenedLinks : (opened : List ℕ) → Openings → Type 0

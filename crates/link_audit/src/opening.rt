@@ -1,3 +1,5 @@
+//! How a link was opened, as a tap shows it.
+
 use er_base::{EtcsNumber, Moment};
 
 /// How a link was opened.

@@ -1,3 +1,5 @@
+//! What is told of how a stream ended.
+
 use tap_model::EndCause;
 
 /// What is told of how a stream ended. Counts stay at 2^64 - 1.

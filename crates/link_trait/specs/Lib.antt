@@ -1,3 +1,4 @@
+-- What this crate states: its definitions, by module.
 pub mod Outside
 pub mod Growth
 pub mod Wires

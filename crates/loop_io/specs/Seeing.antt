@@ -1,20 +1,22 @@
 -- What is seen of the outside of a loop, and how wires answer (this profile).
 use Rattle.std.specs.Prelude.{◌≡◌, ℕ, ◌+◌, ◌-◌, ◌^◌, ◌≤◌, min, List, [], ◌∷◌, length, Option}
-use Rattle.link_trait.specs.States.{SinkState, WiresState}
 use Rattle.link_trait.specs.Wires.{Call, Listens, Dials, Turns, Reads, Writes, Closes, Reading, Gave, NotNow, End, Failed}
 use Rattle.link_trait.specs.declared.wires.WriteAnswer.{WriteAnswer}
 use Rattle.link_trait.specs.declared.wires.WriteAnswer.TheVariants as write
 use Rattle.loop_model.specs.Laws.{failures}
+use Rattle.outside.specs.Doings.{Told}
 
--- what is seen of a sink and of wires: the octets that it holds and how often it failed, the calls made and how often they failed
+-- what is seen of the outside: the octets that the sink holds and how often it failed, the calls made on the wires and how often they failed; and
+-- all that it tells
 pub record Seen : Type 0 where
   pub held : Option (List ℕ)
   pub sunk : ℕ
   pub calls : Option (List Call)
   pub failed : ℕ
+  pub told : Told
 
-abbrev pub seen : SinkState → WiresState → Seen
-seen sink wires = record { held = sink.held; sunk = sink.faults; calls = wires.calls; failed = wires.faults }
+abbrev pub seen : Told → Seen
+seen told = record { held = told.sink.held; sunk = told.sink.faults; calls = told.wires.calls; failed = told.wires.faults; told = told }
 
 -- answers as wires give them: a read that gives no octet found none that waits; one that gives octets gives one at least, and so
 -- does a write that takes octets, which takes at most the piece

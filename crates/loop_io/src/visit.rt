@@ -4,7 +4,7 @@ ghost use Rattle.std.specs.Prelude.{◌≡◌, List};
 ghost use Rattle.loop_model.specs.Sessions.{Begins};
 ghost use Rattle.safety_automaton.specs.Keys as keys;
 ghost use Rattle.loop_model.specs.Visits.{is_due};
-ghost use Rattle.loop_io.specs.Visiting.{visit_by, event_by, VisitsOn, Stay, Keep};
+ghost use Rattle.loop_io.specs.Visiting.{visit_by, event_by, VisitsOn, Keep};
 ghost use Rattle.loop_io.specs.Writing.{ClosesDueSession};
 
 use crate::reading::read;
@@ -12,8 +12,9 @@ use crate::workspace::Workspace;
 use crate::writing::rest;
 use er_base::Moment;
 use er_users::SafeUser;
-use link_trait::{Conn, Sink, Wires};
+use link_trait::Conn;
 use loop_session::{Called, LoopFault, Scratch, Session, When};
+use outside::Outside;
 use safety_automaton::KeyFinder;
 
 /// Why a session is visited.
@@ -40,77 +41,74 @@ fn is_due(moment: Moment, at: Option<u64>) -> bool
 }
 
 // A session is ticked, where the deadline of its end has come.
-fn tick<U: SafeUser, W: Wires, S: Sink>(
+fn tick<U: SafeUser, O: Outside>(
     session: &mut Session<U>,
     when: &When,
     scratch: &mut Scratch,
-    wires: &mut W,
-    sink: &mut S,
+    outside: &mut O,
 ) -> Result<bool, LoopFault>
-    ensures does { (entries : List keys.KmacEntry) → VisitsOn S.Sink W.Wires sink.old sink.new wires.old wires.new session.new (visit_by entries when.now Visit.Tick session.old) result }
+    ensures does { (entries : List keys.KmacEntry) → VisitsOn (O.told outside.old) (O.told outside.new) session.new (visit_by entries when.now Visit.Tick session.old) result }
     ensures number { session.new.number ≡ session.old.number }
-    ensures keep { Keep S.Sink W.Wires sink.old sink.new wires.old wires.new }
+    ensures keep { Keep (O.told outside.old) (O.told outside.new) }
 {
     if is_due(when.moment, session.deadline()) {
-        session.tick(when, scratch, sink)?;
-        return rest(session, when, scratch, wires, sink);
+        session.tick(when, scratch, outside)?;
+        return rest(session, when, scratch, outside);
     }
     Ok(true)
 }
 
 // A session is closed, where its closing moment has come. Whether it stays.
-fn expire<U: SafeUser, W: Wires>(session: &Session<U>, when: &When, wires: &mut W) -> bool
-    ensures expires { ClosesDueSession (W.state wires.old) (W.state wires.new) when.now.moment session.now result }
-    ensures stay { Stay W.Wires wires.old wires.new }
+fn expire<U: SafeUser, O: Outside>(session: &Session<U>, when: &When, outside: &mut O) -> bool
+    ensures expires { ClosesDueSession (O.told outside.old) (O.told outside.new) when.now.moment session.now result }
+    ensures keep { Keep (O.told outside.old) (O.told outside.new) }
 {
     if is_due(when.moment, session.closing()) {
-        wires.close(Conn(session.number()));
+        outside.close(Conn(session.number()));
         return false;
     }
     true
 }
 
 /// A session is visited, with all that follows. Whether it stays: else its connection was closed.
-pub fn visit_session<U: SafeUser, K: KeyFinder, W: Wires, S: Sink>(
+pub fn visit_session<U: SafeUser, K: KeyFinder, O: Outside>(
     session: &mut Session<U>,
     visit: Visit,
     keys: &K,
     when: &When,
     workspace: &mut Workspace,
-    wires: &mut W,
-    sink: &mut S,
+    outside: &mut O,
 ) -> Result<bool, LoopFault>
-    ensures does { VisitsOn S.Sink W.Wires sink.old sink.new wires.old wires.new session.new (visit_by (K.entries keys.now) when.now visit session.old) result }
+    ensures does { VisitsOn (O.told outside.old) (O.told outside.new) session.new (visit_by (K.entries keys.now) when.now visit session.old) result }
     ensures number { session.new.number ≡ session.old.number }
-    ensures keep { Keep S.Sink W.Wires sink.old sink.new wires.old wires.new }
+    ensures keep { Keep (O.told outside.old) (O.told outside.new) }
 {
     match visit {
-        Visit::Tick => tick(session, when, &mut workspace.scratch, wires, sink),
+        Visit::Tick => tick(session, when, &mut workspace.scratch, outside),
         Visit::Read => {
             if session.is_released() {
                 return Ok(true);
             }
-            read(session, keys, when, workspace, wires, sink)
+            read(session, keys, when, workspace, outside)
         }
-        Visit::Write => rest(session, when, &mut workspace.scratch, wires, sink),
-        Visit::Expire => Ok(expire(session, when, wires)),
+        Visit::Write => rest(session, when, &mut workspace.scratch, outside),
+        Visit::Expire => Ok(expire(session, when, outside)),
     }
 }
 
 /// The end of an engine that calls begins in its session, with all that follows. Whether it stays: else its connection was closed.
-pub fn begin_call<U: SafeUser, K: KeyFinder, W: Wires, S: Sink>(
+pub fn begin_call<U: SafeUser, K: KeyFinder, O: Outside>(
     session: &mut Session<U>,
     call: &Called,
     keys: &K,
     when: &When,
     scratch: &mut Scratch,
-    wires: &mut W,
-    sink: &mut S,
+    outside: &mut O,
 ) -> Result<bool, LoopFault>
-    ensures does { VisitsOn S.Sink W.Wires sink.old sink.new wires.old wires.new session.new (event_by (K.entries keys.now) when.now session.old (Begins call.now.engine call.now.rbc call.now.rb)) result }
+    ensures does { VisitsOn (O.told outside.old) (O.told outside.new) session.new (event_by (K.entries keys.now) when.now session.old (Begins call.now.engine call.now.rbc call.now.rb)) result }
     ensures number { session.new.number ≡ session.old.number }
-    ensures keep { Keep S.Sink W.Wires sink.old sink.new wires.old wires.new }
+    ensures keep { Keep (O.told outside.old) (O.told outside.new) }
 {
-    session.call(call, when, scratch, sink)?;
-    rest(session, when, scratch, wires, sink)
+    session.call(call, when, scratch, outside)?;
+    rest(session, when, scratch, outside)
 }

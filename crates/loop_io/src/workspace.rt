@@ -1,3 +1,5 @@
+//! The buffers that a loop reads into and writes from.
+
 use er_base::NoMemory;
 use er_end::End;
 use er_users::SafeUser;

@@ -4,12 +4,13 @@ ghost use Rattle.std.specs.Prelude.{◌≡◌, ◌||◌, ◌&&◌, ◌==◌, Lis
 ghost use Rattle.safety_automaton.specs.Keys as keys;
 ghost use Rattle.loop_model.specs.Sessions.{is_released};
 ghost use Rattle.loop_session.specs.Keeping.{kept_ends};
-ghost use Rattle.loop_io.specs.Visiting.{writing_by, rest_by, DoesOn, VisitsOn, Stay, Keep};
+ghost use Rattle.loop_io.specs.Visiting.{writing_by, rest_by, DoesOn, VisitsOn, Keep};
 ghost use Rattle.loop_io.specs.Writing.{HasSessionWritten, Settles};
 
 use er_users::SafeUser;
-use link_trait::{Conn, Sink, Wires, WriteAnswer};
+use link_trait::{Conn, WriteAnswer};
 use loop_session::{LoopFault, Scratch, Session, When};
+use outside::Outside;
 
 // How a writing went.
 enum Flow {
@@ -22,14 +23,14 @@ enum Flow {
 }
 
 // The output is written until nothing waits, or there is no room, or a write fails.
-#[tactic(auto, using(crate::proofs::Writings::wrote_none, crate::proofs::Writings::wrote_more, crate::proofs::Writings::wrote_all))]
-fn write_all<U: SafeUser, W: Wires>(session: &mut Session<U>, wires: &mut W) -> Flow
-    ensures wrote { HasSessionWritten (W.state wires.old) (W.state wires.new) session.old session.new result }
+#[tactic(auto, using(crate::proofs::Writings::wrote_none, crate::proofs::Writings::wrote_all))]
+fn write_all<U: SafeUser, O: Outside>(session: &mut Session<U>, outside: &mut O) -> Flow
+    ensures wrote { HasSessionWritten (O.told outside.old) (O.told outside.new) session.old session.new result }
     ensures number { session.new.number ≡ session.old.number }
-    ensures stay { Stay W.Wires wires.old wires.new }
+    ensures keep { Keep (O.told outside.old) (O.told outside.new) }
 {
     while !session.output().is_empty() {
-        match wires.write(Conn(session.number()), session.output()) {
+        match outside.send(Conn(session.number()), session.output()) {
             WriteAnswer::Some(count) => session.wrote(count),
             WriteAnswer::NotNow => return Flow::PutOff,
             WriteAnswer::Failed => return Flow::Failing,
@@ -39,21 +40,20 @@ fn write_all<U: SafeUser, W: Wires>(session: &mut Session<U>, wires: &mut W) -> 
 }
 
 // The output is written, where the session didn't break off. A write that fails is the event `fault`, but for a session that is released.
-fn write_out<U: SafeUser, W: Wires, S: Sink>(
+fn write_out<U: SafeUser, O: Outside>(
     session: &mut Session<U>,
     when: &When,
     scratch: &mut Scratch,
-    wires: &mut W,
-    sink: &mut S,
+    outside: &mut O,
 ) -> Result<(), LoopFault>
-    ensures does { (entries : List keys.KmacEntry) → DoesOn S.Sink W.Wires sink.old sink.new wires.old wires.new session.new (writing_by entries when.now session.old) result }
+    ensures does { (entries : List keys.KmacEntry) → DoesOn (O.told outside.old) (O.told outside.new) session.new (writing_by entries when.now session.old) result }
     ensures number { session.new.number ≡ session.old.number }
-    ensures keep { Keep S.Sink W.Wires sink.old sink.new wires.old wires.new }
+    ensures keep { Keep (O.told outside.old) (O.told outside.new) }
 {
     if session.is_broken() {
         return Ok(());
     }
-    match write_all(session, wires) {
+    match write_all(session, outside) {
         Flow::Going => Ok(()),
         Flow::PutOff => Ok(()),
         Flow::Failing => {
@@ -61,18 +61,18 @@ fn write_out<U: SafeUser, W: Wires, S: Sink>(
                 session.break_off();
                 return Ok(());
             }
-            session.fault(when, scratch, sink)
+            session.fault(when, scratch, outside)
         }
     }
 }
 
 // Whether a session stays: it is closed as soon as it broke off, or once it is released and nothing waits.
-fn settle<U: SafeUser, W: Wires>(session: &Session<U>, wires: &mut W) -> bool
-    ensures settles { Settles (W.state wires.old) (W.state wires.new) session.now result }
-    ensures stay { Stay W.Wires wires.old wires.new }
+fn settle<U: SafeUser, O: Outside>(session: &Session<U>, outside: &mut O) -> bool
+    ensures settles { Settles (O.told outside.old) (O.told outside.new) session.now result }
+    ensures keep { Keep (O.told outside.old) (O.told outside.new) }
 {
     if is_done(session) {
-        wires.close(Conn(session.number()));
+        outside.close(Conn(session.number()));
         return false;
     }
     true
@@ -92,17 +92,16 @@ fn is_done<U: SafeUser>(session: &Session<U>) -> bool
 }
 
 /// What follows the events of a happening: the output is written, and the session is closed where it is to be. Whether it stays.
-pub(crate) fn rest<U: SafeUser, W: Wires, S: Sink>(
+pub(crate) fn rest<U: SafeUser, O: Outside>(
     session: &mut Session<U>,
     when: &When,
     scratch: &mut Scratch,
-    wires: &mut W,
-    sink: &mut S,
+    outside: &mut O,
 ) -> Result<bool, LoopFault>
-    ensures does { (entries : List keys.KmacEntry) → VisitsOn S.Sink W.Wires sink.old sink.new wires.old wires.new session.new (rest_by entries when.now session.old) result }
+    ensures does { (entries : List keys.KmacEntry) → VisitsOn (O.told outside.old) (O.told outside.new) session.new (rest_by entries when.now session.old) result }
     ensures number { session.new.number ≡ session.old.number }
-    ensures keep { Keep S.Sink W.Wires sink.old sink.new wires.old wires.new }
+    ensures keep { Keep (O.told outside.old) (O.told outside.new) }
 {
-    write_out(session, when, scratch, wires, sink)?;
-    Ok(settle(session, wires))
+    write_out(session, when, scratch, outside)?;
+    Ok(settle(session, outside))
 }

@@ -37,6 +37,7 @@ pub mod Recording
 pub mod Walking
 pub mod Lawfully
 pub mod Emptying
+pub mod UsedOctets
 pub mod Cutting
 pub mod Showing
 pub mod Visitings

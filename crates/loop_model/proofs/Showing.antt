@@ -5,7 +5,7 @@ use Rattle.std.proofs.lemmas.Bool.{cases_Bool}
 use Rattle.hdlc_frames.specs.Deframing.{has_verdicts}
 use Rattle.hdlc_station_model.specs.Events.{news}
 use Rattle.loop_model.specs.Shows.{closes_early, EndsShow}
-use Rattle.loop_model.proofs.Cutting.{used_more, used_one, used_all}
+use Rattle.loop_model.proofs.UsedOctets.{used_more, used_one, used_all}
 
 abbrev IsLate : List ℕ → List ℕ → ℕ → Type 0
 IsLate came xs n = closes_early came (take n xs) ≡ false

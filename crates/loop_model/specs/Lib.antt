@@ -1,3 +1,4 @@
+-- What this crate states: its definitions, by module.
 pub mod Journals
 pub mod Deeds
 pub mod Outs

@@ -4,12 +4,11 @@ use Rattle.std.proofs.Common.{◌≡◌, ◌≤◌, ◌<◌, ℕ, zero, suc, ◌
 use Rattle.std.proofs.lemmas.Bool.{cases_Bool}
 use Rattle.er_end.specs.Keeping.{Uses}
 use Rattle.er_end.specs.KeptEnds.{KEnd, used_of}
-use Rattle.link_trait.specs.States.{SinkState}
-use Rattle.loop_model.specs.Journals.{text}
 use Rattle.loop_model.specs.Outs.{part_for_each_answer, exactly}
 use Rattle.loop_model.specs.Sessions.{Rules, Session, Hears, Says, nothing_said, handled, poured, pours}
+use Rattle.outside.specs.Doings.{Told}
 use Rattle.loop_session.specs.declared.loop_fault.LoopFault.{LoopFault}
-use Rattle.loop_session.specs.Parts.{Breaks, Printed, Chose, BrokeOff, Pouring}
+use Rattle.loop_session.specs.Parts.{writes_of_entries, Breaks, Printed, Chose, BrokeOff, Pouring}
 use Rattle.loop_session.proofs.Written.{printed_nothing, or_true}
 use Rattle.loop_session.proofs.Deals.{runs_none, runs_on, runs_then, printed_more, breaks_more_of, exactly_more, exactly_next}
 
@@ -58,7 +57,7 @@ idle_all r m x (s ∷ says) p =
 
 -- ---- part by part
 
-pub pouring_none : (r : Rules) (m : ℕ) (octets : List ℕ) (a : SinkState) (s : Session KEnd) → Pouring r m octets 0 a a s s
+pub pouring_none : (r : Rules) (m : ℕ) (octets : List ℕ) (a : Told) (s : Session KEnd) → Pouring r m octets 0 a a s s
 pouring_none r m octets a s = record {
   answers = [];
   few = (let p : 0 ≤ 0 = omega arith in p);
@@ -70,7 +69,7 @@ length_more : (xs : List Says) (x : Says) → length (xs ++ x ∷ []) ≡ length
 length_more [] x = refl
 length_more (y ∷ xs) x = (let q : length (xs ++ x ∷ []) ≡ length xs + 1 = length_more xs x in omega (arith, q))
 
-pub pouring_more : Uses → (r : Rules) (m : ℕ) (octets : List ℕ) (at used : ℕ) (a b c : SinkState) (s t u : Session KEnd)
+pub pouring_more : Uses → (r : Rules) (m : ℕ) (octets : List ℕ) (at used : ℕ) (a b c : Told) (s t u : Session KEnd)
     → Pouring r m octets at a b s t → at < length octets → t.broken ≡ false
     → Chose b c u (handled kept_ends r m t (Hears (drop at octets))) → used ≡ used_of t.end (drop at octets)
     → Pouring r m octets (at + used) a c s u
@@ -87,8 +86,7 @@ pouring_more uses r m octets at used a b c s t u p less whole q is =
       state =
           ap (λ (z : Session KEnd). (z, drop (at + used) octets)) q.is.state
           ∙ ap (λ (z : List ℕ). ((handled kept_ends r m t (Hears rest) q.answers).0, z)) (ap (λ z. drop (at + z) octets) is ∙ sym (drop_more at (used_of t.end rest) octets));
-      printed = q.is.printed;
-      later = q.is.later;
+      did = q.is.did;
       in_grammar = q.is.in_grammar;
     }) in
     record {
@@ -98,7 +96,7 @@ pouring_more uses r m octets at used a b c s t u p less whole q is =
       is = printed_more a b c (poured kept_ends r m) (s, octets) (t, rest) (u, drop (at + used) octets) p.answers q.answers p.is next;
     }
 
-pub pouring_broke : (r : Rules) (m : ℕ) (octets : List ℕ) (at : ℕ) (a b c : SinkState) (s t : Session KEnd) (fault : LoopFault)
+pub pouring_broke : (r : Rules) (m : ℕ) (octets : List ℕ) (at : ℕ) (a b c : Told) (s t : Session KEnd) (fault : LoopFault)
     → Pouring r m octets at a b s t → at < length octets → t.broken ≡ false
     → BrokeOff b c (handled kept_ends r m t (Hears (drop at octets))) fault → BrokeOff a c (pours kept_ends r m s octets) fault
 unfolding pours
@@ -107,16 +105,16 @@ pouring_broke r m octets at a b c s t fault p less whole q =
     let long : length rest + at ≡ length octets = drop_length at octets (let z : at ≤ length octets = omega (arith, less) in z) in
     let some : 0 < length rest = omega (arith, long, less) in
     let few : length p.answers < length octets = (let w = p.few in omega (arith, w, less)) in
-    let breaks : Breaks b c (text (poured kept_ends r m (t, rest) q.answers).1) fault =
-    subst (λ z. Breaks b c (text z.1) fault) (sym (pour_is r m t rest q.answers some whole)) q.breaks in
+    let breaks : Breaks b c (writes_of_entries (poured kept_ends r m (t, rest) q.answers).1) fault =
+    subst (λ z. Breaks b c (writes_of_entries z.1) fault) (sym (pour_is r m t rest q.answers some whole)) q.breaks in
     record {
       answers = p.answers ++ q.answers ∷ [];
       breaks =
-          subst (λ z. Breaks a c (text (part_for_each_answer (poured kept_ends r m) (s, octets) z).1) fault) (sym (exactly_next (length octets) nothing_said p.answers q.answers few))
+          subst (λ z. Breaks a c (writes_of_entries (part_for_each_answer (poured kept_ends r m) (s, octets) z).1) fault) (sym (exactly_next (length octets) nothing_said p.answers q.answers few))
           (breaks_more_of a b c (poured kept_ends r m) (s, octets) (t, rest) p.answers (exactly (length octets - (length p.answers + 1)) nothing_said []) q.answers fault p.is breaks);
     }
 
-pub pouring_done : (r : Rules) (m : ℕ) (octets : List ℕ) (at : ℕ) (a b : SinkState) (s t : Session KEnd)
+pub pouring_done : (r : Rules) (m : ℕ) (octets : List ℕ) (at : ℕ) (a b : Told) (s t : Session KEnd)
     → Pouring r m octets at a b s t → ((length (drop at octets) == 0) || t.broken) ≡ true → Chose a b t (pours kept_ends r m s octets)
 unfolding pours
 pouring_done r m octets at a b s t p idle =
@@ -134,7 +132,7 @@ pouring_done r m octets at a b s t p idle =
       answers = p.answers;
       is =
           subst (λ z. Printed a b t (z.0.0, z.1)) (sym is)
-          (record { state = ap (λ (z : Session KEnd × List ℕ). z.0) p.is.state; printed = p.is.printed; later = p.is.later; in_grammar = p.is.in_grammar });
+          (record { state = ap (λ (z : Session KEnd × List ℕ). z.0) p.is.state; did = p.is.did; in_grammar = p.is.in_grammar });
     }
 
 pub idle_broken : (rest : List ℕ) (t : Session KEnd) → t.broken ≡ true → ((length rest == 0) || t.broken) ≡ true

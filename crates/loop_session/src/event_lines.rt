@@ -1,27 +1,27 @@
-//! Lines of events, written to a sink.
+//! Lines of events, written to the sink.
 
 ghost use Rattle.std.specs.Prelude.{◌≡◌, ◌≤◌, [], ◌∷◌, ◌++◌, OnOk};
 ghost use Rattle.er_base.specs.LineTexts.{line_text};
 ghost use Rattle.er_trace.specs.Texts.{entry_words};
-ghost use Rattle.loop_model.specs.Journals.{text};
-ghost use Rattle.loop_session.specs.Parts.{Puts};
+ghost use Rattle.outside.specs.Scripts.{printing};
+ghost use Rattle.loop_session.specs.Parts.{writes_of_entries, OnlyPrints, Puts};
 
 use crate::loop_fault::LoopFault;
 use crate::scratch::Scratch;
 use er_base::{Moment, NoMemory};
 use er_trace::{Entry, Event, print_entry};
-use link_trait::Sink;
+use outside::Outside;
 
 /// Writes the lines of events, where there are any.
-#[tactic(auto, using(crate::proofs::Written::nothing_put, crate::proofs::Written::put_broke))]
-pub fn write_lines<S: Sink>(lines: &[u8], sink: &mut S) -> Result<(), LoopFault>
-    ensures puts { Puts (S.state sink.old) (S.state sink.new) lines.now result }
-    ensures later { (S.state sink.old).faults ≤ (S.state sink.new).faults }
+#[tactic(auto, using(crate::proofs::Written::all_put, crate::proofs::Written::put_broke))]
+pub fn write_lines<O: Outside>(lines: &[u8], outside: &mut O) -> Result<(), LoopFault>
+    ensures puts { Puts (O.told outside.old) (O.told outside.new) (printing lines.now) result }
+    ensures only { OnlyPrints (O.told outside.old) (O.told outside.new) }
 {
     if lines.is_empty() {
         return Ok(());
     }
-    match sink.write(lines) {
+    match outside.write(lines) {
         Ok(()) => Ok(()),
         Err(_failed) => Err(LoopFault::Sink),
     }
@@ -47,19 +47,19 @@ pub(crate) fn put(
 }
 
 /// Writes the line of an event that has no outcome; its moment is in its range by its type.
-pub fn write_event<S: Sink>(
+pub fn write_event<O: Outside>(
     moment: Moment,
     conn: u64,
     event: Event,
     scratch: &mut Scratch,
-    sink: &mut S,
+    outside: &mut O,
 ) -> Result<(), LoopFault>
-    ensures puts { Puts (S.state sink.old) (S.state sink.new)
-        (text (record { moment = moment; conn = conn; event = event; outcomes = [] } ∷ [])) result }
+    ensures puts { Puts (O.told outside.old) (O.told outside.new)
+        (writes_of_entries (record { moment = moment; conn = conn; event = event; outcomes = [] } ∷ [])) result }
     ensures within { moment ≤ 1000000000000000 }
-    ensures later { (S.state sink.old).faults ≤ (S.state sink.new).faults }
+    ensures only { OnlyPrints (O.told outside.old) (O.told outside.new) }
 {
     scratch.line.clear();
     put(moment, conn, event, &mut scratch.line)?;
-    write_lines(scratch.line.as_slice(), sink)
+    write_lines(scratch.line.as_slice(), outside)
 }

@@ -1,3 +1,5 @@
+//! Why a loop stopped.
+
 ghost use Rattle.std.specs.Prelude.{◌≡◌};
 ghost use Rattle.loop_session.specs.declared.loop_fault.LoopFault.TheVariants as fault;
 

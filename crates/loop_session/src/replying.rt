@@ -4,7 +4,7 @@ ghost use Rattle.std.specs.Prelude.{◌≡◌, ◌≤◌, length, IfOk};
 ghost use Rattle.loop_model.specs.Outs.{part_for_each_answer};
 ghost use Rattle.loop_model.specs.Sessions.{Rules, Session as LoopSession, GivenToSession, Sends, Leaves, stalled, fed, replied, dealt, takes_all};
 ghost use Rattle.loop_session.specs.Giving.{event_given_to_session, HasFewOctets, used_in, IsSameWith, Gave, events_said_by_user};
-ghost use Rattle.loop_session.specs.Parts.{Prints, Chooses, with_mind};
+ghost use Rattle.loop_session.specs.Parts.{OnlyPrints, Prints, Chooses, with_mind};
 ghost use Rattle.er_end.specs.KeptEnds.{KEnd};
 ghost use Rattle.loop_session.specs.Keeping.{kept_ends};
 
@@ -17,135 +17,141 @@ use crate::session::Session;
 use crate::session_event::SessionEvent;
 use er_base::Moment;
 use er_users::SafeUser;
-use link_trait::Sink;
+use outside::Outside;
 use safety_automaton::{KeyFinder, PairKey};
 
 impl<U: SafeUser> Session<U> {
     // The session stalls.
-    fn stall<S: Sink>(
+    fn stall<O: Outside>(
         &mut self,
         moment: Moment,
         line: &mut Vec<u8>,
-        sink: &mut S,
+        outside: &mut O,
     ) -> Result<(), LoopFault>
-        ensures prints { (r : Rules) → Prints (S.state sink.old) (S.state sink.new) self.new (stalled kept_ends r moment self.old) result }
+        ensures prints { (r : Rules) → Prints (O.told outside.old) (O.told outside.new) self.new (stalled kept_ends r moment self.old) result }
         ensures number { self.new.number ≡ self.old.number }
-        ensures later { (S.state sink.old).faults ≤ (S.state sink.new).faults }
+        ensures only { OnlyPrints (O.told outside.old) (O.told outside.new) }
     {
         self.give(&SessionEvent::Stalled, moment, line)?;
-        write_lines(line.as_slice(), sink)
+        write_lines(line.as_slice(), outside)
     }
 
     // The lines of an event are written, and the session stalls where octets didn't fit.
-    fn tell<S: Sink>(
+    fn tell<O: Outside>(
         &mut self,
         came: Came,
         moment: Moment,
         line: &mut Vec<u8>,
-        sink: &mut S,
+        outside: &mut O,
     ) -> Result<(), LoopFault>
         ensures prints { (r : Rules) (s : LoopSession KEnd) (g : GivenToSession) → Gave r moment s g self.old line.old.items came
-            → Prints (S.state sink.old) (S.state sink.new) self.new (with_mind self.old.mind (fed kept_ends r moment s g)) result }
+            → Prints (O.told outside.old) (O.told outside.new) self.new (with_mind self.old.mind (fed kept_ends r moment s g)) result }
         ensures number { self.new.number ≡ self.old.number }
-        ensures later { (S.state sink.old).faults ≤ (S.state sink.new).faults }
+        ensures only { OnlyPrints (O.told outside.old) (O.told outside.new) }
     {
-        write_lines(line.as_slice(), sink)?;
+        write_lines(line.as_slice(), outside)?;
         if came.fits {
             return Ok(());
         }
-        self.stall(moment, line, sink)
+        self.stall(moment, line, outside)
     }
 
     // The user sends a message, and hears where it is refused.
-    fn send<S: Sink>(
+    fn send<O: Outside>(
         &mut self,
         text: &[u8],
         moment: Moment,
         line: &mut Vec<u8>,
-        sink: &mut S,
+        outside: &mut O,
     ) -> Result<(), LoopFault>
         requires { length text.now ≤ 4096 }
-        ensures prints { (r : Rules) → Prints (S.state sink.old) (S.state sink.new) self.new (replied kept_ends r moment self.old (Sends text.now)) result }
+        ensures prints { (r : Rules) → Prints (O.told outside.old) (O.told outside.new) self.new (replied kept_ends r moment self.old (Sends text.now)) result }
         ensures number { self.new.number ≡ self.old.number }
-        ensures later { (S.state sink.old).faults ≤ (S.state sink.new).faults }
+        ensures only { OnlyPrints (O.told outside.old) (O.told outside.new) }
     {
         let came = self.give(&SessionEvent::Send(text), moment, line)?;
         hear_refused(&mut self.user, text, &came.refused);
-        self.tell(came, moment, line, sink)
+        self.tell(came, moment, line, outside)
     }
 
     // The user leaves, with this sub-reason.
-    fn leave<S: Sink>(
+    fn leave<O: Outside>(
         &mut self,
         sub: u8,
         moment: Moment,
         line: &mut Vec<u8>,
-        sink: &mut S,
+        outside: &mut O,
     ) -> Result<(), LoopFault>
-        ensures prints { (r : Rules) → Prints (S.state sink.old) (S.state sink.new) self.new (fed kept_ends r moment self.old (Leaves sub)) result }
+        ensures prints { (r : Rules) → Prints (O.told outside.old) (O.told outside.new) self.new (fed kept_ends r moment self.old (Leaves sub)) result }
         ensures number { self.new.number ≡ self.old.number }
-        ensures later { (S.state sink.old).faults ≤ (S.state sink.new).faults }
+        ensures only { OnlyPrints (O.told outside.old) (O.told outside.new) }
     {
         let came = self.give(&SessionEvent::Release(sub), moment, line)?;
-        self.tell(came, moment, line, sink)
+        self.tell(came, moment, line, outside)
     }
 
     // What the user said follows as events: its texts, then its release.
-    fn reply<S: Sink>(
+    fn reply<O: Outside>(
         &mut self,
         moment: Moment,
         scratch: &mut Scratch,
-        sink: &mut S,
+        outside: &mut O,
     ) -> Result<(), LoopFault>
-        ensures prints { (r : Rules) → Prints (S.state sink.old) (S.state sink.new) self.new
+        ensures prints { (r : Rules) → Prints (O.told outside.old) (O.told outside.new) self.new
             (part_for_each_answer (replied kept_ends r moment) self.old (events_said_by_user scratch.old.replies)) result }
         ensures number { self.new.number ≡ self.old.number }
-        ensures later { (S.state sink.old).faults ≤ (S.state sink.new).faults }
+        ensures only { OnlyPrints (O.told outside.old) (O.told outside.new) }
     {
         for k in 0..scratch.replies.len() {
-            self.send(scratch.replies.text(k), moment, &mut scratch.line, sink)?;
+            self.send(scratch.replies.text(k), moment, &mut scratch.line, outside)?;
         }
         match scratch.replies.leaving() {
             None => Ok(()),
-            Some(sub) => self.leave(sub, moment, &mut scratch.line, sink),
+            Some(sub) => self.leave(sub, moment, &mut scratch.line, outside),
         }
     }
 
     // An event, what the user hears of it, and the replies: how many octets the end used.
-    pub(crate) fn deal<K: KeyFinder, S: Sink>(
+    pub(crate) fn deal<K: KeyFinder, O: Outside>(
         &mut self,
         event: &SessionEvent<'_>,
         keys: &K,
         moment: Moment,
         scratch: &mut Scratch,
-        sink: &mut S,
+        outside: &mut O,
     ) -> Result<usize, LoopFault>
         requires { HasFewOctets (event_given_to_session event.now) }
         ensures chooses { (r : Rules) → IsSameWith (K.entries keys.now) r (event_given_to_session event.now)
-            → Chooses (S.state sink.old) (S.state sink.new) self.new (dealt kept_ends r moment self.old (event_given_to_session event.now)) result }
+            → Chooses (O.told outside.old) (O.told outside.new) self.new (dealt kept_ends r moment self.old (event_given_to_session event.now)) result }
         ensures used { IfOk result (λ used. used ≡ used_in self.old.end (event_given_to_session event.now)) }
         ensures number { self.new.number ≡ self.old.number }
-        ensures later { (S.state sink.old).faults ≤ (S.state sink.new).faults }
+        ensures only { OnlyPrints (O.told outside.old) (O.told outside.new) }
     {
         let came = self.give_heard(event, keys, moment, scratch)?;
-        self.tell(came, moment, &mut scratch.line, sink)?;
-        self.reply(moment, scratch, sink)?;
+        self.tell(came, moment, &mut scratch.line, outside)?;
+        self.reply(moment, scratch, outside)?;
         Ok(came.used)
     }
 
     // The messages that wait are taken.
-    pub(crate) fn take_all<S: Sink>(
+    pub(crate) fn take_all<O: Outside>(
         &mut self,
         moment: Moment,
         scratch: &mut Scratch,
-        sink: &mut S,
+        outside: &mut O,
     ) -> Result<(), LoopFault>
-        ensures chooses { (r : Rules) → Chooses (S.state sink.old) (S.state sink.new) self.new (takes_all kept_ends r moment self.old) result }
+        ensures chooses { (r : Rules) → Chooses (O.told outside.old) (O.told outside.new) self.new (takes_all kept_ends r moment self.old) result }
         ensures number { self.new.number ≡ self.old.number }
-        ensures later { (S.state sink.old).faults ≤ (S.state sink.new).faults }
+        ensures only { OnlyPrints (O.told outside.old) (O.told outside.new) }
     {
         for _ in 0..self.end.waiting() {
-            self.deal(&SessionEvent::Take, &None::<PairKey>, moment, scratch, sink)?;
+            self.deal(
+                &SessionEvent::Take,
+                &None::<PairKey>,
+                moment,
+                scratch,
+                outside,
+            )?;
         }
         Ok(())
     }

@@ -1,3 +1,5 @@
+//! Room that is used again and again: the lines of an event, and the replies of a user.
+
 use er_base::NoMemory;
 use er_users::Replies;
 use std::alloc::Global;

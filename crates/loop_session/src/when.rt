@@ -1,3 +1,5 @@
+//! When a session is to be woken.
+
 ghost use Rattle.std.specs.Prelude.{◌≡◌, ◌≤◌, ◌+◌};
 
 use er_base::Moment;

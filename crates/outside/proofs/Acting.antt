@@ -1,5 +1,5 @@
 -- One act at each part, from what the part's own call says of it.
-use Rattle.std.proofs.Common.{◌≡◌, ◌≤◌, ◌⊎◌, ℕ, inl, inr, Bool, true, false, ◌||◌, List, [], ◌∷◌, ◌++◌, Option, None, Some, Result, Ok, Err, IsTrue, IsFalse, IfOk, OnErr, OnOk, is_ok, refl, sym, ap, true≢false, suc, length, arith}
+use Rattle.std.proofs.Common.{◌≡◌, ◌≤◌, ◌⊎◌, ℕ, inl, inr, Bool, true, false, ◌||◌, List, [], ◌∷◌, ◌++◌, Option, None, Some, Result, Ok, Err, IsTrue, IsFalse, IfOk, IfSome, OnErr, OnOk, is_ok, refl, sym, ap, true≢false, suc, length, arith}
 use Rattle.rand_core.specs.Stream.{Stream, next_u64}
 use Rattle.link_trait.specs.Outside.{Grew, GrewPart, HasCause, HasFile, HasStayedAsTold, Notes, Rose}
 use Rattle.link_trait.specs.States.{CabinetState, SinkState, WiresState, ClockState}
@@ -12,7 +12,7 @@ use Rattle.link_trait.specs.declared.wires.ReadAnswer.{ReadAnswer}
 use Rattle.link_trait.specs.declared.wires.ReadAnswer.TheVariants as read_answer
 use Rattle.link_trait.specs.declared.wires.WriteAnswer.{WriteAnswer}
 use Rattle.link_trait.specs.declared.wires.WriteAnswer.TheVariants as write_answer
-use Rattle.link_trait.specs.Wires.{Call, Listens, Dials, Turns, Reads, Writes, Closes, opened_by_dial, opened_by_turn, dialled, reading_of}
+use Rattle.link_trait.specs.Wires.{Call, Listens, Dials, Turns, Reads, Writes, Closes, Lines, count_waiting_at_connection, opened_by_dial, opened_by_turn, dialled, reading_of}
 use Rattle.outside.specs.Acts.{Gave, Failed, Spent, Listened, Dialled, Turned, Read, Sent, Closed, Act, Fetched, Wrote, Called, Asked, Drew}
 use Rattle.outside.specs.Acts.{is_opening_call, is_cabinet_fault, is_sink_fault, is_wires_fault, is_opening_fault, failed_call, failed_opening_call}
 use Rattle.outside.specs.Seen.{fetched_by, seen_of_call, opened_by_call, listening_by_call}
@@ -204,6 +204,11 @@ read_failed (read_answer.Some n) into x y rose h = absurd (true≢false (sym h))
 read_failed read_answer.NotNow into x y rose h = absurd (true≢false (sym h))
 read_failed read_answer.End into x y rose h = absurd (true≢false (sym h))
 read_failed read_answer.Failed into x y rose h = rose refl
+
+-- no octet waits at a connection of which that is told, and 0 is said where it isn't
+pub none_wait : (lines : Option Lines) (conn : ℕ) (shut : Bool) → IfSome lines (λ before. ((before conn).waits ≡ []) × ((before conn).shut ≡ shut)) → count_waiting_at_connection lines conn ≡ 0
+none_wait None conn shut p = refl
+none_wait (Some lines) conn shut p = ap (λ (z : List ℕ). length z) p.0
 
 pub did_read : (conn size waits : ℕ) (answer : ReadAnswer) (into : List ℕ) (t : Told) (acts : List Act) (b : WiresState)
     → acts ≡ t.acts ++ Called (Read conn size (reading_of answer into)) ∷ [] → Grew t.wires.calls b.calls (Reads conn size waits (reading_of answer into) ∷ [])

@@ -1,7 +1,11 @@
 -- What the parts tell that a run hasn't (this profile): nothing.
 use Rattle.std.specs.Prelude.{◌-◌, ◌^◌, false, None, replicate}
 use Rattle.rand_core.specs.Stream.{Stream}
-use Rattle.link_trait.specs.States.{WiresState, ClockState}
+use Rattle.link_trait.specs.States.{CabinetState, WiresState, ClockState}
+
+-- a cabinet of which each fetch may fail
+abbrev pub no_files : CabinetState
+no_files = record { files = None; asked = None; faults = 2 ^ 64 - 1 }
 
 -- wires without a connection, of which each call may fail
 abbrev pub no_wires : WiresState

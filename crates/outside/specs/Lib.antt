@@ -1,3 +1,4 @@
+-- What this crate states: its definitions, by module.
 pub mod Acts
 pub mod Seen
 pub mod Ties
@@ -9,3 +10,4 @@ pub mod TieSteps
 pub mod Chains
 pub mod ScriptSteps
 pub mod SinkTexts
+pub mod ActSteps

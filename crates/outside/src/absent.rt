@@ -1,12 +1,27 @@
-//! What stands for the parts that a run hasn't: wires that go nowhere, a clock that stands, and words that aren't random. No name of these leaves the
-//! crate, so that they are of no use but to such a run.
+//! What stands for the parts that a run hasn't: a cabinet without files, wires that go nowhere, a clock that stands, and words that aren't random. No
+//! name of these leaves the crate, so that they are of no use but to such a run.
 
 ghost use Rattle.std.specs.Prelude.{◌≡◌, ◌≤◌, ◌^◌, ◌-◌, length, None, false};
 ghost use Rattle.rand_core.specs.Stream.{next_u32, next_u64, fill_bytes};
-ghost use Rattle.outside.specs.Absent.{no_wires, no_answers, no_words};
+ghost use Rattle.outside.specs.Absent.{no_files, no_wires, no_answers, no_words};
 
-use link_trait::{Clock, Conn, Failed, Happening, ReadAnswer, Wires, WriteAnswer};
+use link_trait::{
+    Cabinet, Clock, Conn, Failed, FetchFault, Happening, ReadAnswer, Wires, WriteAnswer,
+};
 use rand_core::Rng;
+use std::alloc::Global;
+
+/// A cabinet of a run that has none. It tells nothing, each fetch fails, and its count of faults stands at the most that it can be.
+#[derive(Drop)]
+pub struct NoFiles;
+
+impl Cabinet for NoFiles {
+    ghost state = { λ _. no_files };
+
+    fn fetch(&mut self, _alloc: Global, _name: &str) -> Result<Vec<u8>, FetchFault> {
+        Err(FetchFault::Failed)
+    }
+}
 
 /// Wires of a run that has none. They tell nothing, no call opens a connection, and their counts of faults stand at the most that they can be.
 #[derive(Drop)]
@@ -73,18 +88,20 @@ impl Rng for NoWords {
     }
 }
 
-/// What stands for wires, a clock and random words in a run that has none.
+/// What stands for files, wires, a clock and random words in a run that has none.
 #[derive(Drop)]
 pub struct Absent {
+    pub(crate) files: NoFiles,
     pub(crate) wires: NoWires,
     pub(crate) clock: NoClock,
     pub(crate) randoms: NoWords,
 }
 
 impl Absent {
-    /// None of the three.
+    /// None of the four.
     pub fn new() -> Absent {
         Absent {
+            files: NoFiles,
             wires: NoWires,
             clock: NoClock,
             randoms: NoWords,

@@ -35,9 +35,9 @@ impl History {
         History {}
     }
 
-    // One act more is noted.
+    /// One act more is noted: for an object that makes the calls of an [`Outside`](crate::Outside), behind each of them.
     #[inline(always)]
-    pub(crate) fn note(&mut self, note: &Note<'_>)
+    pub fn note(&mut self, note: &Note<'_>)
         ensures { self.new.acts ≡ self.old.acts ++ act_of_note note.now ∷ [] }
     {
         let next = self.then(note);

@@ -13,5 +13,6 @@ mod parts;
 
 pub use absent::Absent;
 pub use history::History;
+pub use note::Note;
 pub use outside::Outside;
-pub use parts::{Parts, off_line};
+pub use parts::{Parts, off_line, without_files};

@@ -2,9 +2,9 @@
 
 use link_trait::{Conn, Failed, FetchFault, Happening, ReadAnswer, WriteAnswer};
 
-/// An act with its answer.
+/// An act with its answer, by references to what the call took and gave.
 #[derive(Clone, Copy, Drop)]
-pub(crate) enum Note<'a> {
+pub enum Note<'a> {
     /// A file was asked for by its name.
     Fetched(&'a str, &'a Result<Vec<u8>, FetchFault>),
     /// A piece was written, wholly or not.

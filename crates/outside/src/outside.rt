@@ -6,7 +6,8 @@ ghost use Rattle.link_trait.specs.declared.wires.Conn.{Conn as AnyConn};
 ghost use Rattle.link_trait.specs.declared.wires.Happening.TheVariants as happening;
 ghost use Rattle.link_trait.specs.declared.wires.ReadAnswer.TheVariants as read_answer;
 ghost use Rattle.link_trait.specs.declared.wires.WriteAnswer.TheVariants as write_answer;
-ghost use Rattle.link_trait.specs.Wires.{reading_of, dialled};
+ghost use Rattle.link_trait.specs.Outside.{Grew};
+ghost use Rattle.link_trait.specs.Wires.{Reads, count_waiting_at_connection, reading_of, dialled};
 ghost use Rattle.outside.specs.Acts.{Fetched, Wrote, Called, Asked, Drew, Listened, Dialled, Turned, Read, Sent, Closed};
 ghost use Rattle.outside.specs.Seen.{fetched_by};
 ghost use Rattle.outside.specs.Doings.{Told, Did};
@@ -46,12 +47,17 @@ pub trait Outside {
         ensures number { (conn : AnyConn) → result ≡ happening.Accepted conn → conn.0 ≡ (told self.old).wires.opened + 1 }
         ensures accepted { (conn : AnyConn) → result ≡ happening.Accepted conn → (told self.old).wires.listening ≡ true };
 
-    /// Reads octets that wait at this connection into the slice, which isn't empty.
+    /// Reads octets that wait at this connection into the slice, which isn't empty. Wires that tell their calls tell of a read also how many octets
+    /// waited, which no act says; one that gives nothing found none.
     fn read(&mut self, conn: Conn, into: &mut [u8]) -> ReadAnswer
         requires { 0 < length into.old }
         ensures does { Did (told self.old) (told self.new) (Called (Read conn.0 (length into.old) (reading_of result into.new)) ∷ []) }
         ensures length { length into.new ≡ length into.old }
-        ensures fits { (n : ℕ) → result ≡ read_answer.Some n → (1 ≤ n) × (n ≤ length into.old) };
+        ensures fits { (n : ℕ) → result ≡ read_answer.Some n → (1 ≤ n) × (n ≤ length into.old) }
+        ensures reads { Grew (told self.old).wires.calls (told self.new).wires.calls
+            (Reads conn.0 (length into.old) (count_waiting_at_connection (told self.old).wires.lines conn.0) (reading_of result into.new) ∷ []) }
+        ensures not_now { result ≡ read_answer.NotNow → count_waiting_at_connection (told self.old).wires.lines conn.0 ≡ 0 }
+        ensures end { result ≡ read_answer.End → count_waiting_at_connection (told self.old).wires.lines conn.0 ≡ 0 };
 
     /// Writes to this connection from the head of the piece, which isn't empty.
     fn send(&mut self, conn: Conn, piece: &[u8]) -> WriteAnswer

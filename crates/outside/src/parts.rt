@@ -3,7 +3,7 @@
 ghost use Rattle.std.specs.Prelude.{◌≡◌, []};
 ghost use Rattle.outside.specs.Doings.{Told};
 
-use crate::absent::{Absent, NoClock, NoWires, NoWords};
+use crate::absent::{Absent, NoClock, NoFiles, NoWires, NoWords};
 use crate::history::History;
 use crate::note::Note;
 use crate::outside::Outside;
@@ -163,4 +163,21 @@ pub fn off_line<'f, 'k, 'a, F: Cabinet, K: Sink>(
         &mut absent.clock,
         &mut absent.randoms,
     )
+}
+
+/// An outside of a sink, wires, a clock and random words, without files, to which nothing was done yet.
+pub fn without_files<'k, 'w, 'c, 'r, 'a, K: Sink, W: Wires, C: Clock, R: Rng>(
+    sink: &'k mut K,
+    wires: &'w mut W,
+    clock: &'c mut C,
+    randoms: &'r mut R,
+    absent: &'a mut Absent,
+) -> Parts<'a, 'k, 'w, 'c, 'r, NoFiles, K, W, C, R>
+    ensures sink { result.sink ≡ sink.entry }
+    ensures wires { result.wires ≡ wires.entry }
+    ensures clock { result.clock ≡ clock.entry }
+    ensures randoms { result.randoms ≡ randoms.entry }
+    ensures history { result.history.acts ≡ [] }
+{
+    Parts::new(&mut absent.files, sink, wires, clock, randoms)
 }

@@ -1,7 +1,7 @@
 -- A connection that was accepted gets a session, or is turned away; and what is handled whole behind a turn.
 use Rattle.er_end.specs.KeptEnds.{KEnd}
 use Rattle.loop_session.specs.Keeping.{kept_ends}
-use Rattle.std.proofs.Common.{◌≡◌, ℕ, ◌-◌, ◌^◌, ◌<◌, ◌≤◌, nat_lt, true, false, List, [], ◌∷◌, ◌++◌, Option, Some, None, Result, Ok, Err, OnOk, length, take, zero, suc, slice_get, refl, sym, ◌∙◌, ap, subst, arith, length-append}
+use Rattle.std.proofs.Common.{◌≡◌, ℕ, ◌-◌, ◌^◌, ◌<◌, ◌≤◌, nat_lt, true, false, List, [], ◌∷◌, ◌++◌, Option, Some, None, Result, Ok, Err, OnOk, length, take, zero, suc, slice_get, refl, sym, ◌∙◌, ap, subst, arith, append-nil, length-append}
 use Rattle.std.proofs.lemmas.Bool.Decides.{nat_tests}
 use Rattle.rand_core.specs.Stream.{Stream, next_u64}
 use Rattle.slab.specs.Slab.{Slab, get}
@@ -10,60 +10,50 @@ use Rattle.er_trace.specs.Ranges.{IsInRange}
 use Rattle.er_trace.specs.declared.event.Event.{Event}
 use Rattle.er_trace.specs.declared.event.Event.TheVariants as event
 use Rattle.er_users.specs.Users.{Mind}
-use Rattle.link_trait.specs.States.{SinkState, WiresState}
-use Rattle.link_trait.specs.Outside.{Grew}
-use Rattle.link_trait.specs.Growth.{grew_nothing, part_nothing, part_whole}
+use Rattle.outside.specs.Acts.{Act, Called, Drew, Closed}
+use Rattle.outside.specs.ActSteps.{told_call}
+use Rattle.outside.specs.Chains.{did_nothing}
+use Rattle.outside.specs.Doings.{Told, Did}
 use Rattle.link_trait.specs.Wires.{Closes}
 use Rattle.loop_model.specs.Grammar.{IsInGrammar}
-use Rattle.loop_model.specs.Journals.{JournalEntry, text}
+use Rattle.loop_model.specs.Journals.{JournalEntry}
 use Rattle.loop_model.specs.Deeds.{LoopDeed, Printing, Calling}
-use Rattle.loop_model.specs.Outs.{Out}
-use Rattle.loop_model.specs.Signs.{order_prints}
-use Rattle.loop_model.specs.Orderly.{order_away}
-use Rattle.loop_model.specs.Laws.{failures}
+use Rattle.loop_model.specs.Outs.{Out, prints, makes}
 use Rattle.loop_model.specs.Sessions.{Session}
 use Rattle.loop_model.specs.Loops.{Plan, Loop, plain_event, turned_away, next_user, other_users, answered_by, accepted}
-use Rattle.loop_session.specs.Parts.{Breaks, Puts}
+use Rattle.loop_session.specs.Parts.{writes_of_entries, Breaks, Puts}
 use Rattle.loop_session.specs.declared.loop_fault.LoopFault.{LoopFault}
 use Rattle.loop_session.specs.declared.loop_fault.LoopFault.TheVariants.{NoMemory}
 use Rattle.loop_io.specs.Acting.{Acted, BreaksAt}
 use Rattle.loop_io.specs.Seeing.{Seen, seen}
-use Rattle.loop_io.specs.Sequels.{breaks_lines}
+use Rattle.loop_io.specs.Sequels.{acted_next, acted_prints, acted_makes, breaks_lines}
 use Rattle.readiness_loop.specs.Books.{seat, seats, sessions, sessions_at, IsSeat, AreSeated}
 use Rattle.std.specs.BTreeMap.{BTreeMap}
 use Rattle.readiness_loop.specs.Courses.{Acts, answer_event, answering_session, loop_of}
-use Rattle.readiness_loop.proofs.Sequences.{failures-none}
-
-failures-close : (conn : ℕ) → failures (Closes conn ∷ []) ≡ 0
-unfolding failures
-failures-close conn = refl
+use Rattle.readiness_loop.proofs.Quiets.{drew_word, acts_behind_drawn}
 
 -- a line that wasn't written whole, before what follows it
-pub line_breaks : {S : Type 0} (h i : SinkState) (calls : WiresState) (o : Out S) (x : JournalEntry) (more : List LoopDeed) (fault : LoopFault)
-    → o.order ≡ Printing x ∷ more → Breaks h i (text (x ∷ [])) fault → BreaksAt (seen h calls) (seen i calls) o fault
-line_breaks h i calls o x more fault is p = breaks_lines h i calls o (x ∷ []) more fault is p
-
--- the event that opens a session that answers, with this random word
-abbrev pub answer_line : (rbc moment conn ra : ℕ) → JournalEntry
-answer_line rbc moment conn ra = record { moment = moment; conn = conn; event = event.Answer rbc ra; outcomes = [] }
+pub line_breaks : {S : Type 0} (a b : Told) (o : Out S) (x : JournalEntry) (more : List LoopDeed) (fault : LoopFault)
+    → o.order ≡ Printing x ∷ more → Breaks a b (writes_of_entries (x ∷ [])) fault → BreaksAt (seen a) (seen b) o fault
+line_breaks a b o x more fault is p = breaks_lines a b o (x ∷ []) more fault is p
 
 -- memory ran out before a line was written, and behind it
-pub line_wanted : (a : SinkState) (line : List ℕ) (want : Want) → Breaks a a line (NoMemory want)
-line_wanted a line want = record { begun = part_nothing a.held line; failed = (let p : a.faults ≤ a.faults = omega arith in p) }
+pub line_wanted : (a : Told) (all : List Act) (want : Want) → Breaks a a all (NoMemory want)
+line_wanted a all want = record { acts = []; did = did_nothing a; begun = record { done = []; left = all; is = refl; breaks = refl } }
 
-pub puts_wanted : {T : Type 0} (a : SinkState) (line : List ℕ) (r : Result T LoopFault) (fault : LoopFault) (want : Want)
-    → r ≡ Err fault → fault ≡ NoMemory want → Puts a a line r
-puts_wanted a line (Ok done) fault want p q = absurd cc
-puts_wanted a line (Err other) fault want p q =
+pub puts_wanted : {T : Type 0} (a : Told) (all : List Act) (r : Result T LoopFault) (fault : LoopFault) (want : Want)
+    → r ≡ Err fault → fault ≡ NoMemory want → Puts a a all r
+puts_wanted a all (Ok done) fault want p q = absurd cc
+puts_wanted a all (Err other) fault want p q =
     let same : other ≡ NoMemory want = cc in
-    subst (λ z. Breaks a a line z) (sym same) (line_wanted a line want)
+    subst (λ z. Breaks a a all z) (sym same) (line_wanted a all want)
 
-pub puts_behind : {T : Type 0} (a b : SinkState) (line : List ℕ) (r : Result T LoopFault) (fault : LoopFault) (want : Want)
-    → Grew a.held b.held line × (a.faults ≤ b.faults) → r ≡ Err fault → fault ≡ NoMemory want → Puts a b line r
-puts_behind a b line (Ok done) fault want put p q = absurd cc
-puts_behind a b line (Err other) fault want put p q =
+pub puts_behind : {T : Type 0} (a b : Told) (all : List Act) (r : Result T LoopFault) (fault : LoopFault) (want : Want)
+    → Did a b all → r ≡ Err fault → fault ≡ NoMemory want → Puts a b all r
+puts_behind a b all (Ok done) fault want put p q = absurd cc
+puts_behind a b all (Err other) fault want put p q =
     let same : other ≡ NoMemory want = cc in
-    subst (λ z. Breaks a b line z) (sym same) (record { begun = part_whole a.held b.held line put.0; failed = put.1 })
+    subst (λ z. Breaks a b all z) (sym same) (record { acts = all; did = put; begun = record { done = all; left = []; is = append-nil all; breaks = refl } })
 
 -- an event without an outcome, in its ranges
 pub opens_so : (m conn : ℕ) (event : Event) → m ≤ 1000000000000000 → conn < 2 ^ 64 → IsInRange event
@@ -74,26 +64,24 @@ opens_so m conn event p q r = record { event = record { moment = p; conn = q; ev
 abbrev away_event : ℕ → ℕ → Event → JournalEntry
 away_event m conn why = record { moment = m; conn = conn; event = why; outcomes = [] }
 
-pub away_breaks : (h i : SinkState) (calls : WiresState) (l : Loop KEnd) (m conn : ℕ) (why : Event) (fault : LoopFault)
-    → l.moment ≡ m → Breaks h i (text (away_event m conn why ∷ [])) fault
-    → BreaksAt (seen h calls) (seen i calls) (turned_away l conn why) fault
-away_breaks h i calls l m conn why fault is p =
-    line_breaks h i calls (turned_away l conn why) (plain_event l conn why) (Calling (Closes conn) ∷ []) fault refl
-    (subst (λ z. Breaks h i (text (away_event z conn why ∷ [])) fault) (sym is) p)
+pub away_breaks : (a b : Told) (l : Loop KEnd) (m conn : ℕ) (why : Event) (fault : LoopFault)
+    → l.moment ≡ m → Breaks a b (writes_of_entries (away_event m conn why ∷ [])) fault
+    → BreaksAt (seen a) (seen b) (turned_away l conn why) fault
+away_breaks a b l m conn why fault is p =
+    line_breaks a b (turned_away l conn why) (plain_event l conn why) (Calling (Closes conn) ∷ []) fault refl
+    (subst (λ z. Breaks a b (writes_of_entries (away_event z conn why ∷ [])) fault) (sym is) p)
 
-pub away_acted : (h i : SinkState) (calls now : WiresState) (l : Loop KEnd) (m conn : ℕ) (why : Event)
-    → l.moment ≡ m → IsInGrammar (away_event m conn why) → Grew h.held i.held (text (away_event m conn why ∷ [])) × (h.faults ≤ i.faults) → Grew calls.calls now.calls (Closes conn ∷ []) → calls.faults ≤ now.faults
-    → Acted (seen h calls) (seen i now) l (turned_away l conn why)
-away_acted h i calls now l m conn why is grammar p q less = record {
-  state = refl;
-  printed = subst (λ z. Grew h.held i.held (text (away_event z conn why ∷ []))) (sym is) p.0;
-  later = p.1;
-  told = q;
-  answered = (tt, tt);
-  counted = rw (failures-close conn) (omega (arith, less));
-  in_grammar = (subst (λ z. IsInGrammar (away_event z conn why)) (sym is) grammar, tt);
-  has_order = order_away l conn why;
-}
+pub away_acted : (a mid b : Told) (l : Loop KEnd) (m conn : ℕ) (why : Event)
+    → l.moment ≡ m → IsInGrammar (away_event m conn why) → Did a mid (writes_of_entries (away_event m conn why ∷ [])) → Did mid b (Called (Closed conn) ∷ [])
+    → Acted (seen a) (seen b) l (turned_away l conn why)
+away_acted a mid b l m conn why is grammar p q =
+    acted_next (seen a) (seen mid) (seen b) l l (prints (l, plain_event l conn why ∷ [])) (makes (Closes conn))
+    (acted_prints a mid l (l, plain_event l conn why ∷ []) (record {
+      state = refl;
+      did = subst (λ z. Did a mid (writes_of_entries (away_event z conn why ∷ []))) (sym is) p;
+      in_grammar = (subst (λ z. IsInGrammar (away_event z conn why)) (sym is) grammar, tt);
+    }))
+    (acted_makes mid b l (Closes conn) q (told_call mid.wires.calls b.wires.calls (Closed conn) (Closes conn) refl q.wires.calls) tt)
 
 -- ---- accepted
 
@@ -150,52 +138,52 @@ accept_unserved a b plan l new conn r few none same p =
 -- the loop behind it
 abbrev pub answered_loop : Plan → Loop KEnd → List Mind → Mind → ℕ → Loop KEnd
 answered_loop plan l users mind conn = record {
-  sessions = l.sessions ++ answering_session l.words plan.settings plan.rbc l.moment conn mind ∷ [];
+  sessions = l.sessions ++ answering_session (next_u64 l.words).0 plan.settings plan.rbc l.moment conn mind ∷ [];
   users = users;
   moment = l.moment;
   words = (next_u64 l.words).1;
 }
 
 -- by the result of writing the line
-answered_by_result : {T : Type 0} (h i : SinkState) (calls : WiresState) (plan : Plan) (l new : Loop KEnd) (users : List Mind) (mind : Mind) (conn : ℕ) (r : Result T LoopFault)
+answered_by_result : {T : Type 0} (a b : Told) (plan : Plan) (l new : Loop KEnd) (users : List Mind) (mind : Mind) (conn : ℕ) (r : Result T LoopFault)
     → l.users ≡ users ++ mind ∷ [] → answered_by kept_ends (Some mind) plan l conn ≡ accepted kept_ends plan l conn
-    → OnOk r (IsInGrammar (answer_event l.words plan.rbc l.moment conn))
-    → Puts h i (text (answer_event l.words plan.rbc l.moment conn ∷ [])) r
+    → OnOk r (IsInGrammar (answer_event (next_u64 l.words).0 plan.rbc l.moment conn))
+    → Puts a b (writes_of_entries (answer_event (next_u64 l.words).0 plan.rbc l.moment conn ∷ [])) r
     → OnOk r (new ≡ answered_loop plan l users mind conn)
-    → Acts (seen h calls) (seen i calls) new (accepted kept_ends plan l conn) r
-answered_by_result h i calls plan l new users mind conn (Ok done) has same grammar p is =
-    subst (λ z. Acted (seen h calls) (seen i calls) new z) same
-    (record {
+    → Acts (seen a) (seen b) new (accepted kept_ends plan l conn) r
+answered_by_result a b plan l new users mind conn (Ok done) has same grammar p is =
+    subst (λ z. Acted (seen a) (seen b) new z) same
+    (acted_prints a b new (answered_loop plan l (other_users l.users) mind conn, answer_event (next_u64 l.words).0 plan.rbc l.moment conn ∷ []) (record {
       state = is ∙ ap (λ (z : List Mind). answered_loop plan l z mind conn) (sym (ap other_users has ∙ other_ones users mind));
-      printed = p.0;
-      later = p.1;
-      told = grew_nothing calls.calls;
-      answered = tt;
-      counted = rw failures-none (omega arith);
+      did = p;
       in_grammar = (grammar, tt);
-      has_order = order_prints (answered_loop plan l (other_users l.users) mind conn, answer_event l.words plan.rbc l.moment conn ∷ []);
-    })
-answered_by_result h i calls plan l new users mind conn (Err fault) has same grammar p is =
-    subst (λ z. BreaksAt (seen h calls) (seen i calls) z fault) same
-    (line_breaks h i calls (answered_by kept_ends (Some mind) plan l conn) (answer_event l.words plan.rbc l.moment conn) [] fault refl p)
+    }))
+answered_by_result a b plan l new users mind conn (Err fault) has same grammar p is =
+    subst (λ z. BreaksAt (seen a) (seen b) z fault) same
+    (line_breaks a b (answered_by kept_ends (Some mind) plan l conn) (answer_event (next_u64 l.words).0 plan.rbc l.moment conn) [] fault refl p)
 
-pub accept_answered : {T : Type 0} (h i : SinkState) (calls : WiresState) (plan : Plan) (l new : Loop KEnd) (users : List Mind) (mind : Mind) (conn : ℕ) (r : Result T LoopFault)
-    → length l.sessions < 256 → l.users ≡ users ++ mind ∷ []
-    → OnOk r (IsInGrammar (answer_event l.words plan.rbc l.moment conn))
-    → Puts h i (text (answer_event l.words plan.rbc l.moment conn ∷ [])) r
+-- behind the draw of the random word
+pub accept_answered : {T : Type 0} (a mid b : Told) (ra : ℕ) (plan : Plan) (l new : Loop KEnd) (users : List Mind) (mind : Mind) (conn : ℕ) (r : Result T LoopFault)
+    → Did a mid (Drew ra ∷ []) → l.words ≡ a.words → length l.sessions < 256 → l.users ≡ users ++ mind ∷ []
+    → OnOk r (IsInGrammar (answer_event ra plan.rbc l.moment conn))
+    → Puts mid b (writes_of_entries (answer_event ra plan.rbc l.moment conn ∷ [])) r
     → OnOk r (new ≡ answered_loop plan l users mind conn)
-    → Acts (seen h calls) (seen i calls) new (accepted kept_ends plan l conn) r
+    → Acts (seen a) (seen b) new (accepted kept_ends plan l conn) r
 unfolding accepted
-accept_answered h i calls plan l new users mind conn r few has grammar p is =
+accept_answered a mid b ra plan l new users mind conn r drew words few has grammar p is =
     let o : Out (Loop KEnd) = answered_by kept_ends (Some mind) plan l conn in
     let same : o ≡ accepted kept_ends plan l conn = sym (rw (is_below (length l.sessions) few) (ap (λ z. answered_by kept_ends z plan l conn) (ap next_user has ∙ last_user users mind))) in
-    answered_by_result h i calls plan l new users mind conn r has same grammar p is
+    let word : ra ≡ (next_u64 l.words).0 = drew_word a mid ra drew ∙ ap (λ (z : Stream). (next_u64 z).0) (sym words) in
+    acts_behind_drawn a mid (seen b) ra new (accepted kept_ends plan l conn) r drew
+    (answered_by_result mid b plan l new users mind conn r has same
+    (subst (λ z. OnOk r (IsInGrammar (answer_event z plan.rbc l.moment conn))) word grammar)
+    (subst (λ z. Puts mid b (writes_of_entries (answer_event z plan.rbc l.moment conn ∷ [])) r) word p) is)
 
 -- ---- what a function's other clauses say
 
-pub same_loop : (slots slots' : Slab (Session KEnd)) (places places' : BTreeMap ℕ ℕ) (users users' : List Mind) (m m' : ℕ) (words : Stream)
-    → slots' ≡ slots → places' ≡ places → users' ≡ users → m' ≡ m → loop_of slots' places' users' m' words ≡ loop_of slots places users m words
-same_loop slots slots' places places' users users' m m' words p q r s = rw (p, q, r, s) refl
+pub same_loop : (slots slots' : Slab (Session KEnd)) (places places' : BTreeMap ℕ ℕ) (users users' : List Mind) (m m' : ℕ) (words words' : Stream)
+    → slots' ≡ slots → places' ≡ places → users' ≡ users → m' ≡ m → words' ≡ words → loop_of slots' places' users' m' words' ≡ loop_of slots places users m words
+same_loop slots slots' places places' users users' m m' words words' p q r s t = rw (p, q, r, s, t) refl
 
 pub seated_up : (low top : ℕ) (slots : Slab (Session KEnd)) (es : List (ℕ × ℕ)) → low ≤ top → AreSeated low slots es → AreSeated top slots es
 unfolding AreSeated
@@ -208,11 +196,11 @@ away_seated conn slots slots' places places' (Ok done) p q s =
     rw (p, q) (seated_up (conn - 1) conn slots places.entries (omega arith) s)
 away_seated conn slots slots' places places' (Err fault) p q s = tt
 
-pub answered_state : {T : Type 0} (plan : Plan) (l : Loop KEnd) (slots : Slab (Session KEnd)) (places : BTreeMap ℕ ℕ) (users users' : List Mind) (m : ℕ) (words : Stream) (mind : Mind) (conn : ℕ) (r : Result T LoopFault)
-    → OnOk r (sessions slots places ≡ l.sessions ++ answering_session l.words plan.settings plan.rbc l.moment conn mind ∷ []) → OnOk r (words ≡ (next_u64 l.words).1)
+pub answered_state : {T : Type 0} (plan : Plan) (l : Loop KEnd) (slots : Slab (Session KEnd)) (places : BTreeMap ℕ ℕ) (users users' : List Mind) (m : ℕ) (words : Stream) (ra : ℕ) (mind : Mind) (conn : ℕ) (r : Result T LoopFault)
+    → OnOk r (sessions slots places ≡ l.sessions ++ answering_session ra plan.settings plan.rbc l.moment conn mind ∷ []) → ra ≡ (next_u64 l.words).0 → words ≡ (next_u64 l.words).1
     → users' ≡ users → m ≡ l.moment → OnOk r (loop_of slots places users' m words ≡ answered_loop plan l users mind conn)
-answered_state plan l slots places users users' m words mind conn (Ok done) p q r s = rw (p, q, r, s) refl
-answered_state plan l slots places users users' m words mind conn (Err fault) p q r s = tt
+answered_state plan l slots places users users' m words ra mind conn (Ok done) p w q r s = rw (p, w, q, r, s) refl
+answered_state plan l slots places users users' m words ra mind conn (Err fault) p w q r s = tt
 
 pub few_sessions : (newest n : ℕ) (slots : Slab (Session KEnd)) (es : List (ℕ × ℕ)) → AreSeated newest slots es → n ≡ length es → n < 256 → length (sessions_at slots es) < 256
 few_sessions newest n slots es p q r = (let h = length_sessions newest slots es p in omega (arith, h, q, r))

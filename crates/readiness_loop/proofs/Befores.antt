@@ -11,14 +11,14 @@ use Rattle.loop_model.specs.Sessions.{Rules, Session}
 use Rattle.loop_model.specs.Visits.{Met, visited, is_due, wakes, Tick, Expire}
 use Rattle.loop_model.specs.Loops.{visit_at, swept, numbers, until, before, Sweeps}
 use Rattle.loop_session.specs.declared.loop_fault.LoopFault.{LoopFault}
-use Rattle.loop_io.specs.Acting.{Acted, BreaksAt, Did, Stopped}
+use Rattle.loop_io.specs.Acting.{Acted, BreaksAt, ActedSo, Stopped}
 use Rattle.loop_io.specs.Seeing.{Seen}
 use Rattle.loop_io.specs.Sequels.{breaks_first}
 use Rattle.readiness_loop.proofs.Sequences.{acted_still, acted_then, breaks_then}
 
 pub before_did : (a b c : Seen) (r : Rules) (m : ℕ) (ss mid now : List (Session KEnd))
-    → Did a b mid (swept (visited kept_ends r m Tick) (numbers ss) ss) → Did b c now (swept (visited kept_ends r m Expire) (numbers mid) mid)
-    → Did a c now (before kept_ends r m ss)
+    → ActedSo a b mid (swept (visited kept_ends r m Tick) (numbers ss) ss) → ActedSo b c now (swept (visited kept_ends r m Expire) (numbers mid) mid)
+    → ActedSo a c now (before kept_ends r m ss)
 unfolding before
 before_did a b c r m ss mid now p q =
     let all : Sweeps = record { ticks = p.answers; closings = q.answers } in
@@ -39,7 +39,7 @@ before_breaks_first a b r m ss fault p =
     }
 
 pub before_breaks_then : (a b c : Seen) (r : Rules) (m : ℕ) (ss mid : List (Session KEnd)) (fault : LoopFault)
-    → Did a b mid (swept (visited kept_ends r m Tick) (numbers ss) ss) → Stopped b c (swept (visited kept_ends r m Expire) (numbers mid) mid) fault
+    → ActedSo a b mid (swept (visited kept_ends r m Tick) (numbers ss) ss) → Stopped b c (swept (visited kept_ends r m Expire) (numbers mid) mid) fault
     → Stopped a c (before kept_ends r m ss) fault
 unfolding before
 before_breaks_then a b c r m ss mid fault p q =
@@ -103,7 +103,7 @@ before_nothing r m ss a p =
     rw (kept_sweep (visited kept_ends r m Tick) (numbers ss) ss a.ticks (no_ticks r m ss p), kept_sweep (visited kept_ends r m Expire) (numbers ss) ss a.closings (no_closings r m ss p)) refl
 
 pub nobody_due : (a : Seen) (r : Rules) (m : ℕ) (ss : List (Session KEnd)) (first : Option ℕ) (due : Bool)
-    → first ≡ until kept_ends ss → due ≡ is_due m first → due ≡ false → Did a a ss (before kept_ends r m ss)
+    → first ≡ until kept_ends ss → due ≡ is_due m first → due ≡ false → ActedSo a a ss (before kept_ends r m ss)
 nobody_due a r m ss first due p q t =
     let none : Sweeps = record { ticks = []; closings = [] } in
     let is : is_due m (until kept_ends ss) ≡ false = sym (q ∙ ap (is_due m) p) ∙ t in

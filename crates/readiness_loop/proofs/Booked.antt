@@ -13,7 +13,7 @@ use Rattle.loop_model.specs.Loops.{visit_at}
 use Rattle.er_base.specs.declared.no_memory.NoMemory.{NoMemory as Want}
 use Rattle.loop_session.specs.declared.loop_fault.LoopFault.{LoopFault}
 use Rattle.loop_session.specs.declared.loop_fault.LoopFault.TheVariants.{NoMemory}
-use Rattle.loop_io.specs.Acting.{Acted, Did, Stopped}
+use Rattle.loop_io.specs.Acting.{Acted, ActedSo, Stopped}
 use Rattle.loop_io.specs.Seeing.{Seen}
 use Rattle.loop_io.specs.Sequels.{breaks_behind}
 use Rattle.loop_io.specs.Visiting.{left}
@@ -24,7 +24,7 @@ use Rattle.readiness_loop.proofs.Seats.{place_of, visit_none, visit_says, visit_
 -- nobody has this number
 pub nobody_did : (a : Seen) (f : Session KEnd → Met → Out (List (Session KEnd))) (newest n : ℕ) (slots : Slab (Session KEnd)) (places : BTreeMap ℕ ℕ)
     → AreSeated newest slots places.entries → place_of n places.entries ≡ None
-    → Did a a (sessions slots places) (visit_at f n (sessions slots places))
+    → ActedSo a a (sessions slots places) (visit_at f n (sessions slots places))
 nobody_did a f newest n slots places p q = record {
   answers = nothing_met;
   is = subst (λ z. Acted a a (sessions slots places) z) (sym (visit_none f newest n slots places.entries nothing_met p q))
@@ -34,14 +34,14 @@ nobody_did a f newest n slots places p q = record {
 -- the slot of a place isn't empty
 pub empty_did : (a : Seen) (f : Session KEnd → Met → Out (List (Session KEnd))) (newest n k : ℕ) (slots : Slab (Session KEnd)) (places : BTreeMap ℕ ℕ)
     → AreSeated newest slots places.entries → place_of n places.entries ≡ Some k → get slots k ≡ None
-    → Did a a (sessions slots places) (visit_at f n (sessions slots places))
+    → ActedSo a a (sessions slots places) (visit_at f n (sessions slots places))
 empty_did a f newest n k slots places p q r = absurd (seat_found newest n k slots places.entries p q r)
 
 -- the session stays
 pub stays_did : (a b : Seen) (f : Session KEnd → Met → Out (List (Session KEnd))) (newest n k : ℕ) (slots : Slab (Session KEnd)) (places : BTreeMap ℕ ℕ) (s t : Session KEnd) (stays : Bool)
     → AreSeated newest slots places.entries → place_of n places.entries ≡ Some k → get slots k ≡ Some s → stays ≡ true
-    → Did a b (left stays t) (f s)
-    → Did a b (sessions (with_value slots k t) places) (visit_at f n (sessions slots places))
+    → ActedSo a b (left stays t) (f s)
+    → ActedSo a b (sessions (with_value slots k t) places) (visit_at f n (sessions slots places))
 stays_did a b f newest n k slots places s t stays p q r yes_ did =
     let is : t ∷ [] ≡ (f s did.answers).state = ap (λ z. left z t) (sym yes_) ∙ did.is.state in
     record {
@@ -65,9 +65,9 @@ both_updates slots mid now k t p q = record { changed = q.changed; others = λ j
 
 pub closes_did : (a b : Seen) (f : Session KEnd → Met → Out (List (Session KEnd))) (newest n k : ℕ) (slots now : Slab (Session KEnd)) (places fewer : BTreeMap ℕ ℕ) (s t : Session KEnd) (stays : Bool)
     → AreSeated newest slots places.entries → place_of n places.entries ≡ Some k → get slots k ≡ Some s → stays ≡ false
-    → Did a b (left stays t) (f s)
+    → ActedSo a b (left stays t) (f s)
     → fewer.entries ≡ remove_entry (is_at (nat_cmp n)) places.entries → Updates (with_value slots k t) now k None
-    → Did a b (sessions now fewer) (visit_at f n (sessions slots places))
+    → ActedSo a b (sessions now fewer) (visit_at f n (sessions slots places))
 closes_did a b f newest n k slots now places fewer s t stays p q r no_ did e u =
     let is : [] ≡ (f s did.answers).state = ap (λ z. left z t) (sym no_) ∙ did.is.state in
     let all = both_updates slots (with_value slots k t) now k t (Updates-with_value slots k t (rw r refl)) u in
@@ -101,7 +101,7 @@ stopped_visit a b f newest n k slots places s fault p q r h = record {
 -- memory ran out behind it
 pub wanted_visit : (a b : Seen) (f : Session KEnd → Met → Out (List (Session KEnd))) (newest n k : ℕ) (slots : Slab (Session KEnd)) (places : BTreeMap ℕ ℕ) (s t : Session KEnd) (stays : Bool) (want : Want)
     → AreSeated newest slots places.entries → place_of n places.entries ≡ Some k → get slots k ≡ Some s
-    → Did a b (left stays t) (f s) → Stopped a b (visit_at f n (sessions slots places)) (NoMemory want)
+    → ActedSo a b (left stays t) (f s) → Stopped a b (visit_at f n (sessions slots places)) (NoMemory want)
 wanted_visit a b f newest n k slots places s t stays want p q r did =
     stopped_visit a b f newest n k slots places s (NoMemory want) p q r
     (record { answers = did.answers; breaks = breaks_behind a b (left stays t) (f s did.answers) want did.is })

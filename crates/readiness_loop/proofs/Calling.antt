@@ -10,6 +10,9 @@ use Rattle.er_base.specs.declared.no_memory.NoMemory.{NoMemory as Want}
 use Rattle.er_trace.specs.declared.event.Event.TheVariants as event
 use Rattle.er_users.specs.Users.{Mind}
 use Rattle.link_trait.specs.Outside.{Grew}
+use Rattle.link_trait.specs.States.{WiresState}
+use Rattle.outside.specs.Acts.{Asked}
+use Rattle.outside.specs.Doings.{Told, Did}
 use Rattle.loop_model.specs.Ends.{EndOps}
 use Rattle.loop_model.specs.Outs.{Out, changed}
 use Rattle.loop_model.specs.Sessions.{Session, Begins}
@@ -21,17 +24,19 @@ use Rattle.safety_automaton.specs.Keys as keys
 use Rattle.loop_session.specs.Parts.{rules_of_session}
 use Rattle.loop_session.specs.declared.loop_fault.LoopFault.{LoopFault}
 use Rattle.loop_session.specs.declared.loop_fault.LoopFault.TheVariants.{Wires, Sink, NoMemory}
-use Rattle.loop_io.specs.Acting.{Acted, BreaksAt, Did, Stopped, DoesLoopPart}
-use Rattle.loop_io.specs.Seeing.{Seen}
+use Rattle.loop_io.specs.Acting.{Acted, BreaksAt, ActedSo, Stopped, DoesLoopPart}
+use Rattle.loop_io.specs.Seeing.{Seen, seen}
 use Rattle.loop_io.specs.Sequels.{breaks_wanted, breaks_behind}
 use Rattle.loop_io.specs.Visiting.{left, Visits}
 use Rattle.readiness_loop.specs.Books.{sessions, AreSeated}
 use Rattle.readiness_loop.specs.Cuts.{LiesIn}
 use Rattle.readiness_loop.proofs.Cutting.{cut_of, cut_lies, cut_broke, lies_as}
-use Rattle.readiness_loop.specs.Courses.{Around, WentOff, loop_of, course_of, opening_over_kept_ends, Opens, halt_if}
+use Rattle.readiness_loop.specs.Courses.{Around, around, WentOff, loop_of, course_of, opening_over_kept_ends, Opens, halt_if}
 use Rattle.readiness_loop.proofs.Sequences.{acted_as, breaks_as}
 use Rattle.readiness_loop.proofs.Acceptings.{last_user, other_ones, no_sessions, length_sessions}
+use Rattle.readiness_loop.specs.Lives.{LeavesTurns}
 use Rattle.readiness_loop.proofs.Openings.{OpensNone, served_opens}
+use Rattle.readiness_loop.proofs.Quiets.{asked_words, asked_wires, asked_once, part_behind_asked}
 
 -- ---- the session that calls
 
@@ -52,17 +57,17 @@ call_model entries setup setup' m m' s s' engine rbc rb rb' p q r t = rw (p, q, 
 
 pub call_stays : (a b : Seen) (slots now : Slab (Session KEnd)) (places then_ : BTreeMap ℕ ℕ) (s : Session KEnd) (stays : Bool) (model model' : Met → Out (List (Session KEnd)))
     → model ≡ model' → places.entries ≡ [] → stays ≡ true → sessions now then_ ≡ sessions slots places ++ s ∷ [] → Visits a b s model (Ok stays)
-    → Did a b (sessions now then_) model'
+    → ActedSo a b (sessions now then_) model'
 call_stays a b slots now places then_ s stays model model' same none is joins did =
-    subst (λ z. Did a b (sessions now then_) z) same
-    (subst (λ ss. Did a b ss model) (sym (joins ∙ ap (λ z. z ++ s ∷ []) (no_sessions slots places none)))
-    (subst (λ z. Did a b (left z s) model) is did))
+    subst (λ z. ActedSo a b (sessions now then_) z) same
+    (subst (λ ss. ActedSo a b ss model) (sym (joins ∙ ap (λ z. z ++ s ∷ []) (no_sessions slots places none)))
+    (subst (λ z. ActedSo a b (left z s) model) is did))
 
 pub call_leaves : (a b : Seen) (slots : Slab (Session KEnd)) (places : BTreeMap ℕ ℕ) (s : Session KEnd) (stays : Bool) (model model' : Met → Out (List (Session KEnd)))
-    → model ≡ model' → places.entries ≡ [] → stays ≡ false → Visits a b s model (Ok stays) → Did a b (sessions slots places) model'
+    → model ≡ model' → places.entries ≡ [] → stays ≡ false → Visits a b s model (Ok stays) → ActedSo a b (sessions slots places) model'
 call_leaves a b slots places s stays model model' same none is did =
-    subst (λ z. Did a b (sessions slots places) z) same
-    (subst (λ ss. Did a b ss model) (sym (no_sessions slots places none)) (subst (λ z. Did a b (left z s) model) is did))
+    subst (λ z. ActedSo a b (sessions slots places) z) same
+    (subst (λ ss. ActedSo a b ss model) (sym (no_sessions slots places none)) (subst (λ z. ActedSo a b (left z s) model) is did))
 
 pub call_breaks : (a b : Seen) (model model' : Met → Out (List (Session KEnd))) (fault : LoopFault) → model ≡ model' → Stopped a b model fault → Stopped a b model' fault
 call_breaks a b model model' fault same p = subst (λ z. Stopped a b z fault) same p
@@ -107,7 +112,7 @@ unserved_breaks a b plan caller l conn fault none p =
     record { answers = nothing_met; breaks = subst (λ (z : Option Mind). BreaksAt a b (called_by kept_ends z plan caller l conn nothing_met) fault) (sym none_is) p }
 
 pub unserved_did : (a b : Seen) (plan : Plan) (caller : Caller) (l new : Loop KEnd) (conn : ℕ)
-    → l.users ≡ [] → new ≡ l → Acted a b l (turned_away l conn (event.Unserved 0)) → Did a b new (called kept_ends plan caller l conn)
+    → l.users ≡ [] → new ≡ l → Acted a b l (turned_away l conn (event.Unserved 0)) → ActedSo a b new (called kept_ends plan caller l conn)
 unfolding called
 unserved_did a b plan caller l new conn none same p =
     let none_is : next_user l.users ≡ None = ap next_user none in
@@ -139,7 +144,7 @@ opening_opens plan caller c conn x = opens_opens kept_ends plan caller (asks x.0
 
 opened_off : (plan : Plan) (caller : Caller) (a b : Around) (l : Loop KEnd) (n m first conn : ℕ) (asked : List ℕ) (fault : LoopFault)
     → m ≡ max l.moment first → Stopped a.seen b.seen (called kept_ends plan caller (record l { moment = m }) conn) fault
-    → WentOff (λ x cut. LiesIn (opening_over_kept_ends plan caller (course_of l n asked) conn x) cut) a b fault
+    → WentOff (opening_over_kept_ends plan caller (course_of l n asked) conn) (λ x cut. LiesIn (opening_over_kept_ends plan caller (course_of l n asked) conn x) cut) a b fault
 opened_off plan caller a b l n m first conn asked fault moment did =
     let o = called kept_ends plan caller (record l { moment = max l.moment first }) conn did.answers in
     let c = course_of l n asked in
@@ -149,6 +154,7 @@ opened_off plan caller a b l n m first conn asked fault moment did =
       cut = cut_of a.seen b.seen o fault breaks;
       lies = lies_as o (opening_over_kept_ends plan caller c conn (first, did.answers)) (cut_of a.seen b.seen o fault breaks) refl (cut_lies a.seen b.seen o fault breaks);
       broke = cut_broke a.seen b.seen o fault breaks;
+      began = breaks.began;
     }
 
 pub opened_so : (plan : Plan) (caller : Caller) (a b : Around) (l new : Loop KEnd) (n m first conn : ℕ) (asked : List ℕ) (r : Result Bool LoopFault)
@@ -219,3 +225,16 @@ pub opened_from : (plan : Plan) (caller : Caller) (a b : Around) (l new : Loop K
 opened_from plan caller a b l new n count m first conn asked r same moment early clock did top fails hears halts =
     subst (λ z. Opens plan caller a b (course_of l n asked) conn new z r) (sym same)
     (opened_so plan caller a b l new n m first conn asked r moment early clock did top fails hears halts)
+
+-- behind the clock's answer
+pub opened_asked : (plan : Plan) (caller : Caller) (t u v : Told) (slots : Slab (Session KEnd)) (places : BTreeMap ℕ ℕ) (users : List Mind) (at : ℕ) (new : Loop KEnd) (n count m first conn : ℕ) (asked : List ℕ) (r : Result Bool LoopFault)
+    → Did t u (Asked first ∷ []) → count ≡ n → m ≡ max at first → first ≤ 1000000000000000
+    → DoesLoopPart (seen u) (seen v) new (called kept_ends plan caller (loop_of slots places users m u.words) conn) r
+    → LeavesTurns u v → IfOk r (λ stays. halt_if stays ≡ halt_by plan new.sessions)
+    → Opens plan caller (around t) (around v) (course_of (loop_of slots places users at t.words) n asked) conn new count r
+opened_asked plan caller t u v slots places users at new n count m first conn asked r told same moment early did leaves halts =
+    let wires = asked_wires t u first told in
+    subst (λ (z : Stream). Opens plan caller (around t) (around v) (course_of (loop_of slots places users at z) n asked) conn new count r) (asked_words t u first told)
+    (opened_from plan caller (around t) (around v) (loop_of slots places users at u.words) new n count m first conn asked r same moment early (asked_once t u v first told leaves.clock)
+    (part_behind_asked t u (seen v) first new (called kept_ends plan caller (loop_of slots places users m u.words) conn) r told did)
+    (leaves.opened ∙ ap (λ (z : WiresState). z.opened) wires) (leaves.turn_count ∙ ap (λ (z : WiresState). z.turn_faults) wires) (leaves.listening ∙ ap (λ (z : WiresState). z.listening) wires) halts)

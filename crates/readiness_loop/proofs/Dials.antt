@@ -19,14 +19,16 @@ use Rattle.loop_model.specs.Journals.{trace_header, text}
 use Rattle.loop_model.specs.Deeds.{Calling, text_of, calls_of}
 use Rattle.loop_model.specs.Outs.{Out, still, next, makes, acts, exactly}
 use Rattle.loop_model.specs.Visits.{Met}
-use Rattle.link_trait.specs.declared.sink.Sink as sink_of
-use Rattle.link_trait.specs.declared.wires.Wires as wires_of
-use Rattle.link_trait.specs.declared.clock.Clock as clock_of
+use Rattle.link_trait.specs.States.{SinkState, WiresState, ClockState}
+use Rattle.outside.specs.Acts.{Dialled as DialledSo, Called}
+use Rattle.outside.specs.ActSteps.{told_call}
+use Rattle.outside.specs.Doings.{Told, Did}
+use Rattle.outside.specs.Scripts.{printing}
 use Rattle.link_trait.specs.declared.wires.Happening.{Happening}
 use Rattle.loop_model.specs.Loops.{Plan, Loop, Caller, Halt, OnClosed, OnFailed, Course, Turn, asks, opens, dials_to, run, nothing_comes, beginning, Dialled, dials, printed, went}
 use Rattle.loop_model.specs.Parts.{opened_in, Rises, newest}
 use Rattle.loop_model.specs.Laws.{IsDialling, RunsSo, HasFailed, faults, failures, turns_of, HaltsBy}
-use Rattle.loop_session.specs.Parts.{FailedFor}
+use Rattle.loop_session.specs.Parts.{FailedFor, Breaks}
 use Rattle.loop_session.specs.Standing.{AreAlike}
 use Rattle.loop_session.specs.declared.loop_fault.LoopFault.{LoopFault}
 use Rattle.loop_session.specs.declared.loop_fault.LoopFault.TheVariants.{Wires, Sink, NoMemory}
@@ -34,8 +36,7 @@ use Rattle.loop_io.specs.Seeing.{Counts}
 use Rattle.readiness_loop.specs.declared.line_plan.Served.{Served}
 use Rattle.readiness_loop.specs.Cuts.{Cut, LiesIn, cut_behind_part, IsToldFirst, first_turns}
 use Rattle.readiness_loop.specs.Claims.{pair_of, IsPrintedAndCalled, IsCutAt, IsLawfulLoop, HasTurns, HasDialledTurns, HasDialled, NotDialling, LineFailed, FailsToDial, opening as model_opening, BeforeDialling, InDiallingHeader, InOpening, InDialling, BreaksOffDialling, halt_for, caller_of, DialsOn}
-use Rattle.readiness_loop.specs.Courses.{Around, HasComeFromCourse, Went, Broke, WentOff, RanOff, Runs, Dials, loop_outside_of, course_of, opening_over_kept_ends, Opened, Opens, halt_if}
-use Rattle.readiness_loop.specs.Lives.{around_at}
+use Rattle.readiness_loop.specs.Courses.{Around, around, HasComeFromCourse, Went, Broke, WentOff, RanOff, Runs, Dials, loop_outside_of, course_of, opening_over_kept_ends, Opened, Opens, halt_if}
 use Rattle.loop_io.specs.Sequels.{counts_then, failed_behind}
 use Rattle.readiness_loop.proofs.Cutting.{broke_behind, lies_as, lies_then}
 use Rattle.readiness_loop.proofs.Planned.{many, run_many, opens_many, lies_acts}
@@ -46,27 +47,28 @@ use Rattle.readiness_loop.proofs.Running.{came_next, course_is, halted_acts, aft
 use Rattle.readiness_loop.proofs.Calling.{opens_opens, called_moment}
 use Rattle.readiness_loop.proofs.Shown.{Shown, shown}
 use Rattle.readiness_loop.proofs.Tellings.{told_first, told_dialled, lies_with, rises_before, rises_with}
-use Rattle.readiness_loop.proofs.Listening.{Laws, HasBegun, nothing_done, rose_past}
+use Rattle.readiness_loop.proofs.Listening.{Laws, HasBegun, nothing_done, rose_past, header_wires, header_left_behind}
+use Rattle.readiness_loop.proofs.Quiets.{called_words}
 
 -- the opening, and the run behind it
-abbrev whole : Plan → Caller → Course KEnd → ℕ → Dialled → Out (Course KEnd)
+abbrev pub whole : Plan → Caller → Course KEnd → ℕ → Dialled → Out (Course KEnd)
 whole plan caller c conn x = next (opening_over_kept_ends plan caller c conn (x.first, x.met)) (λ e. run kept_ends plan e x.turns)
 
-abbrev model_whole : Plan → Caller → Course ModelEnd → ℕ → Dialled → Out (Course ModelEnd)
+abbrev pub model_whole : Plan → Caller → Course ModelEnd → ℕ → Dialled → Out (Course ModelEnd)
 model_whole plan caller c conn x = next (opens model_ends plan caller (asks x.first c) conn x.met) (λ e. run model_ends plan e x.turns)
 
 -- both were done
-record WentOn (plan : Plan) (caller : Caller) (m b : Around) (c : Course KEnd) (conn : ℕ) (new : Loop KEnd) (count : ℕ) (why : Option Halt) : Type 0 where
-  answers : Dialled
-  is_conn : answers.conn ≡ Some conn
-  early : answers.first ≤ 1000000000000000
-  is : HasComeFromCourse m b c new count why (whole plan caller c conn answers)
+pub record WentOn (plan : Plan) (caller : Caller) (m b : Around) (c : Course KEnd) (conn : ℕ) (new : Loop KEnd) (count : ℕ) (why : Option Halt) : Type 0 where
+  pub answers : Dialled
+  pub is_conn : answers.conn ≡ Some conn
+  pub early : answers.first ≤ 1000000000000000
+  pub is : HasComeFromCourse m b c new count why (whole plan caller c conn answers)
 
-met_so : ℕ → ℕ × Met → List Turn → Dialled
+unfoldable pub met_so : ℕ → ℕ × Met → List Turn → Dialled
 met_so conn x turns = record { conn = Some conn; first = x.0; met = x.1; turns = turns }
 
 -- it ran
-ran_on : (plan : Plan) (caller : Caller) (m k b : Around) (minds : List Mind) (words : Stream) (conn : ℕ) (l new : Loop KEnd) (count : ℕ) (why : Option Halt)
+pub ran_on : (plan : Plan) (caller : Caller) (m k b : Around) (minds : List Mind) (words : Stream) (conn : ℕ) (l new : Loop KEnd) (count : ℕ) (why : Option Halt)
     → (p : Opened plan caller m k (beginning minds words) conn l 0 None)
     → ((asked : List ℕ) → Went (run kept_ends plan (course_of l 0 asked)) k b (course_of l 0 asked) new count why)
     → WentOn plan caller m b (beginning minds words) conn new count why
@@ -86,7 +88,7 @@ ran_on plan caller m k b minds words conn l new count why p q =
     }
 
 -- it was closed at once
-closed_on : (plan : Plan) (caller : Caller) (m b : Around) (minds : List Mind) (words : Stream) (conn : ℕ) (l : Loop KEnd)
+pub closed_on : (plan : Plan) (caller : Caller) (m b : Around) (minds : List Mind) (words : Stream) (conn : ℕ) (l : Loop KEnd)
     → (p : Opened plan caller m b (beginning minds words) conn l 0 (Some OnClosed))
     → WentOn plan caller m b (beginning minds words) conn l 0 (Some OnClosed)
 unfolding met_so run
@@ -169,7 +171,7 @@ key_holds engine rbc first kmac p =
     same x = grind (arith, nat_tests)
 
 -- the dial as the opening and the run behind it
-dials_is : {E : Type 0} (o : EndOps E) (plan : Plan) (caller : Caller) (c : Course E) (address : List ℕ) (conn : ℕ) (x : Dialled) → x.conn ≡ Some conn
+pub dials_is : {E : Type 0} (o : EndOps E) (plan : Plan) (caller : Caller) (c : Course E) (address : List ℕ) (conn : ℕ) (x : Dialled) → x.conn ≡ Some conn
     → dials o plan caller c address x ≡ next (makes (wires.Dials address (Some conn)) (asks x.first c)) (λ d. next (opens o plan caller d conn x.met) (λ e. run o plan e x.turns))
 unfolding dials
 dials_is o plan caller c address conn x p = ap (λ (z : Option ℕ). dials_to o z plan caller c address x) p
@@ -179,7 +181,7 @@ tail_of [] = []
 tail_of (x ∷ xs) = xs
 
 -- over ends as they are kept both do the same
-whole_alike : (laws : Laws) (plan : Plan) (caller : Caller) (minds : List Mind) (words : Stream) (address : List ℕ) (conn : ℕ) (x : Dialled) → AllAllowed plan.settings → x.conn ≡ Some conn
+pub whole_alike : (laws : Laws) (plan : Plan) (caller : Caller) (minds : List Mind) (words : Stream) (address : List ℕ) (conn : ℕ) (x : Dialled) → AllAllowed plan.settings → x.conn ≡ Some conn
     → AreAlike (whole plan caller (beginning minds words) conn x) (model_whole plan caller (beginning minds words) conn x)
 unfolding tail_of
 whole_alike laws plan caller minds words address conn x allowed is =
@@ -203,7 +205,7 @@ whole_alike laws plan caller minds words address conn x allowed is =
       sessions = a.sessions;
     }
 
-is_dialling : (engine rbc : ℕ) (kmac : TripleKey) (plan : Plan) (m : Around) (minds : List Mind) (words : Stream) (address : List ℕ) (conn : ℕ) (x : Dialled)
+pub is_dialling : (engine rbc : ℕ) (kmac : TripleKey) (plan : Plan) (m : Around) (minds : List Mind) (words : Stream) (address : List ℕ) (conn : ℕ) (x : Dialled)
     → AllAllowed plan.settings → plan.keys ≡ pair_of engine rbc kmac ∷ [] → plan.rbc ≡ rbc → m.newest ≡ conn → 0 < conn → x.conn ≡ Some conn → x.first ≤ 1000000000000000
     → Rises m.newest (opened_in (model_whole plan (caller_of engine kmac) (beginning minds words) conn x).calls)
     → IsDialling plan (caller_of engine kmac) (beginning minds words) address x
@@ -342,7 +344,7 @@ both_same laws plan caller minds words address conn x allowed turns =
     (opened_as kept_ends plan caller (asks x.0 (beginning minds words)) conn x.1 turns) (opened_as model_ends plan caller (asks x.0 (beginning minds words)) conn x.1 turns)
     (record { entries = a.entries; calls = a.calls; order = a.order; halt = a.halt })
 
-opening_same : (laws : Laws) (plan : Plan) (caller : Caller) (minds : List Mind) (words : Stream) (address : List ℕ) (conn : ℕ) (x : ℕ × Met) → AllAllowed plan.settings
+pub opening_same : (laws : Laws) (plan : Plan) (caller : Caller) (minds : List Mind) (words : Stream) (address : List ℕ) (conn : ℕ) (x : ℕ × Met) → AllAllowed plan.settings
     → Same (opening_over_kept_ends plan caller (beginning minds words) conn x) (model_opening plan caller minds words conn x.0 x.1)
 unfolding acts
 opening_same laws plan caller minds words address conn x allowed =
@@ -383,7 +385,7 @@ cut_at plan a m b address conn cut fault begun broke = record {
 }
 
 -- the numbers of the connections that were opened in the whole turns rise
-rises_whole : (laws : Laws) (plan : Plan) (caller : Caller) (m k : Around) (minds : List Mind) (words : Stream) (address : List ℕ) (conn : ℕ) (l : Loop KEnd) (turns : List Turn) → AllAllowed plan.settings
+pub rises_whole : (laws : Laws) (plan : Plan) (caller : Caller) (m k : Around) (minds : List Mind) (words : Stream) (address : List ℕ) (conn : ℕ) (l : Loop KEnd) (turns : List Turn) → AllAllowed plan.settings
     → (p : Opened plan caller m k (beginning minds words) conn l 0 None)
     → Rises k.newest (opened_in (first_turns kept_ends plan (opening_over_kept_ends plan caller (beginning minds words) conn p.went.answers).state turns).calls)
     → Rises m.newest (opened_in (model_whole (many plan (length turns)) caller (beginning minds words) conn (met_so conn p.went.answers turns)).calls)
@@ -454,22 +456,21 @@ dial_off laws engine rbc kmac plan a m k b minds words address conn l fault allo
 pub dial_ran : (laws : Laws) (engine rbc : ℕ) (kmac : TripleKey) (plan : Plan) (a m k b : Around) (minds : List Mind) (words left : Stream) (address : List ℕ) (conn : ℕ) (l new : Loop KEnd) (count : ℕ) (r : Result Served LoopFault)
     → AllAllowed plan.settings → plan.keys ≡ pair_of engine rbc kmac ∷ [] → plan.rbc ≡ rbc → m.newest ≡ conn → 0 < conn → m.listening ≡ a.listening
     → HasBegun plan (wires.Dials address (Some conn)) a m → Opened plan (caller_of engine kmac) m k (beginning minds words) conn l 0 None
-    → a.seen.sunk ≤ b.seen.sunk
     → ((asked : List ℕ) → Runs plan k b (course_of l 0 asked) new count r)
     → Dials plan (caller_of engine kmac) a b minds words left address r
 unfolding met_so
-dial_ran laws engine rbc kmac plan a m k b minds words left address conn l new count (Ok served) allowed keys number top above hears begun p later q =
+dial_ran laws engine rbc kmac plan a m k b minds words left address conn l new count (Ok served) allowed keys number top above hears begun p q =
     dial_done laws engine rbc kmac plan a m b minds words address conn new served.turns (halt_for served.why) allowed keys number top above hears begun
     (ran_on plan (caller_of engine kmac) m k b minds words conn l new served.turns (halt_for served.why) p q)
-dial_ran laws engine rbc kmac plan a m k b minds words left address conn l new count (Err Wires) allowed keys number top above hears begun p later q = (
+dial_ran laws engine rbc kmac plan a m k b minds words left address conn l new count (Err Wires) allowed keys number top above hears begun p q = (
   LineFailed count (dial_done laws engine rbc kmac plan a m b minds words address conn new count (Some OnFailed) allowed keys number top above hears begun
       (ran_on plan (caller_of engine kmac) m k b minds words conn l new count (Some OnFailed) p (λ asked. (q asked).went))),
   (let x : a.turns_failed ≤ m.turns_failed = begun.turns_failed in let y : m.turns_failed ≤ k.turns_failed = p.went.is.failed in
       rose_past a.turns_failed k.turns_failed b.turns_failed (omega (arith, x, y)) (q []).rose),
 )
-dial_ran laws engine rbc kmac plan a m k b minds words left address conn l new count (Err Sink) allowed keys number top above hears begun p later q =
+dial_ran laws engine rbc kmac plan a m k b minds words left address conn l new count (Err Sink) allowed keys number top above hears begun p q =
     dial_off laws engine rbc kmac plan a m k b minds words address conn l Sink allowed keys number top above begun p q
-dial_ran laws engine rbc kmac plan a m k b minds words left address conn l new count (Err (NoMemory want)) allowed keys number top above hears begun p later q =
+dial_ran laws engine rbc kmac plan a m k b minds words left address conn l new count (Err (NoMemory want)) allowed keys number top above hears begun p q =
     dial_off laws engine rbc kmac plan a m k b minds words address conn l (NoMemory want) allowed keys number top above begun p q
 
 -- the connection was closed at once
@@ -484,7 +485,7 @@ dial_closed laws engine rbc kmac plan a m b minds words address conn l stays all
 
 -- the opening broke off
 opening_off : (laws : Laws) (plan : Plan) (caller : Caller) (a m b : Around) (minds : List Mind) (words : Stream) (address : List ℕ) (conn : ℕ) (fault : LoopFault)
-    → AllAllowed plan.settings → HasBegun plan (wires.Dials address (Some conn)) a m → WentOff (λ x cut. LiesIn (opening_over_kept_ends plan caller (beginning minds words) conn x) cut) m b fault
+    → AllAllowed plan.settings → HasBegun plan (wires.Dials address (Some conn)) a m → WentOff (opening_over_kept_ends plan caller (beginning minds words) conn) (λ x cut. LiesIn (opening_over_kept_ends plan caller (beginning minds words) conn x) cut) m b fault
     → BreaksOffDialling (loop_outside_of a) (loop_outside_of b) plan caller address minds words × FailedFor fault a.seen.sunk b.seen.sunk
 opening_off laws plan caller a m b minds words address conn fault allowed begun p =
     let x = p.answers in
@@ -498,11 +499,11 @@ opening_off laws plan caller a m b minds words address conn fault allowed begun 
     )
 
 pub dial_stops : (laws : Laws) (plan : Plan) (caller : Caller) (a m b : Around) (minds : List Mind) (words left : Stream) (address : List ℕ) (conn : ℕ) (new : Loop KEnd) (n : ℕ) (fault : LoopFault)
-    → AllAllowed plan.settings → HasBegun plan (wires.Dials address (Some conn)) a m → a.seen.sunk ≤ b.seen.sunk
+    → AllAllowed plan.settings → HasBegun plan (wires.Dials address (Some conn)) a m
     → Opens plan caller m b (beginning minds words) conn new n (Err fault) → Dials plan caller a b minds words left address (Err fault)
-dial_stops laws plan caller a m b minds words left address conn new n Wires allowed begun later p = absurd p
-dial_stops laws plan caller a m b minds words left address conn new n Sink allowed begun later p = opening_off laws plan caller a m b minds words address conn Sink allowed begun p
-dial_stops laws plan caller a m b minds words left address conn new n (NoMemory want) allowed begun later p = opening_off laws plan caller a m b minds words address conn (NoMemory want) allowed begun p
+dial_stops laws plan caller a m b minds words left address conn new n Wires allowed begun p = absurd p
+dial_stops laws plan caller a m b minds words left address conn new n Sink allowed begun p = opening_off laws plan caller a m b minds words address conn Sink allowed begun p
+dial_stops laws plan caller a m b minds words left address conn new n (NoMemory want) allowed begun p = opening_off laws plan caller a m b minds words address conn (NoMemory want) allowed begun p
 
 -- the header broke off
 dial_header_off : (plan : Plan) (caller : Caller) (a b : Around) (minds : List Mind) (words : Stream) (address : List ℕ) (conn : ℕ)
@@ -542,7 +543,7 @@ never_dials plan caller a b minds words left address held told asked same rose =
 -- ---- as a function has them
 
 -- the course from which it opens
-from_start : (P : Course KEnd → ℕ → Type 0) (minds : List Mind) (words : Stream) (l0 : Loop KEnd) (n0 n : ℕ) → l0 ≡ (beginning minds words).loop → n0 ≡ 0 → n ≡ n0
+pub from_start : (P : Course KEnd → ℕ → Type 0) (minds : List Mind) (words : Stream) (l0 : Loop KEnd) (n0 n : ℕ) → l0 ≡ (beginning minds words).loop → n0 ≡ 0 → n ≡ n0
     → P (course_of l0 n0 []) n → P (beginning minds words) 0
 from_start P minds words l0 n0 n is zero same p =
     subst (λ z. P (course_of z 0 []) 0) is (subst (λ z. P (course_of l0 z []) z) zero (subst (λ z. P (course_of l0 n0 []) z) same p))
@@ -557,23 +558,23 @@ dial_closed_from laws engine rbc kmac plan a m b minds words address conn l0 l n
     (from_start (λ c z. Opened plan (caller_of engine kmac) m b c conn l z (halt_if stays)) minds words l0 n0 n is zero same p)
 
 pub dial_stops_from : (laws : Laws) (plan : Plan) (caller : Caller) (a m b : Around) (minds : List Mind) (words left : Stream) (address : List ℕ) (conn : ℕ) (l0 new : Loop KEnd) (n0 n : ℕ) (fault : LoopFault)
-    → AllAllowed plan.settings → HasBegun plan (wires.Dials address (Some conn)) a m → a.seen.sunk ≤ b.seen.sunk → l0 ≡ (beginning minds words).loop → n0 ≡ 0 → n ≡ n0
+    → AllAllowed plan.settings → HasBegun plan (wires.Dials address (Some conn)) a m → l0 ≡ (beginning minds words).loop → n0 ≡ 0 → n ≡ n0
     → Opens plan caller m b (course_of l0 n0 []) conn new n (Err fault) → Dials plan caller a b minds words left address (Err fault)
-dial_stops_from laws plan caller a m b minds words left address conn l0 new n0 n fault allowed begun later is zero same p =
-    dial_stops laws plan caller a m b minds words left address conn new 0 fault allowed begun later
+dial_stops_from laws plan caller a m b minds words left address conn l0 new n0 n fault allowed begun is zero same p =
+    dial_stops laws plan caller a m b minds words left address conn new 0 fault allowed begun
     (from_start (λ c z. Opens plan caller m b c conn new z (Err fault)) minds words l0 n0 n is zero same p)
 
 pub dial_ran_from : (laws : Laws) (engine rbc : ℕ) (kmac : TripleKey) (plan : Plan) (a m k b : Around) (minds : List Mind) (words left : Stream) (address : List ℕ) (conn : ℕ) (l0 l new : Loop KEnd) (n0 n count : ℕ) (stays : Bool) (r : Result Served LoopFault)
     → AllAllowed plan.settings → plan.keys ≡ pair_of engine rbc kmac ∷ [] → plan.rbc ≡ rbc → m.newest ≡ conn → 0 < conn → m.listening ≡ a.listening
     → HasBegun plan (wires.Dials address (Some conn)) a m → stays ≡ true → l0 ≡ (beginning minds words).loop → n0 ≡ 0 → n ≡ n0
-    → Opens plan (caller_of engine kmac) m k (course_of l0 n0 []) conn l n (Ok stays) → a.seen.sunk ≤ b.seen.sunk
+    → Opens plan (caller_of engine kmac) m k (course_of l0 n0 []) conn l n (Ok stays)
     → ((asked : List ℕ) → Runs plan k b (course_of l 0 asked) new count r)
     → Dials plan (caller_of engine kmac) a b minds words left address r
-dial_ran_from laws engine rbc kmac plan a m k b minds words left address conn l0 l new n0 n count stays r allowed keys number top above hears begun goes is zero same p later q =
+dial_ran_from laws engine rbc kmac plan a m k b minds words left address conn l0 l new n0 n count stays r allowed keys number top above hears begun goes is zero same p q =
     let from : Opened plan (caller_of engine kmac) m k (beginning minds words) conn l 0 (halt_if stays) =
     from_start (λ c z. Opened plan (caller_of engine kmac) m k c conn l z (halt_if stays)) minds words l0 n0 n is zero same p in
     dial_ran laws engine rbc kmac plan a m k b minds words left address conn l new count r allowed keys number top above hears begun
-    (subst (λ z. Opened plan (caller_of engine kmac) m k (beginning minds words) conn l 0 (halt_if z)) goes from) later q
+    (subst (λ z. Opened plan (caller_of engine kmac) m k (beginning minds words) conn l 0 (halt_if z)) goes from) q
 
 -- ---- the public clauses
 
@@ -602,21 +603,38 @@ pub dial_memory_of : (plan : Plan) (caller : Caller) (a b : Around) (minds : Lis
     → (want : Want) → r ≡ Err (NoMemory want) → BreaksOffDialling (loop_outside_of a) (loop_outside_of b) plan caller address minds words
 dial_memory_of plan caller a b minds words left address r p want is = (subst (λ z. Dials plan caller a b minds words left address z) is p).0
 
+pub dial_header_stops_so : (plan : Plan) (caller : Caller) (a l m : Told) (minds : List Mind) (words left : Stream) (address : List ℕ) (conn : ℕ) (fault : LoopFault)
+    → Did a l (Called (DialledSo address (Some conn)) ∷ []) → Breaks l m (printing (trace_header plan.settings)) fault → Dials plan caller (around a) (around m) minds words left address (Err fault)
+dial_header_stops_so plan caller a l m minds words left address conn fault p q =
+    let h = header_left_behind (trace_header plan.settings) a l m (wires.Dials address (Some conn)) (DialledSo address (Some conn)) fault refl p q in
+    dial_header_stops plan caller (around a) (around m) minds words left address conn fault h.0 h.1 h.2 h.3
+
+-- the connection that was dialled is the newest behind the header, and the wires listen as before
+pub dial_newest : (line : List ℕ) (a l m : Told) (address : List ℕ) (conn : ℕ) → Did a l (Called (DialledSo address (Some conn)) ∷ []) → Did l m (printing line) → conn ≡ a.wires.opened + 1 → m.wires.opened ≡ conn
+dial_newest line a l m address conn p q number = ap (λ (z : WiresState). z.opened) (header_wires line l m q) ∙ p.wires.opened ∙ sym number
+
+pub dial_listening : (line : List ℕ) (a l m : Told) (address : List ℕ) (conn : ℕ) → Did a l (Called (DialledSo address (Some conn)) ∷ []) → Did l m (printing line) → m.wires.listening ≡ a.wires.listening
+dial_listening line a l m address conn p q = ap (λ (z : WiresState). z.listening) (header_wires line l m q) ∙ p.wires.listening
+
+pub never_dials_so : (plan : Plan) (caller : Caller) (a l : Told) (minds : List Mind) (address : List ℕ) → Did a l (Called (DialledSo address None) ∷ []) → Dials plan caller (around a) (around l) minds a.words l.words address (Err Wires)
+never_dials_so plan caller a l minds address p =
+    never_dials plan caller (around a) (around l) minds a.words l.words address (ap (λ (z : SinkState). z.held) (p.sink.rests refl)) (told_call a.wires.calls l.wires.calls (DialledSo address None) (wires.Dials address None) refl p.wires.calls)
+    (ap (λ (z : ClockState). z.answers) (p.clock.rests refl)) (called_words a l (DialledSo address None) p) (p.wires.turn_faults.rose refl)
+
 -- all of them, of the plan that the caller has
-pub dials_on : {K W C : Type 0} (k : sink_of.Ghosts K) (w : wires_of.Ghosts W) (c : clock_of.Ghosts C) (held holds : K) (wired now : W) (asked asks : C)
-    (plan plan' : Plan) (caller : Caller) (address : List ℕ) (minds : List Mind) (words left : Stream) (r : Result Served LoopFault) → plan ≡ plan'
-    → Dials plan caller (around_at k w c held wired asked) (around_at k w c holds now asks) minds words left address r → (k.state held).faults ≤ (k.state holds).faults
-    → DialsOn k w c held holds wired now asked asks plan' caller address minds words left r
-dials_on k w c held holds wired now asked asks plan plan' caller address minds words left r same p later =
-    let a = around_at k w c held wired asked in
-    let b = around_at k w c holds now asks in
-    let q : Dials plan' caller a b minds words left address r = subst (λ z. Dials z caller a b minds words left address r) same p in
+pub dials_on : (before now : Told) (plan plan' : Plan) (caller : Caller) (address : List ℕ) (minds : List Mind) (r : Result Served LoopFault) → plan ≡ plan'
+    → Dials plan caller (around before) (around now) minds before.words now.words address r → before.sink.faults ≤ now.sink.faults
+    → DialsOn before now plan' caller address minds r
+dials_on before now plan plan' caller address minds r same p later =
+    let a = around before in
+    let b = around now in
+    let q : Dials plan' caller a b minds before.words now.words address r = subst (λ z. Dials z caller a b minds before.words now.words address r) same p in
     record {
-      served = dialled_of plan' caller a b minds words left address r q;
-      wires = dial_failed_of plan' caller a b minds words left address r q;
-      rose = dial_rose_of plan' caller a b minds words left address r q;
-      sink = dial_off_of plan' caller a b minds words left address r q;
-      sunk = dial_sunk_of plan' caller a b minds words left address r q;
-      memory = dial_memory_of plan' caller a b minds words left address r q;
+      served = dialled_of plan' caller a b minds before.words now.words address r q;
+      wires = dial_failed_of plan' caller a b minds before.words now.words address r q;
+      rose = dial_rose_of plan' caller a b minds before.words now.words address r q;
+      sink = dial_off_of plan' caller a b minds before.words now.words address r q;
+      sunk = dial_sunk_of plan' caller a b minds before.words now.words address r q;
+      memory = dial_memory_of plan' caller a b minds before.words now.words address r q;
       sink_count = later;
     }

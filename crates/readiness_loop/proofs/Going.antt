@@ -11,8 +11,9 @@ use Rattle.loop_model.specs.Loops.{Plan, Loop, rules_of, before, Halt, OnClosed,
 use Rattle.loop_model.specs.Parts.{opened_in, opened_by, Rises, newest}
 use Rattle.loop_session.specs.declared.loop_fault.LoopFault.{LoopFault}
 use Rattle.loop_session.specs.declared.loop_fault.LoopFault.TheVariants.{Wires, Sink, NoMemory}
-use Rattle.loop_io.specs.Acting.{Acted, BreaksAt, Did, Stopped}
+use Rattle.loop_io.specs.Acting.{BeganDeeds, Acted, BreaksAt, ActedSo, Stopped}
 use Rattle.loop_io.specs.Seeing.{Seen}
+use Rattle.loop_io.specs.DeedSteps.{began_more, began_behind}
 use Rattle.readiness_loop.specs.declared.live_loop.Next.{Next}
 use Rattle.readiness_loop.specs.Cuts.{cut_behind_part, LiesIn}
 use Rattle.readiness_loop.specs.Courses.{Around, HasComeFromCourse, Went, WentOff, LiesBehind, LiesInTurn, Turned, Turns, halt_of, course_of}
@@ -31,7 +32,7 @@ readied_to plan l n asked first ss = record {
 }
 
 readied_acted : (plan : Plan) (a m : Seen) (l : Loop KEnd) (ss : List (Session KEnd)) (n first at : ℕ) (asked : List ℕ) (t : Turn)
-    → at ≡ max l.moment first → (did : Did a m ss (before kept_ends (rules_of plan) at l.sessions))
+    → at ≡ max l.moment first → (did : ActedSo a m ss (before kept_ends (rules_of plan) at l.sessions))
     → Acted a m (readied_to plan l n asked first ss) (readied kept_ends plan (course_of l n asked) (record t { first = first; sweeps = did.answers }))
 unfolding readied
 readied_acted plan a m l ss n first at asked t moment did =
@@ -46,7 +47,7 @@ unfolding readied
 readied_opens plan c x = before_opens kept_ends (rules_of plan) (max c.loop.moment x.first) c.loop.sessions x.sweeps
 
 pub go_came : (plan : Plan) (a m b : Around) (l new : Loop KEnd) (ss : List (Session KEnd)) (n count first at : ℕ) (asked : List ℕ) (h : Option Halt)
-    → at ≡ max l.moment first → Grew a.asked m.asked (first ∷ []) → Did a.seen m.seen ss (before kept_ends (rules_of plan) at l.sessions)
+    → at ≡ max l.moment first → Grew a.asked m.asked (first ∷ []) → ActedSo a.seen m.seen ss (before kept_ends (rules_of plan) at l.sessions)
     → m.newest ≡ a.newest → m.turns_failed ≡ a.turns_failed → m.listening ≡ a.listening → None ≡ halt_by plan ss
     → Went (turned_unless kept_ends None plan (course_of (record l { sessions = ss; moment = at }) n (asked ++ first ∷ []))) m b
     (course_of (record l { sessions = ss; moment = at }) n (asked ++ first ∷ [])) new count h
@@ -85,9 +86,9 @@ go_came plan a m b l new ss n count first at asked h moment clock did top fails 
     }
 
 pub go_off : (plan : Plan) (a m b : Around) (l : Loop KEnd) (ss : List (Session KEnd)) (n first at : ℕ) (asked : List ℕ) (fault : LoopFault)
-    → at ≡ max l.moment first → Did a.seen m.seen ss (before kept_ends (rules_of plan) at l.sessions) → m.newest ≡ a.newest → None ≡ halt_by plan ss
-    → WentOff (LiesBehind plan m.newest (course_of (record l { sessions = ss; moment = at }) n (asked ++ first ∷ []))) m b fault
-    → WentOff (LiesInTurn plan a.newest (course_of l n asked)) a b fault
+    → at ≡ max l.moment first → ActedSo a.seen m.seen ss (before kept_ends (rules_of plan) at l.sessions) → m.newest ≡ a.newest → None ≡ halt_by plan ss
+    → WentOff (turned_unless kept_ends None plan (course_of (record l { sessions = ss; moment = at }) n (asked ++ first ∷ []))) (LiesBehind plan m.newest (course_of (record l { sessions = ss; moment = at }) n (asked ++ first ∷ []))) m b fault
+    → WentOff (went kept_ends plan (course_of l n asked)) (LiesInTurn plan a.newest (course_of l n asked)) a b fault
 unfolding went
 go_off plan a m b l ss n first at asked fault moment did top none q =
     let x : Turn = record q.answers { first = first; sweeps = did.answers } in
@@ -111,10 +112,13 @@ go_off plan a m b l ss n first at asked fault moment did top none q =
         rises = subst (λ z. Rises z (opened_by x.happening)) top q'.rises;
       };
       broke = broke_behind a.seen m.seen b.seen (readied_to plan l n asked first ss) r q.cut fault acted q.broke;
+      began = began_behind a.seen.told m.seen.told b.seen.told r.order (turned_unless kept_ends r.state.halt plan r.state x).order fault acted.did
+          (subst (λ (z : Option Halt). BeganDeeds m.seen.told b.seen.told (turned_unless kept_ends z plan r.state x).order fault) on
+          (subst (λ (z : Course KEnd). BeganDeeds m.seen.told b.seen.told (turned_unless kept_ends None plan z x).order fault) there q.began));
     }
 
 pub go_on : (plan : Plan) (a m b : Around) (l new : Loop KEnd) (ss : List (Session KEnd)) (n count first at : ℕ) (asked : List ℕ) (r : Result Next LoopFault)
-    → at ≡ max l.moment first → Grew a.asked m.asked (first ∷ []) → Did a.seen m.seen ss (before kept_ends (rules_of plan) at l.sessions)
+    → at ≡ max l.moment first → Grew a.asked m.asked (first ∷ []) → ActedSo a.seen m.seen ss (before kept_ends (rules_of plan) at l.sessions)
     → m.newest ≡ a.newest → m.turns_failed ≡ a.turns_failed → m.listening ≡ a.listening → None ≡ halt_by plan ss
     → Turned plan m b (course_of (record l { sessions = ss; moment = at }) n (asked ++ first ∷ [])) new count r
     → Turns plan a b (course_of l n asked) new count r
@@ -131,7 +135,7 @@ go_on plan a m b l new ss n count first at asked (Err (NoMemory want)) moment cl
 -- what comes before the turn broke off
 before_off : (plan : Plan) (a b : Around) (l : Loop KEnd) (n first at : ℕ) (asked : List ℕ) (fault : LoopFault)
     → at ≡ max l.moment first → Stopped a.seen b.seen (before kept_ends (rules_of plan) at l.sessions) fault
-    → WentOff (LiesInTurn plan a.newest (course_of l n asked)) a b fault
+    → WentOff (went kept_ends plan (course_of l n asked)) (LiesInTurn plan a.newest (course_of l n asked)) a b fault
 unfolding readied went
 before_off plan a b l n first at asked fault moment p =
     let x : Turn = record nothing_comes { first = first; sweeps = p.answers } in
@@ -147,6 +151,7 @@ before_off plan a b l n first at asked fault moment p =
         rises = tt;
       };
       broke = cut_broke a.seen b.seen o fault breaks;
+      began = began_more a.seen.told b.seen.told o.order (turned_unless kept_ends (readied kept_ends plan c x).state.halt plan (readied kept_ends plan c x).state x).order fault breaks.began;
     }
 
 pub go_stops : (plan : Plan) (a b : Around) (l new : Loop KEnd) (n count first at : ℕ) (asked : List ℕ) (fault : LoopFault)
@@ -158,7 +163,7 @@ go_stops plan a b l new n count first at asked (NoMemory want) moment p = before
 
 -- it closed the one connection of a dial
 pub go_closed : (plan : Plan) (a b : Around) (l : Loop KEnd) (ss : List (Session KEnd)) (n first at : ℕ) (asked : List ℕ)
-    → at ≡ max l.moment first → Grew a.asked b.asked (first ∷ []) → Did a.seen b.seen ss (before kept_ends (rules_of plan) at l.sessions)
+    → at ≡ max l.moment first → Grew a.asked b.asked (first ∷ []) → ActedSo a.seen b.seen ss (before kept_ends (rules_of plan) at l.sessions)
     → b.newest ≡ a.newest → b.turns_failed ≡ a.turns_failed → b.listening ≡ a.listening → Some OnClosed ≡ halt_by plan ss
     → Went (went kept_ends plan (course_of l n asked)) a b (course_of l n asked) (record l { sessions = ss; moment = at }) n (Some OnClosed)
 unfolding went
@@ -201,7 +206,7 @@ pub closed_now : (plan : Plan) (ss : List (Session KEnd)) (n : ℕ) (b : Bool) �
 closed_now plan ss n b p q r = sym (closed_is plan ss n b p q ∙ ap (λ (z : Bool). if z then Some OnClosed else None) r)
 
 pub go_on_from : (plan : Plan) (a m b : Around) (l l1 new : Loop KEnd) (ss : List (Session KEnd)) (n n1 count first at : ℕ) (asked : List ℕ) (r : Result Next LoopFault)
-    → at ≡ max l.moment first → Grew a.asked m.asked (first ∷ []) → Did a.seen m.seen ss (before kept_ends (rules_of plan) at l.sessions)
+    → at ≡ max l.moment first → Grew a.asked m.asked (first ∷ []) → ActedSo a.seen m.seen ss (before kept_ends (rules_of plan) at l.sessions)
     → m.newest ≡ a.newest → m.turns_failed ≡ a.turns_failed → m.listening ≡ a.listening → None ≡ halt_by plan ss
     → l1 ≡ record l { sessions = ss; moment = at } → n1 ≡ n
     → Turned plan m b (course_of l1 n1 (asked ++ first ∷ [])) new count r
@@ -212,7 +217,7 @@ go_on_from plan a m b l l1 new ss n n1 count first at asked r moment clock did t
     (subst (λ z. Turned plan m b (course_of z n1 (asked ++ first ∷ [])) new count r) is q))
 
 pub go_closed_from : (plan : Plan) (a b : Around) (l l1 : Loop KEnd) (ss : List (Session KEnd)) (n n1 first at : ℕ) (asked : List ℕ)
-    → at ≡ max l.moment first → Grew a.asked b.asked (first ∷ []) → Did a.seen b.seen ss (before kept_ends (rules_of plan) at l.sessions)
+    → at ≡ max l.moment first → Grew a.asked b.asked (first ∷ []) → ActedSo a.seen b.seen ss (before kept_ends (rules_of plan) at l.sessions)
     → b.newest ≡ a.newest → b.turns_failed ≡ a.turns_failed → b.listening ≡ a.listening → Some OnClosed ≡ halt_by plan ss
     → l1 ≡ record l { sessions = ss; moment = at } → n1 ≡ n
     → Went (went kept_ends plan (course_of l n asked)) a b (course_of l n asked) l1 n1 (Some OnClosed)

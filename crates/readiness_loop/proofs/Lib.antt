@@ -24,3 +24,6 @@ mod Listening
 mod Calling
 mod Dials
 mod Tellings
+mod Quiets
+mod Recordings
+mod RecordedRuns

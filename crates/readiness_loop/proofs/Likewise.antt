@@ -4,7 +4,7 @@ use Rattle.rand_core.specs.Stream.{Stream}
 use Rattle.er_settings.specs.Ranges.{AllAllowed}
 use Rattle.er_end.specs.KeptEnds.{KEnd}
 use Rattle.er_users.specs.Users.{Mind}
-use Rattle.loop_model.specs.Ends.{EndOps, ModelEnd, model_ends}
+use Rattle.loop_model.specs.Ends.{ModelEnd, model_ends}
 use Rattle.loop_model.specs.Deeds.{signs}
 use Rattle.loop_model.specs.Outs.{Out, acts}
 use Rattle.loop_model.specs.Loops.{Plan, Course, Turn, beginning, went}
@@ -14,7 +14,7 @@ use Rattle.readiness_loop.specs.Cuts.{Cut, LiesIn, cut_behind_part, LiesInRun}
 use Rattle.readiness_loop.proofs.Sweeps.{after}
 use Rattle.readiness_loop.proofs.Cutting.{lies_as}
 use Rattle.readiness_loop.proofs.Planned.{many, run_many, lies_acts}
-use Rattle.readiness_loop.proofs.Running.{acts-append, acts_one}
+use Rattle.readiness_loop.proofs.Running.{acts_last}
 
 -- ---- lists
 
@@ -34,13 +34,6 @@ cancel (x ∷ xs) ys zs p = cancel xs ys zs (ap tail_of p)
 -- one part the same, and both together: so is the other
 pub rest_same : {A : Type 0} (xs ys zs ws : List A) → xs ≡ ys → xs ++ zs ≡ ys ++ ws → zs ≡ ws
 rest_same xs ys zs ws p q = cancel ys zs ws (ap (λ t. t ++ zs) (sym p) ∙ q)
-
--- one turn more
-pub acts_last : {E : Type 0} (o : EndOps E) (plan : Plan) (c : Course E) (turns : List Turn) (x : Turn)
-    → let a = acts (went o plan) c turns in acts (went o plan) c (turns ++ x ∷ []) ≡ after a (went o plan a.state x)
-acts_last o plan c turns x =
-    let a = acts (went o plan) c turns in
-    acts-append (went o plan) c turns (x ∷ []) ∙ ap (after a) (acts_one (went o plan) a.state x)
 
 -- ---- both
 

@@ -1,8 +1,8 @@
 -- A loop that serves: it listens, the header is printed, and it runs.
 use Rattle.er_end.specs.KeptEnds.{KEnd}
 use Rattle.loop_session.specs.Keeping.{kept_ends}
-use Rattle.std.proofs.Common.{◌≡◌, ℕ, ◌+◌, ◌-◌, ◌^◌, ◌<◌, ◌≤◌, min, List, [], ◌∷◌, ◌++◌, Option, Some, Result, Ok, Err, length, refl, sym, ◌∙◌, ap, subst, arith}
-use Rattle.std.specs.Prelude.{true, false, IfOk}
+use Rattle.std.proofs.Common.{◌≡◌, ℕ, ◌+◌, ◌-◌, ◌^◌, ◌<◌, ◌≤◌, min, List, [], ◌∷◌, ◌++◌, Option, Some, Result, Ok, Err, length, refl, sym, ◌∙◌, ap, subst, arith, append-nil}
+use Rattle.std.specs.Prelude.{true, false, IfOk, IsFalse}
 use Rattle.rand_core.specs.Stream.{Stream}
 use Rattle.slab.specs.Slab.{Slab}
 use Rattle.std.specs.BTreeMap.{BTreeMap}
@@ -10,15 +10,19 @@ use Rattle.er_base.specs.LineTexts.{line_text}
 use Rattle.er_base.specs.declared.no_memory.NoMemory.{NoMemory as Want}
 use Rattle.er_settings.specs.Values.{Settings}
 use Rattle.er_settings.specs.Ranges.{AllAllowed}
-use Rattle.er_trace.specs.Texts.{header_words}
+use Rattle.er_trace.specs.Texts.{header_words as header_words_of}
 use Rattle.loop_model.specs.Sessions.{Session}
 use Rattle.er_users.specs.Users.{Mind}
-use Rattle.link_trait.specs.States.{SinkState}
-use Rattle.link_trait.specs.declared.sink.Sink as sink
-use Rattle.link_trait.specs.declared.wires.Wires as wires
-use Rattle.link_trait.specs.declared.clock.Clock as clock
+use Rattle.std.specs.List.{list_any}
+use Rattle.link_trait.specs.States.{SinkState, WiresState, ClockState}
+use Rattle.outside.specs.Acts.{SeenCall, Listened, Act, Wrote, Called, is_call, is_question}
+use Rattle.outside.specs.ActSteps.{call_seen_so, told_call}
+use Rattle.outside.specs.Doings.{Told, Did}
+use Rattle.outside.specs.Scripts.{printing}
+use Rattle.outside.specs.SinkTexts.{nothing_left_by, text_printed_by, text_begun_by}
+use Rattle.outside.specs.Ties.{GrewBy, PutsInSink, AreDrawn}
 use Rattle.link_trait.specs.Outside.{Grew, GrewPart, Rose}
-use Rattle.link_trait.specs.Growth.{grew_nothing, grew_then}
+use Rattle.link_trait.specs.Growth.{grew_nothing, grew_then, part_whole}
 use Rattle.link_trait.specs.Wires.{Call, Listens, Closes, given_of, taken_of}
 use Rattle.loop_model.specs.Ends.{ModelEnd, model_ends}
 use Rattle.loop_model.specs.Journals.{trace_header, text}
@@ -32,19 +36,21 @@ use Rattle.loop_model.specs.Laws.{ConnectionsAreIsolated, JournalIsPrinted, Octe
 use Rattle.loop_model.specs.Points.{OctetsAreHeard, UsersReply}
 use Rattle.loop_model.specs.Told.{UsersHear}
 use Rattle.loop_model.specs.Recordings.{RecordingsReplay}
-use Rattle.loop_session.specs.Parts.{FailedFor, Puts}
+use Rattle.loop_session.specs.Parts.{FailedFor, Breaks, Puts}
+use Rattle.loop_session.specs.Writes.{failed_for}
 use Rattle.loop_session.specs.Standing.{RunsAlike, DialsAlike}
 use Rattle.loop_session.specs.declared.loop_fault.LoopFault.{LoopFault}
 use Rattle.loop_session.specs.declared.loop_fault.LoopFault.TheVariants.{Wires, Sink, NoMemory}
 use Rattle.loop_io.specs.Seeing.{Counts}
 use Rattle.readiness_loop.specs.declared.line_plan.Served.{Served}
 use Rattle.readiness_loop.specs.Claims.{IsPrintedAndCalled, IsLawfulLoop, HasTurns, AreSpoken, UsersHeard, HasServedTurns, HasServed, NotListening, TurnFailed, FailsToServe, IsCutAt, BeforeListening, InServingHeader, InServing, BreaksOffServing, halt_for, ServesOn}
-use Rattle.readiness_loop.specs.Courses.{Around, Went, RanOff, Runs, Serves, loop_outside_of, course_of, loop_of}
-use Rattle.readiness_loop.specs.Lives.{around_at}
+use Rattle.readiness_loop.specs.Courses.{Around, around, Went, RanOff, Runs, Serves, loop_outside_of, course_of, loop_of}
 use Rattle.loop_io.specs.Sequels.{counts_none, counts_then, failed_behind}
 use Rattle.readiness_loop.proofs.Acceptings.{no_sessions}
 use Rattle.readiness_loop.proofs.Planned.{many, lies_acts}
 use Rattle.readiness_loop.proofs.Likewise.{begin_same, lies_in_run}
+use Rattle.readiness_loop.proofs.Quiets.{called_words}
+use Rattle.readiness_loop.proofs.Recordings.{HeaderBegun, NoneOfIt, AllOfIt, FailedAt, header_begun}
 use Rattle.readiness_loop.proofs.Shown.{Shown, shown}
 use Rattle.readiness_loop.proofs.Tellings.{same_first, told_first, lies_with, rises_before, rises_with}
 
@@ -79,7 +85,7 @@ pub rises_low : (low from : ℕ) (ns : List ℕ) → low ≤ from → Rises from
 rises_low low from [] p q = tt
 rises_low low from (n ∷ ns) p q = (let h : from < n = q.0 in omega (arith, p, h), q.1)
 
-is_serving : (plan : Plan) (m b : Around) (minds : List Mind) (words : Stream) (turns : List Turn) (count : ℕ) (why : Option Halt)
+pub is_serving : (plan : Plan) (m b : Around) (minds : List Mind) (words : Stream) (turns : List Turn) (count : ℕ) (why : Option Halt)
     → AllAllowed plan.settings → Shown m b (run model_ends plan (beginning minds words) turns) count why
     → IsServing plan (beginning minds words) turns
 is_serving plan m b minds words turns count why allowed s = record {
@@ -296,15 +302,98 @@ never_listens plan a b minds words left address held told asked same rose = (
 
 -- ---- as a function has them
 
-pub header_put : {T : Type 0} (h i : SinkState) (settings : Settings) (before now line : List ℕ) (r : Result T LoopFault)
-    → before ≡ [] → now ≡ before ++ line_text (header_words settings) → line ≡ now → Puts h i line r → Puts h i (trace_header settings) r
-unfolding trace_header
-header_put h i settings before now line r none more is p =
-    subst (λ z. Puts h i z r) (is ∙ more ∙ ap (λ z. z ++ line_text (header_words settings)) none) p
+none_called : (line : List ℕ) → IsFalse (list_any is_call (printing line))
+none_called [] = refl
+none_called (octet ∷ octets) = refl
 
-pub start_is : (slots : Slab (Session KEnd)) (places : BTreeMap ℕ ℕ) (users minds : List Mind) (m : ℕ) (words : Stream)
-    → places.entries ≡ [] → users ≡ minds → m ≡ 0 → loop_of slots places users m words ≡ (beginning minds words).loop
-start_is slots places users minds m words none same zero = rw (no_sessions slots places none, same, zero) refl
+none_asked : (line : List ℕ) → IsFalse (list_any is_question (printing line))
+none_asked [] = refl
+none_asked (octet ∷ octets) = refl
+
+header_printed : (line : List ℕ) (l m : Told) → Did l m (printing line) → Grew l.sink.held m.sink.held line
+header_printed line l m q =
+    text_printed_by l.sink.held m.sink.held line (subst (λ (z : List Act). GrewBy PutsInSink l.sink.held m.sink.held z) (sym (append-nil (printing line))) q.sink.held)
+
+pub begun_so : (plan : Plan) (call : Call) (first : SeenCall) (a l m : Told) → call_seen_so first ≡ Some call → Did a l (Called first ∷ []) → Did l m (printing (trace_header plan.settings))
+    → HasBegun plan call (around a) (around m)
+begun_so plan call first a l m is p q = record {
+  text = subst (λ (z : SinkState). Grew z.held m.sink.held (trace_header plan.settings)) (p.sink.rests refl) (header_printed (trace_header plan.settings) l m q);
+  calls = subst (λ (z : WiresState). Grew a.wires.calls z.calls (call ∷ [])) (sym (q.wires.rests (none_called (trace_header plan.settings)))) (told_call a.wires.calls l.wires.calls first call is p.wires.calls);
+  sunk = (let x : a.sink.faults ≤ l.sink.faults = p.sink.faults.later in let y : l.sink.faults ≤ m.sink.faults = q.sink.faults.later in omega (arith, x, y));
+  failed = (let x : a.wires.faults ≤ l.wires.faults = p.wires.faults.later in let y : l.wires.faults ≤ m.wires.faults = q.wires.faults.later in omega (arith, x, y));
+  turns_failed = (let x : a.wires.turn_faults ≤ l.wires.turn_faults = p.wires.turn_faults.later in let y : l.wires.turn_faults ≤ m.wires.turn_faults = q.wires.turn_faults.later in omega (arith, x, y));
+  asked = ap (λ (z : ClockState). z.answers) (q.clock.rests (none_asked (trace_header plan.settings)) ∙ p.clock.rests refl);
+}
+
+-- the wires behind the header
+pub header_wires : (line : List ℕ) (l m : Told) → Did l m (printing line) → m.wires ≡ l.wires
+header_wires line l m q = q.wires.rests (none_called line)
+
+words_left : (l m : Told) → Did l m [] → m.words ≡ l.words
+unfolding AreDrawn
+words_left l m q = q.words
+
+words_behind_write : (l m : Told) (piece : List ℕ) → Did l m (Wrote piece true ∷ []) → m.words ≡ l.words
+unfolding AreDrawn
+words_behind_write l m piece q = q.words
+
+pub header_words : (line : List ℕ) (l m : Told) → Did l m (printing line) → m.words ≡ l.words
+header_words [] l m q = words_left l m q
+header_words (octet ∷ octets) l m q = words_behind_write l m (octet ∷ octets) q
+
+-- what a header that broke off left
+pub record HeaderLeft (line : List ℕ) (l m : Told) : Type 0 where
+  pub wires : m.wires ≡ l.wires
+  pub held : GrewPart l.sink.held m.sink.held line
+
+pub header_left : (line : List ℕ) (l m : Told) (fault : LoopFault) → Breaks l m (printing line) fault → HeaderLeft line l m
+header_left line l m fault p = at p.acts p.did (header_begun line fault p.acts p.begun)
+  where
+    nothing : Did l m [] → HeaderLeft line l m
+    nothing q = record { wires = q.wires.rests refl; held = record { part = []; rest = line; is = refl; grew = nothing_left_by l.sink.held m.sink.held q.sink.held } }
+
+    failed : Did l m (Wrote line false ∷ []) → HeaderLeft line l m
+    failed q = record { wires = q.wires.rests refl; held = text_begun_by l.sink.held m.sink.held line q.sink.held }
+
+    at : (acts : List Act) → Did l m acts → HeaderBegun line acts → HeaderLeft line l m
+    at acts q (NoneOfIt e) = nothing (subst (λ (z : List Act). Did l m z) e q)
+    at acts q (AllOfIt e) =
+        let d : Did l m (printing line) = subst (λ (z : List Act). Did l m z) e q in
+        record { wires = header_wires line l m d; held = part_whole l.sink.held m.sink.held line (header_printed line l m d) }
+    at acts q (FailedAt e) = failed (subst (λ (z : List Act). Did l m z) e q)
+
+-- behind the first call
+pub header_left_behind : (line : List ℕ) (a l m : Told) (call : Call) (first : SeenCall) (fault : LoopFault) → call_seen_so first ≡ Some call → Did a l (Called first ∷ []) → Breaks l m (printing line) fault
+    → Grew a.wires.calls m.wires.calls (call ∷ []) × (a.wires.faults ≤ m.wires.faults) × GrewPart a.sink.held m.sink.held line × FailedFor fault a.sink.faults m.sink.faults
+header_left_behind line a l m call first fault is p q =
+    let left = header_left line l m fault q in
+    let same : l.sink ≡ a.sink = p.sink.rests refl in (
+      subst (λ (z : WiresState). Grew a.wires.calls z.calls (call ∷ [])) (sym left.wires) (told_call a.wires.calls l.wires.calls first call is p.wires.calls),
+      (let x : a.wires.faults ≤ l.wires.faults = p.wires.faults.later in let y : l.wires.faults ≤ m.wires.faults = q.did.wires.faults.later in omega (arith, x, y)),
+      subst (λ (z : SinkState). GrewPart z.held m.sink.held line) same left.held,
+      subst (λ (z : SinkState). FailedFor fault z.faults m.sink.faults) same (failed_for l m (printing line) fault q),
+    )
+
+pub header_stops_so : (plan : Plan) (a l m : Told) (minds : List Mind) (words left : Stream) (address : List ℕ) (fault : LoopFault)
+    → Did a l (Called (Listened address true) ∷ []) → Breaks l m (printing (trace_header plan.settings)) fault → Serves plan (around a) (around m) minds words left address (Err fault)
+header_stops_so plan a l m minds words left address fault p q =
+    let h = header_left_behind (trace_header plan.settings) a l m (Listens address true) (Listened address true) fault refl p q in
+    header_stops plan (around a) (around m) minds words left address fault h.0 h.1 h.2 h.3
+
+pub never_listens_so : (plan : Plan) (a l : Told) (minds : List Mind) (address : List ℕ) → Did a l (Called (Listened address false) ∷ []) → Serves plan (around a) (around l) minds a.words l.words address (Err Wires)
+never_listens_so plan a l minds address p =
+    never_listens plan (around a) (around l) minds a.words l.words address (ap (λ (z : SinkState). z.held) (p.sink.rests refl)) (told_call a.wires.calls l.wires.calls (Listened address false) (Listens address false) refl p.wires.calls)
+    (ap (λ (z : ClockState). z.answers) (p.clock.rests refl)) (called_words a l (Listened address false) p) (p.wires.turn_faults.rose refl)
+
+pub header_put : {T : Type 0} (a b : Told) (settings : Settings) (before now line : List ℕ) (r : Result T LoopFault)
+    → before ≡ [] → now ≡ before ++ line_text (header_words_of settings) → line ≡ now → Puts a b (printing line) r → Puts a b (printing (trace_header settings)) r
+unfolding trace_header
+header_put a b settings before now line r none more is p =
+    subst (λ z. Puts a b (printing z) r) (is ∙ more ∙ ap (λ z. z ++ line_text (header_words_of settings)) none) p
+
+pub start_is : (slots : Slab (Session KEnd)) (places : BTreeMap ℕ ℕ) (users minds : List Mind) (m : ℕ) (words first : Stream)
+    → places.entries ≡ [] → users ≡ minds → m ≡ 0 → words ≡ first → loop_of slots places users m words ≡ (beginning minds first).loop
+start_is slots places users minds m words first none same zero drawn = rw (no_sessions slots places none, same, zero, drawn) refl
 
 pub serve_ran_from : (laws : Laws) (plan : Plan) (a m b : Around) (minds : List Mind) (words left : Stream) (address : List ℕ) (l new : Loop KEnd) (count : ℕ) (r : Result Served LoopFault)
     → AllAllowed plan.settings → HasBegun plan (Listens address true) a m → l ≡ (beginning minds words).loop
@@ -340,20 +429,19 @@ pub memory_of : (plan : Plan) (a b : Around) (minds : List Mind) (words left : S
 memory_of plan a b minds words left address r p want is = (subst (λ z. Serves plan a b minds words left address z) is p).0
 
 -- all of them, of the plan that the caller has
-pub serves_on : {K W C : Type 0} (k : sink.Ghosts K) (w : wires.Ghosts W) (c : clock.Ghosts C) (held holds : K) (wired now : W) (asked asks : C)
-    (plan plan' : Plan) (address : List ℕ) (minds : List Mind) (words left : Stream) (r : Result Served LoopFault) → plan ≡ plan'
-    → Serves plan (around_at k w c held wired asked) (around_at k w c holds now asks) minds words left address r → (k.state held).faults ≤ (k.state holds).faults
-    → ServesOn k w c held holds wired now asked asks plan' address minds words left r
-serves_on k w c held holds wired now asked asks plan plan' address minds words left r same p later =
-    let a = around_at k w c held wired asked in
-    let b = around_at k w c holds now asks in
-    let q : Serves plan' a b minds words left address r = subst (λ z. Serves z a b minds words left address r) same p in
+pub serves_on : (before now : Told) (plan plan' : Plan) (address : List ℕ) (minds : List Mind) (r : Result Served LoopFault) → plan ≡ plan'
+    → Serves plan (around before) (around now) minds before.words now.words address r → before.sink.faults ≤ now.sink.faults
+    → ServesOn before now plan' address minds r
+serves_on before now plan plan' address minds r same p later =
+    let a = around before in
+    let b = around now in
+    let q : Serves plan' a b minds before.words now.words address r = subst (λ z. Serves z a b minds before.words now.words address r) same p in
     record {
-      served = served_of plan' a b minds words left address r q;
-      wires = failed_of plan' a b minds words left address r q;
-      rose = rose_of plan' a b minds words left address r q;
-      sink = off_of plan' a b minds words left address r q;
-      sunk = sunk_of plan' a b minds words left address r q;
-      memory = memory_of plan' a b minds words left address r q;
+      served = served_of plan' a b minds before.words now.words address r q;
+      wires = failed_of plan' a b minds before.words now.words address r q;
+      rose = rose_of plan' a b minds before.words now.words address r q;
+      sink = off_of plan' a b minds before.words now.words address r q;
+      sunk = sunk_of plan' a b minds before.words now.words address r q;
+      memory = memory_of plan' a b minds before.words now.words address r q;
       sink_count = later;
     }

@@ -10,6 +10,8 @@ use Rattle.loop_model.specs.Loops.{Plan, Loop, Halt, OnFailed, Course, Turn, wen
 use Rattle.loop_model.specs.Parts.{opened_in, opened_by, Rises, newest}
 use Rattle.loop_session.specs.declared.loop_fault.LoopFault.{LoopFault}
 use Rattle.loop_session.specs.declared.loop_fault.LoopFault.TheVariants.{Wires, Sink, NoMemory}
+use Rattle.loop_io.specs.Acting.{BeganDeeds}
+use Rattle.loop_io.specs.DeedSteps.{began_behind}
 use Rattle.readiness_loop.specs.declared.live_loop.Next.{Next}
 use Rattle.readiness_loop.specs.Cuts.{cut_behind_part, LiesIn}
 use Rattle.readiness_loop.specs.Courses.{Around, HasComeFromCourse, Went, WentOff, LiesInTurn, RanOff, Turns, Runs, course_of, halt_of}
@@ -35,6 +37,13 @@ acts-append f s (x ∷ xs) ys =
 pub acts_one : {S A : Type 0} (f : S → A → Out S) (s : S) (x : A) → acts f s (x ∷ []) ≡ f s x
 unfolding acts
 acts_one f s x = let o = f s x in rw (append-nil o.entries, append-nil o.calls, append-nil o.order) refl
+
+-- one turn more
+pub acts_last : {E : Type 0} (o : EndOps E) (plan : Plan) (c : Course E) (turns : List Turn) (x : Turn)
+    → let a = acts (went o plan) c turns in acts (went o plan) c (turns ++ x ∷ []) ≡ after a (went o plan a.state x)
+acts_last o plan c turns x =
+    let a = acts (went o plan) c turns in
+    acts-append (went o plan) c turns (x ∷ []) ∙ ap (after a) (acts_one (went o plan) a.state x)
 
 -- where the loop has halted, nothing comes any more
 halted_went : {E : Type 0} (o : EndOps E) (plan : Plan) (c : Course E) (why : Halt) (x : Turn) → c.halt ≡ Some why → went o plan c x ≡ still c
@@ -171,7 +180,7 @@ ran_all plan a b c l n many p is = record {
 
 pub ran_off : (plan : Plan) (a m b : Around) (c : Course KEnd) (l : Loop KEnd) (n many : ℕ) (fault : LoopFault)
     → RanSome plan a m c l n many → many + 1 ≤ plan.turns
-    → ((asked : List ℕ) → WentOff (LiesInTurn plan m.newest (course_of l n asked)) m b fault)
+    → ((asked : List ℕ) → WentOff (went kept_ends plan (course_of l n asked)) (LiesInTurn plan m.newest (course_of l n asked)) m b fault)
     → RanOff plan a b c fault
 unfolding lies_acts
 ran_off plan a m b c l n many fault p fits q =
@@ -184,6 +193,9 @@ ran_off plan a m b c l n many fault p fits q =
       rises = subst (λ (z : Out (Course KEnd)). Rises a.newest (opened_in z.calls ++ opened_by t.answers.happening)) (sym (run_many kept_ends plan c p.answers))
           (rises-append a.newest (opened_in o.calls) (opened_by t.answers.happening) p.is.rises (subst (λ z. Rises z (opened_by t.answers.happening)) p.is.opened t.lies.rises));
       broke = broke_behind a.seen m.seen b.seen o.state o t.cut fault p.is.acted t.broke;
+      began = subst (λ (z : Out (Course KEnd)). BeganDeeds a.seen.told b.seen.told z.order fault) (sym (run_many kept_ends plan c (p.answers ++ t.answers ∷ []) ∙ acts_last kept_ends plan c p.answers t.answers))
+          (began_behind a.seen.told m.seen.told b.seen.told o.order (went kept_ends plan o.state t.answers).order fault p.is.acted.did
+          (subst (λ (z : Course KEnd). BeganDeeds m.seen.told b.seen.told (went kept_ends plan z t.answers).order fault) (course_is a m c l n o p.is) t.began));
     }
 
 -- ---- the same, by the facts as a function has them

@@ -13,7 +13,7 @@ use Rattle.loop_model.specs.Loops.{visit_at, swept, numbers, until}
 use Rattle.loop_session.specs.declared.loop_fault.LoopFault.{LoopFault}
 use Rattle.loop_session.specs.declared.loop_fault.LoopFault.TheVariants.{NoMemory}
 use Rattle.er_base.specs.declared.no_memory.NoMemory.{NoMemory as Want}
-use Rattle.loop_io.specs.Acting.{Acted, BreaksAt, Did, Stopped, DoesLoopPart}
+use Rattle.loop_io.specs.Acting.{Acted, BreaksAt, ActedSo, Stopped, DoesLoopPart}
 use Rattle.loop_io.specs.Seeing.{Seen}
 use Rattle.readiness_loop.specs.Books.{seat, seats, sessions_at, IsSeat, AreSeated}
 use Rattle.loop_io.specs.Sequels.{breaks_first, breaks_wanted}
@@ -72,7 +72,7 @@ unfolding swept
 one_swept f n ss a = let x = visit_at f n ss a in rw (append-nil x.entries, append-nil x.calls, append-nil x.order) refl
 
 pub swept_more : (a b c : Seen) (f : Session KEnd → Met → Out (List (Session KEnd))) (ns : List ℕ) (i n : ℕ) (ss now then_ : List (Session KEnd))
-    → SweptSome a b f ns i ss now → slice_get ns i ≡ Some n → Did b c then_ (visit_at f n now)
+    → SweptSome a b f ns i ss now → slice_get ns i ≡ Some n → ActedSo b c then_ (visit_at f n now)
     → SweptSome a c f ns (suc i) ss then_
 swept_more a b c f ns i n ss now then_ p at q =
     let same : length p.answers ≡ length (take i ns) = p.count ∙ sym (taken ns i n at) in
@@ -89,7 +89,7 @@ swept_more a b c f ns i n ss now then_ p at q =
     }
 
 pub swept_all : (a b : Seen) (f : Session KEnd → Met → Out (List (Session KEnd))) (ns : List ℕ) (i : ℕ) (ss now : List (Session KEnd))
-    → SweptSome a b f ns i ss now → length ns ≤ i → Did a b now (swept f ns ss)
+    → SweptSome a b f ns i ss now → length ns ≤ i → ActedSo a b now (swept f ns ss)
 swept_all a b f ns i ss now p q = record { answers = p.answers; is = subst (λ z. Acted a b now (swept f z ss p.answers)) (take_beyond ns i q) p.is }
   where
     take_beyond : (ns : List ℕ) (i : ℕ) → length ns ≤ i → take i ns ≡ ns
@@ -153,7 +153,7 @@ pub want_stopped : (a : Seen) (model : List Met → Out (List (Session KEnd))) (
 want_stopped a model want = record { answers = []; breaks = breaks_wanted a (model []) want }
 
 pub swept_next : (a b c : Seen) (f : Session KEnd → Met → Out (List (Session KEnd))) (ns : List ℕ) (i n : ℕ) (ss now then_ : List (Session KEnd))
-    → SweptSome a b f ns i ss now → slice_get ns i ≡ Some n → Did b c then_ (visit_at f n now)
+    → SweptSome a b f ns i ss now → slice_get ns i ≡ Some n → ActedSo b c then_ (visit_at f n now)
     → SweptSome a c f ns (i + 1) ss then_
 swept_next a b c f ns i n ss now then_ p at q =
     let one : suc i ≡ i + 1 = omega arith in

@@ -21,7 +21,7 @@ use Rattle.readiness_loop.proofs.Planned.{run_many}
 use Rattle.readiness_loop.proofs.Openings.{opened_in-append}
 use Rattle.readiness_loop.proofs.Going.{readied_opens}
 use Rattle.readiness_loop.proofs.Turning.{happened_opens}
-use Rattle.readiness_loop.proofs.Likewise.{acts_last}
+use Rattle.readiness_loop.proofs.Running.{acts_last}
 
 -- ---- a place among deeds
 
@@ -101,7 +101,7 @@ place (Printing x ∷ ds) cut rest p = at (seam cut rest (octet_signs (entry_tex
           all = ap (λ k. Printing x ∷ k) f.all;
         }
 
-silent_front : (n : ℕ) (ds es : List LoopDeed) → IsSilentOnConnection n (ds ++ es) → IsSilentOnConnection n ds
+pub silent_front : (n : ℕ) (ds es : List LoopDeed) → IsSilentOnConnection n (ds ++ es) → IsSilentOnConnection n ds
 unfolding of calls_at entries_in calls_in
 silent_front n [] es p = (refl, refl)
 silent_front n (Printing x ∷ ds) es p =

@@ -6,12 +6,9 @@ use Rattle.des_block.specs.declared.triple_key.TripleKey.{TripleKey}
 use Rattle.safety_automaton.specs.Keys as keys
 use Rattle.er_base.specs.declared.no_memory.NoMemory.{NoMemory as Want}
 use Rattle.er_users.specs.Users.{Mind}
-use Rattle.link_trait.specs.States.{SinkState, WiresState, ClockState}
 use Rattle.link_trait.specs.Outside.{Grew, Rose}
-use Rattle.link_trait.specs.declared.sink.Sink as sink
-use Rattle.link_trait.specs.declared.wires.Wires as wires
-use Rattle.link_trait.specs.declared.clock.Clock as clock
 use Rattle.link_trait.specs.Wires.{Call, Listens, Dials}
+use Rattle.outside.specs.Doings.{Told}
 use Rattle.loop_model.specs.Ends.{ModelEnd, model_ends}
 use Rattle.loop_model.specs.Grammar.{AreInGrammar}
 use Rattle.loop_model.specs.Journals.{trace_header}
@@ -27,7 +24,7 @@ use Rattle.loop_model.specs.Told.{HasUserHeard}
 use Rattle.loop_model.specs.Recordings.{IsReplayed}
 use Rattle.loop_session.specs.declared.loop_fault.LoopFault.{LoopFault}
 use Rattle.loop_session.specs.declared.loop_fault.LoopFault.TheVariants as fault
-use Rattle.loop_io.specs.Seeing.{Seen, seen, AreAnsweredSo, Counts}
+use Rattle.loop_io.specs.Seeing.{AreAnsweredSo, Counts}
 use Rattle.readiness_loop.specs.Cuts.{Cut, LiesIn, cut_behind_part, IsToldFirst, with_turns, LiesInRun}
 use Rattle.readiness_loop.specs.declared.line_plan.LinePlan.{LinePlan}
 use Rattle.readiness_loop.specs.declared.line_plan.Served.{Served}
@@ -58,29 +55,32 @@ caller_of engine kmac = record { engine = engine; kmac = kmac }
 -- the sink: what it holds, and how often it failed; the wires: the calls, how often they failed, and whether they listen; the clock: its
 -- answers
 pub record LoopOutside : Type 0 where
-  pub seen : Seen
+  pub held : Option (List ℕ)
+  pub sunk : ℕ
+  pub calls : Option (List Call)
+  pub failed : ℕ
   pub listening : Bool
   pub clock : Option (List ℕ)
 
 -- all that a loop prints and calls was printed and called: behind the header, where that was printed; and the clock was asked so
 pub record IsPrintedAndCalled (before now : LoopOutside) (began : Bool) (plan : Plan) (o : Out (Course ModelEnd)) : Type 0 where
-  pub text : Grew before.seen.held now.seen.held (printed began plan o.entries)
-  pub calls : Grew before.seen.calls now.seen.calls o.calls
+  pub text : Grew before.held now.held (printed began plan o.entries)
+  pub calls : Grew before.calls now.calls o.calls
   pub clock : Grew before.clock now.clock o.state.asked
   -- as wires answer: no read gave too much, or nothing where octets wait
   pub answered : AreAnsweredSo o.calls
   -- each event `fault` is one that the wires counted
-  pub faults : min (before.seen.failed + faults o.entries) (2 ^ 64 - 1) ≤ now.seen.failed
+  pub faults : min (before.failed + faults o.entries) (2 ^ 64 - 1) ≤ now.failed
   -- each event line is in the grammar of traces
   pub in_grammar : AreInGrammar o.entries
 
 -- it broke off: this was printed and called, and nothing else
 pub record IsCutAt (before now : LoopOutside) (printed : List ℕ) (called : List Call) : Type 0 where
-  pub text : Grew before.seen.held now.seen.held printed
-  pub calls : Grew before.seen.calls now.seen.calls called
+  pub text : Grew before.held now.held printed
+  pub calls : Grew before.calls now.calls called
   pub answered : AreAnsweredSo called
   -- each read and write that failed is one that the wires counted
-  pub counted : Counts before.seen.failed now.seen.failed called
+  pub counted : Counts before.failed now.failed called
 
 -- ---- what holds of its journal and its calls
 
@@ -124,8 +124,15 @@ halt_for stop.Closed = Some OnClosed
 
 -- ---- the answers
 
-abbrev pub outside : SinkState → WiresState → ClockState → LoopOutside
-outside sink wires clock = record { seen = seen sink wires; listening = wires.listening; clock = clock.answers }
+abbrev pub loop_outside : Told → LoopOutside
+loop_outside told = record {
+  held = told.sink.held;
+  sunk = told.sink.faults;
+  calls = told.wires.calls;
+  failed = told.wires.faults;
+  listening = told.wires.listening;
+  clock = told.clock.answers;
+}
 
 -- a loop that serves, for some answers of the outside: what it printed and called, and how it stopped
 pub record HasServed (before now : LoopOutside) (plan : Plan) (address : List ℕ) (minds : List Mind) (words : Stream) (count : ℕ) (why : Option Halt) : Type 0 where
@@ -141,8 +148,8 @@ pub record HasServed (before now : LoopOutside) (plan : Plan) (address : List �
 
 -- the wires never listened; nothing was printed, and the clock wasn't asked
 pub record NeverListened (before now : LoopOutside) (address : List ℕ) : Type 0 where
-  pub text : Grew before.seen.held now.seen.held []
-  pub calls : Grew before.seen.calls now.seen.calls (Listens address false ∷ [])
+  pub text : Grew before.held now.held []
+  pub calls : Grew before.calls now.calls (Listens address false ∷ [])
   pub clock : Grew before.clock now.clock []
 
 -- either that, and all random words are left; or a turn failed
@@ -187,8 +194,8 @@ pub record HasDialled (before now : LoopOutside) (plan : Plan) (caller : Caller)
   pub alone : before.listening ≡ false → opened_in (dials model_ends plan caller (beginning minds words) address answers).calls ≡ conn ∷ []
 
 pub record NeverDialled (before now : LoopOutside) (address : List ℕ) : Type 0 where
-  pub text : Grew before.seen.held now.seen.held []
-  pub calls : Grew before.seen.calls now.seen.calls (Dials address None ∷ [])
+  pub text : Grew before.held now.held []
+  pub calls : Grew before.calls now.calls (Dials address None ∷ [])
   pub clock : Grew before.clock now.clock []
 
 pub data FailsToDial (before now : LoopOutside) (plan : Plan) (caller : Caller) (address : List ℕ) (minds : List Mind) (words left : Stream) : Type 0 where
@@ -227,37 +234,32 @@ pub data BreaksOffDialling (before now : LoopOutside) (plan : Plan) (caller : Ca
       → IsCutAt before now (trace_header plan.settings ++ text_of cut) (Dials address (Some conn) ∷ calls_of cut)
       → BreaksOffDialling before now plan caller address minds words
 
--- ---- the clauses of both calls, over a sink, wires and a clock
-
-abbrev pub outside_at : {K W C : Type 0} → sink.Ghosts K → wires.Ghosts W → clock.Ghosts C → K → W → C → LoopOutside
-outside_at k w c held wired asked = outside (k.state held) (w.state wired) (c.state asked)
+-- ---- the clauses of both calls, over what the outside tells
 
 -- how a call ends: with Ok it did so much; with an error it failed so, or broke off so, and the count of those faults rose
-pub record Ends {K W : Type 0} (k : sink.Ghosts K) (w : wires.Ghosts W) (held holds : K) (wired now : W) (Did : ℕ → Option Halt → Type 0) (Fails BreaksOff : Type 0) (result : Result Served LoopFault) : Type 0 where
-  pub served : IfOk result (λ served. Did served.turns (halt_for served.why))
+pub record Ends (before now : Told) (Does : ℕ → Option Halt → Type 0) (Fails BreaksOff : Type 0) (result : Result Served LoopFault) : Type 0 where
+  pub served : IfOk result (λ served. Does served.turns (halt_for served.why))
   -- a listen, dial or turn failed
   pub wires : result ≡ Err fault.Wires → Fails
-  pub rose : result ≡ Err fault.Wires → Rose (w.state wired).turn_faults (w.state now).turn_faults
+  pub rose : result ≡ Err fault.Wires → Rose before.wires.turn_faults now.wires.turn_faults
   -- a write of the sink failed
   pub sink : result ≡ Err fault.Sink → BreaksOff
-  pub sunk : result ≡ Err fault.Sink → Rose (k.state held).faults (k.state holds).faults
+  pub sunk : result ≡ Err fault.Sink → Rose before.sink.faults now.sink.faults
   -- memory ran out
   pub memory : (want : Want) → result ≡ Err (fault.NoMemory want) → BreaksOff
   -- the sink's count of faults doesn't fall
-  pub sink_count : (k.state held).faults ≤ (k.state holds).faults
+  pub sink_count : before.sink.faults ≤ now.sink.faults
 
-abbrev pub ServesOn : {K W C : Type 0} → sink.Ghosts K → wires.Ghosts W → clock.Ghosts C → (held holds : K) → (wired now : W) → (asked asks : C)
-    → Plan → List ℕ → List Mind → (words left : Stream) → Result Served LoopFault → Type 0
-ServesOn k w c held holds wired now asked asks plan address minds words left result =
-    Ends k w held holds wired now
-    (HasServed (outside_at k w c held wired asked) (outside_at k w c holds now asks) plan address minds words)
-    (FailsToServe (outside_at k w c held wired asked) (outside_at k w c holds now asks) plan address minds words left)
-    (BreaksOffServing (outside_at k w c held wired asked) (outside_at k w c holds now asks) plan address minds words) result
+abbrev pub ServesOn : (before now : Told) → Plan → List ℕ → List Mind → Result Served LoopFault → Type 0
+ServesOn before now plan address minds result =
+    Ends before now
+    (HasServed (loop_outside before) (loop_outside now) plan address minds before.words)
+    (FailsToServe (loop_outside before) (loop_outside now) plan address minds before.words now.words)
+    (BreaksOffServing (loop_outside before) (loop_outside now) plan address minds before.words) result
 
-abbrev pub DialsOn : {K W C : Type 0} → sink.Ghosts K → wires.Ghosts W → clock.Ghosts C → (held holds : K) → (wired now : W) → (asked asks : C)
-    → Plan → Caller → List ℕ → List Mind → (words left : Stream) → Result Served LoopFault → Type 0
-DialsOn k w c held holds wired now asked asks plan caller address minds words left result =
-    Ends k w held holds wired now
-    (HasDialled (outside_at k w c held wired asked) (outside_at k w c holds now asks) plan caller address minds words)
-    (FailsToDial (outside_at k w c held wired asked) (outside_at k w c holds now asks) plan caller address minds words left)
-    (BreaksOffDialling (outside_at k w c held wired asked) (outside_at k w c holds now asks) plan caller address minds words) result
+abbrev pub DialsOn : (before now : Told) → Plan → Caller → List ℕ → List Mind → Result Served LoopFault → Type 0
+DialsOn before now plan caller address minds result =
+    Ends before now
+    (HasDialled (loop_outside before) (loop_outside now) plan caller address minds before.words)
+    (FailsToDial (loop_outside before) (loop_outside now) plan caller address minds before.words now.words)
+    (BreaksOffDialling (loop_outside before) (loop_outside now) plan caller address minds before.words) result

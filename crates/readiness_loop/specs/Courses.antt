@@ -1,8 +1,8 @@
 -- Representation: how far the loop's code has come, as a course of the model; what is seen of the outside; how a turn and a run of turns end;
 -- no claim rests on it.
 use Rattle.loop_session.specs.Keeping.{kept_ends}
-use Rattle.std.specs.Prelude.{◌≡◌, ℕ, ◌≤◌, ◌<◌, ◌-◌, Bool, true, false, List, [], ◌++◌, Option, Some, None, Result, Ok, Err}
-use Rattle.rand_core.specs.Stream.{Stream, next_u64}
+use Rattle.std.specs.Prelude.{◌≡◌, ℕ, ◌≤◌, ◌<◌, ◌-◌, Bool, true, false, List, [], ◌∷◌, ◌++◌, Option, Some, None, Result, Ok, Err}
+use Rattle.rand_core.specs.Stream.{Stream}
 use Rattle.er_settings.specs.Values.{Settings}
 use Rattle.er_end_model.specs.Ends.{Answer as AnswersWith}
 use Rattle.er_end.specs.KeptEnds.{KEnd, kept_opened}
@@ -12,8 +12,8 @@ use Rattle.slab.specs.Slab.{Slab}
 use Rattle.std.specs.BTreeMap.{BTreeMap}
 use Rattle.safety_automaton.specs.Keys as keys
 use Rattle.er_users.specs.Users.{Mind}
-use Rattle.link_trait.specs.States.{SinkState, WiresState, ClockState}
 use Rattle.link_trait.specs.Outside.{Grew, Rose}
+use Rattle.outside.specs.Doings.{Told}
 use Rattle.loop_model.specs.Deeds.{text_of, calls_of}
 use Rattle.loop_model.specs.Outs.{Out}
 use Rattle.loop_model.specs.Sessions.{Session}
@@ -23,7 +23,7 @@ use Rattle.loop_model.specs.Parts.{opened_in, opened_by, Rises, newest}
 use Rattle.loop_session.specs.declared.loop_fault.LoopFault.{LoopFault}
 use Rattle.loop_session.specs.declared.loop_fault.LoopFault.TheVariants.{Wires, Sink, NoMemory}
 use Rattle.loop_session.specs.Parts.{FailedFor}
-use Rattle.loop_io.specs.Acting.{Acted, BreaksAt}
+use Rattle.loop_io.specs.Acting.{Acted, BreaksAt, BeganDeeds}
 use Rattle.loop_io.specs.Seeing.{Seen, seen, AreAnsweredSo, Counts}
 use Rattle.readiness_loop.specs.declared.loop_plan.LoopPlan.{LoopPlan}
 use Rattle.readiness_loop.specs.declared.line_plan.Served.{Served}
@@ -52,13 +52,13 @@ pub record Around : Type 0 where
   pub listening : Bool
   pub asked : Option (List ℕ)
 
-abbrev pub around : SinkState → WiresState → ClockState → Around
-around sink wires clock = record {
-  seen = seen sink wires;
-  turns_failed = wires.turn_faults;
-  newest = wires.opened;
-  listening = wires.listening;
-  asked = clock.answers;
+abbrev pub around : Told → Around
+around told = record {
+  seen = seen told;
+  turns_failed = told.wires.turn_faults;
+  newest = told.wires.opened;
+  listening = told.wires.listening;
+  asked = told.clock.answers;
 }
 
 -- so far the loop came from a course on, and this is what was printed, called and asked on the way
@@ -89,12 +89,13 @@ pub record Broke (a b : Seen) (cut : Cut) (fault : LoopFault) : Type 0 where
   pub counted : Counts a.failed b.failed (calls_of cut)
   pub failed : FailedFor fault a.sunk b.sunk
 
--- for some answers the cut lies so
-pub record WentOff {A : Type 0} (Lies : A → Cut → Type 0) (a b : Around) (fault : LoopFault) : Type 0 where
+-- for some answers the cut lies so, and a beginning of what the model of the part does was done
+pub record WentOff {A : Type 0} (model : A → Out (Course KEnd)) (Lies : A → Cut → Type 0) (a b : Around) (fault : LoopFault) : Type 0 where
   pub answers : A
   pub cut : Cut
   pub lies : Lies answers cut
   pub broke : Broke a.seen b.seen cut fault
+  pub began : BeganDeeds a.seen.told b.seen.told (model answers).order fault
 
 -- it lies behind a turn, in what follows that; a connection that is accepted is above those before
 pub record LiesBehind (plan : Plan) (low : ℕ) (c : Course KEnd) (x : Turn) (cut : Cut) : Type 0 where
@@ -121,8 +122,8 @@ halt_of next.Closed = Some OnClosed
 abbrev pub Goes : {A : Type 0} → (A → Out (Course KEnd)) → (A → Cut → Type 0) → Around → Around → Course KEnd → Loop KEnd → ℕ → Result Next LoopFault → Type 0
 Goes model lies a b c l n (Ok next) = Went model a b c l n (halt_of next)
 Goes model lies a b c l n (Err Wires) = WentWrong model a b c l n
-Goes model lies a b c l n (Err Sink) = WentOff lies a b Sink
-Goes model lies a b c l n (Err (NoMemory want)) = WentOff lies a b (NoMemory want)
+Goes model lies a b c l n (Err Sink) = WentOff model lies a b Sink
+Goes model lies a b c l n (Err (NoMemory want)) = WentOff model lies a b (NoMemory want)
 
 -- a turn and what follows it; and with what comes before it
 abbrev pub Turned : Plan → Around → Around → Course KEnd → Loop KEnd → ℕ → Result Next LoopFault → Type 0
@@ -137,6 +138,8 @@ pub record RanOff (plan : Plan) (a b : Around) (c : Course KEnd) (fault : LoopFa
   pub lies : LiesInRun kept_ends plan c cut
   pub rises : Rises a.newest (opened_in (first_turns kept_ends plan c lies.turns).calls ++ opened_by lies.last.happening)
   pub broke : Broke a.seen b.seen cut fault
+  -- of the whole turns and the next
+  pub began : BeganDeeds a.seen.told b.seen.told (first_turns kept_ends plan c (lies.turns ++ lies.last ∷ [])).order fault
 
 -- a run of turns
 abbrev pub Runs : Plan → Around → Around → Course KEnd → Loop KEnd → ℕ → Result Served LoopFault → Type 0
@@ -150,11 +153,11 @@ abbrev pub course_of : Loop KEnd → ℕ → List ℕ → Course KEnd
 course_of l n asked = record { loop = l; turns = n; halt = None; asked = asked }
 
 -- the event that opens a session that answers, and that session
-abbrev pub answer_event : Stream → (rbc moment conn : ℕ) → JournalEntry
-answer_event words rbc moment conn = record { moment = moment; conn = conn; event = event.Answer rbc (next_u64 words).0; outcomes = [] }
+abbrev pub answer_event : (ra rbc moment conn : ℕ) → JournalEntry
+answer_event ra rbc moment conn = record { moment = moment; conn = conn; event = event.Answer rbc ra; outcomes = [] }
 
-abbrev pub answering_session : Stream → Settings → (rbc moment conn : ℕ) → Mind → Session KEnd
-answering_session words settings rbc moment conn mind = begun conn (kept_opened (AnswersWith settings rbc (next_u64 words).0 moment)) mind
+abbrev pub answering_session : (ra : ℕ) → Settings → (rbc moment conn : ℕ) → Mind → Session KEnd
+answering_session ra settings rbc moment conn mind = begun conn (kept_opened (AnswersWith settings rbc ra moment)) mind
 
 -- why the loop halts behind a happening, where it halts for this reason else
 abbrev pub halt_after : Happening → Option Halt → Option Halt
@@ -189,7 +192,7 @@ IsReadyFor happening.Failed newest slots es = AreSeated newest slots es
 -- ---- the two calls
 
 abbrev pub loop_outside_of : Around → LoopOutside
-loop_outside_of a = record { seen = a.seen; listening = a.listening; clock = a.asked }
+loop_outside_of a = record { held = a.seen.held; sunk = a.seen.sunk; calls = a.seen.calls; failed = a.seen.failed; listening = a.listening; clock = a.asked }
 
 -- how a loop that serves ends
 abbrev pub Serves : Plan → Around → Around → List Mind → (words left : Stream) → List ℕ → Result Served LoopFault → Type 0
@@ -214,8 +217,8 @@ pub record Opened (plan : Plan) (caller : Caller) (a b : Around) (c : Course KEn
 abbrev pub Opens : Plan → Caller → Around → Around → Course KEnd → ℕ → Loop KEnd → ℕ → Result Bool LoopFault → Type 0
 Opens plan caller a b c conn l n (Ok stays) = Opened plan caller a b c conn l n (halt_if stays)
 Opens plan caller a b c conn l n (Err Wires) = ⊥
-Opens plan caller a b c conn l n (Err Sink) = WentOff (λ x cut. LiesIn (opening_over_kept_ends plan caller c conn x) cut) a b Sink
-Opens plan caller a b c conn l n (Err (NoMemory want)) = WentOff (λ x cut. LiesIn (opening_over_kept_ends plan caller c conn x) cut) a b (NoMemory want)
+Opens plan caller a b c conn l n (Err Sink) = WentOff (opening_over_kept_ends plan caller c conn) (λ x cut. LiesIn (opening_over_kept_ends plan caller c conn x) cut) a b Sink
+Opens plan caller a b c conn l n (Err (NoMemory want)) = WentOff (opening_over_kept_ends plan caller c conn) (λ x cut. LiesIn (opening_over_kept_ends plan caller c conn x) cut) a b (NoMemory want)
 
 -- how a loop that dials ends
 abbrev pub Dials : Plan → Caller → Around → Around → List Mind → (words left : Stream) → List ℕ → Result Served LoopFault → Type 0

@@ -10,9 +10,9 @@ ghost use Rattle.readiness_loop.specs.Lives.{sessions_in, IsSeated, HasAllWakeTi
 use crate::wake_times::WakeTimes;
 use er_base::NoMemory;
 use er_users::SafeUser;
-use link_trait::{Sink, Wires};
 use loop_io::{Visit, Workspace, visit_session};
 use loop_session::{LoopFault, Session, When};
+use outside::Outside;
 use safety_automaton::KeyFinder;
 use slab::Slab;
 use std::alloc::Global;
@@ -76,22 +76,22 @@ impl<U: SafeUser> Book<U> {
     }
 
     // The session of this number is visited, where there is one.
-    pub(crate) fn visit<K: KeyFinder, W: Wires, S: Sink>(
+    #[tactic(auto, using(crate::proofs::Quiets::keeps_all))]
+    pub(crate) fn visit<K: KeyFinder, O: Outside>(
         &mut self,
         number: u64,
         reason: Visit,
         keys: &K,
         when: &When,
         workspace: &mut Workspace,
-        wires: &mut W,
-        sink: &mut S,
+        outside: &mut O,
     ) -> Result<(), LoopFault>
-        requires { IsBookInOrder (W.state wires.old).opened self.old }
-        ensures does { DoesOn S.Sink W.Wires sink.old sink.new wires.old wires.new (sessions_in self.new)
+        requires { IsBookInOrder (O.told outside.old).wires.opened self.old }
+        ensures does { DoesOn (O.told outside.old) (O.told outside.new) (sessions_in self.new)
             (visit_at (visit_by (K.entries keys.now) when.now reason) number (sessions_in self.old)) result }
-        ensures seated { OnOk result (IsSeated (W.state wires.new).opened self.new) }
+        ensures seated { OnOk result (IsSeated (O.told outside.new).wires.opened self.new) }
         ensures awaited { OnOk result (HasAllWakeTimes self.new) }
-        ensures keep { Keep S.Sink W.Wires sink.old sink.new wires.old wires.new }
+        ensures keep { Keep (O.told outside.old) (O.told outside.new) }
     {
         let Some(slot) = self.places.get(&number).copied() else {
             return Ok(());
@@ -100,7 +100,7 @@ impl<U: SafeUser> Book<U> {
             return Ok(());
         };
         let before = session.wakes();
-        match visit_session(session, reason, keys, when, workspace, wires, sink) {
+        match visit_session(session, reason, keys, when, workspace, outside) {
             Ok(true) => {
                 let now = session.wakes();
                 self.wake_times.change(number, before, now)?;
@@ -117,57 +117,47 @@ impl<U: SafeUser> Book<U> {
     }
 
     // The sessions are visited whose moment has come, one after the other in rising number.
-    #[tactic(auto, using(crate::proofs::Sweeps::want_stopped))]
-    pub(crate) fn sweep<K: KeyFinder, W: Wires, S: Sink>(
+    #[tactic(auto, using(crate::proofs::Sweeps::want_stopped, crate::proofs::Quiets::keeps_all))]
+    pub(crate) fn sweep<K: KeyFinder, O: Outside>(
         &mut self,
         reason: Visit,
         sequence: &mut Vec<u64>,
         keys: &K,
         when: &When,
         workspace: &mut Workspace,
-        wires: &mut W,
-        sink: &mut S,
+        outside: &mut O,
     ) -> Result<(), LoopFault>
         requires timed { IsTimedVisit (visit_of reason) }
-        requires order { IsBookInOrder (W.state wires.old).opened self.old }
-        ensures does { DoesOn S.Sink W.Wires sink.old sink.new wires.old wires.new (sessions_in self.new)
+        requires order { IsBookInOrder (O.told outside.old).wires.opened self.old }
+        ensures does { DoesOn (O.told outside.old) (O.told outside.new) (sessions_in self.new)
             (swept (visit_by (K.entries keys.now) when.now reason) (numbers (sessions_in self.old)) (sessions_in self.old)) result }
-        ensures seated { OnOk result (IsSeated (W.state wires.new).opened self.new) }
+        ensures seated { OnOk result (IsSeated (O.told outside.new).wires.opened self.new) }
         ensures awaited { OnOk result (HasAllWakeTimes self.new) }
-        ensures keep { Keep S.Sink W.Wires sink.old sink.new wires.old wires.new }
+        ensures keep { Keep (O.told outside.old) (O.told outside.new) }
     {
         self.wake_times.due(when.moment, sequence)?;
-        self.visit_all(
-            sequence.as_slice(),
-            reason,
-            keys,
-            when,
-            workspace,
-            wires,
-            sink,
-        )
+        self.visit_all(sequence.as_slice(), reason, keys, when, workspace, outside)
     }
 
     // The sessions of these numbers are visited, one after the other.
-    fn visit_all<K: KeyFinder, W: Wires, S: Sink>(
+    fn visit_all<K: KeyFinder, O: Outside>(
         &mut self,
         sequence: &[u64],
         reason: Visit,
         keys: &K,
         when: &When,
         workspace: &mut Workspace,
-        wires: &mut W,
-        sink: &mut S,
+        outside: &mut O,
     ) -> Result<(), LoopFault>
-        requires { IsBookInOrder (W.state wires.old).opened self.old }
-        ensures does { DoesOn S.Sink W.Wires sink.old sink.new wires.old wires.new (sessions_in self.new)
+        requires { IsBookInOrder (O.told outside.old).wires.opened self.old }
+        ensures does { DoesOn (O.told outside.old) (O.told outside.new) (sessions_in self.new)
             (swept (visit_by (K.entries keys.now) when.now reason) sequence.now (sessions_in self.old)) result }
-        ensures seated { OnOk result (IsSeated (W.state wires.new).opened self.new) }
+        ensures seated { OnOk result (IsSeated (O.told outside.new).wires.opened self.new) }
         ensures awaited { OnOk result (HasAllWakeTimes self.new) }
-        ensures keep { Keep S.Sink W.Wires sink.old sink.new wires.old wires.new }
+        ensures keep { Keep (O.told outside.old) (O.told outside.new) }
     {
         for number in sequence {
-            self.visit(*number, reason, keys, when, workspace, wires, sink)?;
+            self.visit(*number, reason, keys, when, workspace, outside)?;
         }
         Ok(())
     }

@@ -1,44 +1,37 @@
 //! A loop that dials.
 
-ghost use Rattle.std.specs.Prelude.{◌≡◌, ◌≤◌, ◌<◌, ◌^◌, true, length, map};
+ghost use Rattle.std.specs.Prelude.{◌≡◌, true, length, map};
+ghost use Rattle.loop_model.specs.Journals.{trace_header};
 ghost use Rattle.readiness_loop.specs.Claims.{dialling, DialsOn, caller_of};
-ghost use Rattle.readiness_loop.specs.Courses.{Dials};
-ghost use Rattle.readiness_loop.specs.Lives.{around_at, pair_plan, pair_caller};
+ghost use Rattle.readiness_loop.specs.Courses.{around, Dials};
+ghost use Rattle.readiness_loop.specs.Lives.{pair_plan, pair_caller};
+ghost use Rattle.readiness_loop.specs.Recorded.{IsRecordedFirst};
 
 use crate::line_plan::{LinePlan, Served, Stop};
 use crate::live_loop::LiveLoop;
 use crate::loop_plan::{LoopPlan, see_settings};
 use crate::serving::write_header;
-use des_block::TripleKey;
-use er_base::EtcsNumber;
 use er_users::SafeUser;
-use link_trait::{Clock, Sink, Wires};
 use loop_model::laws;
 use loop_session::LoopFault;
-use rand_core::Rng;
+use outside::Outside;
 use safety_automaton::PairKey;
-use session_keys::Kmac;
 use std::alloc::Global;
 
 // A loop that dials, over users of any one type.
-fn dial_users<U: SafeUser, W: Wires, C: Clock, R: Rng, S: Sink>(
+fn dial_users<U: SafeUser, O: Outside>(
     alloc: Global,
     pair: &PairKey,
     plan: &LoopPlan,
     address: &str,
     users: Vec<U>,
-    wires: &mut W,
-    clock: &mut C,
-    randoms: &mut R,
-    sink: &mut S,
+    outside: &mut O,
 ) -> Result<Served, LoopFault>
     requires same { plan.now.rbc ≡ pair.now.rbc }
     requires dials { plan.now.dials ≡ true }
     ensures does { Dials (pair_plan pair.now plan.now) (pair_caller pair.now)
-        (around_at S.Sink W.Wires C.Clock sink.old wires.old clock.old)
-        (around_at S.Sink W.Wires C.Clock sink.new wires.new clock.new)
-        (map U.mind users.items) (R.stream randoms.old) (R.stream randoms.new) address.now result }
-    ensures sunk { (S.state sink.old).faults ≤ (S.state sink.new).faults }
+        (around (O.told outside.old)) (around (O.told outside.new)) (map U.mind users.items) (O.told outside.old).words (O.told outside.new).words address.now result }
+    ensures recorded { IsRecordedFirst (trace_header plan.now.settings) (O.told outside.old) (O.told outside.new) }
 {
     laws::journal();
     laws::octets();
@@ -53,49 +46,40 @@ fn dial_users<U: SafeUser, W: Wires, C: Clock, R: Rng, S: Sink>(
     loop_session::laws::standing();
     see_settings(&plan.settings);
     let mut live = LiveLoop::new(alloc, users)?;
-    let conn = match wires.dial(address) {
+    let conn = match outside.dial(address) {
         Ok(conn) => conn,
         Err(_failed) => return Err(LoopFault::Wires),
     };
-    write_header(alloc, &plan.settings, sink)?;
-    if !live.open(alloc, conn, pair, plan, wires, clock, randoms, sink)? {
+    write_header(alloc, &plan.settings, outside)?;
+    if !live.open(alloc, conn, pair, plan, outside)? {
         return Ok(Served {
             turns: 0,
             why: Stop::Closed,
         });
     }
-    live.run(alloc, pair, plan, wires, clock, randoms, sink)
+    live.run(alloc, pair, plan, outside)
 }
 
-/// Begins a connection to the peer at this address, and calls with the last of the users.
-pub fn dial<W: Wires, C: Clock, R: Rng, S: Sink>(
+/// Begins a connection to the peer at this address, and calls with the key of this pair and the last of the users.
+pub fn dial<O: Outside>(
     alloc: Global,
-    kmac: TripleKey,
+    pair: &PairKey,
     plan: &LinePlan,
     address: &str,
-    engine: u32,
-    rbc: u32,
     users: Vec<Box<dyn SafeUser>>,
-    wires: &mut W,
-    clock: &mut C,
-    randoms: &mut R,
-    sink: &mut S,
+    outside: &mut O,
 ) -> Result<Served, LoopFault>
-    requires engine { engine < 2 ^ 24 }
-    requires rbc { rbc < 2 ^ 24 }
-    ensures { DialsOn S.Sink W.Wires C.Clock sink.old sink.new wires.old wires.new clock.old clock.new
-        (dialling kmac plan.now engine rbc (length users.items)) (caller_of engine kmac) address.now (map mind users.items) (R.stream randoms.old) (R.stream randoms.new) result }
+    ensures ends { DialsOn (O.told outside.old) (O.told outside.new) (dialling pair.now.kmac plan.now pair.now.engine pair.now.rbc (length users.items))
+        (caller_of pair.now.engine pair.now.kmac) address.now (map mind users.items) result }
+    // Nothing goes to a connection, and none is closed, before the lines that tell of it are written.
+    ensures recorded { IsRecordedFirst (trace_header plan.now.settings) (O.told outside.old) (O.told outside.new) }
 {
-    let rbc = EtcsNumber::new(rbc);
-    let pair = PairKey::new(EtcsNumber::new(engine), rbc, Kmac::new(kmac));
     let loop_plan = LoopPlan {
         settings: plan.settings,
-        rbc,
+        rbc: pair.rbc(),
         handed: users.len() as u64,
         turns: plan.turns,
         dials: true,
     };
-    dial_users(
-        alloc, &pair, &loop_plan, address, users, wires, clock, randoms, sink,
-    )
+    dial_users(alloc, pair, &loop_plan, address, users, outside)
 }

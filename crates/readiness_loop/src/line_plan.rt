@@ -1,3 +1,5 @@
+//! What a loop is to do: the settings of its links, and how many turns at the most.
+
 use er_settings::Settings;
 
 /// What a loop is to do: the settings of its links, and how many turns at the most.

@@ -1,21 +1,20 @@
 //! A loop with its sessions, turn by turn.
 
 ghost use Rattle.std.specs.Prelude.{◌≡◌, ◌≤◌, ◌<◌, ◌+◌, ◌++◌, ◌-◌, ◌^◌, ◌&&◌, ◌==◌, if◌then◌else◌, List, [], ◌∷◌, length, IfOk, OnOk, Option, None, Some};
-ghost use Rattle.rand_core.specs.Stream.{next_u64};
 ghost use Rattle.safety_automaton.specs.Keys as keys;
-ghost use Rattle.link_trait.specs.Outside.{Grew};
+ghost use Rattle.outside.specs.Acts.{Asked};
+ghost use Rattle.outside.specs.Doings.{Did};
 ghost use Rattle.er_trace.specs.Ranges.{IsInRange};
 ghost use Rattle.er_end_model.specs.Ends.{Answer as AnswersWith};
 ghost use Rattle.er_end.specs.KeptEnds.{KEnd, kept_opened};
 ghost use Rattle.loop_model.specs.Grammar.{IsInGrammar};
-ghost use Rattle.loop_model.specs.Journals.{text};
 ghost use Rattle.loop_model.specs.Visits.{is_due};
 ghost use Rattle.loop_model.specs.Loops.{Loop, before, until, until as first, turned_away, accepted, happened, Halt, OnClosed};
 ghost use Rattle.loop_session.specs.Keeping.{kept_ends};
-ghost use Rattle.loop_session.specs.Parts.{rules_of_session, Puts};
+ghost use Rattle.loop_session.specs.Parts.{rules_of_session, writes_of_entries, Puts};
 ghost use Rattle.loop_io.specs.Visiting.{DoesOn, Keep};
 ghost use Rattle.readiness_loop.specs.Courses.{plan_of_loop, answer_event, answering_session, IsReadyFor, halt_after, HaltsSo};
-ghost use Rattle.readiness_loop.specs.Lives.{sessions_in, IsSeated, HasAllWakeTimes, loop_at, ActsOn, IsBookInOrder, KeepsLoopMomentAndTurns, TurnedOn, TurnsOn, RunsOn};
+ghost use Rattle.readiness_loop.specs.Lives.{sessions_in, IsSeated, HasAllWakeTimes, loop_at, ActsOn, IsBookInOrder, KeepsLoopMomentAndTurns, LeavesTurns, TurnedOn, TurnsOn, RunsOn};
 
 use crate::book::{Book, MOST_LIVE};
 use crate::line_plan::{Served, Stop};
@@ -24,10 +23,10 @@ use er_base::{Moment, NoMemory};
 use er_end::End;
 use er_trace::Event;
 use er_users::SafeUser;
-use link_trait::{Clock, Conn, Happening, Sink, Wires};
+use link_trait::{Conn, Happening};
 use loop_io::{Visit, Workspace};
 use loop_session::{LoopFault, Session, When, write_event};
-use rand_core::Rng;
+use outside::Outside;
 use safety_automaton::KeyFinder;
 use std::alloc::Global;
 
@@ -66,12 +65,12 @@ fn has_come(at: Option<u64>, moment: Moment) -> bool
     }
 }
 
-// The moment that a clock answers.
-pub(crate) fn moment_of<C: Clock>(clock: &mut C) -> Moment
-    ensures told { Grew (C.state clock.old).answers (C.state clock.new).answers (result ∷ []) }
+// The moment that the clock answers.
+pub(crate) fn moment_of<O: Outside>(outside: &mut O) -> Moment
+    ensures asks { Did (O.told outside.old) (O.told outside.new) (Asked result ∷ []) }
     ensures most { result ≤ 1000000000000000 }
 {
-    Moment::new(clock.now())
+    Moment::new(outside.moment())
 }
 
 // A count has 64 bits, by its type: this call does nothing.
@@ -138,23 +137,22 @@ impl<U: SafeUser> LiveLoop<U> {
 
     // Before a turn: the sessions whose deadline has come are ticked, then those whose closing moment has come are closed. The first moment
     // at which one of those that are left is to be visited.
-    #[tactic(auto, using(crate::proofs::Befores::before_did, crate::proofs::Befores::before_breaks_first, crate::proofs::Befores::before_breaks_then, crate::proofs::Befores::nobody_due))]
-    fn before<K: KeyFinder, W: Wires, S: Sink>(
+    #[tactic(auto, using(crate::proofs::Befores::before_did, crate::proofs::Befores::before_breaks_first, crate::proofs::Befores::before_breaks_then, crate::proofs::Befores::nobody_due, crate::proofs::Quiets::keeps_all, crate::proofs::Quiets::keeps_then))]
+    fn before<K: KeyFinder, O: Outside>(
         &mut self,
         keys: &K,
         plan: &LoopPlan,
-        wires: &mut W,
-        sink: &mut S,
+        outside: &mut O,
     ) -> Result<Option<u64>, LoopFault>
-        requires { IsBookInOrder (W.state wires.old).opened self.old.book }
-        ensures does { DoesOn S.Sink W.Wires sink.old sink.new wires.old wires.new (sessions_in self.new.book)
+        requires { IsBookInOrder (O.told outside.old).wires.opened self.old.book }
+        ensures does { DoesOn (O.told outside.old) (O.told outside.new) (sessions_in self.new.book)
             (before kept_ends (rules_of_session (K.entries keys.now) plan.now.settings.setup) self.old.moment (sessions_in self.old.book)) result }
         ensures until { IfOk result (λ first. first ≡ until kept_ends (sessions_in self.new.book)) }
-        ensures seated { OnOk result (IsSeated (W.state wires.new).opened self.new.book) }
+        ensures seated { OnOk result (IsSeated (O.told outside.new).wires.opened self.new.book) }
         ensures awaited { OnOk result (HasAllWakeTimes self.new.book) }
         ensures users { self.new.users ≡ self.old.users }
         ensures rests { KeepsLoopMomentAndTurns self.old self.new }
-        ensures keep { Keep S.Sink W.Wires sink.old sink.new wires.old wires.new }
+        ensures keep { Keep (O.told outside.old) (O.told outside.new) }
     {
         let first = self.book.until();
         if !has_come(first, self.moment) {
@@ -168,8 +166,7 @@ impl<U: SafeUser> LiveLoop<U> {
             keys,
             &when,
             &mut self.workspace,
-            wires,
-            sink,
+            outside,
         )?;
         book.sweep(
             Visit::Expire,
@@ -177,58 +174,60 @@ impl<U: SafeUser> LiveLoop<U> {
             keys,
             &when,
             &mut self.workspace,
-            wires,
-            sink,
+            outside,
         )?;
         Ok(self.book.until())
     }
 
     // A connection gets no session: its event, and it is closed.
-    #[tactic(auto, using(crate::proofs::Acceptings::away_breaks, crate::proofs::Acceptings::away_acted))]
-    pub(crate) fn turn_away<W: Wires, S: Sink>(
+    #[tactic(auto, using(crate::proofs::Acceptings::away_breaks, crate::proofs::Acceptings::away_acted, crate::proofs::Quiets::keeps_printed, crate::proofs::Quiets::keeps_away))]
+    pub(crate) fn turn_away<O: Outside>(
         &mut self,
         conn: Conn,
         why: Event,
-        wires: &mut W,
-        sink: &mut S,
+        outside: &mut O,
     ) -> Result<(), LoopFault>
         requires { IsInRange why }
-        ensures does { (l : Loop KEnd) → l.moment ≡ self.old.moment → ActsOn S.Sink W.Wires sink.old sink.new wires.old wires.new l (turned_away l conn.0 why) result }
+        ensures does { (l : Loop KEnd) → l.moment ≡ self.old.moment → ActsOn (O.told outside.old) (O.told outside.new) l (turned_away l conn.0 why) result }
         ensures book { self.new.book ≡ self.old.book }
         ensures users { self.new.users ≡ self.old.users }
         ensures rests { KeepsLoopMomentAndTurns self.old self.new }
-        ensures keep { Keep S.Sink W.Wires sink.old sink.new wires.old wires.new }
+        ensures keep { Keep (O.told outside.old) (O.told outside.new) }
     {
-        write_event(self.moment, conn.0, why, &mut self.workspace.scratch, sink)?;
-        wires.close(conn);
+        write_event(
+            self.moment,
+            conn.0,
+            why,
+            &mut self.workspace.scratch,
+            outside,
+        )?;
+        outside.close(conn);
         Ok(())
     }
 
-    // A connection gets a session, with this user and the next random word.
-    fn answer<R: Rng, S: Sink>(
+    // A connection gets a session, with this user and this random word.
+    #[tactic(auto, using(crate::proofs::Quiets::keeps_all, crate::proofs::Quiets::keeps_printed))]
+    fn answer<O: Outside>(
         &mut self,
         alloc: Global,
         conn: Conn,
         user: U,
+        ra: u64,
         plan: &LoopPlan,
-        randoms: &mut R,
-        sink: &mut S,
+        outside: &mut O,
     ) -> Result<(), LoopFault>
         requires order { IsBookInOrder (conn.0 - 1) self.old.book }
         requires number { 0 < conn.0 }
-        ensures puts { Puts (S.state sink.old) (S.state sink.new)
-            (text (answer_event (R.stream randoms.old) plan.now.rbc self.old.moment conn.0 ∷ [])) result }
-        ensures grammar { OnOk result (IsInGrammar (answer_event (R.stream randoms.old) plan.now.rbc self.old.moment conn.0)) }
+        ensures puts { Puts (O.told outside.old) (O.told outside.new) (writes_of_entries (answer_event ra plan.now.rbc self.old.moment conn.0 ∷ [])) result }
+        ensures grammar { OnOk result (IsInGrammar (answer_event ra plan.now.rbc self.old.moment conn.0)) }
         ensures sessions { OnOk result (sessions_in self.new.book ≡ sessions_in self.old.book
-            ++ answering_session (R.stream randoms.old) plan.now.settings plan.now.rbc self.old.moment conn.0 (U.mind user) ∷ []) }
+            ++ answering_session ra plan.now.settings plan.now.rbc self.old.moment conn.0 (U.mind user) ∷ []) }
         ensures seated { OnOk result (IsSeated conn.0 self.new.book) }
         ensures awaited { OnOk result (HasAllWakeTimes self.new.book) }
-        ensures stream { OnOk result (R.stream randoms.new ≡ (next_u64 (R.stream randoms.old)).1) }
         ensures users { self.new.users ≡ self.old.users }
         ensures rests { KeepsLoopMomentAndTurns self.old self.new }
-        ensures sunk { (S.state sink.old).faults ≤ (S.state sink.new).faults }
+        ensures keep { Keep (O.told outside.old) (O.told outside.new) }
     {
-        let ra = randoms.next_u64();
         let end = answering_end(alloc, plan, ra, self.moment, &mut self.workspace)?;
         let session = Session::begin(alloc, conn.0, end, user);
         let event = Event::Answer {
@@ -240,67 +239,67 @@ impl<U: SafeUser> LiveLoop<U> {
             conn.0,
             event,
             &mut self.workspace.scratch,
-            sink,
+            outside,
         )?;
         self.book.add(session)?;
         Ok(())
     }
 
     // A connection was accepted.
-    fn accept<W: Wires, R: Rng, S: Sink>(
+    #[tactic(auto, using(crate::proofs::Quiets::leaves_kept, crate::proofs::Quiets::leaves_drawn))]
+    fn accept<O: Outside>(
         &mut self,
         alloc: Global,
         conn: Conn,
         plan: &LoopPlan,
-        wires: &mut W,
-        randoms: &mut R,
-        sink: &mut S,
+        outside: &mut O,
     ) -> Result<(), LoopFault>
         requires order { IsBookInOrder (conn.0 - 1) self.old.book }
         requires number { 0 < conn.0 }
-        ensures does { (entries : List keys.KmacEntry) → ActsOn S.Sink W.Wires sink.old sink.new wires.old wires.new (loop_at U.SafeUser R.Rng self.new randoms.new)
-            (accepted kept_ends (plan_of_loop entries plan.now) (loop_at U.SafeUser R.Rng self.old randoms.old) conn.0) result }
+        ensures does { (entries : List keys.KmacEntry) → ActsOn (O.told outside.old) (O.told outside.new) (loop_at U.SafeUser self.new (O.told outside.new))
+            (accepted kept_ends (plan_of_loop entries plan.now) (loop_at U.SafeUser self.old (O.told outside.old)) conn.0) result }
         ensures seated { OnOk result (IsSeated conn.0 self.new.book) }
         ensures awaited { OnOk result (HasAllWakeTimes self.new.book) }
         ensures rests { KeepsLoopMomentAndTurns self.old self.new }
-        ensures keep { Keep S.Sink W.Wires sink.old sink.new wires.old wires.new }
+        ensures leaves { LeavesTurns (O.told outside.old) (O.told outside.new) }
     {
         if self.book.len() >= MOST_LIVE {
-            return self.turn_away(conn, Event::Full(MOST_LIVE as u64), wires, sink);
+            return self.turn_away(conn, Event::Full(MOST_LIVE as u64), outside);
         }
         match self.users.pop() {
-            Some(user) => self.answer(alloc, conn, user, plan, randoms, sink),
+            Some(user) => {
+                let ra = outside.word();
+                self.answer(alloc, conn, user, ra, plan, outside)
+            }
             None => {
                 see_count(plan.handed);
-                self.turn_away(conn, Event::Unserved(plan.handed), wires, sink)
+                self.turn_away(conn, Event::Unserved(plan.handed), outside)
             }
         }
     }
 
     // What happened is handled whole.
-    #[tactic(auto, using(crate::proofs::Turning::react_accept, crate::proofs::Turning::react_read, crate::proofs::Turning::react_write, crate::proofs::Turning::react_quiet, crate::proofs::Turning::react_ended, crate::proofs::Turning::react_failed))]
-    fn react<K: KeyFinder, W: Wires, R: Rng, S: Sink>(
+    #[tactic(auto, using(crate::proofs::Turning::react_accept, crate::proofs::Turning::react_read, crate::proofs::Turning::react_write, crate::proofs::Turning::react_quiet, crate::proofs::Turning::react_ended, crate::proofs::Turning::react_failed, crate::proofs::Quiets::leaves_kept, crate::proofs::Quiets::leaves_all))]
+    fn react<K: KeyFinder, O: Outside>(
         &mut self,
         alloc: Global,
         happening: Happening,
         keys: &K,
         plan: &LoopPlan,
-        wires: &mut W,
-        randoms: &mut R,
-        sink: &mut S,
+        outside: &mut O,
     ) -> Result<(), LoopFault>
         requires awaited { HasAllWakeTimes self.old.book }
-        requires ready { IsReadyFor happening (W.state wires.old).opened self.old.book.slots self.old.book.places.entries }
-        ensures does { DoesOn S.Sink W.Wires sink.old sink.new wires.old wires.new (loop_at U.SafeUser R.Rng self.new randoms.new)
-            (happened kept_ends (plan_of_loop (K.entries keys.now) plan.now) (loop_at U.SafeUser R.Rng self.old randoms.old) happening) result }
-        ensures seated { OnOk result (IsSeated (W.state wires.new).opened self.new.book) }
+        requires ready { IsReadyFor happening (O.told outside.old).wires.opened self.old.book.slots self.old.book.places.entries }
+        ensures does { DoesOn (O.told outside.old) (O.told outside.new) (loop_at U.SafeUser self.new (O.told outside.new))
+            (happened kept_ends (plan_of_loop (K.entries keys.now) plan.now) (loop_at U.SafeUser self.old (O.told outside.old)) happening) result }
+        ensures seated { OnOk result (IsSeated (O.told outside.new).wires.opened self.new.book) }
         ensures awaited { OnOk result (HasAllWakeTimes self.new.book) }
         ensures rests { KeepsLoopMomentAndTurns self.old self.new }
-        ensures keep { Keep S.Sink W.Wires sink.old sink.new wires.old wires.new }
+        ensures leaves { LeavesTurns (O.told outside.old) (O.told outside.new) }
     {
         let when = When::of(self.moment, &plan.settings);
         match happening {
-            Happening::Accepted(conn) => self.accept(alloc, conn, plan, wires, randoms, sink),
+            Happening::Accepted(conn) => self.accept(alloc, conn, plan, outside),
             Happening::Readable(conn) => {
                 let book = &mut self.book;
                 book.visit(
@@ -309,8 +308,7 @@ impl<U: SafeUser> LiveLoop<U> {
                     keys,
                     &when,
                     &mut self.workspace,
-                    wires,
-                    sink,
+                    outside,
                 )
             }
             Happening::Writable(conn) => {
@@ -321,8 +319,7 @@ impl<U: SafeUser> LiveLoop<U> {
                     keys,
                     &when,
                     &mut self.workspace,
-                    wires,
-                    sink,
+                    outside,
                 )
             }
             Happening::Quiet => Ok(()),
@@ -339,79 +336,64 @@ impl<U: SafeUser> LiveLoop<U> {
     }
 
     // The turn, and what follows it.
-    fn turn<K: KeyFinder, W: Wires, C: Clock, R: Rng, S: Sink>(
+    fn turn<K: KeyFinder, O: Outside>(
         &mut self,
         alloc: Global,
         until: Option<u64>,
         keys: &K,
         plan: &LoopPlan,
-        wires: &mut W,
-        clock: &mut C,
-        randoms: &mut R,
-        sink: &mut S,
+        outside: &mut O,
     ) -> Result<Next, LoopFault>
-        requires order { IsBookInOrder (W.state wires.old).opened self.old.book }
+        requires order { IsBookInOrder (O.told outside.old).wires.opened self.old.book }
         requires turns { self.old.turns < 2 ^ 64 - 1 }
         requires until { until ≡ first kept_ends (sessions_in self.old.book) }
-        ensures does { TurnedOn U.SafeUser S.Sink W.Wires C.Clock R.Rng (plan_of_loop (K.entries keys.now) plan.now) self.old self.new
-            sink.old sink.new wires.old wires.new clock.old clock.new randoms.old randoms.new result }
-        ensures order { OnOk result (IsBookInOrder (W.state wires.new).opened self.new.book) }
+        ensures does { TurnedOn U.SafeUser (plan_of_loop (K.entries keys.now) plan.now) self.old self.new (O.told outside.old) (O.told outside.new) result }
+        ensures order { OnOk result (IsBookInOrder (O.told outside.new).wires.opened self.new.book) }
         ensures turns { self.new.turns ≤ self.old.turns + 1 }
-        ensures sunk { (S.state sink.old).faults ≤ (S.state sink.new).faults }
     {
-        let happening = wires.turn(until);
-        self.moment = self.moment.later(moment_of(clock));
+        let happening = outside.turn(until);
+        self.moment = self.moment.later(moment_of(outside));
         self.turns += 1;
-        self.react(alloc, happening, keys, plan, wires, randoms, sink)?;
+        self.react(alloc, happening, keys, plan, outside)?;
         next_behind(happening, self.has_closed(plan))
     }
 
     // One turn, with what comes before and behind it.
-    fn go<K: KeyFinder, W: Wires, C: Clock, R: Rng, S: Sink>(
+    fn go<K: KeyFinder, O: Outside>(
         &mut self,
         alloc: Global,
         keys: &K,
         plan: &LoopPlan,
-        wires: &mut W,
-        clock: &mut C,
-        randoms: &mut R,
-        sink: &mut S,
+        outside: &mut O,
     ) -> Result<Next, LoopFault>
-        requires order { IsBookInOrder (W.state wires.old).opened self.old.book }
+        requires order { IsBookInOrder (O.told outside.old).wires.opened self.old.book }
         requires turns { self.old.turns < 2 ^ 64 - 1 }
-        ensures does { TurnsOn U.SafeUser S.Sink W.Wires C.Clock R.Rng (plan_of_loop (K.entries keys.now) plan.now) self.old self.new
-            sink.old sink.new wires.old wires.new clock.old clock.new randoms.old randoms.new result }
-        ensures order { OnOk result (IsBookInOrder (W.state wires.new).opened self.new.book) }
+        ensures does { TurnsOn U.SafeUser (plan_of_loop (K.entries keys.now) plan.now) self.old self.new (O.told outside.old) (O.told outside.new) result }
+        ensures order { OnOk result (IsBookInOrder (O.told outside.new).wires.opened self.new.book) }
         ensures turns { self.new.turns ≤ self.old.turns + 1 }
-        ensures sunk { (S.state sink.old).faults ≤ (S.state sink.new).faults }
     {
-        self.moment = self.moment.later(moment_of(clock));
-        let until = self.before(keys, plan, wires, sink)?;
+        self.moment = self.moment.later(moment_of(outside));
+        let until = self.before(keys, plan, outside)?;
         if self.has_closed(plan) {
             return Ok(Next::Closed);
         }
-        self.turn(alloc, until, keys, plan, wires, clock, randoms, sink)
+        self.turn(alloc, until, keys, plan, outside)
     }
 
     // All turns of the plan, unless the loop stops before.
-    pub(crate) fn run<K: KeyFinder, W: Wires, C: Clock, R: Rng, S: Sink>(
+    pub(crate) fn run<K: KeyFinder, O: Outside>(
         &mut self,
         alloc: Global,
         keys: &K,
         plan: &LoopPlan,
-        wires: &mut W,
-        clock: &mut C,
-        randoms: &mut R,
-        sink: &mut S,
+        outside: &mut O,
     ) -> Result<Served, LoopFault>
-        requires order { IsBookInOrder (W.state wires.old).opened self.old.book }
+        requires order { IsBookInOrder (O.told outside.old).wires.opened self.old.book }
         requires turns { self.old.turns ≡ 0 }
-        ensures does { RunsOn U.SafeUser S.Sink W.Wires C.Clock R.Rng (plan_of_loop (K.entries keys.now) plan.now) self.old self.new
-            sink.old sink.new wires.old wires.new clock.old clock.new randoms.old randoms.new result }
-        ensures sunk { (S.state sink.old).faults ≤ (S.state sink.new).faults }
+        ensures { RunsOn U.SafeUser (plan_of_loop (K.entries keys.now) plan.now) self.old self.new (O.told outside.old) (O.told outside.new) result }
     {
         for _ in 0..plan.turns {
-            match self.go(alloc, keys, plan, wires, clock, randoms, sink)? {
+            match self.go(alloc, keys, plan, outside)? {
                 Next::GoesOn => {}
                 Next::Ended => {
                     return Ok(Served {

@@ -1,3 +1,5 @@
+//! What a loop is to do, as its turns carry it.
+
 ghost use Rattle.er_settings.specs.Ranges.{AllAllowed};
 
 use er_base::EtcsNumber;

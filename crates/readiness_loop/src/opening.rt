@@ -4,7 +4,7 @@ ghost use Rattle.std.specs.Prelude.{◌≡◌, ◌≤◌, ◌==◌, if◌then◌
 ghost use Rattle.rand_core.specs.Stream.{next_u64};
 ghost use Rattle.loop_model.specs.Loops.{begun};
 ghost use Rattle.loop_io.specs.Visiting.{DoesOn, Keep};
-ghost use Rattle.readiness_loop.specs.Lives.{sessions_in, IsSeated, HasAllWakeTimes, HasFirstConnection, KeepsLoopMomentAndTurns, dialled_call_outcome, pair_plan, pair_caller, OpensOn};
+ghost use Rattle.readiness_loop.specs.Lives.{sessions_in, IsSeated, HasAllWakeTimes, HasFirstConnection, KeepsLoopMomentAndTurns, LeavesTurns, dialled_call_outcome, pair_plan, pair_caller, OpensOn};
 
 use crate::live_loop::{LiveLoop, moment_of};
 use crate::loop_plan::{LoopPlan, see_settings};
@@ -12,10 +12,10 @@ use er_base::NoMemory;
 use er_end::End;
 use er_trace::Event;
 use er_users::SafeUser;
-use link_trait::{Clock, Conn, Sink, Wires};
+use link_trait::Conn;
 use loop_io::begin_call;
 use loop_session::{Called, LoopFault, Session, When};
-use rand_core::Rng;
+use outside::Outside;
 use safety_automaton::PairKey;
 use std::alloc::Global;
 
@@ -34,31 +34,30 @@ fn begun_session<U: SafeUser>(
 
 impl<U: SafeUser> LiveLoop<U> {
     // The connection gets a session, whose end calls, with this user and the next random word. Whether it stays.
-    fn call<W: Wires, R: Rng, S: Sink>(
+    #[tactic(auto, using(crate::proofs::Quiets::leaves_word, crate::proofs::Quiets::leaves_drawn))]
+    fn call<O: Outside>(
         &mut self,
         alloc: Global,
         conn: Conn,
         user: U,
         pair: &PairKey,
         plan: &LoopPlan,
-        wires: &mut W,
-        randoms: &mut R,
-        sink: &mut S,
+        outside: &mut O,
     ) -> Result<bool, LoopFault>
         requires awaited { HasAllWakeTimes self.old.book }
-        requires first { HasFirstConnection (W.state wires.old).opened conn.0 self.old }
-        ensures does { DoesOn S.Sink W.Wires sink.old sink.new wires.old wires.new (sessions_in self.new.book)
-            (dialled_call_outcome pair.now plan.now (R.stream randoms.old) self.old.moment conn.0 (U.mind user)) result }
+        requires first { HasFirstConnection (O.told outside.old).wires.opened conn.0 self.old }
+        ensures does { DoesOn (O.told outside.old) (O.told outside.new) (sessions_in self.new.book)
+            (dialled_call_outcome pair.now plan.now (O.told outside.old).words self.old.moment conn.0 (U.mind user)) result }
         ensures stays { IfOk result (λ stays. (length self.new.book.places.entries == 0) ≡ (if stays then false else true)) }
-        ensures seated { OnOk result (IsSeated (W.state wires.new).opened self.new.book) }
+        ensures seated { OnOk result (IsSeated (O.told outside.new).wires.opened self.new.book) }
         ensures awaited { OnOk result (HasAllWakeTimes self.new.book) }
-        ensures stream { OnOk result (R.stream randoms.new ≡ (next_u64 (R.stream randoms.old)).1) }
+        ensures stream { OnOk result ((O.told outside.new).words ≡ (next_u64 (O.told outside.old).words).1) }
         ensures users { self.new.users ≡ self.old.users }
         ensures rests { KeepsLoopMomentAndTurns self.old self.new }
-        ensures keep { Keep S.Sink W.Wires sink.old sink.new wires.old wires.new }
+        ensures leaves { LeavesTurns (O.told outside.old) (O.told outside.new) }
     {
         see_settings(&plan.settings);
-        let rb = randoms.next_u64();
+        let rb = outside.word();
         let (engine, rbc) = (pair.engine(), plan.rbc);
         let end = End::call(
             alloc,
@@ -78,8 +77,7 @@ impl<U: SafeUser> LiveLoop<U> {
             pair,
             &when,
             &mut self.workspace.scratch,
-            wires,
-            sink,
+            outside,
         )?;
         if !stays {
             return Ok(false);
@@ -89,32 +87,28 @@ impl<U: SafeUser> LiveLoop<U> {
     }
 
     // The one connection of a dial was opened: its session begins, or it is closed. Whether it stays.
-    pub(crate) fn open<W: Wires, C: Clock, R: Rng, S: Sink>(
+    pub(crate) fn open<O: Outside>(
         &mut self,
         alloc: Global,
         conn: Conn,
         pair: &PairKey,
         plan: &LoopPlan,
-        wires: &mut W,
-        clock: &mut C,
-        randoms: &mut R,
-        sink: &mut S,
+        outside: &mut O,
     ) -> Result<bool, LoopFault>
         requires dials { plan.now.dials ≡ true }
         requires awaited { HasAllWakeTimes self.old.book }
-        requires first { HasFirstConnection (W.state wires.old).opened conn.0 self.old }
-        ensures does { OpensOn U.SafeUser S.Sink W.Wires C.Clock R.Rng (pair_plan pair.now plan.now) (pair_caller pair.now) conn.0 self.old self.new
-            sink.old sink.new wires.old wires.new clock.old clock.new randoms.old randoms.new result }
-        ensures seated { OnOk result (IsSeated (W.state wires.new).opened self.new.book) }
+        requires first { HasFirstConnection (O.told outside.old).wires.opened conn.0 self.old }
+        ensures does { OpensOn U.SafeUser (pair_plan pair.now plan.now) (pair_caller pair.now) conn.0 self.old self.new
+            (O.told outside.old) (O.told outside.new) result }
+        ensures seated { OnOk result (IsSeated (O.told outside.new).wires.opened self.new.book) }
         ensures awaited { OnOk result (HasAllWakeTimes self.new.book) }
         ensures turns { self.new.turns ≡ self.old.turns }
-        ensures sunk { (S.state sink.old).faults ≤ (S.state sink.new).faults }
     {
-        self.moment = self.moment.later(moment_of(clock));
+        self.moment = self.moment.later(moment_of(outside));
         match self.users.pop() {
-            Some(user) => self.call(alloc, conn, user, pair, plan, wires, randoms, sink),
+            Some(user) => self.call(alloc, conn, user, pair, plan, outside),
             None => {
-                self.turn_away(conn, Event::Unserved(0), wires, sink)?;
+                self.turn_away(conn, Event::Unserved(0), outside)?;
                 Ok(false)
             }
         }

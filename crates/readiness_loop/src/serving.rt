@@ -1,11 +1,12 @@
 //! A loop that listens.
 
-ghost use Rattle.std.specs.Prelude.{◌≤◌, ◌<◌, ◌^◌, length, map};
-ghost use Rattle.loop_session.specs.Parts.{Puts};
+ghost use Rattle.std.specs.Prelude.{◌<◌, ◌^◌, length, map};
+ghost use Rattle.outside.specs.Scripts.{printing};
+ghost use Rattle.loop_session.specs.Parts.{OnlyPrints, Puts};
 ghost use Rattle.loop_model.specs.Journals.{trace_header};
 ghost use Rattle.readiness_loop.specs.Claims.{serving, ServesOn};
-ghost use Rattle.readiness_loop.specs.Courses.{plan_of_loop, Serves};
-ghost use Rattle.readiness_loop.specs.Lives.{around_at};
+ghost use Rattle.readiness_loop.specs.Courses.{around, plan_of_loop, Serves};
+ghost use Rattle.readiness_loop.specs.Recorded.{IsRecordedFirst};
 
 use crate::line_plan::{LinePlan, Served};
 use crate::live_loop::LiveLoop;
@@ -15,44 +16,38 @@ use er_settings::Settings;
 use er_trace::print_header;
 use er_users::SafeUser;
 use key_store::KeyStore;
-use link_trait::{Clock, Sink, Wires};
 use loop_model::laws;
 use loop_session::{LoopFault, write_lines};
-use rand_core::Rng;
+use outside::Outside;
 use safety_automaton::KeyFinder;
 use std::alloc::Global;
 
 // Writes the header of the journal.
-pub(crate) fn write_header<S: Sink>(
+pub(crate) fn write_header<O: Outside>(
     alloc: Global,
     settings: &Settings,
-    sink: &mut S,
+    outside: &mut O,
 ) -> Result<(), LoopFault>
-    ensures puts { Puts (S.state sink.old) (S.state sink.new) (trace_header settings.now) result }
-    ensures sunk { (S.state sink.old).faults ≤ (S.state sink.new).faults }
+    ensures puts { Puts (O.told outside.old) (O.told outside.new) (printing (trace_header settings.now)) result }
+    ensures only { OnlyPrints (O.told outside.old) (O.told outside.new) }
 {
     let mut line = Vec::new(alloc);
     print_header(settings, &mut line)?;
-    write_lines(line.as_slice(), sink)
+    write_lines(line.as_slice(), outside)
 }
 
 // A loop that serves, over users of any one type.
-fn serve_users<U: SafeUser, K: KeyFinder, W: Wires, C: Clock, R: Rng, S: Sink>(
+fn serve_users<U: SafeUser, K: KeyFinder, O: Outside>(
     alloc: Global,
     keys: &K,
     plan: &LoopPlan,
     address: &str,
     users: Vec<U>,
-    wires: &mut W,
-    clock: &mut C,
-    randoms: &mut R,
-    sink: &mut S,
+    outside: &mut O,
 ) -> Result<Served, LoopFault>
-    ensures does { Serves (plan_of_loop (K.entries keys.now) plan.now)
-        (around_at S.Sink W.Wires C.Clock sink.old wires.old clock.old)
-        (around_at S.Sink W.Wires C.Clock sink.new wires.new clock.new)
-        (map U.mind users.items) (R.stream randoms.old) (R.stream randoms.new) address.now result }
-    ensures sunk { (S.state sink.old).faults ≤ (S.state sink.new).faults }
+    ensures does { Serves (plan_of_loop (K.entries keys.now) plan.now) (around (O.told outside.old)) (around (O.told outside.new))
+        (map U.mind users.items) (O.told outside.old).words (O.told outside.new).words address.now result }
+    ensures recorded { IsRecordedFirst (trace_header plan.now.settings) (O.told outside.old) (O.told outside.new) }
 {
     laws::journal();
     laws::octets();
@@ -67,31 +62,29 @@ fn serve_users<U: SafeUser, K: KeyFinder, W: Wires, C: Clock, R: Rng, S: Sink>(
     loop_session::laws::standing();
     see_settings(&plan.settings);
     let mut live = LiveLoop::new(alloc, users)?;
-    match wires.listen(address) {
+    match outside.listen(address) {
         Ok(()) => {}
         Err(_failed) => return Err(LoopFault::Wires),
     }
-    write_header(alloc, &plan.settings, sink)?;
-    live.run(alloc, keys, plan, wires, clock, randoms, sink)
+    write_header(alloc, &plan.settings, outside)?;
+    live.run(alloc, keys, plan, outside)
 }
 
 /// Listens at this address, and serves each connection that is accepted with a session of its own, whose user is the last of those
 /// that are left.
-pub fn serve<W: Wires, C: Clock, R: Rng, S: Sink>(
+pub fn serve<O: Outside>(
     alloc: Global,
     keys: &KeyStore,
     plan: &LinePlan,
     address: &str,
     rbc: u32,
     users: Vec<Box<dyn SafeUser>>,
-    wires: &mut W,
-    clock: &mut C,
-    randoms: &mut R,
-    sink: &mut S,
+    outside: &mut O,
 ) -> Result<Served, LoopFault>
     requires rbc { rbc < 2 ^ 24 }
-    ensures { ServesOn S.Sink W.Wires C.Clock sink.old sink.new wires.old wires.new clock.old clock.new
-        (serving keys.now plan.now rbc (length users.items)) address.now (map mind users.items) (R.stream randoms.old) (R.stream randoms.new) result }
+    ensures ends { ServesOn (O.told outside.old) (O.told outside.new) (serving keys.now plan.now rbc (length users.items)) address.now (map mind users.items) result }
+    // Nothing goes to a connection, and none is closed, before the lines that tell of it are written.
+    ensures recorded { IsRecordedFirst (trace_header plan.now.settings) (O.told outside.old) (O.told outside.new) }
 {
     let loop_plan = LoopPlan {
         settings: plan.settings,
@@ -100,7 +93,5 @@ pub fn serve<W: Wires, C: Clock, R: Rng, S: Sink>(
         turns: plan.turns,
         dials: false,
     };
-    serve_users(
-        alloc, keys, &loop_plan, address, users, wires, clock, randoms, sink,
-    )
+    serve_users(alloc, keys, &loop_plan, address, users, outside)
 }

@@ -4,3 +4,4 @@ mod FirstFound
 mod SoFar
 mod Takings
 mod Takes
+pub mod Prompts

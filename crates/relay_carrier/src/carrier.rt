@@ -6,6 +6,7 @@ ghost use Rattle.relay_script.specs.ScriptRanges.{IsScriptInRange};
 ghost use Rattle.relay_model.specs.Units.{parts_from, held_in_standing};
 ghost use Rattle.relay_carrier.specs.Told.{TellsParts};
 ghost use Rattle.relay_carrier.specs.Standing.{StandsBehind, TakesBehind, TakesUnit, Ends};
+ghost use Rattle.relay_carrier.specs.Prompt.{NoneDelays};
 ghost use Rattle.relay_carrier.specs.Counting.{within_64_bits};
 ghost use Rattle.relay_model.specs.Carried.{due_behind};
 
@@ -125,6 +126,9 @@ impl Carrier {
         ensures parts { IfOk result (λ taken. TellsParts taken.came came.new.items (parts_from self.old.standing (take taken.used octets.now))) }
         ensures given { IfOk result (λ taken. TakesBehind script.now self.old self.new moment (take taken.used octets.now) given.new.items taken.due) }
         ensures newest { IfOk result (λ taken. self.new.newest ≡ taken.due) }
+        // Without a line that delays, it is due by any moment that is no earlier than this one and all before.
+        ensures prompt { IfOk result (λ taken. (came : List ℕ) → StandsBehind script.now came self.old → NoneDelays self.old.side script.now.lines
+            → (most : ℕ) → self.old.newest ≤ most → moment ≤ most → taken.due ≤ most) }
         ensures side { OnOk result (self.new.side ≡ self.old.side) }
         ensures capacity { came.new.capacity ≡ 4096 }
     {
@@ -201,6 +205,8 @@ impl Carrier {
         ensures came { OnOk result (came.new.items ≡ held_in_standing self.old.standing) }
         ensures given { OnOk result ((script : model.Script) → Ends script self.old given.new.items) }
         ensures due { IfOk result (λ due. due ≡ within_64_bits (due_behind self.old.newest moment 0)) }
+        ensures prompt { IfOk result (λ due. (most : ℕ) → self.old.newest ≤ most → moment ≤ most → due ≤ most) }
+        ensures closed { OnOk result (self.new.closed ≡ self.old.closed) }
         ensures capacity { came.new.capacity ≡ 4096 }
     {
         came.clear();

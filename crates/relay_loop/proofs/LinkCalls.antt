@@ -1,394 +1,140 @@
 -- A connection, call by call.
-use Rattle.std.proofs.Common.{◌≡◌, ◌≢◌, ◌⊎◌, ℕ, ◌==◌, if◌then◌else◌, true, false, List, [], ◌∷◌, ◌++◌, refl, sym, ap, ◌∙◌, subst, append_assoc, append-nil, inl, inr}
-use Rattle.std.proofs.lemmas.Bool.{ne_eqb}
-use Rattle.std.proofs.lemmas.List.Concat.{flat_map-append}
+use Rattle.std.proofs.Common.{◌≡◌, ◌≢◌, ◌⊎◌, ℕ, ◌==◌, Bool, ◌||◌, true, false, List, [], ◌∷◌, ◌++◌, refl, sym, ap, ◌∙◌, subst, append_assoc, append-nil, inl, inr, true≢false, Result, Ok, Err}
+use Rattle.std.proofs.lemmas.Bool.{eq-eqb}
+use Rattle.std.proofs.lemmas.List.Folds.{list_any-append}
 use Rattle.er_base.specs.declared.side.Side.{Side}
 use Rattle.er_base.specs.declared.side.Side.TheVariants.{E, R}
-use Rattle.outside.specs.Acts.{Listened, Dialled, Turned, Read, Sent, Closed, Act, Fetched, Wrote, Called, Asked, Drew}
+use Rattle.er_base.specs.Printing.{Begins}
+use Rattle.outside.specs.Acts.{Closed, Act, Called}
 use Rattle.outside.specs.Doings.{Told, Did}
-use Rattle.outside.specs.Chains.{did_nothing, did_then}
 use Rattle.outside.specs.Scripts.{printing}
 use Rattle.link_trait.specs.declared.wires.Conn.{Conn}
 use Rattle.relay_script.specs.declared.script.Script.{Script}
+use Rattle.relay_model.specs.Carried.{carried}
+use Rattle.relay_loop.specs.declared.fault.RelayFault.{RelayFault}
 use Rattle.relay_loop.specs.declared.way.Way.{Way}
 use Rattle.relay_loop.specs.declared.link.Link.{Link}
+use Rattle.relay_loop.specs.RelayLines.{RelayLine, Closing, text_of_line, text_of_lines, closes_in_line, closes_in_lines}
+use Rattle.relay_loop.specs.Octets.{given_in_acts, read_in_acts}
 use Rattle.relay_loop.specs.Ways.{HoldsWay}
-use Rattle.relay_loop.specs.WaySteps.{WayMoves, PrintsGiven, joined}
-use Rattle.relay_loop.specs.declared.stamp.Stamp.{Stamp}
-use Rattle.relay_loop.specs.Sending.{given_by_act, given_in_acts, IsSendTo, AreSendsTo, Sends}
-use Rattle.relay_loop.specs.Reading.{read_by_act, read_in_acts, IsReadOf, AreReadsOf, Hears}
-use Rattle.relay_loop.proofs.WayCalls.{moves_none, still}
-use Rattle.relay_loop.specs.Giving.{PrintsBoth, WritesBoth, TellsFirst}
-use Rattle.relay_loop.specs.Links.{HoldsLink, IsUntouched, IsOfVisit, AreOfVisit, Stays, Visits}
+use Rattle.relay_loop.specs.WaySteps.{WayMoves}
+use Rattle.relay_loop.specs.Reading.{AreReadsOf, Hears, HearsOnly, PutsNews}
+use Rattle.relay_loop.specs.RelayDeeds.{RelayDeed, Puts, Flushes, Calls, Performs, BreaksBehind, IsLastDone, Steadily, deeds_of_acts, deeds_of_lines, lines_in, written_from, waiting_from, lines_written, given_in, octets_read_at, closes_in, octets_told_of, octets_written_of, AreOfVisit}
+use Rattle.relay_loop.specs.Links.{IsSafe, HoldsLink, IsUntouched, IsUntold, Visits, BreaksVisit, EndsVisit}
+use Rattle.relay_loop.proofs.Deeds.{begins_all, begins_none, begins_then, performs_none, performs_then, performs_call, performs_flush, breaks_then, breaks_here, written_append, written_more, closing_more, given_acts, read_acts, told_acts, steadily_then, steadily_last}
+use Rattle.relay_loop.proofs.LinkSafety.{NoReads, no_reads_append, no_reads_e, no_reads_r, given_still, closes_still, IsPlain, SafeBehind, steady_segment, plain_behind, still_behind}
+use Rattle.relay_loop.proofs.WayGoes.{WayGoes, moves_go, rests_go, way_goes, performs_acts, reads_are, reads_give_nothing, reads_elsewhere, reads_close_nothing, reads_of_visit, reads_steady}
 
--- ---- what acts read and wrote
+-- ---- a new connection
 
-pub other_conn : (a b : ℕ) (xs : List ℕ) → a ≢ b → (if a == b then xs else []) ≡ []
-other_conn a b xs differ = let other : (a == b) ≡ false = ne_eqb a b differ in rw other refl
+pub safe_new : (script : Script) (number e r : ℕ) (done : List RelayDeed) → IsUntold number done → IsUntouched e done → IsUntouched r done → IsSafe script number e r done
+safe_new script number e r done untold at_e at_r = record {
+  first_to_r = rw at_r.ungiven (begins_none _);
+  first_to_e = rw at_e.ungiven (begins_none _);
+  carried_of_e = rw untold.of_e (begins_none _);
+  carried_of_r = rw untold.of_r (begins_none _);
+  closed_e = λ c. absurd (true≢false (sym c ∙ at_e.unclosed));
+  closed_r = λ c. absurd (true≢false (sym c ∙ at_r.unclosed));
+}
 
-read_gives_nothing : (conn at : ℕ) (act : Act) → IsReadOf conn act → given_by_act at act ≡ []
-read_gives_nothing conn at (Fetched name answer) h = refl
-read_gives_nothing conn at (Wrote piece done) h = refl
-read_gives_nothing conn at (Called (Listened address listens)) h = refl
-read_gives_nothing conn at (Called (Dialled address to)) h = refl
-read_gives_nothing conn at (Called (Turned until what)) h = refl
-read_gives_nothing conn at (Called (Read from size reading)) h = refl
-read_gives_nothing conn at (Called (Sent to piece answer)) h = absurd h
-read_gives_nothing conn at (Called (Closed c)) h = refl
-read_gives_nothing conn at (Asked moment) h = refl
-read_gives_nothing conn at (Drew word) h = refl
-
-reads_give_nothing : (conn at : ℕ) (acts : List Act) → AreReadsOf conn acts → given_in_acts at acts ≡ []
-reads_give_nothing conn at [] h = refl
-reads_give_nothing conn at (act ∷ acts) h = rw (read_gives_nothing conn at act h.0) (reads_give_nothing conn at acts h.1)
-
-read_elsewhere : (conn at : ℕ) (act : Act) → conn ≢ at → IsReadOf conn act → read_by_act at act ≡ []
-read_elsewhere conn at (Fetched name answer) differ h = refl
-read_elsewhere conn at (Wrote piece done) differ h = refl
-read_elsewhere conn at (Called (Listened address listens)) differ h = refl
-read_elsewhere conn at (Called (Dialled address to)) differ h = refl
-read_elsewhere conn at (Called (Turned until what)) differ h = refl
-read_elsewhere conn at (Called (Read from size reading)) differ h = other_conn from at _ (λ same. differ (sym h ∙ same))
-read_elsewhere conn at (Called (Sent to piece answer)) differ h = refl
-read_elsewhere conn at (Called (Closed c)) differ h = refl
-read_elsewhere conn at (Asked moment) differ h = refl
-read_elsewhere conn at (Drew word) differ h = refl
-
-reads_elsewhere : (conn at : ℕ) (acts : List Act) → conn ≢ at → AreReadsOf conn acts → read_in_acts at acts ≡ []
-reads_elsewhere conn at [] differ h = refl
-reads_elsewhere conn at (act ∷ acts) differ h = rw (read_elsewhere conn at act differ h.0) (reads_elsewhere conn at acts differ h.1)
-
-send_reads_nothing : (conn at : ℕ) (act : Act) → IsSendTo conn act → read_by_act at act ≡ []
-send_reads_nothing conn at (Fetched name answer) h = refl
-send_reads_nothing conn at (Wrote piece done) h = refl
-send_reads_nothing conn at (Called (Listened address listens)) h = refl
-send_reads_nothing conn at (Called (Dialled address to)) h = refl
-send_reads_nothing conn at (Called (Turned until what)) h = refl
-send_reads_nothing conn at (Called (Read from size reading)) h = absurd h
-send_reads_nothing conn at (Called (Sent to piece answer)) h = refl
-send_reads_nothing conn at (Called (Closed c)) h = refl
-send_reads_nothing conn at (Asked moment) h = refl
-send_reads_nothing conn at (Drew word) h = refl
-
-sends_read_nothing : (conn at : ℕ) (acts : List Act) → AreSendsTo conn acts → read_in_acts at acts ≡ []
-sends_read_nothing conn at [] h = refl
-sends_read_nothing conn at (act ∷ acts) h = rw (send_reads_nothing conn at act h.0) (sends_read_nothing conn at acts h.1)
-
-send_elsewhere : (conn at : ℕ) (act : Act) → conn ≢ at → IsSendTo conn act → given_by_act at act ≡ []
-send_elsewhere conn at (Fetched name answer) differ h = refl
-send_elsewhere conn at (Wrote piece done) differ h = refl
-send_elsewhere conn at (Called (Listened address listens)) differ h = refl
-send_elsewhere conn at (Called (Dialled address to)) differ h = refl
-send_elsewhere conn at (Called (Turned until what)) differ h = refl
-send_elsewhere conn at (Called (Read from size reading)) differ h = refl
-send_elsewhere conn at (Called (Sent to piece answer)) differ h = other_conn to at _ (λ same. differ (sym h ∙ same))
-send_elsewhere conn at (Called (Closed c)) differ h = refl
-send_elsewhere conn at (Asked moment) differ h = refl
-send_elsewhere conn at (Drew word) differ h = refl
-
-sends_elsewhere : (conn at : ℕ) (acts : List Act) → conn ≢ at → AreSendsTo conn acts → given_in_acts at acts ≡ []
-sends_elsewhere conn at [] differ h = refl
-sends_elsewhere conn at (act ∷ acts) differ h = rw (send_elsewhere conn at act differ h.0) (sends_elsewhere conn at acts differ h.1)
-
--- ---- a way, as acts go on
-
--- what acts read and wrote of a way is what it moved
-way_on : (script : Script) (side : Side) (from to : ℕ) (done acts : List Act) (told octets written : List ℕ) (old new : Way) → read_in_acts from acts ≡ octets
-    → given_in_acts to acts ≡ written → WayMoves script octets written old new
-    → HoldsWay script side (read_in_acts from done) told (given_in_acts to done) old
-    → HoldsWay script side (read_in_acts from (done ++ acts)) told (given_in_acts to (done ++ acts)) new
-way_on script side from to done acts told octets written old new read gave moves h =
-    let reads : read_in_acts from (done ++ acts) ≡ read_in_acts from done ++ octets =
-    flat_map-append (read_by_act from) done acts ∙ ap (λ (o : List ℕ). read_in_acts from done ++ o) read in
-    let gives : given_in_acts to (done ++ acts) ≡ given_in_acts to done ++ written =
-    flat_map-append (given_by_act to) done acts ∙ ap (λ (o : List ℕ). given_in_acts to done ++ o) gave in
-    subst (λ (r : List ℕ). HoldsWay script side r told (given_in_acts to (done ++ acts)) new) (sym reads)
-    (subst (λ (g : List ℕ). HoldsWay script side (read_in_acts from done ++ octets) told g new) (sym gives) (moves side (read_in_acts from done) told (given_in_acts to done) h))
-
-way_rests : (script : Script) (way : Way) → WayMoves script [] [] way way
-way_rests script way = moves_none script way
-
-pub new_link : (script : Script) (acts : List Act) (link : Link) → HoldsWay script E [] [] [] link.from_e → HoldsWay script R [] [] [] link.from_r
-    → link.e.0 ≢ link.r.0 → IsUntouched link.e.0 acts → IsUntouched link.r.0 acts → HoldsLink script acts link
-new_link script acts link e r parted at_e at_r = record {
+pub new_link : (script : Script) (done : List RelayDeed) (link : Link) → HoldsWay script E [] [] [] link.from_e → HoldsWay script R [] [] [] link.from_r
+    → link.e.0 ≢ link.r.0 → IsUntold link.number done → IsUntouched link.e.0 done → IsUntouched link.r.0 done → HoldsLink script done link
+new_link script done link e r parted untold at_e at_r = record {
   parted = parted;
-  told_of_e = [];
-  told_of_r = [];
-  from_e = rw (at_e.0, at_r.1) e;
-  from_r = rw (at_r.0, at_e.1) r;
+  from_e = rw (at_e.unread, at_r.ungiven, untold.of_e) e;
+  from_r = rw (at_r.unread, at_e.ungiven, untold.of_r) r;
+  safe = safe_new script link.number link.e.0 link.r.0 done untold at_e at_r;
 }
 
 -- ---- visits
 
-of_visit_append : (e r : ℕ) (xs ys : List Act) → AreOfVisit e r xs → AreOfVisit e r ys → AreOfVisit e r (xs ++ ys)
-of_visit_append e r [] ys p q = q
-of_visit_append e r (x ∷ xs) ys p q = (p.0, of_visit_append e r xs ys p.1 q)
+pub of_visit_append : (number e r : ℕ) (xs ys : List RelayDeed) → AreOfVisit number e r xs → AreOfVisit number e r ys → AreOfVisit number e r (xs ++ ys)
+of_visit_append number e r [] ys p q = q
+of_visit_append number e r (x ∷ xs) ys p q = (p.0, of_visit_append number e r xs ys p.1 q)
 
-pub visits_none : (script : Script) (link : Link) (t : Told) → Visits script link link t t
-visits_none script link t = record {
-  acts = [];
-  did = did_nothing t;
+-- of the same connection
+along_visit : (a b : Link) (deeds : List RelayDeed) → b.number ≡ a.number → b.e ≡ a.e → b.r ≡ a.r → AreOfVisit b.number b.e.0 b.r.0 deeds → AreOfVisit a.number a.e.0 a.r.0 deeds
+along_visit a b deeds number e r h =
+    subst (λ (n : ℕ). AreOfVisit n a.e.0 a.r.0 deeds) number
+    (subst (λ (k : Conn). AreOfVisit b.number k.0 a.r.0 deeds) e (subst (λ (k : Conn). AreOfVisit b.number b.e.0 k.0 deeds) r h))
+
+along_steady : (script : Script) (a b : Link) (done deeds : List RelayDeed) → b.number ≡ a.number → b.e ≡ a.e → b.r ≡ a.r
+    → Steadily (IsSafe script b.number b.e.0 b.r.0) done deeds → Steadily (IsSafe script a.number a.e.0 a.r.0) done deeds
+along_steady script a b done deeds number e r h =
+    subst (λ (n : ℕ). Steadily (IsSafe script n a.e.0 a.r.0) done deeds) number
+    (subst (λ (k : Conn). Steadily (IsSafe script b.number k.0 a.r.0) done deeds) e (subst (λ (k : Conn). Steadily (IsSafe script b.number b.e.0 k.0) done deeds) r h))
+
+pub visits_none : (script : Script) (link : Link) (waiting : List ℕ) (t : Told) → Visits script link link waiting waiting t t
+visits_none script link waiting t = record {
+  deeds = [];
+  performs = performs_none waiting t;
   only = tt;
+  number = refl;
   e = refl;
   r = refl;
-  holds = λ done h. subst (λ (d : List Act). HoldsLink script d link) (sym (append-nil done)) h;
+  holds = λ done h. subst (λ (d : List RelayDeed). HoldsLink script d link) (sym (append-nil done)) h;
+  steady = λ done h. h.safe;
 }
 
-pub visits_then : (script : Script) (a b c : Link) (s t u : Told) → Visits script a b s t → Visits script b c t u → Visits script a c s u
-visits_then script a b c s t u p q = record {
-  acts = p.acts ++ q.acts;
-  did = did_then s t u p.acts q.acts p.did q.did;
-  only = of_visit_append a.e.0 a.r.0 p.acts q.acts p.only
-      (subst (λ (k : Conn). AreOfVisit k.0 a.r.0 q.acts) p.e (subst (λ (k : Conn). AreOfVisit b.e.0 k.0 q.acts) p.r q.only));
+pub visits_then : (script : Script) (a b c : Link) (u v w : List ℕ) (s t x : Told) → Visits script a b u v s t → Visits script b c v w t x → Visits script a c u w s x
+visits_then script a b c u v w s t x p q = record {
+  deeds = p.deeds ++ q.deeds;
+  performs = performs_then u v w s t x p.deeds q.deeds p.performs q.performs;
+  only = of_visit_append a.number a.e.0 a.r.0 p.deeds q.deeds p.only (along_visit a b q.deeds p.number p.e p.r q.only);
+  number = q.number ∙ p.number;
   e = q.e ∙ p.e;
   r = q.r ∙ p.r;
   holds = λ done h.
-      subst (λ (d : List Act). HoldsLink script d c) (append_assoc done p.acts q.acts) (q.holds (done ++ p.acts) (p.holds done h));
+      subst (λ (d : List RelayDeed). HoldsLink script d c) (append_assoc done p.deeds q.deeds) (q.holds (done ++ p.deeds) (p.holds done h));
+  steady = λ done h.
+      steadily_then (IsSafe script a.number a.e.0 a.r.0) done p.deeds q.deeds (p.steady done h)
+      (along_steady script a b (done ++ p.deeds) q.deeds p.number p.e p.r (q.steady (done ++ p.deeds) (p.holds done h)));
 }
 
-pub stays_then : (script : Script) (a b c : Link) (s t : Told) → Stays a b → Visits script b c s t → Visits script a c s t
-stays_then script a b c s t p q = record {
-  acts = q.acts;
-  did = q.did;
-  only = subst (λ (k : Conn). AreOfVisit k.0 a.r.0 q.acts) p.e (subst (λ (k : Conn). AreOfVisit b.e.0 k.0 q.acts) p.r q.only);
-  e = q.e ∙ p.e;
-  r = q.r ∙ p.r;
-  holds = λ done h. q.holds done (p.holds script done h);
+pub visit_breaks : (fault : RelayFault) (script : Script) (a b : Link) (u v : List ℕ) (s t x : Told) → Visits script a b u v s t → BreaksVisit fault script b v t x
+    → BreaksVisit fault script a u s x
+visit_breaks fault script a b u v s t x p q = record {
+  deeds = p.deeds ++ q.deeds;
+  breaks = breaks_then fault u v s t x p.deeds q.deeds p.performs q.breaks;
+  only = of_visit_append a.number a.e.0 a.r.0 p.deeds q.deeds p.only (along_visit a b q.deeds p.number p.e p.r q.only);
+  steady = λ done h.
+      steadily_then (IsSafe script a.number a.e.0 a.r.0) done p.deeds q.deeds (p.steady done h)
+      (along_steady script a b (done ++ p.deeds) q.deeds p.number p.e p.r (q.steady (done ++ p.deeds) (p.holds done h)));
 }
 
-pub then_stays : (script : Script) (a b c : Link) (s t : Told) → Visits script a b s t → Stays b c → Visits script a c s t
-then_stays script a b c s t p q = record {
-  acts = p.acts;
-  did = p.did;
-  only = p.only;
-  e = q.e ∙ p.e;
-  r = q.r ∙ p.r;
-  holds = λ done h. q.holds script (done ++ p.acts) (p.holds done h);
-}
+-- however the second ends
+pub visits_end : {T : Type 0} (result : Result T RelayFault) (script : Script) (a b c : Link) (u v w : List ℕ) (s t x : Told) → Visits script a b u v s t
+    → EndsVisit result script b c v w t x → EndsVisit result script a c u w s x
+visits_end (Ok value) script a b c u v w s t x p q = visits_then script a b c u v w s t x p q
+visits_end (Err fault) script a b c u v w s t x p q = visit_breaks fault script a b u v s t x p q
 
--- ---- reads
+-- it breaks off behind a visit, and nothing more was done
+pub breaks_behind : (fault : RelayFault) (script : Script) (a b : Link) (u v : List ℕ) (s t : Told) → IsLastDone fault [] → Visits script a b u v s t
+    → BreaksVisit fault script a u s t
+breaks_behind fault script a b u v s t none p =
+    record { deeds = p.deeds; breaks = breaks_here fault u v s t p.deeds none p.performs; only = p.only; steady = p.steady }
 
-along_conn : (a b e r : ℕ) → a ≡ b → (b ≡ e) ⊎ (b ≡ r) → (a ≡ e) ⊎ (a ≡ r)
-along_conn a b e r same (inl h) = inl (same ∙ h)
-along_conn a b e r same (inr h) = inr (same ∙ h)
+-- nothing was done
+pub breaks_at_once : (fault : RelayFault) (script : Script) (link : Link) (waiting : List ℕ) (t : Told) → IsLastDone fault [] → BreaksVisit fault script link waiting t t
+breaks_at_once fault script link waiting t none = breaks_behind fault script link link waiting waiting t t none (visits_none script link waiting t)
 
-read_of_visit : (e r conn : ℕ) (act : Act) → (conn ≡ e) ⊎ (conn ≡ r) → IsReadOf conn act → IsOfVisit e r act
-read_of_visit e r conn (Fetched name answer) is h = absurd h
-read_of_visit e r conn (Wrote piece done) is h = absurd h
-read_of_visit e r conn (Called (Listened address listens)) is h = absurd h
-read_of_visit e r conn (Called (Dialled address to)) is h = absurd h
-read_of_visit e r conn (Called (Turned until what)) is h = absurd h
-read_of_visit e r conn (Called (Read from size reading)) is h = along_conn from conn e r h is
-read_of_visit e r conn (Called (Sent to piece answer)) is h = absurd h
-read_of_visit e r conn (Called (Closed c)) is h = absurd h
-read_of_visit e r conn (Asked moment) is h = absurd h
-read_of_visit e r conn (Drew word) is h = absurd h
+-- nothing was done but what broke it off
+pub breaks_first : (fault : RelayFault) (script : Script) (link : Link) (waiting : List ℕ) (before now : Told) → BreaksBehind fault waiting before now []
+    → BreaksVisit fault script link waiting before now
+breaks_first fault script link waiting before now b = record { deeds = []; breaks = b; only = tt; steady = λ done h. h.safe }
 
-reads_of_visit : (e r conn : ℕ) (acts : List Act) → (conn ≡ e) ⊎ (conn ≡ r) → AreReadsOf conn acts → AreOfVisit e r acts
-reads_of_visit e r conn [] is h = tt
-reads_of_visit e r conn (act ∷ acts) is h = (read_of_visit e r conn act is h.0, reads_of_visit e r conn acts is h.1)
+-- ---- deeds by which the ways go on
 
-pub hears_e : (script : Script) (link : Link) (way : Way) (before now : Told) → Hears script link.e.0 link.from_e way before now
-    → Visits script link (record link { from_e = way }) before now
-hears_e script link way before now h = record {
-  acts = h.acts;
-  did = h.did;
-  only = reads_of_visit link.e.0 link.r.0 link.e.0 h.acts (inl refl) h.only;
-  e = refl;
-  r = refl;
-  holds = λ done l. record {
-    parted = l.parted;
-    told_of_e = l.told_of_e;
-    told_of_r = l.told_of_r;
-    from_e = way_on script E link.e.0 link.r.0 done h.acts l.told_of_e _ [] link.from_e way refl (reads_give_nothing link.e.0 link.r.0 h.acts h.only) h.moves l.from_e;
-    from_r = way_on script R link.r.0 link.e.0 done h.acts l.told_of_r [] [] link.from_r link.from_r
-        (reads_elsewhere link.e.0 link.r.0 h.acts l.parted h.only) (reads_give_nothing link.e.0 link.e.0 h.acts h.only) (way_rests script link.from_r) l.from_r;
-  };
-}
-
-pub hears_r : (script : Script) (link : Link) (way : Way) (before now : Told) → Hears script link.r.0 link.from_r way before now
-    → Visits script link (record link { from_r = way }) before now
-hears_r script link way before now h = record {
-  acts = h.acts;
-  did = h.did;
-  only = reads_of_visit link.e.0 link.r.0 link.r.0 h.acts (inr refl) h.only;
-  e = refl;
-  r = refl;
-  holds = λ done l. record {
-    parted = l.parted;
-    told_of_e = l.told_of_e;
-    told_of_r = l.told_of_r;
-    from_e = way_on script E link.e.0 link.r.0 done h.acts l.told_of_e [] [] link.from_e link.from_e
-        (reads_elsewhere link.r.0 link.e.0 h.acts (λ same. l.parted (sym same)) h.only) (reads_give_nothing link.r.0 link.r.0 h.acts h.only) (way_rests script link.from_e) l.from_e;
-    from_r = way_on script R link.r.0 link.e.0 done h.acts l.told_of_r _ [] link.from_r way refl (reads_give_nothing link.r.0 link.e.0 h.acts h.only) h.moves l.from_r;
-  };
-}
-
--- ---- writes
-
-send_of_visit : (e r conn : ℕ) (act : Act) → (conn ≡ e) ⊎ (conn ≡ r) → IsSendTo conn act → IsOfVisit e r act
-send_of_visit e r conn (Fetched name answer) is h = absurd h
-send_of_visit e r conn (Wrote piece done) is h = absurd h
-send_of_visit e r conn (Called (Listened address listens)) is h = absurd h
-send_of_visit e r conn (Called (Dialled address to)) is h = absurd h
-send_of_visit e r conn (Called (Turned until what)) is h = absurd h
-send_of_visit e r conn (Called (Read from size reading)) is h = absurd h
-send_of_visit e r conn (Called (Sent to piece answer)) is h = along_conn to conn e r h is
-send_of_visit e r conn (Called (Closed c)) is h = absurd h
-send_of_visit e r conn (Asked moment) is h = absurd h
-send_of_visit e r conn (Drew word) is h = absurd h
-
-sends_of_visit : (e r conn : ℕ) (acts : List Act) → (conn ≡ e) ⊎ (conn ≡ r) → AreSendsTo conn acts → AreOfVisit e r acts
-sends_of_visit e r conn [] is h = tt
-sends_of_visit e r conn (act ∷ acts) is h = (send_of_visit e r conn act is h.0, sends_of_visit e r conn acts is h.1)
-
--- what came from e is written to r
-pub sends_to_r : (script : Script) (link : Link) (way : Way) (before now : Told) → Sends link.r.0 link.from_e way before now
-    → Visits script link (record link { from_e = way }) before now
-sends_to_r script link way before now s = record {
-  acts = s.acts;
-  did = s.did;
-  only = sends_of_visit link.e.0 link.r.0 link.r.0 s.acts (inr refl) s.only;
-  e = refl;
-  r = refl;
-  holds = λ done l. record {
-    parted = l.parted;
-    told_of_e = l.told_of_e;
-    told_of_r = l.told_of_r;
-    from_e = way_on script E link.e.0 link.r.0 done s.acts l.told_of_e [] _ link.from_e way (sends_read_nothing link.r.0 link.e.0 s.acts s.only) refl (s.moves script) l.from_e;
-    from_r = way_on script R link.r.0 link.e.0 done s.acts l.told_of_r [] [] link.from_r link.from_r (sends_read_nothing link.r.0 link.r.0 s.acts s.only)
-        (sends_elsewhere link.r.0 link.e.0 s.acts (λ same. l.parted (sym same)) s.only) (way_rests script link.from_r) l.from_r;
-  };
-}
-
-pub sends_to_e : (script : Script) (link : Link) (way : Way) (before now : Told) → Sends link.e.0 link.from_r way before now
-    → Visits script link (record link { from_r = way }) before now
-sends_to_e script link way before now s = record {
-  acts = s.acts;
-  did = s.did;
-  only = sends_of_visit link.e.0 link.r.0 link.e.0 s.acts (inl refl) s.only;
-  e = refl;
-  r = refl;
-  holds = λ done l. record {
-    parted = l.parted;
-    told_of_e = l.told_of_e;
-    told_of_r = l.told_of_r;
-    from_e = way_on script E link.e.0 link.r.0 done s.acts l.told_of_e [] [] link.from_e link.from_e (sends_read_nothing link.e.0 link.e.0 s.acts s.only)
-        (sends_elsewhere link.e.0 link.r.0 s.acts l.parted s.only) (way_rests script link.from_e) l.from_e;
-    from_r = way_on script R link.r.0 link.e.0 done s.acts l.told_of_r [] _ link.from_r way (sends_read_nothing link.e.0 link.r.0 s.acts s.only) refl (s.moves script) l.from_r;
-  };
-}
-
--- ---- no act
-
-pub stays_none : (link : Link) → Stays link link
-stays_none link = record { e = refl; r = refl; holds = λ script acts l. l }
-
-pub stays_both : (a b c : Link) → Stays a b → Stays b c → Stays a c
-stays_both a b c p q = record { e = q.e ∙ p.e; r = q.r ∙ p.r; holds = λ script acts l. q.holds script acts (p.holds script acts l) }
-
-pub stays_e : (link : Link) (way : Way) → ((script : Script) → WayMoves script [] [] link.from_e way) → Stays link (record link { from_e = way })
-stays_e link way moves = record {
-  e = refl;
-  r = refl;
-  holds = λ script acts l. record {
-    parted = l.parted;
-    told_of_e = l.told_of_e;
-    told_of_r = l.told_of_r;
-    from_e = still script E (read_in_acts link.e.0 acts) l.told_of_e (given_in_acts link.r.0 acts) link.from_e way (moves script) l.from_e;
-    from_r = l.from_r;
-  };
-}
-
-pub stays_r : (link : Link) (way : Way) → ((script : Script) → WayMoves script [] [] link.from_r way) → Stays link (record link { from_r = way })
-stays_r link way moves = record {
-  e = refl;
-  r = refl;
-  holds = λ script acts l. record {
-    parted = l.parted;
-    told_of_e = l.told_of_e;
-    told_of_r = l.told_of_r;
-    from_e = l.from_e;
-    from_r = still script R (read_in_acts link.r.0 acts) l.told_of_r (given_in_acts link.e.0 acts) link.from_r way (moves script) l.from_r;
-  };
-}
-
-pub prints_e : (at : Stamp) (link : Link) (way : Way) (x y : List ℕ) → PrintsGiven at link.from_e way x y → Stays link (record link { from_e = way })
-prints_e at link way x y p = record {
-  e = refl;
-  r = refl;
-  holds = λ script acts l. record {
-    parted = l.parted;
-    told_of_e = l.told_of_e ++ joined p.parts;
-    told_of_r = l.told_of_r;
-    from_e = p.holds script E (read_in_acts link.e.0 acts) l.told_of_e (given_in_acts link.r.0 acts) l.from_e;
-    from_r = l.from_r;
-  };
-}
-
-pub prints_r : (at : Stamp) (link : Link) (way : Way) (x y : List ℕ) → PrintsGiven at link.from_r way x y → Stays link (record link { from_r = way })
-prints_r at link way x y p = record {
-  e = refl;
-  r = refl;
-  holds = λ script acts l. record {
-    parted = l.parted;
-    told_of_e = l.told_of_e;
-    told_of_r = l.told_of_r ++ joined p.parts;
-    from_e = l.from_e;
-    from_r = p.holds script R (read_in_acts link.r.0 acts) l.told_of_r (given_in_acts link.e.0 acts) l.from_r;
-  };
-}
-
--- ---- lines, and closes
-
-pub lines_move_nothing : (script : Script) (link : Link) (acts : List Act) → (read_in_acts link.e.0 acts ≡ []) → (read_in_acts link.r.0 acts ≡ [])
-    → (given_in_acts link.e.0 acts ≡ []) → (given_in_acts link.r.0 acts ≡ []) → (done : List Act) → HoldsLink script done link → HoldsLink script (done ++ acts) link
-lines_move_nothing script link acts re rr ge gr done l = record {
-  parted = l.parted;
-  told_of_e = l.told_of_e;
-  told_of_r = l.told_of_r;
-  from_e = way_on script E link.e.0 link.r.0 done acts l.told_of_e [] [] link.from_e link.from_e re gr (way_rests script link.from_e) l.from_e;
-  from_r = way_on script R link.r.0 link.e.0 done acts l.told_of_r [] [] link.from_r link.from_r rr ge (way_rests script link.from_r) l.from_r;
-}
-
-pub tells_lines : (script : Script) (link : Link) (text : List ℕ) (before now : Told) → Did before now (printing text) → Visits script link link before now
-tells_lines script link [] before now did = record { acts = []; did = did; only = tt; e = refl; r = refl; holds = lines_move_nothing script link [] refl refl refl refl }
-tells_lines script link (octet ∷ octets) before now did = record {
-  acts = Wrote (octet ∷ octets) true ∷ [];
-  did = did;
-  only = (tt, tt);
-  e = refl;
-  r = refl;
-  holds = lines_move_nothing script link (Wrote (octet ∷ octets) true ∷ []) refl refl refl refl;
-}
-
-pub closes_both : (script : Script) (link : Link) (a b c : Told) → Did a b (Called (Closed link.e.0) ∷ []) → Did b c (Called (Closed link.r.0) ∷ []) → Visits script link link a c
-closes_both script link a b c p q = record {
-  acts = Called (Closed link.e.0) ∷ Called (Closed link.r.0) ∷ [];
-  did = did_then a b c (Called (Closed link.e.0) ∷ []) (Called (Closed link.r.0) ∷ []) p q;
-  only = (inl refl, (inr refl, tt));
-  e = refl;
-  r = refl;
-  holds = lines_move_nothing script link (Called (Closed link.e.0) ∷ Called (Closed link.r.0) ∷ []) refl refl refl refl;
-}
-
--- ---- told first
-
-pub prints_both_stays : (at : Stamp) (old new : Link) (x y : List ℕ) → PrintsBoth at old new x y → Stays old new
-prints_both_stays at old new x y p =
-    subst (λ (l : Link). Stays old l) (sym p.is)
-    (stays_both old (record old { from_e = new.from_e }) (record old { from_e = new.from_e; from_r = new.from_r })
-    (prints_e at old new.from_e x p.between p.from_e) (prints_r at (record old { from_e = new.from_e }) new.from_r p.between y p.from_r))
-
-pub writes_both_visits : (script : Script) (old new : Link) (before now : Told) → WritesBoth old new before now → Visits script old new before now
-writes_both_visits script old new before now w =
-    subst (λ (l : Link). Visits script old l before now) (sym w.is)
-    (visits_then script old (record old { from_e = new.from_e }) (record old { from_e = new.from_e; from_r = new.from_r }) before w.between now
-    (sends_to_r script old new.from_e before w.between w.to_r) (sends_to_e script (record old { from_e = new.from_e }) new.from_r w.between now w.to_e))
-
-pub first_visits : (script : Script) (at : Stamp) (waiting : List ℕ) (old new : Link) (before now : Told) → TellsFirst at waiting old new before now
-    → Visits script old new before now
-first_visits script at waiting old new before now f =
-    stays_then script old f.told new before now (prints_both_stays at old f.told waiting f.lines f.prints)
-    (visits_then script f.told f.told new before f.between now (tells_lines script f.told f.lines before f.between f.tells)
-    (writes_both_visits script f.told new f.between now f.writes))
+-- one of two ways goes on, or both
+pub link_goes : (script : Script) (done xs : List RelayDeed) (old new : Link) (read_e told_e gave_r read_r told_r gave_e : List ℕ) → new.number ≡ old.number → new.e ≡ old.e
+    → new.r ≡ old.r → octets_read_at old.e.0 xs ≡ read_e → octets_told_of old.number E xs ≡ told_e → given_in old.r.0 xs ≡ gave_r → octets_read_at old.r.0 xs ≡ read_r
+    → octets_told_of old.number R xs ≡ told_r → given_in old.e.0 xs ≡ gave_e → WayGoes script read_e told_e gave_r old.from_e new.from_e
+    → WayGoes script read_r told_r gave_e old.from_r new.from_r → IsSafe script old.number old.e.0 old.r.0 (done ++ xs) → HoldsLink script done old
+    → HoldsLink script (done ++ xs) new
+link_goes script done xs old new read_e told_e gave_r read_r told_r gave_e number e r re te gr rr tr ge goes_e goes_r safe h =
+    record {
+      parted = rw (e, r) h.parted;
+      from_e = rw (number, e, r) (way_goes script E old.e.0 old.r.0 old.number done xs read_e told_e gave_r old.from_e new.from_e re te gr goes_e h.from_e);
+      from_r = rw (number, e, r) (way_goes script R old.r.0 old.e.0 old.number done xs read_r told_r gave_e old.from_r new.from_r rr tr ge goes_r h.from_r);
+      safe = rw (number, e, r) safe;
+    }

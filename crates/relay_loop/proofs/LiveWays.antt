@@ -94,7 +94,7 @@ new_live script way unended side stands printed waits = record {
   given_is = rw (waits, unended) (pieces_none ∙ sym (nothing_given script way.side));
 }
 
-given_unended : (script : Script) (came told gave : List ℕ) (way : Way) → HoldsLive script came told gave way → way.ended ≡ false
+pub given_unended : (script : Script) (came told gave : List ℕ) (way : Way) → HoldsLive script came told gave way → way.ended ≡ false
     → told ++ octets_of_pieces way.waits.items ≡ given_of_sent script way.side came
 given_unended script came told gave way l unended =
     subst (λ (b : Bool). told ++ octets_of_pieces way.waits.items ≡ given_so_far script way.side b came) unended l.given_is

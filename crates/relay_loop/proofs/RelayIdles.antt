@@ -1,59 +1,78 @@
--- Acts of a relay at no socket.
-use Rattle.std.proofs.Common.{◌≡◌, ℕ, ◌-◌, List, [], ◌∷◌, ◌++◌, None, true, refl, ◌∙◌}
-use Rattle.std.proofs.lemmas.List.Concat.{flat_map-append}
-use Rattle.outside.specs.Scripts.{printing}
-use Rattle.outside.specs.Acts.{Dialled, Closed, Act, Wrote, Called}
-use Rattle.outside.specs.Doings.{Told, Did}
-use Rattle.outside.specs.Chains.{did_then}
+-- Deeds of a relay at no socket.
+use Rattle.std.proofs.Common.{◌≡◌, ℕ, ◌<◌, false, List, [], ◌∷◌, ◌++◌, length, Option, refl, sym, ap, ◌∙◌, subst, append-nil, fold}
+use Rattle.er_base.specs.declared.side.Side.{Side}
+use Rattle.er_base.specs.declared.side.Side.TheVariants.{E, R}
+use Rattle.link_trait.specs.declared.wires.Happening.{Happening}
+use Rattle.outside.specs.Acts.{Listened, Dialled, Turned}
 use Rattle.relay_script.specs.declared.script.Script.{Script}
 use Rattle.relay_loop.specs.declared.link.Link.{Link}
-use Rattle.relay_loop.specs.Links.{IsUntouched}
-use Rattle.relay_loop.specs.Relays.{dialled_by_act, dialled_in_acts, AllHold, ArePaired, HoldsRelay, Idles}
-use Rattle.relay_loop.proofs.RelayActs.{untouched_append, carried_on, link_on}
-use Rattle.relay_loop.proofs.RelayRings.{dialled_on}
+use Rattle.relay_loop.specs.RelayLines.{RelayLine, Opening, SideEnd, Closing, told_by_line}
+use Rattle.relay_loop.specs.Connections.{RelayedConnection}
+use Rattle.relay_loop.specs.RelayDeeds.{RelayDeed, Puts, Flushes, Calls, Asks, read_by_deed, given_by_deed, closes_by_deed, octets_told_of, Steadily}
+use Rattle.relay_loop.specs.Links.{IsUntouched, IsUntold}
+use Rattle.relay_loop.specs.Rings.{behind_deed, connections_in, far_conn, AllSafe, AreSafe, AllHold, HoldsRelay}
+use Rattle.relay_loop.proofs.Elsewhere.{untouched_append, untold_append, connection_on, connections_on}
+use Rattle.relay_loop.proofs.RelayRings.{link_on}
 
--- ---- acts at no socket
+-- nothing is read or given by it, no socket is closed, and no line tells of what is given
+pub record IsMute (deed : RelayDeed) : Type 0 where
+  pub reads : (conn : ℕ) → read_by_deed conn deed ≡ []
+  pub gives : (conn : ℕ) → given_by_deed conn deed ≡ []
+  pub closes : (conn : ℕ) → closes_by_deed conn deed ≡ false
+  pub tells : (number : ℕ) (side : Side) → octets_told_of number side (deed ∷ []) ≡ []
 
-pub all_idle : (script : Script) (done acts : List Act) (links : List Link) → ((conn : ℕ) → IsUntouched conn acts) → AllHold script done links
-    → AllHold script (done ++ acts) links
-all_idle script done acts [] idle hold = tt
-all_idle script done acts (link ∷ links) idle hold =
-    (link_on script done acts link (idle link.e.0) (idle link.r.0) hold.0, (hold.1.0, all_idle script done acts links idle hold.1.1))
+pub mute_untouched : (deed : RelayDeed) (conn : ℕ) → IsMute deed → IsUntouched conn (deed ∷ [])
+mute_untouched deed conn m = record { unread = rw (m.reads conn) refl; ungiven = rw (m.gives conn) refl; unclosed = rw (m.closes conn) refl }
 
-pub pairs_idle : (script : Script) (done acts : List Act) (bound : ℕ) (links : List Link) (dialled : List ℕ) → ((conn : ℕ) → IsUntouched conn acts)
-    → ArePaired script done bound links dialled → ArePaired script (done ++ acts) bound links dialled
-pairs_idle script done acts bound links [] idle paired = tt
-pairs_idle script done acts bound links (r ∷ rest) idle paired = (
-  record { is_carried = carried_on script done acts (r - 1) r (idle (r - 1)) (idle r) paired.0.is_carried; below = paired.0.below; parted = paired.0.parted },
-  pairs_idle script done acts bound links rest idle paired.1,
+pub mute_untold : (deed : RelayDeed) (number : ℕ) → IsMute deed → IsUntold number (deed ∷ [])
+mute_untold deed number m = record { of_e = m.tells number E; of_r = m.tells number R }
+
+pub all_mute : (script : Script) (done : List RelayDeed) (deed : RelayDeed) (links : List Link) → IsMute deed → AllHold script done links
+    → AllHold script (done ++ deed ∷ []) links
+all_mute script done deed [] m hold = tt
+all_mute script done deed (link ∷ links) m hold = (
+  link_on script done (deed ∷ []) link (mute_untouched deed link.e.0 m) (mute_untouched deed link.r.0 m) (mute_untold deed link.number m) hold.0,
+  (hold.1.0, all_mute script done deed links m hold.1.1),
 )
 
-pub relay_idle : (script : Script) (done acts : List Act) (bound : ℕ) (links : List Link) → ((conn : ℕ) → IsUntouched conn acts) → dialled_in_acts acts ≡ []
-    → HoldsRelay script done bound links → HoldsRelay script (done ++ acts) bound links
-relay_idle script done acts bound links idle dials h = record {
-  hold = all_idle script done acts links idle h.hold;
-  below = h.below;
-  fresh = λ conn more. untouched_append conn done acts (h.fresh conn more) (idle conn);
-  paired = rw (dialled_on done acts dials) (pairs_idle script done acts bound links (dialled_in_acts done) idle h.paired);
-}
+pub safe_mute : (script : Script) (dial : List ℕ) (done : List RelayDeed) (deed : RelayDeed) (connections : List RelayedConnection) → IsMute deed
+    → AllSafe script dial done connections → AllSafe script dial (done ++ deed ∷ []) connections
+safe_mute script dial done deed [] m safe = tt
+safe_mute script dial done deed (one ∷ others) m safe = (
+  connection_on script dial one.number one.e one.r done (deed ∷ []) (mute_untouched deed one.e m) (mute_untouched deed (far_conn one.e one.r) m)
+      (mute_untold deed one.number m) safe.0,
+  safe_mute script dial done deed others m safe.1,
+)
 
-pub idles_lines : (text : List ℕ) (before now : Told) → Did before now (printing text) → Idles before now
-idles_lines [] before now did = record { acts = []; did = did; opened = did.wires.opened; untouched = λ conn. (refl, refl); dials = refl }
-idles_lines (octet ∷ octets) before now did =
-    record { acts = Wrote (octet ∷ octets) true ∷ []; did = did; opened = did.wires.opened; untouched = λ conn. (refl, refl); dials = refl }
+pub mute_relay : (script : Script) (dial : List ℕ) (done : List RelayDeed) (deed : RelayDeed) (bound : ℕ) (links : List Link) → IsMute deed
+    → ((before : List RelayedConnection) → behind_deed before deed ≡ before) → HoldsRelay script dial done bound links
+    → HoldsRelay script dial (done ++ deed ∷ []) bound links
+mute_relay script dial done deed bound links m still h =
+    let same : connections_in (done ++ deed ∷ []) ≡ connections_in done = connections_on done (deed ∷ []) still in
+    record {
+      hold = all_mute script done deed links m h.hold;
+      below = rw same h.below;
+      fresh = λ conn more. untouched_append conn done (deed ∷ []) (h.fresh conn more) (mute_untouched deed conn m);
+      untold = rw same (λ number more. untold_append number done (deed ∷ []) (h.untold number more) (mute_untold deed number m));
+      in_order = rw same h.in_order;
+      paired = rw same h.paired;
+      safe = rw same (safe_mute script dial done deed (connections_in done) m h.safe);
+    }
 
-pub idles_close : (conn : ℕ) (before now : Told) → Did before now (Called (Closed conn) ∷ []) → Idles before now
-idles_close conn before now did = record { acts = Called (Closed conn) ∷ []; did = did; opened = did.wires.opened; untouched = λ conn. (refl, refl); dials = refl }
+-- ---- mute deeds
 
-pub idles_dial : (address : List ℕ) (before now : Told) → Did before now (Called (Dialled address None) ∷ []) → Idles before now
-idles_dial address before now did =
-    record { acts = Called (Dialled address None) ∷ []; did = did; opened = did.wires.opened; untouched = λ conn. (refl, refl); dials = refl }
+pub mute_ask : (moment : ℕ) → IsMute (Asks moment)
+mute_ask moment = record { reads = λ conn. refl; gives = λ conn. refl; closes = λ conn. refl; tells = λ number side. refl }
 
-pub idles_then : (s t u : Told) → Idles s t → Idles t u → Idles s u
-idles_then s t u p q = record {
-  acts = p.acts ++ q.acts;
-  did = did_then s t u p.acts q.acts p.did q.did;
-  opened = q.opened ∙ p.opened;
-  untouched = λ conn. untouched_append conn p.acts q.acts (p.untouched conn) (q.untouched conn);
-  dials = flat_map-append dialled_by_act p.acts q.acts ∙ rw (p.dials, q.dials) refl;
-}
+pub mute_flush : IsMute Flushes
+mute_flush = record { reads = λ conn. refl; gives = λ conn. refl; closes = λ conn. refl; tells = λ number side. refl }
+
+pub mute_turn : (until : Option ℕ) (what : Happening) → IsMute (Calls (Turned until what))
+mute_turn until what = record { reads = λ conn. refl; gives = λ conn. refl; closes = λ conn. refl; tells = λ number side. refl }
+
+pub mute_dial : (address : List ℕ) (answer : Option ℕ) → IsMute (Calls (Dialled address answer))
+mute_dial address answer = record { reads = λ conn. refl; gives = λ conn. refl; closes = λ conn. refl; tells = λ number side. refl }
+
+-- a line of what isn't given
+pub mute_line : (line : RelayLine) → ((number : ℕ) (side : Side) → told_by_line number side line ≡ []) → IsMute (Puts line)
+mute_line line none = record { reads = λ conn. refl; gives = λ conn. refl; closes = λ conn. refl; tells = λ number side. rw (none number side) refl }

@@ -1,171 +1,330 @@
 -- The connections of a relay, of which the first is asked.
-use Rattle.std.proofs.Common.{◌≡◌, ◌≢◌, ◌⊎◌, ℕ, ◌-◌, ◌<◌, ◌≤◌, List, [], ◌∷◌, ◌++◌, refl, sym, ap, ◌∙◌, subst, append_assoc, append-nil, inl, inr, arith}
-use Rattle.std.proofs.lemmas.List.Concat.{flat_map-append}
+use Rattle.std.proofs.Common.{◌≡◌, ◌≢◌, ◌⊎◌, ℕ, ◌+◌, ◌<◌, ◌≤◌, true, List, [], ◌∷◌, ◌++◌, length, refl, sym, ap, ◌∙◌, subst, append_assoc, append-nil, inl, inr, arith, fold, Result, Ok, Err}
+use Rattle.std.proofs.lemmas.List.Sums.{fold-append}
 use Rattle.link_trait.specs.declared.wires.Conn.{Conn}
-use Rattle.outside.specs.Acts.{Act}
 use Rattle.outside.specs.Doings.{Told}
-use Rattle.outside.specs.Chains.{did_nothing, did_then}
 use Rattle.relay_script.specs.declared.script.Script.{Script}
+use Rattle.relay_loop.specs.declared.fault.RelayFault.{RelayFault}
 use Rattle.relay_loop.specs.declared.link.Link.{Link}
-use Rattle.relay_loop.specs.Links.{HoldsLink, IsUntouched, AreOfVisit, Visits}
-use Rattle.relay_loop.specs.Relays.{dialled_by_act, dialled_in_acts, IsCarried, Differs, AllDiffer, AllHold, AllBelow, Parted, ArePaired, HoldsRelay, Goes}
-use Rattle.relay_loop.proofs.RelayActs.{untouched_append, visit_untouched, visits_dial, visits_open, carried_on, link_on, link_carried}
+use Rattle.relay_loop.specs.Connections.{Far, Nobody, Unreached, Reached, RelayedConnection}
+use Rattle.relay_loop.specs.RelayDeeds.{RelayDeed, Performs, AreOfVisit, IsOfVisit, IsLastDone, Steadily}
+use Rattle.relay_loop.specs.Links.{IsSafe, HoldsLink, IsUntouched, IsUntold, Visits, BreaksVisit, EndsVisit}
+use Rattle.relay_loop.specs.Rings.{behind_deed, connections_in, far_conn, IsSafeConnection, AllSafe, AreSafe, Differs, AllDiffer, AllHold, AllBelow, IsLinkOf, Parted, IsPaired, ArePaired, HoldsRelay, IsOfNoLink, Goes, BreaksGoing, EndsGoing}
+use Rattle.relay_loop.proofs.Deeds.{performs_none, performs_then, breaks_then, breaks_here, opening_more, steadily_then, steadily_first, steadily_last}
+use Rattle.relay_loop.proofs.WayCalls.{moves_none}
+use Rattle.relay_loop.proofs.WayGoes.{rests_go}
+use Rattle.relay_loop.proofs.LinkSafety.{no_reads_e}
+use Rattle.relay_loop.proofs.LinkCalls.{link_goes}
+use Rattle.relay_loop.proofs.Elsewhere.{visit_untouched, visit_untold, visit_same, visit_opens, untouched_append, untold_append, safe_on, connection_on, connections_on}
 
 -- ---- lists of connections
 
-pub differs_back : (a b : Link) → Differs a.e.0 a.r.0 b → Differs b.e.0 b.r.0 a
-differs_back a b d = record { e_e = λ same. d.e_e (sym same); e_r = λ same. d.r_e (sym same); r_e = λ same. d.e_r (sym same); r_r = λ same. d.r_r (sym same) }
+pub differs_back : (a b : Link) → Differs a.number a.e.0 a.r.0 b → Differs b.number b.e.0 b.r.0 a
+differs_back a b d = record {
+  numbers = λ same. d.numbers (sym same);
+  e_e = λ same. d.e_e (sym same);
+  e_r = λ same. d.r_e (sym same);
+  r_e = λ same. d.e_r (sym same);
+  r_r = λ same. d.r_r (sym same);
+}
 
-pub all_differ_last : (e r : ℕ) (links : List Link) (link : Link) → AllDiffer e r links → Differs e r link → AllDiffer e r (links ++ link ∷ [])
-all_differ_last e r [] link all one = (one, tt)
-all_differ_last e r (m ∷ links) link all one = (all.0, all_differ_last e r links link all.1 one)
+pub all_differ_last : (number e r : ℕ) (links : List Link) (link : Link) → AllDiffer number e r links → Differs number e r link
+    → AllDiffer number e r (links ++ link ∷ [])
+all_differ_last number e r [] link all one = (one, tt)
+all_differ_last number e r (m ∷ links) link all one = (all.0, all_differ_last number e r links link all.1 one)
 
--- these connections hold behind acts of another
-pub all_on : (script : Script) (done acts : List Act) (first : Link) (links : List Link) → AreOfVisit first.e.0 first.r.0 acts → AllDiffer first.e.0 first.r.0 links
-    → AllHold script done links → AllHold script (done ++ acts) links
-all_on script done acts first [] of_visit differ hold = tt
-all_on script done acts first (link ∷ links) of_visit differ hold =
+-- a connection at whose sockets nothing was done, and of which nothing was told
+pub link_on : (script : Script) (done deeds : List RelayDeed) (link : Link) → IsUntouched link.e.0 deeds → IsUntouched link.r.0 deeds → IsUntold link.number deeds
+    → HoldsLink script done link → HoldsLink script (done ++ deeds) link
+link_on script done deeds link at_e at_r untold h =
+    link_goes script done deeds link link [] [] [] [] [] [] refl refl refl at_e.unread untold.of_e at_r.ungiven at_r.unread untold.of_r at_e.ungiven
+    (rests_go script link.from_e) (rests_go script link.from_r) (safe_on script link.number link.e.0 link.r.0 done deeds at_e at_r untold h.safe) h
+
+-- these connections hold behind deeds of another
+pub all_on : (script : Script) (done deeds : List RelayDeed) (first : Link) (links : List Link) → AreOfVisit first.number first.e.0 first.r.0 deeds
+    → AllDiffer first.number first.e.0 first.r.0 links → AllHold script done links → AllHold script (done ++ deeds) links
+all_on script done deeds first [] of_visit differ hold = tt
+all_on script done deeds first (link ∷ links) of_visit differ hold =
     let back = differs_back first link differ.0 in (
-      link_on script done acts link (visit_untouched first.e.0 first.r.0 link.e.0 acts of_visit back.e_e back.e_r)
-          (visit_untouched first.e.0 first.r.0 link.r.0 acts of_visit back.r_e back.r_r) hold.0,
-      (hold.1.0, all_on script done acts first links of_visit differ.1 hold.1.1),
+      link_on script done deeds link (visit_untouched first.number first.e.0 first.r.0 link.e.0 deeds of_visit back.e_e back.e_r)
+          (visit_untouched first.number first.e.0 first.r.0 link.r.0 deeds of_visit back.r_e back.r_r)
+          (visit_untold first.number first.e.0 first.r.0 link.number deeds of_visit back.numbers) hold.0,
+      (hold.1.0, all_on script done deeds first links of_visit differ.1 hold.1.1),
     )
 
 -- another stands last behind them
-pub all_last : (script : Script) (acts : List Act) (link : Link) (links : List Link) → HoldsLink script acts link → AllDiffer link.e.0 link.r.0 links
-    → AllHold script acts links → AllHold script acts (links ++ link ∷ [])
-all_last script acts link [] one differ hold = (one, (tt, tt))
-all_last script acts link (m ∷ links) one differ hold =
-    (hold.0, (all_differ_last m.e.0 m.r.0 links link hold.1.0 (differs_back link m differ.0), all_last script acts link links one differ.1 hold.1.1))
+pub all_last : (script : Script) (done : List RelayDeed) (link : Link) (links : List Link) → HoldsLink script done link
+    → AllDiffer link.number link.e.0 link.r.0 links → AllHold script done links → AllHold script done (links ++ link ∷ [])
+all_last script done link [] one differ hold = (one, (tt, tt))
+all_last script done link (m ∷ links) one differ hold = (
+  hold.0,
+  (all_differ_last m.number m.e.0 m.r.0 links link hold.1.0 (differs_back link m differ.0), all_last script done link links one differ.1 hold.1.1),
+)
 
-pub below_last : (bound : ℕ) (link : Link) (links : List Link) → link.e.0 ≤ bound → link.r.0 ≤ bound → AllBelow bound links → AllBelow bound (links ++ link ∷ [])
-below_last bound link [] e r below = ((e, r), tt)
-below_last bound link (m ∷ links) e r below = (below.0, below_last bound link links e r below.1)
+pub below_last : (bound count : ℕ) (link : Link) (links : List Link) → link.number ≤ count → link.e.0 ≤ bound → link.r.0 ≤ bound → AllBelow bound count links
+    → AllBelow bound count (links ++ link ∷ [])
+below_last bound count link [] number e r below = ((number, (e, r)), tt)
+below_last bound count link (m ∷ links) number e r below = (below.0, below_last bound count link links number e r below.1)
 
-pub parted_last : (e r : ℕ) (link : Link) (links : List Link) → ((link.e.0 ≡ e) × (link.r.0 ≡ r)) ⊎ Differs e r link → Parted e r links → Parted e r (links ++ link ∷ [])
-parted_last e r link [] one parted = (one, tt)
-parted_last e r link (m ∷ links) one parted = (parted.0, parted_last e r link links one parted.1)
+pub parted_last : (number e : ℕ) (far : Far) (link : Link) (links : List Link) → IsLinkOf link number e far ⊎ Differs number e (far_conn e far) link
+    → Parted number e far links → Parted number e far (links ++ link ∷ [])
+parted_last number e far link [] one parted = (one, tt)
+parted_last number e far link (m ∷ links) one parted = (parted.0, parted_last number e far link links one parted.1)
 
--- ---- a visit of the first connection
+-- ---- the first connection, which stays, and stands last, or goes
 
--- it has the sockets that it had
-pub kept_sockets : (old new : Link) (e r : ℕ) → new.e ≡ old.e → new.r ≡ old.r → ((old.e.0 ≡ e) × (old.r.0 ≡ r)) ⊎ Differs e r old
-    → ((new.e.0 ≡ e) × (new.r.0 ≡ r)) ⊎ Differs e r new
-kept_sockets old new e r same_e same_r (inl is) = inl (ap (λ (c : Conn). c.0) same_e ∙ is.0, ap (λ (c : Conn). c.0) same_r ∙ is.1)
-kept_sockets old new e r same_e same_r (inr d) = inr (record {
+-- it has the number and the sockets that it had
+same_link : (old new : Link) (number e : ℕ) (far : Far) → new.number ≡ old.number → new.e ≡ old.e → new.r ≡ old.r → IsLinkOf old number e far → IsLinkOf new number e far
+same_link old new number e Nobody same_n same_e same_r is = absurd is
+same_link old new number e (Unreached address) same_n same_e same_r is = absurd is
+same_link old new number e (Reached address r) same_n same_e same_r is =
+    (same_n ∙ is.0, (ap (λ (c : Conn). c.0) same_e ∙ is.1.0, ap (λ (c : Conn). c.0) same_r ∙ is.1.1))
+
+same_differs : (old new : Link) (number e r : ℕ) → new.number ≡ old.number → new.e ≡ old.e → new.r ≡ old.r → Differs number e r old → Differs number e r new
+same_differs old new number e r same_n same_e same_r d = record {
+  numbers = λ same. d.numbers (same ∙ same_n);
   e_e = λ same. d.e_e (same ∙ ap (λ (c : Conn). c.0) same_e);
   e_r = λ same. d.e_r (same ∙ ap (λ (c : Conn). c.0) same_r);
   r_e = λ same. d.r_e (same ∙ ap (λ (c : Conn). c.0) same_e);
   r_r = λ same. d.r_r (same ∙ ap (λ (c : Conn). c.0) same_r);
-})
+}
 
-pub pair_on : (script : Script) (done acts : List Act) (first new : Link) (r : ℕ) → AreOfVisit first.e.0 first.r.0 acts → new.e ≡ first.e → new.r ≡ first.r
-    → HoldsLink script (done ++ acts) new → ((first.e.0 ≡ r - 1) × (first.r.0 ≡ r)) ⊎ Differs (r - 1) r first → IsCarried script done (r - 1) r
-    → IsCarried script (done ++ acts) (r - 1) r
-pair_on script done acts first new r of_visit same_e same_r hold (inl is) c =
-    rw (sym is.0, sym is.1, sym same_e, sym same_r) (link_carried script (done ++ acts) new hold)
-pair_on script done acts first new r of_visit same_e same_r hold (inr differ) c =
-    carried_on script done acts (r - 1) r (visit_untouched first.e.0 first.r.0 (r - 1) acts of_visit differ.e_e differ.e_r)
-    (visit_untouched first.e.0 first.r.0 r acts of_visit differ.r_e differ.r_r) c
+pub kept_link : (old new : Link) (number e : ℕ) (far : Far) → new.number ≡ old.number → new.e ≡ old.e → new.r ≡ old.r
+    → IsLinkOf old number e far ⊎ Differs number e (far_conn e far) old → IsLinkOf new number e far ⊎ Differs number e (far_conn e far) new
+kept_link old new number e far same_n same_e same_r (inl is) = inl (same_link old new number e far same_n same_e same_r is)
+kept_link old new number e far same_n same_e same_r (inr d) = inr (same_differs old new number e (far_conn e far) same_n same_e same_r d)
 
--- it stays, and stands last
-pub pairs_rotate : (script : Script) (done acts : List Act) (bound : ℕ) (first new : Link) (links : List Link) (dialled : List ℕ) → AreOfVisit first.e.0 first.r.0 acts
-    → new.e ≡ first.e → new.r ≡ first.r → HoldsLink script (done ++ acts) new → ArePaired script done bound (first ∷ links) dialled
-    → ArePaired script (done ++ acts) bound (links ++ new ∷ []) dialled
-pairs_rotate script done acts bound first new links [] of_visit same_e same_r hold paired = tt
-pairs_rotate script done acts bound first new links (r ∷ rest) of_visit same_e same_r hold paired = (
+pub pairs_rotate : (bound : ℕ) (first new : Link) (links : List Link) (connections : List RelayedConnection) → new.number ≡ first.number → new.e ≡ first.e
+    → new.r ≡ first.r → ArePaired bound (first ∷ links) connections → ArePaired bound (links ++ new ∷ []) connections
+pairs_rotate bound first new links [] same_n same_e same_r paired = tt
+pairs_rotate bound first new links (one ∷ others) same_n same_e same_r paired = (
   record {
-    is_carried = pair_on script done acts first new r of_visit same_e same_r hold paired.0.parted.0 paired.0.is_carried;
     below = paired.0.below;
-    parted = parted_last (r - 1) r new links (kept_sockets first new (r - 1) r same_e same_r paired.0.parted.0) paired.0.parted.1;
+    parted = parted_last one.number one.e one.r new links (kept_link first new one.number one.e one.r same_n same_e same_r paired.0.parted.0) paired.0.parted.1;
   },
-  pairs_rotate script done acts bound first new links rest of_visit same_e same_r hold paired.1,
+  pairs_rotate bound first new links others same_n same_e same_r paired.1,
 )
 
--- it is closed, and goes
-pub pairs_drop : (script : Script) (done acts : List Act) (bound : ℕ) (first new : Link) (links : List Link) (dialled : List ℕ) → AreOfVisit first.e.0 first.r.0 acts
-    → new.e ≡ first.e → new.r ≡ first.r → HoldsLink script (done ++ acts) new → ArePaired script done bound (first ∷ links) dialled
-    → ArePaired script (done ++ acts) bound links dialled
-pairs_drop script done acts bound first new links [] of_visit same_e same_r hold paired = tt
-pairs_drop script done acts bound first new links (r ∷ rest) of_visit same_e same_r hold paired = (
-  record {
-    is_carried = pair_on script done acts first new r of_visit same_e same_r hold paired.0.parted.0 paired.0.is_carried;
-    below = paired.0.below;
-    parted = paired.0.parted.1;
-  },
-  pairs_drop script done acts bound first new links rest of_visit same_e same_r hold paired.1,
+pub pairs_drop : (bound : ℕ) (first : Link) (links : List Link) (connections : List RelayedConnection) → ArePaired bound (first ∷ links) connections
+    → ArePaired bound links connections
+pairs_drop bound first links [] paired = tt
+pairs_drop bound first links (one ∷ others) paired =
+    (record { below = paired.0.below; parted = paired.0.parted.1 }, pairs_drop bound first links others paired.1)
+
+-- ---- what is safe behind a visit
+
+own_safe : (script : Script) (dial : List ℕ) (link : Link) (number e : ℕ) (far : Far) (done deeds : List RelayDeed) → IsLinkOf link number e far
+    → IsSafe script link.number link.e.0 link.r.0 (done ++ deeds) → IsSafeConnection script dial done number e far → IsSafeConnection script dial (done ++ deeds) number e far
+own_safe script dial link number e Nobody done deeds is safe before = absurd is
+own_safe script dial link number e (Unreached address) done deeds is safe before = absurd is
+own_safe script dial link number e (Reached address r) done deeds is safe before = (
+  before.0,
+  (
+    opening_more number done deeds before.1.0,
+    subst (λ (n : ℕ). IsSafe script n e r (done ++ deeds)) is.0
+        (subst (λ (k : ℕ). IsSafe script link.number k r (done ++ deeds)) is.1.0 (subst (λ (k : ℕ). IsSafe script link.number link.e.0 k (done ++ deeds)) is.1.1 safe)),
+  ),
 )
 
-pub dialled_on : (done acts : List Act) → dialled_in_acts acts ≡ [] → dialled_in_acts (done ++ acts) ≡ dialled_in_acts done
-dialled_on done acts none = flat_map-append dialled_by_act done acts ∙ rw none (append-nil (dialled_in_acts done))
+one_safe : (script : Script) (dial : List ℕ) (link : Link) (number e : ℕ) (far : Far) (done deeds : List RelayDeed) → AreOfVisit link.number link.e.0 link.r.0 deeds
+    → IsSafe script link.number link.e.0 link.r.0 (done ++ deeds) → IsLinkOf link number e far ⊎ Differs number e (far_conn e far) link
+    → IsSafeConnection script dial done number e far → IsSafeConnection script dial (done ++ deeds) number e far
+one_safe script dial link number e far done deeds of_visit safe (inl is) before = own_safe script dial link number e far done deeds is safe before
+one_safe script dial link number e far done deeds of_visit safe (inr d) before =
+    connection_on script dial number e far done deeds (visit_untouched link.number link.e.0 link.r.0 e deeds of_visit d.e_e d.e_r)
+    (visit_untouched link.number link.e.0 link.r.0 (far_conn e far) deeds of_visit d.r_e d.r_r)
+    (visit_untold link.number link.e.0 link.r.0 number deeds of_visit d.numbers) before
+
+pub all_safe : (script : Script) (dial : List ℕ) (bound : ℕ) (link : Link) (links : List Link) (connections : List RelayedConnection) (done deeds : List RelayDeed)
+    → AreOfVisit link.number link.e.0 link.r.0 deeds → IsSafe script link.number link.e.0 link.r.0 (done ++ deeds) → ArePaired bound (link ∷ links) connections
+    → AllSafe script dial done connections → AllSafe script dial (done ++ deeds) connections
+all_safe script dial bound link links [] done deeds of_visit safe paired before = tt
+all_safe script dial bound link links (one ∷ others) done deeds of_visit safe paired before = (
+  one_safe script dial link one.number one.e one.r done deeds of_visit safe paired.0.parted.0 before.0,
+  all_safe script dial bound link links others done deeds of_visit safe paired.1 before.1,
+)
+
+are_safe : (script : Script) (dial : List ℕ) (done : List RelayDeed) (connections : List RelayedConnection) → connections_in done ≡ connections
+    → AllSafe script dial done connections → AreSafe script dial done
+are_safe script dial done connections is safe = subst (λ (c : List RelayedConnection). AllSafe script dial done c) (sym is) safe
+
+-- each moment of a visit is safe for all connections
+pub visit_steady : (script : Script) (dial : List ℕ) (bound : ℕ) (link : Link) (links : List Link) (connections : List RelayedConnection) (done deeds : List RelayDeed)
+    → AreOfVisit link.number link.e.0 link.r.0 deeds → Steadily (IsSafe script link.number link.e.0 link.r.0) done deeds → ArePaired bound (link ∷ links) connections
+    → connections_in done ≡ connections → AllSafe script dial done connections → Steadily (AreSafe script dial) done deeds
+visit_steady script dial bound link links connections done [] of_visit steady paired is safe = are_safe script dial done connections is safe
+visit_steady script dial bound link links connections done (deed ∷ deeds) of_visit steady paired is safe =
+    let next : AllSafe script dial (done ++ deed ∷ []) connections =
+    all_safe script dial bound link links connections done (deed ∷ []) (of_visit.0, tt)
+    (steadily_first (IsSafe script link.number link.e.0 link.r.0) (done ++ deed ∷ []) deeds steady.1) paired safe in
+    let same : connections_in (done ++ deed ∷ []) ≡ connections =
+    connections_on done (deed ∷ []) (visit_same link.number link.e.0 link.r.0 (deed ∷ []) (of_visit.0, tt)) ∙ is in (
+      are_safe script dial done connections is safe,
+      visit_steady script dial bound link links connections (done ++ deed ∷ []) deeds of_visit.1 steady.1 paired same next,
+    )
+
+-- ---- a visit of the first
 
 pub above : (bound conn at : ℕ) → bound < conn → at ≤ bound → conn ≢ at
 above bound conn at more less same = let q : ⊥ = omega (arith, more, less, same) in q
 
-pub fresh_on : (script : Script) (done acts : List Act) (bound : ℕ) (first : Link) (links : List Link) → AreOfVisit first.e.0 first.r.0 acts
-    → HoldsRelay script done bound (first ∷ links) → (conn : ℕ) → bound < conn → IsUntouched conn (done ++ acts)
-fresh_on script done acts bound first links of_visit h conn more =
-    untouched_append conn done acts (h.fresh conn more)
-    (visit_untouched first.e.0 first.r.0 conn acts of_visit (above bound conn first.e.0 more h.below.0.0) (above bound conn first.r.0 more h.below.0.1))
+pub fresh_on : (script : Script) (dial : List ℕ) (done deeds : List RelayDeed) (bound : ℕ) (first : Link) (links : List Link)
+    → AreOfVisit first.number first.e.0 first.r.0 deeds → HoldsRelay script dial done bound (first ∷ links) → (conn : ℕ) → bound < conn → IsUntouched conn (done ++ deeds)
+fresh_on script dial done deeds bound first links of_visit h conn more =
+    untouched_append conn done deeds (h.fresh conn more)
+    (visit_untouched first.number first.e.0 first.r.0 conn deeds of_visit (above bound conn first.e.0 more h.below.0.1.0) (above bound conn first.r.0 more h.below.0.1.1))
 
-pub rotates : (script : Script) (done : List Act) (bound : ℕ) (first new : Link) (links : List Link) (before now : Told) (v : Visits script first new before now)
-    → HoldsRelay script done bound (first ∷ links) → HoldsRelay script (done ++ v.acts) bound (links ++ new ∷ [])
-rotates script done bound first new links before now v h =
-    let hold = v.holds done h.hold.0 in
-    let differ : AllDiffer new.e.0 new.r.0 links = rw (v.e, v.r) h.hold.1.0 in
+pub untold_on : (script : Script) (dial : List ℕ) (done deeds : List RelayDeed) (bound : ℕ) (first : Link) (links : List Link)
+    → AreOfVisit first.number first.e.0 first.r.0 deeds → HoldsRelay script dial done bound (first ∷ links) → (number : ℕ) → length (connections_in done) < number
+    → IsUntold number (done ++ deeds)
+untold_on script dial done deeds bound first links of_visit h number more =
+    untold_append number done deeds (h.untold number more)
+    (visit_untold first.number first.e.0 first.r.0 number deeds of_visit (above (length (connections_in done)) number first.number more h.below.0.0))
+
+pub visited : (script : Script) (dial : List ℕ) (done deeds : List RelayDeed) (bound : ℕ) (first : Link) (links last : List Link)
+    → AreOfVisit first.number first.e.0 first.r.0 deeds → IsSafe script first.number first.e.0 first.r.0 (done ++ deeds) → AllHold script (done ++ deeds) last
+    → AllBelow bound (length (connections_in done)) last → ArePaired bound last (connections_in done) → HoldsRelay script dial done bound (first ∷ links)
+    → HoldsRelay script dial (done ++ deeds) bound last
+visited script dial done deeds bound first links last of_visit safe hold below paired h =
+    let same : connections_in (done ++ deeds) ≡ connections_in done = connections_on done deeds (visit_same first.number first.e.0 first.r.0 deeds of_visit) in
     record {
-      hold = all_last script (done ++ v.acts) new links hold differ (all_on script done v.acts first links v.only h.hold.1.0 h.hold.1.1);
-      below = below_last bound new links (rw v.e h.below.0.0) (rw v.r h.below.0.1) h.below.1;
-      fresh = fresh_on script done v.acts bound first links v.only h;
-      paired = rw (dialled_on done v.acts (visits_dial first.e.0 first.r.0 v.acts v.only))
-          (pairs_rotate script done v.acts bound first new links (dialled_in_acts done) v.only v.e v.r hold h.paired);
+      hold = hold;
+      below = rw same below;
+      fresh = fresh_on script dial done deeds bound first links of_visit h;
+      untold = rw same (untold_on script dial done deeds bound first links of_visit h);
+      in_order = rw same h.in_order;
+      paired = rw same paired;
+      safe = are_safe script dial (done ++ deeds) (connections_in done) same
+          (all_safe script dial bound first links (connections_in done) done deeds of_visit safe h.paired h.safe);
     }
 
-pub drops : (script : Script) (done : List Act) (bound : ℕ) (first new : Link) (links : List Link) (before now : Told) (v : Visits script first new before now)
-    → HoldsRelay script done bound (first ∷ links) → HoldsRelay script (done ++ v.acts) bound links
-drops script done bound first new links before now v h =
-    let hold = v.holds done h.hold.0 in
-    record {
-      hold = all_on script done v.acts first links v.only h.hold.1.0 h.hold.1.1;
-      below = h.below.1;
-      fresh = fresh_on script done v.acts bound first links v.only h;
-      paired = rw (dialled_on done v.acts (visits_dial first.e.0 first.r.0 v.acts v.only))
-          (pairs_drop script done v.acts bound first new links (dialled_in_acts done) v.only v.e v.r hold h.paired);
-    }
+own_steady : (script : Script) (first new : Link) (waiting left : List ℕ) (before now : Told) (v : Visits script first new waiting left before now) (done : List RelayDeed)
+    → HoldsLink script done first → IsSafe script first.number first.e.0 first.r.0 (done ++ v.deeds)
+own_steady script first new waiting left before now v done h =
+    steadily_last (IsSafe script first.number first.e.0 first.r.0) done v.deeds (v.steady done h)
 
-pub visit_opened : (script : Script) (first new : Link) (before now : Told) (v : Visits script first new before now) → now.wires.opened ≡ before.wires.opened
-visit_opened script first new before now v = v.did.wires.opened ∙ visits_open first.e.0 first.r.0 v.acts v.only before.wires.opened
+pub rotates : (script : Script) (dial : List ℕ) (done : List RelayDeed) (bound : ℕ) (first new : Link) (links : List Link) (waiting left : List ℕ) (before now : Told)
+    (v : Visits script first new waiting left before now) → HoldsRelay script dial done bound (first ∷ links)
+    → HoldsRelay script dial (done ++ v.deeds) bound (links ++ new ∷ [])
+rotates script dial done bound first new links waiting left before now v h =
+    let differ : AllDiffer new.number new.e.0 new.r.0 links = rw (v.number, v.e, v.r) h.hold.1.0 in
+    visited script dial done v.deeds bound first links (links ++ new ∷ []) v.only (own_steady script first new waiting left before now v done h.hold.0)
+    (all_last script (done ++ v.deeds) new links (v.holds done h.hold.0) differ (all_on script done v.deeds first links v.only h.hold.1.0 h.hold.1.1))
+    (below_last bound (length (connections_in done)) new links (rw v.number h.below.0.0) (rw v.e h.below.0.1.0) (rw v.r h.below.0.1.1) h.below.1)
+    (pairs_rotate bound first new links (connections_in done) v.number v.e v.r h.paired) h
 
-pub goes_on : (script : Script) (first new : Link) (links all last : List Link) (before now : Told) → all ≡ first ∷ links → last ≡ links ++ new ∷ []
-    → Visits script first new before now → Goes script all last before now
-goes_on script first new links all last before now is_all is_last v = record {
-  acts = v.acts;
-  did = v.did;
-  opened = visit_opened script first new before now v;
-  holds = λ done bound h. rw is_last (rotates script done bound first new links before now v (subst (λ (a : List Link). HoldsRelay script done bound a) is_all h));
+pub drops : (script : Script) (dial : List ℕ) (done : List RelayDeed) (bound : ℕ) (first new : Link) (links : List Link) (waiting left : List ℕ) (before now : Told)
+    (v : Visits script first new waiting left before now) → HoldsRelay script dial done bound (first ∷ links) → HoldsRelay script dial (done ++ v.deeds) bound links
+drops script dial done bound first new links waiting left before now v h =
+    visited script dial done v.deeds bound first links links v.only (own_steady script first new waiting left before now v done h.hold.0)
+    (all_on script done v.deeds first links v.only h.hold.1.0 h.hold.1.1) h.below.1 (pairs_drop bound first links (connections_in done) h.paired) h
+
+visit_opened : (script : Script) (first new : Link) (waiting left : List ℕ) (before now : Told) (v : Visits script first new waiting left before now)
+    → now.wires.opened ≡ before.wires.opened
+visit_opened script first new waiting left before now v =
+    v.performs.did.wires.opened ∙ visit_opens first.number first.e.0 first.r.0 waiting v.deeds v.only before.wires.opened
+
+steady_of_visit : (script : Script) (dial : List ℕ) (first : Link) (links : List Link) (done deeds : List RelayDeed) (bound : ℕ)
+    → AreOfVisit first.number first.e.0 first.r.0 deeds → Steadily (IsSafe script first.number first.e.0 first.r.0) done deeds
+    → HoldsRelay script dial done bound (first ∷ links) → Steadily (AreSafe script dial) done deeds
+steady_of_visit script dial first links done deeds bound of_visit steady h =
+    visit_steady script dial bound first links (connections_in done) done deeds of_visit steady h.paired refl h.safe
+
+apart_last : (conn : ℕ) (link : Link) (links : List Link) → (conn ≢ link.e.0) × (conn ≢ link.r.0) → IsOfNoLink conn links → IsOfNoLink conn (links ++ link ∷ [])
+apart_last conn link [] one apart = (one, tt)
+apart_last conn link (m ∷ links) one apart = (apart.0, apart_last conn link links one apart.1)
+
+apart_on : (script : Script) (first new : Link) (links : List Link) (waiting left : List ℕ) (before now : Told) (v : Visits script first new waiting left before now)
+    (conn : ℕ) → IsOfNoLink conn (first ∷ links) → IsUntouched conn v.deeds × IsOfNoLink conn (links ++ new ∷ [])
+apart_on script first new links waiting left before now v conn h = (
+  visit_untouched first.number first.e.0 first.r.0 conn v.deeds v.only h.0.0 h.0.1,
+  apart_last conn new links (rw v.e h.0.0, rw v.r h.0.1) h.1,
+)
+
+pub goes_on : (script : Script) (dial : List ℕ) (first new : Link) (links all last : List Link) (waiting left : List ℕ) (before now : Told) → all ≡ first ∷ links
+    → last ≡ links ++ new ∷ [] → Visits script first new waiting left before now → Goes script dial all last waiting left before now
+goes_on script dial first new links all last waiting left before now is_all is_last v = record {
+  deeds = v.deeds;
+  performs = v.performs;
+  opened = visit_opened script first new waiting left before now v;
+  same = visit_same first.number first.e.0 first.r.0 v.deeds v.only;
+  apart = λ conn h. rw is_last (apart_on script first new links waiting left before now v conn (subst (λ (a : List Link). IsOfNoLink conn a) is_all h));
+  holds = λ done bound h.
+      rw is_last
+      (rotates script dial done bound first new links waiting left before now v (subst (λ (a : List Link). HoldsRelay script dial done bound a) is_all h));
+  steady = λ done bound h.
+      let g = subst (λ (a : List Link). HoldsRelay script dial done bound a) is_all h in
+      steady_of_visit script dial first links done v.deeds bound v.only (v.steady done g.hold.0) g;
 }
 
-pub goes_off : (script : Script) (first new : Link) (links all last : List Link) (before now : Told) → all ≡ first ∷ links → last ≡ links
-    → Visits script first new before now → Goes script all last before now
-goes_off script first new links all last before now is_all is_last v = record {
-  acts = v.acts;
-  did = v.did;
-  opened = visit_opened script first new before now v;
-  holds = λ done bound h. rw is_last (drops script done bound first new links before now v (subst (λ (a : List Link). HoldsRelay script done bound a) is_all h));
+pub goes_off : (script : Script) (dial : List ℕ) (first new : Link) (links all last : List Link) (waiting left : List ℕ) (before now : Told) → all ≡ first ∷ links
+    → last ≡ links → Visits script first new waiting left before now → Goes script dial all last waiting left before now
+goes_off script dial first new links all last waiting left before now is_all is_last v = record {
+  deeds = v.deeds;
+  performs = v.performs;
+  opened = visit_opened script first new waiting left before now v;
+  same = visit_same first.number first.e.0 first.r.0 v.deeds v.only;
+  apart = λ conn h.
+      let g = subst (λ (a : List Link). IsOfNoLink conn a) is_all h in
+      (visit_untouched first.number first.e.0 first.r.0 conn v.deeds v.only g.0.0 g.0.1, rw is_last g.1);
+  holds = λ done bound h.
+      rw is_last (drops script dial done bound first new links waiting left before now v (subst (λ (a : List Link). HoldsRelay script dial done bound a) is_all h));
+  steady = λ done bound h.
+      let g = subst (λ (a : List Link). HoldsRelay script dial done bound a) is_all h in
+      steady_of_visit script dial first links done v.deeds bound v.only (v.steady done g.hold.0) g;
 }
 
-pub goes_none : (script : Script) (links : List Link) (t : Told) → Goes script links links t t
-goes_none script links t = record {
-  acts = [];
-  did = did_nothing t;
+pub goes_broken : (fault : RelayFault) (script : Script) (dial : List ℕ) (first : Link) (links all : List Link) (waiting : List ℕ) (before now : Told)
+    → all ≡ first ∷ links → BreaksVisit fault script first waiting before now → BreaksGoing fault script dial all waiting before now
+goes_broken fault script dial first links all waiting before now is_all v = record {
+  deeds = v.deeds;
+  breaks = v.breaks;
+  steady = λ done bound h.
+      let g = subst (λ (a : List Link). HoldsRelay script dial done bound a) is_all h in
+      steady_of_visit script dial first links done v.deeds bound v.only (v.steady done g.hold.0) g;
+}
+
+-- ---- one after the other
+
+pub goes_none : (script : Script) (dial : List ℕ) (links : List Link) (waiting : List ℕ) (t : Told) → Goes script dial links links waiting waiting t t
+goes_none script dial links waiting t = record {
+  deeds = [];
+  performs = performs_none waiting t;
   opened = refl;
-  holds = λ done bound h. subst (λ (d : List Act). HoldsRelay script d bound links) (sym (append-nil done)) h;
+  same = λ before. refl;
+  apart = λ conn h. (record { unread = refl; ungiven = refl; unclosed = refl }, h);
+  holds = λ done bound h. subst (λ (d : List RelayDeed). HoldsRelay script dial d bound links) (sym (append-nil done)) h;
+  steady = λ done bound h. h.safe;
 }
 
-pub goes_then : (script : Script) (a b c : List Link) (s t u : Told) → Goes script a b s t → Goes script b c t u → Goes script a c s u
-goes_then script a b c s t u p q = record {
-  acts = p.acts ++ q.acts;
-  did = did_then s t u p.acts q.acts p.did q.did;
+pub goes_then : (script : Script) (dial : List ℕ) (a b c : List Link) (u v w : List ℕ) (s t x : Told) → Goes script dial a b u v s t → Goes script dial b c v w t x
+    → Goes script dial a c u w s x
+goes_then script dial a b c u v w s t x p q = record {
+  deeds = p.deeds ++ q.deeds;
+  performs = performs_then u v w s t x p.deeds q.deeds p.performs q.performs;
   opened = q.opened ∙ p.opened;
-  holds = λ done bound h. subst (λ (d : List Act). HoldsRelay script d bound c) (append_assoc done p.acts q.acts) (q.holds (done ++ p.acts) bound (p.holds done bound h));
+  same = λ before. fold-append behind_deed before p.deeds q.deeds ∙ q.same (fold behind_deed before p.deeds) ∙ p.same before;
+  apart = λ conn h.
+      let first = p.apart conn h in
+      let second = q.apart conn first.1 in
+      (untouched_append conn p.deeds q.deeds first.0 second.0, second.1);
+  holds = λ done bound h.
+      subst (λ (d : List RelayDeed). HoldsRelay script dial d bound c) (append_assoc done p.deeds q.deeds) (q.holds (done ++ p.deeds) bound (p.holds done bound h));
+  steady = λ done bound h.
+      steadily_then (AreSafe script dial) done p.deeds q.deeds (p.steady done bound h) (q.steady (done ++ p.deeds) bound (p.holds done bound h));
 }
+
+pub goes_breaks : (fault : RelayFault) (script : Script) (dial : List ℕ) (a b : List Link) (u v : List ℕ) (s t x : Told) → Goes script dial a b u v s t
+    → BreaksGoing fault script dial b v t x → BreaksGoing fault script dial a u s x
+goes_breaks fault script dial a b u v s t x p q = record {
+  deeds = p.deeds ++ q.deeds;
+  breaks = breaks_then fault u v s t x p.deeds q.deeds p.performs q.breaks;
+  steady = λ done bound h.
+      steadily_then (AreSafe script dial) done p.deeds q.deeds (p.steady done bound h) (q.steady (done ++ p.deeds) bound (p.holds done bound h));
+}
+
+-- it breaks off behind them, and nothing more was done
+pub goes_broke : (fault : RelayFault) (script : Script) (dial : List ℕ) (a b : List Link) (u v : List ℕ) (s t : Told) → IsLastDone fault []
+    → Goes script dial a b u v s t → BreaksGoing fault script dial a u s t
+goes_broke fault script dial a b u v s t none p =
+    record { deeds = p.deeds; breaks = breaks_here fault u v s t p.deeds none p.performs; steady = p.steady }

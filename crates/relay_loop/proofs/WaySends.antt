@@ -9,7 +9,8 @@ use Rattle.outside.specs.Chains.{did_nothing, did_then}
 use Rattle.relay_script.specs.declared.script.Script.{Script}
 use Rattle.relay_loop.specs.declared.way.Way.{Way}
 use Rattle.relay_loop.specs.WaySteps.{WayMoves}
-use Rattle.relay_loop.specs.Sending.{octets_taken, given_by_act, given_in_acts, AreSendsTo, Sends}
+use Rattle.relay_loop.specs.Octets.{octets_taken, given_by_act, given_in_acts}
+use Rattle.relay_loop.specs.Sending.{AreSendsTo, Sends}
 use Rattle.relay_loop.proofs.WayCalls.{moves_none, moves_then}
 
 pub sends_none : (conn : ℕ) (way : Way) (t : Told) → Sends conn way way t t

@@ -12,8 +12,17 @@ use Rattle.relay_script.specs.declared.script.Script.{Script}
 use Rattle.relay_model.specs.Laws.{ClosedStays}
 use Rattle.relay_loop.specs.declared.way.Way.{Way}
 use Rattle.relay_loop.specs.WaySteps.{WayMoves, TakesSoFar}
-use Rattle.relay_loop.specs.Reading.{octets_read, read_in_acts, TakesIn, Hears}
-use Rattle.relay_loop.proofs.WayCalls.{moves_none, moves_then, absorbs}
+use Rattle.er_base.specs.declared.side.Side.{Side}
+use Rattle.er_base.specs.Printing.{Begins}
+use Rattle.relay_model.specs.Carried.{given_of_sent, carried}
+use Rattle.relay_model.specs.Laws.{GivenBegins}
+use Rattle.relay_loop.specs.Octets.{octets_read, read_in_acts}
+use Rattle.relay_loop.specs.RelayLines.{RelayLine, Received, SideEnd, text_of_line, text_of_lines, received_line, side_end_line}
+use Rattle.relay_loop.specs.Ways.{octets_of_pieces, HoldsWay}
+use Rattle.relay_loop.specs.Reading.{WayReads, TakesIn, Hears, HearsOnly, AreNews, PutsNews}
+use Rattle.std.proofs.lemmas.List.Concat.{flat_map-append}
+use Rattle.relay_loop.proofs.LiveWays.{given_unended}
+use Rattle.relay_loop.proofs.WayCalls.{still, moves_none, moves_then, absorbs}
 
 pub so_far_none : (script : Script) (octets : List ℕ) (way : Way) → way.ended ≡ false → way.lost ≡ false → TakesSoFar script octets octets way way
 so_far_none script octets way unended alive = record { front = []; cut = refl; unended = unended; alive = alive; moves = moves_none script way }
@@ -63,7 +72,7 @@ pub hears_one : (script : Script) (conn size : ℕ) (old new : Way) (before now 
 hears_one script conn size old new before now answer slice did takes = record {
   acts = Called (Read conn size (reading_of answer slice)) ∷ [];
   did = did;
-  only = (refl, tt);
+  only = refl;
   moves = subst (λ (o : List ℕ). WayMoves script o [] old new) (sym (read_is conn (octets_read (reading_of answer slice)))) (by_answer script answer slice old new takes);
 }
 
@@ -74,4 +83,73 @@ hears_behind script conn a b c s t moves h = record {
   did = h.did;
   only = h.only;
   moves = moves_then script [] (read_in_acts conn h.acts) [] [] a b c moves h.moves;
+}
+
+-- ---- what was told is carried of more
+
+begins_on : (a b c : List ℕ) → Begins a b → Begins b c → Begins a c
+begins_on a b c p q = record { rest = p.rest ++ q.rest; is = q.is ∙ ap (λ (o : List ℕ). o ++ q.rest) p.is ∙ append_assoc a p.rest q.rest }
+
+-- whatever is read behind, where the side didn't end
+pub reads_on : GivenBegins → (script : Script) (octets : List ℕ) (way : Way) → way.lost ≡ false → way.ended ≡ false → WayReads script octets way
+reads_on begins script octets way alive unended side read told gave h =
+    let l = h.live alive in
+    let given : Begins told (given_of_sent script way.side h.came) =
+    record { rest = octets_of_pieces way.waits.items; is = sym (given_unended script h.came told gave way l unended) } in
+    let cut : read ++ octets ≡ h.came ++ (h.behind ++ octets) = ap (λ (o : List ℕ). o ++ octets) h.cut ∙ append_assoc h.came h.behind octets in
+    subst (λ (s : Side). Begins told (carried script s (read ++ octets))) h.sided
+    (subst (λ (o : List ℕ). Begins told (carried script way.side o)) (sym cut)
+    (begins_on told (given_of_sent script way.side h.came) (carried script way.side (h.came ++ (h.behind ++ octets))) given
+    (begins.carried script way.side h.came (h.behind ++ octets))))
+
+pub hears_only : (script : Script) (conn size : ℕ) (old : Way) (before now : Told) (answer : ReadAnswer) (slice : List ℕ)
+    → Did before now (Called (Read conn size (reading_of answer slice)) ∷ []) → ((octets : List ℕ) → WayReads script octets old) → HearsOnly script conn old before now
+hears_only script conn size old before now answer slice did reads = record {
+  acts = Called (Read conn size (reading_of answer slice)) ∷ [];
+  did = did;
+  only = refl;
+  reads = reads _;
+}
+
+-- ---- lines of what came
+
+pub news_none : (number : ℕ) (waiting : List ℕ) → PutsNews number waiting waiting
+news_none number waiting = record { news = []; are = tt; is = sym (append-nil waiting) }
+
+news_append : (number : ℕ) (xs ys : List RelayLine) → AreNews number xs → AreNews number ys → AreNews number (xs ++ ys)
+news_append number [] ys p q = q
+news_append number (x ∷ xs) ys p q = (p.0, news_append number xs ys p.1 q)
+
+pub news_then : (number : ℕ) (a b c : List ℕ) → PutsNews number a b → PutsNews number b c → PutsNews number a c
+news_then number a b c p q = record {
+  news = p.news ++ q.news;
+  are = news_append number p.news q.news p.are q.are;
+  is = q.is ∙ ap (λ (o : List ℕ). o ++ text_of_lines q.news) p.is ∙ append_assoc a (text_of_lines p.news) (text_of_lines q.news)
+      ∙ ap (λ (o : List ℕ). a ++ o) (sym (flat_map-append text_of_line p.news q.news));
+}
+
+pub news_received : (moment number : ℕ) (side : Side) (octets waiting left : List ℕ) → left ≡ waiting ++ received_line moment number side octets
+    → PutsNews number waiting left
+unfolding text_of_line
+news_received moment number side octets waiting left is = record {
+  news = Received moment number side octets ∷ [];
+  are = (refl, tt);
+  is = is ∙ ap (λ (o : List ℕ). waiting ++ o) (sym (append-nil (received_line moment number side octets)));
+}
+
+pub news_ended : (moment number : ℕ) (side : Side) (waiting left : List ℕ) → left ≡ waiting ++ side_end_line moment number side → PutsNews number waiting left
+unfolding text_of_line
+news_ended moment number side waiting left is = record {
+  news = SideEnd moment number side ∷ [];
+  are = (refl, tt);
+  is = is ∙ ap (λ (o : List ℕ). waiting ++ o) (sym (append-nil (side_end_line moment number side)));
+}
+
+-- what was moved before a read that broke off
+pub hears_only_behind : (script : Script) (conn : ℕ) (a b : Way) (s t : Told) → WayMoves script [] [] a b → HearsOnly script conn b s t → HearsOnly script conn a s t
+hears_only_behind script conn a b s t moves h = record {
+  acts = h.acts;
+  did = h.did;
+  only = h.only;
+  reads = λ side read told gave holds. h.reads side read told gave (still script side read told gave a b moves holds);
 }

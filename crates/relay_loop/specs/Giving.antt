@@ -1,5 +1,5 @@
--- Contract: what is due of a connection is told first, and then written (this profile).
-use Rattle.std.specs.Prelude.{◌≡◌, ℕ, List}
+-- Representation: what is due of a connection is told first, and then written; no claim rests on it.
+use Rattle.std.specs.Prelude.{◌≡◌, ℕ, List, []}
 use Rattle.outside.specs.Doings.{Told, Did}
 use Rattle.outside.specs.Scripts.{printing}
 use Rattle.relay_loop.specs.declared.stamp.Stamp.{Stamp}
@@ -22,10 +22,11 @@ pub record WritesBoth (old new : Link) (before now : Told) : Type 0 where
   pub is : new ≡ record old { from_e = new.from_e; from_r = new.from_r }
 
 -- the lines that waited, and those of all that is due, are written out, and not before that anything is written to a socket
-pub record TellsFirst (at : Stamp) (waiting : List ℕ) (old new : Link) (before now : Told) : Type 0 where
+pub record TellsFirst (at : Stamp) (waiting left : List ℕ) (old new : Link) (before now : Told) : Type 0 where
   pub told : Link
   pub lines : List ℕ
   pub prints : PrintsBoth at old told waiting lines
   pub between : Told
   pub tells : Did before between (printing lines)
+  pub left_is : left ≡ []
   pub writes : WritesBoth told new between now

@@ -8,8 +8,7 @@ use Rattle.link_trait.specs.Wires as wires
 use Rattle.link_trait.specs.declared.wires.WriteAnswer.TheVariants as write_answer
 use Rattle.outside.specs.Acts.{Called, Read, Sent}
 use Rattle.relay_loop.specs.RelayLines.{open_line, received_line, given_line, side_end_line, closed_line}
-use Rattle.relay_loop.specs.Sending.{given_in_acts}
-use Rattle.relay_loop.specs.Reading.{read_in_acts}
+use Rattle.relay_loop.specs.Octets.{read_in_acts, given_in_acts}
 
 known_open : open_line 12 3 ≡ codes "> 12 3 open\n"
 unfolding line_text line_end digits

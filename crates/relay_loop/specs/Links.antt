@@ -1,57 +1,61 @@
--- Contract: a connection of a relay, by all the acts of the outside (this profile): what was read of its sockets, and what was written to them.
-use Rattle.std.specs.Prelude.{◌≡◌, ◌≢◌, ◌⊎◌, ℕ, List, [], ◌∷◌, ◌++◌}
+-- Representation: a connection of a relay, by all that was done so far, and what calls do to it; no claim rests on it.
+use Rattle.std.specs.Prelude.{◌≡◌, ◌≢◌, ℕ, true, false, List, [], ◌∷◌, ◌++◌, Result, Ok, Err}
 use Rattle.er_base.specs.declared.side.Side.TheVariants.{E, R}
-use Rattle.outside.specs.Acts.{SeenCall, Listened, Dialled, Turned, Read, Sent, Closed, Act, Fetched, Wrote, Called, Asked, Drew}
-use Rattle.outside.specs.Doings.{Told, Did}
+use Rattle.er_base.specs.Printing.{Begins}
+use Rattle.outside.specs.Doings.{Told}
 use Rattle.relay_script.specs.declared.script.Script.{Script}
+use Rattle.relay_model.specs.Carried.{carried}
+use Rattle.relay_loop.specs.declared.fault.RelayFault.{RelayFault}
 use Rattle.relay_loop.specs.declared.link.Link.{Link}
+use Rattle.relay_loop.specs.RelayLines.{opens_in_lines, closes_in_lines}
 use Rattle.relay_loop.specs.Ways.{HoldsWay}
-use Rattle.relay_loop.specs.Sending.{given_in_acts}
-use Rattle.relay_loop.specs.Reading.{read_in_acts}
+use Rattle.relay_loop.specs.RelayDeeds.{RelayDeed, Performs, BreaksBehind, Steadily, lines_in, lines_written, given_in, octets_read_at, closes_in, octets_told_of, octets_written_of, AreOfVisit}
 
--- each way holds what was read of its socket and what was written to the other
-pub record HoldsLink (script : Script) (acts : List Act) (link : Link) : Type 0 where
+-- what was given was written in lines before, and what lines tell as given is carried of what was read; a socket is closed behind the line that tells it
+pub record IsSafe (script : Script) (number e r : ℕ) (done : List RelayDeed) : Type 0 where
+  pub first_to_r : Begins (given_in r done) (octets_written_of number E done)
+  pub first_to_e : Begins (given_in e done) (octets_written_of number R done)
+  pub carried_of_e : Begins (octets_told_of number E done) (carried script E (octets_read_at e done))
+  pub carried_of_r : Begins (octets_told_of number R done) (carried script R (octets_read_at r done))
+  pub closed_e : closes_in e done ≡ true → closes_in_lines number (lines_written done) ≡ true
+  pub closed_r : closes_in r done ≡ true → closes_in_lines number (lines_written done) ≡ true
+
+-- each way holds what was read of its socket, what was told of it and what was written to the other
+pub record HoldsLink (script : Script) (done : List RelayDeed) (link : Link) : Type 0 where
   pub parted : link.e.0 ≢ link.r.0
-  pub told_of_e : List ℕ
-  pub told_of_r : List ℕ
-  pub from_e : HoldsWay script E (read_in_acts link.e.0 acts) told_of_e (given_in_acts link.r.0 acts) link.from_e
-  pub from_r : HoldsWay script R (read_in_acts link.r.0 acts) told_of_r (given_in_acts link.e.0 acts) link.from_r
+  pub from_e : HoldsWay script E (octets_read_at link.e.0 done) (octets_told_of link.number E done) (given_in link.r.0 done) link.from_e
+  pub from_r : HoldsWay script R (octets_read_at link.r.0 done) (octets_told_of link.number R done) (given_in link.e.0 done) link.from_r
+  pub safe : IsSafe script link.number link.e.0 link.r.0 done
 
--- nothing was read of a socket or written to it
-abbrev pub IsUntouched : (conn : ℕ) → List Act → Type 0
-IsUntouched conn acts = (read_in_acts conn acts ≡ []) × (given_in_acts conn acts ≡ [])
+-- nothing was read of a socket or written to it, and it wasn't closed
+pub record IsUntouched (conn : ℕ) (done : List RelayDeed) : Type 0 where
+  pub unread : octets_read_at conn done ≡ []
+  pub ungiven : given_in conn done ≡ []
+  pub unclosed : closes_in conn done ≡ false
 
--- an act of a visit: lines are written, or something is done at a socket of the connection
-abbrev pub IsOfCall : (e r : ℕ) → SeenCall → Type 0
-IsOfCall e r (Listened address listens) = ⊥
-IsOfCall e r (Dialled address to) = ⊥
-IsOfCall e r (Turned until what) = ⊥
-IsOfCall e r (Read conn size reading) = (conn ≡ e) ⊎ (conn ≡ r)
-IsOfCall e r (Sent conn piece answer) = (conn ≡ e) ⊎ (conn ≡ r)
-IsOfCall e r (Closed conn) = (conn ≡ e) ⊎ (conn ≡ r)
+-- no line tells that octets of it were given, or that it was closed
+pub record IsUntold (number : ℕ) (done : List RelayDeed) : Type 0 where
+  pub of_e : octets_told_of number E done ≡ []
+  pub of_r : octets_told_of number R done ≡ []
 
-abbrev pub IsOfVisit : (e r : ℕ) → Act → Type 0
-IsOfVisit e r (Fetched name answer) = ⊥
-IsOfVisit e r (Wrote piece done) = Unit {0}
-IsOfVisit e r (Called call) = IsOfCall e r call
-IsOfVisit e r (Asked moment) = ⊥
-IsOfVisit e r (Drew word) = ⊥
-
-abbrev pub AreOfVisit : (e r : ℕ) → List Act → Type 0
-AreOfVisit e r [] = Unit {0}
-AreOfVisit e r (act ∷ acts) = IsOfVisit e r act × AreOfVisit e r acts
-
--- no act was done, and the connection holds what it held
-pub record Stays (old new : Link) : Type 0 where
+-- nothing was done but deeds of a visit, and the connection holds what it held, with what they read, told and wrote. At each moment it is safe
+pub record Visits (script : Script) (old new : Link) (waiting left : List ℕ) (before now : Told) : Type 0 where
+  pub deeds : List RelayDeed
+  pub performs : Performs waiting left before now deeds
+  pub only : AreOfVisit old.number old.e.0 old.r.0 deeds
+  pub number : new.number ≡ old.number
   pub e : new.e ≡ old.e
   pub r : new.r ≡ old.r
-  pub holds : (script : Script) (acts : List Act) → HoldsLink script acts old → HoldsLink script acts new
+  pub holds : (done : List RelayDeed) → HoldsLink script done old → HoldsLink script (done ++ deeds) new
+  pub steady : (done : List RelayDeed) → HoldsLink script done old → Steadily (IsSafe script old.number old.e.0 old.r.0) done deeds
 
--- nothing was done but acts of a visit, and the connection holds what it held, with what they read and wrote
-pub record Visits (script : Script) (old new : Link) (before now : Told) : Type 0 where
-  pub acts : List Act
-  pub did : Did before now acts
-  pub only : AreOfVisit old.e.0 old.r.0 acts
-  pub e : new.e ≡ old.e
-  pub r : new.r ≡ old.r
-  pub holds : (done : List Act) → HoldsLink script done old → HoldsLink script (done ++ acts) new
+-- a visit that breaks off
+pub record BreaksVisit (fault : RelayFault) (script : Script) (old : Link) (waiting : List ℕ) (before now : Told) : Type 0 where
+  pub deeds : List RelayDeed
+  pub breaks : BreaksBehind fault waiting before now deeds
+  pub only : AreOfVisit old.number old.e.0 old.r.0 deeds
+  pub steady : (done : List RelayDeed) → HoldsLink script done old → Steadily (IsSafe script old.number old.e.0 old.r.0) done deeds
+
+abbrev pub EndsVisit : {T : Type 0} → Result T RelayFault → Script → (old new : Link) → (waiting left : List ℕ) → (before now : Told) → Type 0
+EndsVisit (Ok value) script old new waiting left before now = Visits script old new waiting left before now
+EndsVisit (Err fault) script old new waiting left before now = BreaksVisit fault script old waiting before now

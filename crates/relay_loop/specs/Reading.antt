@@ -1,41 +1,18 @@
--- Contract: what is read of a side, and what comes of it.
-use Rattle.std.specs.Prelude.{◌≡◌, ℕ, ◌==◌, if◌then◌else◌, List, [], ◌∷◌, take}
-use Rattle.std.specs.List.{flat_map}
-use Rattle.link_trait.specs.Wires.{Reading}
-use Rattle.link_trait.specs.Wires as wires
+-- Representation: what is read of a side, and what comes of it; no claim rests on it.
+use Rattle.std.specs.Prelude.{◌≡◌, ℕ, List, [], ◌∷◌, ◌++◌, take}
 use Rattle.link_trait.specs.declared.wires.ReadAnswer.{ReadAnswer}
 use Rattle.link_trait.specs.declared.wires.ReadAnswer.TheVariants as read_answer
 use Rattle.outside.specs.Acts.{SeenCall, Listened, Dialled, Turned, Read, Sent, Closed, Act, Fetched, Wrote, Called, Asked, Drew}
 use Rattle.outside.specs.Doings.{Told, Did}
 use Rattle.relay_script.specs.declared.script.Script.{Script}
 use Rattle.relay_loop.specs.declared.way.Way.{Way}
+use Rattle.er_base.specs.declared.side.Side.{Side}
+use Rattle.er_base.specs.Printing.{Begins}
+use Rattle.relay_model.specs.Carried.{carried}
+use Rattle.relay_loop.specs.RelayLines.{RelayLine, Heading, Opening, Received, Given, SideEnd, Closing, text_of_lines}
+use Rattle.relay_loop.specs.Octets.{read_in_acts}
+use Rattle.relay_loop.specs.Ways.{HoldsWay}
 use Rattle.relay_loop.specs.WaySteps.{WayMoves}
-
-abbrev pub octets_read : Reading → List ℕ
-octets_read (wires.Gave octets) = octets
-octets_read wires.NotNow = []
-octets_read wires.End = []
-octets_read wires.Failed = []
-
--- the octets that a call read of a connection
-abbrev pub read_by_call : (conn : ℕ) → SeenCall → List ℕ
-read_by_call conn (Listened address listens) = []
-read_by_call conn (Dialled address to) = []
-read_by_call conn (Turned until what) = []
-read_by_call conn (Read from size reading) = if from == conn then octets_read reading else []
-read_by_call conn (Sent to piece answer) = []
-read_by_call conn (Closed at) = []
-
-abbrev pub read_by_act : (conn : ℕ) → Act → List ℕ
-read_by_act conn (Fetched name answer) = []
-read_by_act conn (Wrote piece done) = []
-read_by_act conn (Called call) = read_by_call conn call
-read_by_act conn (Asked moment) = []
-read_by_act conn (Drew word) = []
-
--- all the octets that acts read of a connection
-abbrev pub read_in_acts : (conn : ℕ) → List Act → List ℕ
-read_in_acts conn acts = flat_map (read_by_act conn) acts
 
 -- a read of a connection
 abbrev pub IsReadOf : (conn : ℕ) → Act → Type 0
@@ -50,9 +27,11 @@ IsReadOf conn (Called (Closed at)) = ⊥
 IsReadOf conn (Asked moment) = ⊥
 IsReadOf conn (Drew word) = ⊥
 
+-- one read of it, or none
 abbrev pub AreReadsOf : (conn : ℕ) → List Act → Type 0
 AreReadsOf conn [] = Unit {0}
-AreReadsOf conn (act ∷ acts) = IsReadOf conn act × AreReadsOf conn acts
+AreReadsOf conn (act ∷ []) = IsReadOf conn act
+AreReadsOf conn (first ∷ second ∷ acts) = ⊥
 
 -- what comes of a read, by its answer and the slice behind it: an end or a fault ends the side, and no octets come
 abbrev pub TakesIn : Script → ReadAnswer → (slice : List ℕ) → (old new : Way) → Type 0
@@ -67,3 +46,35 @@ pub record Hears (script : Script) (conn : ℕ) (old new : Way) (before now : To
   pub did : Did before now acts
   pub only : AreReadsOf conn acts
   pub moves : WayMoves script (read_in_acts conn acts) [] old new
+
+-- what was told is carried too of what was read with these octets, whether they are taken or not
+abbrev pub WayReads : Script → (octets : List ℕ) → Way → Type 0
+WayReads script octets way =
+    (side : Side) (read told gave : List ℕ) → HoldsWay script side read told gave way → Begins told (carried script side (read ++ octets))
+
+-- memory ran out behind a read of the connection, if that
+pub record HearsOnly (script : Script) (conn : ℕ) (old : Way) (before now : Told) : Type 0 where
+  pub acts : List Act
+  pub did : Did before now acts
+  pub only : AreReadsOf conn acts
+  pub reads : WayReads script (read_in_acts conn acts) old
+
+-- ---- lines of what came
+
+abbrev pub IsNews : (number : ℕ) → RelayLine → Type 0
+IsNews number Heading = ⊥
+IsNews number (Opening moment of) = ⊥
+IsNews number (Received moment of from octets) = of ≡ number
+IsNews number (Given moment of from octets) = ⊥
+IsNews number (SideEnd moment of from) = of ≡ number
+IsNews number (Closing moment of) = ⊥
+
+abbrev pub AreNews : (number : ℕ) → List RelayLine → Type 0
+AreNews number [] = Unit {0}
+AreNews number (line ∷ lines) = IsNews number line × AreNews number lines
+
+-- lines of what came from a side, or that it ended, wait behind those that wait
+pub record PutsNews (number : ℕ) (waiting left : List ℕ) : Type 0 where
+  pub news : List RelayLine
+  pub are : AreNews number news
+  pub is : left ≡ waiting ++ text_of_lines news

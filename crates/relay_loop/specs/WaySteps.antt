@@ -1,4 +1,4 @@
--- Contract: what calls do to one way of a connection.
+-- Representation: what calls do to one way of a connection; no claim rests on it.
 use Rattle.std.specs.Prelude.{◌≡◌, ℕ, false, List, [], ◌++◌}
 use Rattle.std.specs.List.{flat_map}
 use Rattle.er_base.specs.declared.side.Side.{Side}

@@ -1,5 +1,5 @@
--- Contract: what goes one way of a relayed connection (this profile), by all the octets that were read of its side, those that were told as given, in printed
--- lines, and those that were written to the other side.
+-- Representation: what goes one way of a relayed connection, by all the octets that were read of its side, those that were told as given, in lines, and
+-- those that were written to the other side; no claim rests on it.
 use Rattle.std.specs.Prelude.{◌≡◌, ◌⊎◌, ℕ, Bool, true, false, List, [], ◌++◌}
 use Rattle.std.specs.List.{flat_map}
 use Rattle.er_base.specs.declared.side.Side.{Side}

@@ -1,3 +1,5 @@
+//! Why a relay stopped.
+
 ghost use Rattle.std.specs.Prelude.{◌≡◌};
 ghost use Rattle.relay_loop.specs.declared.fault.RelayFault.TheVariants as fault;
 

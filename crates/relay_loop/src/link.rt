@@ -1,13 +1,16 @@
 //! A connection of a relay: its two sockets, and what goes each way between them.
 
 ghost use Rattle.std.specs.Prelude.{◌≡◌, ◌≢◌, false, [], List, IfOk, OnOk};
-ghost use Rattle.outside.specs.Acts.{Act};
+ghost use Rattle.std.specs.Result.{MatchResult};
+ghost use Rattle.outside.specs.Doings.{Told};
 ghost use Rattle.relay_script.specs.declared.script.Script as model;
 ghost use Rattle.relay_script.specs.ScriptRanges.{IsScriptInRange};
 ghost use Rattle.relay_loop.specs.WaySteps.{WayMoves, PrintsGiven};
 ghost use Rattle.relay_loop.specs.Sending.{Sends};
 ghost use Rattle.relay_loop.specs.Giving.{PrintsBoth, WritesBoth, TellsFirst};
-ghost use Rattle.relay_loop.specs.Links.{HoldsLink, IsUntouched, Stays, Visits};
+ghost use Rattle.relay_loop.specs.Reading.{PutsNews};
+ghost use Rattle.relay_loop.specs.RelayDeeds.{RelayDeed};
+ghost use Rattle.relay_loop.specs.Links.{HoldsLink, IsUntouched, IsUntold, Visits, BreaksVisit, EndsVisit};
 
 use crate::fault::RelayFault;
 use crate::lines::put_closed;
@@ -59,8 +62,9 @@ impl Link {
     /// Nothing came from either side.
     pub(crate) fn new(alloc: Global, number: u64, e: Conn, r: Conn) -> Result<Link, NoMemory>
         ensures sockets { IfOk result (λ link. (link.e ≡ e) × (link.r ≡ r)) }
-        ensures holds { IfOk result (λ link. (script : model.Script) (acts : List Act) → e.0 ≢ r.0 → IsUntouched e.0 acts → IsUntouched r.0 acts
-            → HoldsLink script acts link) }
+        ensures number { IfOk result (λ link. link.number ≡ number) }
+        ensures holds { IfOk result (λ link. (script : model.Script) (done : List RelayDeed) → e.0 ≢ r.0 → IsUntold number done → IsUntouched e.0 done
+            → IsUntouched r.0 done → HoldsLink script done link) }
     {
         Ok(Link {
             number,
@@ -127,7 +131,6 @@ impl Link {
     }
 
     // Octets may have come from a side.
-    #[tactic(auto, using(crate::proofs::LinkCalls::visits_none))]
     fn hear<O: Outside>(
         &mut self,
         script: &Script,
@@ -137,7 +140,8 @@ impl Link {
         outside: &mut O,
     ) -> Result<(), RelayFault>
         requires range { IsScriptInRange script.now }
-        ensures { OnOk result (Visits script.now self.old self.new (O.told outside.old) (O.told outside.new)) }
+        requires number { at.number ≡ self.old.number }
+        ensures { EndsVisit result script.now self.old self.new workspace.old.lines.items workspace.new.lines.items (O.told outside.old) (O.told outside.new) }
     {
         if self.is_closing() {
             return Ok(());
@@ -176,7 +180,9 @@ impl Link {
         workspace: &mut Workspace,
         outside: &mut O,
     ) -> Result<Option<Side>, RelayFault>
-        ensures { OnOk result (TellsFirst at workspace.old.lines.items self.old self.new (O.told outside.old) (O.told outside.new)) }
+        requires number { at.number ≡ self.old.number }
+        ensures { (script : model.Script) → EndsVisit result script self.old self.new workspace.old.lines.items workspace.new.lines.items
+            (O.told outside.old) (O.told outside.new) }
     {
         self.print_due(at, &mut workspace.lines)?;
         write_lines(&mut workspace.lines, outside)?;
@@ -185,7 +191,9 @@ impl Link {
 
     // A write to a side failed: what waits for it goes, and what was held of it is passed, unless the connection is closed anyway.
     fn fail(&mut self, at: Stamp, side: Side, workspace: &mut Workspace) -> Result<(), NoMemory>
-        ensures { OnOk result (Stays self.old self.new) }
+        requires number { at.number ≡ self.old.number }
+        ensures { OnOk result ((script : model.Script) (t : Told)
+            → Visits script self.old self.new workspace.old.lines.items workspace.new.lines.items t t) }
     {
         let closing = self.is_closing();
         match side {
@@ -201,7 +209,9 @@ impl Link {
         workspace: &mut Workspace,
         outside: &mut O,
     ) -> Result<(), RelayFault>
-        ensures { OnOk result ((script : model.Script) → Visits script self.old self.new (O.told outside.old) (O.told outside.new)) }
+        requires number { at.number ≡ self.old.number }
+        ensures { (script : model.Script) → EndsVisit result script self.old self.new workspace.old.lines.items workspace.new.lines.items
+            (O.told outside.old) (O.told outside.new) }
     {
         for _ in 0..=2 {
             match self.give_once(at, workspace, outside)? {
@@ -223,7 +233,8 @@ impl Link {
         outside: &mut O,
     ) -> Result<(), RelayFault>
         requires range { IsScriptInRange script.now }
-        ensures { OnOk result (Visits script.now self.old self.new (O.told outside.old) (O.told outside.new)) }
+        requires number { at.number ≡ self.old.number }
+        ensures { EndsVisit result script.now self.old self.new workspace.old.lines.items workspace.new.lines.items (O.told outside.old) (O.told outside.new) }
     {
         if !self.is_unread(side) {
             return Ok(());
@@ -250,7 +261,8 @@ impl Link {
         outside: &mut O,
     ) -> Result<(), RelayFault>
         requires range { IsScriptInRange script.now }
-        ensures { OnOk result (Visits script.now self.old self.new (O.told outside.old) (O.told outside.new)) }
+        requires number { at.number ≡ self.old.number }
+        ensures { EndsVisit result script.now self.old self.new workspace.old.lines.items workspace.new.lines.items (O.told outside.old) (O.told outside.new) }
     {
         match visit {
             Visit::Read(side) => self.hear(script, at, side, workspace, outside),
@@ -268,7 +280,8 @@ impl Link {
         outside: &mut O,
     ) -> Result<(), RelayFault>
         requires range { IsScriptInRange script.now }
-        ensures { OnOk result (Visits script.now self.old self.new (O.told outside.old) (O.told outside.new)) }
+        requires number { at.number ≡ self.old.number }
+        ensures { EndsVisit result script.now self.old self.new workspace.old.lines.items workspace.new.lines.items (O.told outside.old) (O.told outside.new) }
     {
         self.hear_of(script, at, visit, workspace, outside)?;
         self.give(at, workspace, outside)?;
@@ -307,7 +320,7 @@ impl Link {
         outside: &mut O,
     ) -> Result<bool, RelayFault>
         requires range { IsScriptInRange script.now }
-        ensures { OnOk result (Visits script.now self.old self.new (O.told outside.old) (O.told outside.new)) }
+        ensures { EndsVisit result script.now self.old self.new workspace.old.lines.items workspace.new.lines.items (O.told outside.old) (O.told outside.new) }
     {
         match self.visit_for(asked, moment) {
             Some(visit) => self.visit(script, moment, visit, workspace, outside),
@@ -325,7 +338,7 @@ impl Link {
         outside: &mut O,
     ) -> Result<bool, RelayFault>
         requires range { IsScriptInRange script.now }
-        ensures { OnOk result (Visits script.now self.old self.new (O.told outside.old) (O.told outside.new)) }
+        ensures { EndsVisit result script.now self.old self.new workspace.old.lines.items workspace.new.lines.items (O.told outside.old) (O.told outside.new) }
     {
         let at = Stamp {
             moment,
@@ -346,7 +359,9 @@ impl Link {
         workspace: &mut Workspace,
         outside: &mut O,
     ) -> Result<(), RelayFault>
-        ensures { OnOk result ((script : model.Script) → Visits script self.old self.new (O.told outside.old) (O.told outside.new)) }
+        requires number { at.number ≡ self.old.number }
+        ensures { (script : model.Script) → EndsVisit result script self.old self.new workspace.old.lines.items workspace.new.lines.items
+            (O.told outside.old) (O.told outside.new) }
     {
         put_closed(at, &mut workspace.lines)?;
         write_lines(&mut workspace.lines, outside)?;
@@ -402,7 +417,8 @@ fn fail(
     towards: &mut Way,
     workspace: &mut Workspace,
 ) -> Result<(), NoMemory>
-    ensures { OnOk result ((script : model.Script) → WayMoves script [] [] failed.old failed.new × WayMoves script [] [] towards.old towards.new) }
+    ensures moves { OnOk result ((script : model.Script) → WayMoves script [] [] failed.old failed.new × WayMoves script [] [] towards.old towards.new) }
+    ensures puts { OnOk result (PutsNews at.number workspace.old.lines.items workspace.new.lines.items) }
 {
     towards.lose();
     end_once(is_closing, at, failed, workspace)
@@ -416,7 +432,8 @@ fn end_once(
     way: &mut Way,
     workspace: &mut Workspace,
 ) -> Result<(), NoMemory>
-    ensures { OnOk result ((script : model.Script) → WayMoves script [] [] way.old way.new) }
+    ensures moves { OnOk result ((script : model.Script) → WayMoves script [] [] way.old way.new) }
+    ensures puts { OnOk result (PutsNews at.number workspace.old.lines.items workspace.new.lines.items) }
 {
     if is_closing {
         return Ok(());

@@ -1,11 +1,13 @@
 //! The loop: turn by turn what happens at its wires, and what is due.
 
-ghost use Rattle.std.specs.Prelude.{◌≡◌, ◌++◌, ◌∷◌, [], true, OnOk};
+ghost use Rattle.std.specs.Prelude.{◌≡◌, ◌<◌, ◌≤◌, ◌+◌, ◌-◌, ◌^◌, ◌++◌, ◌∷◌, [], true, false, codes, List, ℕ, OnOk, IfErr};
 ghost use Rattle.outside.specs.Acts.{Asked, Wrote};
 ghost use Rattle.outside.specs.Doings.{Told, Did};
 ghost use Rattle.relay_script.specs.declared.script.Script as model;
 ghost use Rattle.relay_script.specs.ScriptRanges.{IsScriptInRange};
-ghost use Rattle.relay_loop.specs.Relays.{Goes, Idles, Accepts, Reacts, TurnsOnce, RelaysSoFar, Relays};
+ghost use Rattle.relay_loop.specs.declared.fault.RelayFault.TheVariants as fault;
+ghost use Rattle.relay_loop.specs.Relays.{Relays};
+ghost use Rattle.relay_loop.specs.Rings.{EndsGoing, EndsAccept, Reacts, accepted_behind, EndsTurn, EndsRun, RanSoFar};
 
 use crate::fault::RelayFault;
 use crate::lines::{put_closed, put_end, put_open};
@@ -41,7 +43,9 @@ struct LiveRelay {
 impl LiveRelay {
     // No connection yet.
     fn new(alloc: Global) -> LiveRelay
-        ensures { result.links.items ≡ [] }
+        ensures links { result.links.items ≡ [] }
+        ensures accepted { result.accepted ≡ 0 }
+        ensures lines { result.workspace.lines.items ≡ [] }
     {
         LiveRelay {
             links: VecDeque::new(alloc),
@@ -62,7 +66,9 @@ impl LiveRelay {
 
     // A connection stands last behind the others.
     fn keep(&mut self, link: Link) -> Result<(), NoMemory>
-        ensures { OnOk result (self.new.links.items ≡ self.old.links.items ++ link ∷ []) }
+        ensures links { OnOk result (self.new.links.items ≡ self.old.links.items ++ link ∷ []) }
+        ensures workspace { self.new.workspace ≡ self.old.workspace }
+        ensures accepted { self.new.accepted ≡ self.old.accepted }
     {
         self.links.push_back(link)?;
         Ok(())
@@ -76,7 +82,9 @@ impl LiveRelay {
         outside: &mut O,
     ) -> Result<(), RelayFault>
         requires range { IsScriptInRange script.now }
-        ensures { OnOk result (Goes script.now self.old.links.items self.new.links.items (O.told outside.old) (O.told outside.new)) }
+        ensures goes { (dial : List ℕ) → EndsGoing result script.now dial self.old.links.items self.new.links.items
+            self.old.workspace.lines.items self.new.workspace.lines.items (O.told outside.old) (O.told outside.new) }
+        ensures accepted { self.new.accepted ≡ self.old.accepted }
     {
         let Some(mut link) = self.links.pop_front() else {
             return Ok(());
@@ -97,7 +105,9 @@ impl LiveRelay {
         outside: &mut O,
     ) -> Result<(), RelayFault>
         requires range { IsScriptInRange script.now }
-        ensures { OnOk result (Goes script.now self.old.links.items self.new.links.items (O.told outside.old) (O.told outside.new)) }
+        ensures goes { (dial : List ℕ) → EndsGoing result script.now dial self.old.links.items self.new.links.items
+            self.old.workspace.lines.items self.new.workspace.lines.items (O.told outside.old) (O.told outside.new) }
+        ensures accepted { self.new.accepted ≡ self.old.accepted }
     {
         for _ in 0..self.links.len() {
             self.ask_first(script, asked, outside)?;
@@ -117,7 +127,9 @@ impl LiveRelay {
     #[tactic(auto, using(crate::proofs::RelayRings::goes_none))]
     fn give_due<O: Outside>(&mut self, script: &Script, outside: &mut O) -> Result<(), RelayFault>
         requires range { IsScriptInRange script.now }
-        ensures { OnOk result (Goes script.now self.old.links.items self.new.links.items (O.told outside.old) (O.told outside.new)) }
+        ensures goes { (dial : List ℕ) → EndsGoing result script.now dial self.old.links.items self.new.links.items
+            self.old.workspace.lines.items self.new.workspace.lines.items (O.told outside.old) (O.told outside.new) }
+        ensures accepted { self.new.accepted ≡ self.old.accepted }
     {
         if !self.is_due() {
             return Ok(());
@@ -132,8 +144,9 @@ impl LiveRelay {
         conn: Conn,
         outside: &mut O,
     ) -> Result<(), RelayFault>
-        ensures idles { OnOk result (Idles (O.told outside.old) (O.told outside.new)) }
-        ensures links { self.new.links ≡ self.old.links }
+        ensures accepts { (script : model.Script) (dial : List ℕ) → EndsAccept result script dial true at.number conn.0 self.old.links.items self.new.links.items
+            self.old.workspace.lines.items self.new.workspace.lines.items (O.told outside.old) (O.told outside.new) }
+        ensures accepted { self.new.accepted ≡ self.old.accepted }
     {
         put_closed(at, &mut self.workspace.lines)?;
         write_lines(&mut self.workspace.lines, outside)?;
@@ -148,8 +161,9 @@ impl LiveRelay {
         conn: Conn,
         outside: &mut O,
     ) -> Result<(), RelayFault>
-        ensures idles { OnOk result (Idles (O.told outside.old) (O.told outside.new)) }
-        ensures links { self.new.links ≡ self.old.links }
+        ensures accepts { (script : model.Script) (dial : List ℕ) → EndsAccept result script dial true at.number conn.0 self.old.links.items self.new.links.items
+            self.old.workspace.lines.items self.new.workspace.lines.items (O.told outside.old) (O.told outside.new) }
+        ensures accepted { self.new.accepted ≡ self.old.accepted }
     {
         put_end(at, Side::R, &mut self.workspace.lines)?;
         self.turn_away(at, conn, outside)
@@ -164,7 +178,9 @@ impl LiveRelay {
         dial: &str,
         outside: &mut O,
     ) -> Result<(), RelayFault>
-        ensures { OnOk result ((script : model.Script) → Accepts script conn.0 self.old.links.items self.new.links.items (O.told outside.old) (O.told outside.new)) }
+        ensures accepts { (script : model.Script) → EndsAccept result script dial.now true at.number conn.0 self.old.links.items self.new.links.items
+            self.old.workspace.lines.items self.new.workspace.lines.items (O.told outside.old) (O.told outside.new) }
+        ensures accepted { self.new.accepted ≡ self.old.accepted }
     {
         write_lines(&mut self.workspace.lines, outside)?;
         match outside.dial(dial) {
@@ -185,9 +201,12 @@ impl LiveRelay {
         dial: &str,
         outside: &mut O,
     ) -> Result<(), RelayFault>
-        ensures { OnOk result ((script : model.Script) → Accepts script conn.0 self.old.links.items self.new.links.items (O.told outside.old) (O.told outside.new)) }
+        requires room { self.old.accepted < 2 ^ 64 - 1 }
+        ensures accepts { (script : model.Script) → EndsAccept result script dial.now false (self.old.accepted + 1) conn.0 self.old.links.items self.new.links.items
+            self.old.workspace.lines.items self.new.workspace.lines.items (O.told outside.old) (O.told outside.new) }
+        ensures accepted { self.new.accepted ≡ self.old.accepted + 1 }
     {
-        self.accepted = self.accepted.saturating_add(1);
+        self.accepted += 1;
         let at = Stamp {
             moment: self.moment,
             number: self.accepted,
@@ -210,7 +229,10 @@ impl LiveRelay {
         outside: &mut O,
     ) -> Result<(), RelayFault>
         requires range { IsScriptInRange script.now }
-        ensures { OnOk result (Reacts script.now happening self.old.links.items self.new.links.items (O.told outside.old) (O.told outside.new)) }
+        requires room { self.old.accepted < 2 ^ 64 - 1 }
+        ensures reacts { Reacts result script.now dial.now self.old.accepted happening self.old.links.items self.new.links.items
+            self.old.workspace.lines.items self.new.workspace.lines.items (O.told outside.old) (O.told outside.new) }
+        ensures accepted { self.new.accepted ≡ accepted_behind happening self.old.accepted }
     {
         match happening {
             Happening::Accepted(conn) => self.accept(alloc, conn, dial, outside),
@@ -226,6 +248,8 @@ impl LiveRelay {
     fn see_moment<O: Outside>(&mut self, outside: &mut O) -> u64
         ensures asks { Did (O.told outside.old) (O.told outside.new) (Asked result ∷ []) }
         ensures links { self.new.links ≡ self.old.links }
+        ensures workspace { self.new.workspace ≡ self.old.workspace }
+        ensures accepted { self.new.accepted ≡ self.old.accepted }
     {
         let moment = outside.moment();
         self.moment = self.moment.max(moment);
@@ -241,7 +265,10 @@ impl LiveRelay {
         outside: &mut O,
     ) -> Result<bool, RelayFault>
         requires range { IsScriptInRange script.now }
-        ensures { OnOk result (TurnsOnce script.now self.old.links.items self.new.links.items (O.told outside.old) (O.told outside.new)) }
+        requires room { self.old.accepted < 2 ^ 64 - 1 }
+        ensures turns { EndsTurn result script.now dial.now self.old.accepted self.new.accepted self.old.links.items self.new.links.items
+            self.old.workspace.lines.items self.new.workspace.lines.items (O.told outside.old) (O.told outside.new) }
+        ensures accepted { OnOk result (self.new.accepted ≤ self.old.accepted + 1) }
     {
         let happening = outside.turn(self.until());
         self.see_moment(outside);
@@ -260,8 +287,9 @@ impl LiveRelay {
         outside: &mut O,
     ) -> Result<(), RelayFault>
         requires range { IsScriptInRange script.now }
-        ensures { OnOk result ((before : Told) → RelaysSoFar script.now before (O.told outside.old) self.old.links.items
-            → RelaysSoFar script.now before (O.told outside.new) self.new.links.items) }
+        requires none { self.old.accepted ≡ 0 }
+        ensures { (first : Told) → RanSoFar script.now dial.now first (O.told outside.old) self.old.accepted self.old.workspace.lines.items self.old.links.items
+            → EndsRun result script.now dial.now first (O.told outside.new) self.new.accepted self.new.workspace.lines.items self.new.links.items }
     {
         for _ in 0..turns {
             if !self.turn(alloc, script, dial, outside)? {
@@ -273,7 +301,9 @@ impl LiveRelay {
 }
 
 // Whether the loop goes on behind a turn.
-fn goes_on(happening: Happening) -> Result<bool, RelayFault> {
+fn goes_on(happening: Happening) -> Result<bool, RelayFault>
+    ensures { IfErr result (λ broke. broke ≡ fault.Wires) }
+{
     match happening {
         Happening::Ended => Ok(false),
         Happening::Failed => Err(RelayFault::Wires),
@@ -283,7 +313,7 @@ fn goes_on(happening: Happening) -> Result<bool, RelayFault> {
 
 // Listens, and then writes the first line.
 fn begin<O: Outside>(listen: &str, outside: &mut O) -> Result<(), RelayFault>
-    ensures { OnOk result ((script : model.Script) → RelaysSoFar script (O.told outside.old) (O.told outside.new) []) }
+    ensures { (script : model.Script) (dial : List ℕ) → EndsRun result script dial (O.told outside.old) (O.told outside.new) 0 [] [] }
 {
     match outside.listen(listen) {
         Ok(()) => write_header(outside),
@@ -293,7 +323,8 @@ fn begin<O: Outside>(listen: &str, outside: &mut O) -> Result<(), RelayFault>
 
 // Writes the first line.
 fn write_header<O: Outside>(outside: &mut O) -> Result<(), RelayFault>
-    ensures { OnOk result (Did (O.told outside.old) (O.told outside.new) (Wrote HEADER.now true ∷ [])) }
+    ensures wrote { OnOk result (Did (O.told outside.old) (O.told outside.new) (Wrote (codes "relay 1\n") true ∷ [])) }
+    ensures broke { IfErr result (λ broke. (broke ≡ fault.Sink) × Did (O.told outside.old) (O.told outside.new) (Wrote (codes "relay 1\n") false ∷ [])) }
 {
     match outside.write(HEADER) {
         Ok(()) => Ok(()),
@@ -313,8 +344,9 @@ pub fn relay<O: Outside>(
     outside: &mut O,
 ) -> Result<(), RelayFault>
     requires range { IsScriptInRange script.now }
-    // What was written to either side of each connection is a beginning of what is carried of what was read of the other.
-    ensures relays { OnOk result (Relays script.now (O.told outside.old) (O.told outside.new)) }
+    // At each moment, however it ends, what was given to either side of each connection was told before, and is a beginning of what is carried of what was
+    // read of the other.
+    ensures relays { Relays script.now dial.now (O.told outside.old) (O.told outside.new) }
 {
     let mut live = LiveRelay::new(alloc);
     begin(listen, outside)?;

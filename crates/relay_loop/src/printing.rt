@@ -1,8 +1,9 @@
 //! Printed lines are written.
 
-ghost use Rattle.std.specs.Prelude.{◌≡◌, [], OnOk};
+ghost use Rattle.std.specs.Prelude.{◌≡◌, [], OnOk, IfErr};
 ghost use Rattle.outside.specs.Doings.{Did};
 ghost use Rattle.outside.specs.Scripts.{printing};
+ghost use Rattle.relay_loop.specs.RelayDeeds.{BreaksBehind};
 
 use crate::fault::RelayFault;
 use link_trait::Failed;
@@ -15,6 +16,7 @@ pub(crate) fn write_lines<O: Outside>(
 ) -> Result<(), RelayFault>
     ensures told { OnOk result (Did (O.told outside.old) (O.told outside.new) (printing lines.old.items)) }
     ensures none { OnOk result (lines.new.items ≡ []) }
+    ensures broke { IfErr result (λ fault. BreaksBehind fault lines.old.items (O.told outside.old) (O.told outside.new) []) }
 {
     if lines.as_slice().is_empty() {
         return Ok(());

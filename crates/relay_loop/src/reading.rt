@@ -1,10 +1,12 @@
 //! What comes from a side is read and taken.
 
 ghost use Rattle.std.specs.Prelude.{◌≡◌, ◌≤◌, ℕ, false, [], length, take, OnOk};
+ghost use Rattle.std.specs.Result.{MatchResult};
 ghost use Rattle.relay_script.specs.declared.script.Script as model;
 ghost use Rattle.relay_script.specs.ScriptRanges.{IsScriptInRange};
 ghost use Rattle.relay_loop.specs.WaySteps.{WayMoves};
-ghost use Rattle.relay_loop.specs.Reading.{Hears, TakesIn};
+ghost use Rattle.relay_loop.specs.RelayDeeds.{IsLastDone};
+ghost use Rattle.relay_loop.specs.Reading.{Hears, HearsOnly, TakesIn, PutsNews};
 
 use crate::fault::RelayFault;
 use crate::lines::{put_came, put_end};
@@ -14,7 +16,7 @@ use crate::workspace::Workspace;
 use er_base::{NoMemory, Room, Side};
 use link_trait::{Conn, ReadAnswer};
 use outside::Outside;
-use relay_model::laws::closed_stays;
+use relay_model::laws::{closed_stays, given_begins};
 use relay_script::Script;
 use std::alloc::Global;
 
@@ -22,7 +24,9 @@ use std::alloc::Global;
 const MOST_OCTETS: usize = 4_096;
 
 // A line of what came, where something is held no longer.
-fn put_some(at: Stamp, side: Side, octets: &[u8], lines: &mut Vec<u8>) -> Result<(), NoMemory> {
+fn put_some(at: Stamp, side: Side, octets: &[u8], lines: &mut Vec<u8>) -> Result<(), NoMemory>
+    ensures { OnOk result (PutsNews at.number lines.old.items lines.new.items) }
+{
     if octets.is_empty() {
         return Ok(());
     }
@@ -49,7 +53,8 @@ fn take_all(
     requires range { IsScriptInRange script.now }
     requires unended { way.old.ended ≡ false }
     requires alive { way.old.lost ≡ false }
-    ensures { OnOk result (WayMoves script.now octets.now [] way.old way.new) }
+    ensures takes { OnOk result (WayMoves script.now octets.now [] way.old way.new) }
+    ensures puts { OnOk result (PutsNews at.number lines.old.items lines.new.items) }
 {
     closed_stays();
     let mut came = Room::with_capacity(alloc, MOST_OCTETS)?;
@@ -74,7 +79,8 @@ pub(crate) fn end(
     lines: &mut Vec<u8>,
 ) -> Result<(), NoMemory>
     requires unended { way.old.ended ≡ false }
-    ensures { OnOk result ((script : model.Script) → WayMoves script [] [] way.old way.new) }
+    ensures ends { OnOk result ((script : model.Script) → WayMoves script [] [] way.old way.new) }
+    ensures puts { OnOk result (PutsNews at.number lines.old.items lines.new.items) }
 {
     let mut came = Room::with_capacity(alloc, MOST_OCTETS)?;
     way.end(alloc, at.moment, &mut came)?;
@@ -96,7 +102,8 @@ fn take_in(
     requires unended { way.old.ended ≡ false }
     requires alive { way.old.lost ≡ false }
     requires fits { (n : ℕ) → answer ≡ ReadAnswer.Some n → n ≤ length octets.now }
-    ensures { OnOk result (TakesIn script.now answer octets.now way.old way.new) }
+    ensures takes { OnOk result (TakesIn script.now answer octets.now way.old way.new) }
+    ensures puts { OnOk result (PutsNews at.number lines.old.items lines.new.items) }
 {
     match answer {
         ReadAnswer::Some(count) => take_all(alloc, script, at, front(octets, count), way, lines),
@@ -117,8 +124,12 @@ fn read<O: Outside>(
     requires range { IsScriptInRange script.now }
     requires unended { way.old.ended ≡ false }
     requires alive { way.old.lost ≡ false }
-    ensures { OnOk result (Hears script.now from.0 way.old way.new (O.told outside.old) (O.told outside.new)) }
+    ensures hears { MatchResult result (λ _. Hears script.now from.0 way.old way.new (O.told outside.old) (O.told outside.new))
+        (λ _. HearsOnly script.now from.0 way.old (O.told outside.old) (O.told outside.new)) }
+    ensures puts { OnOk result (PutsNews at.number workspace.old.lines.items workspace.new.lines.items) }
 {
+    closed_stays();
+    given_begins();
     let answer = outside.read(from, &mut workspace.read);
     take_in(
         workspace.alloc,
@@ -143,7 +154,9 @@ pub(crate) fn hear<O: Outside>(
 ) -> Result<(), RelayFault>
     requires range { IsScriptInRange script.now }
     requires unended { way.old.ended ≡ false }
-    ensures { OnOk result (Hears script.now from.0 way.old way.new (O.told outside.old) (O.told outside.new)) }
+    ensures hears { MatchResult result (λ _. Hears script.now from.0 way.old way.new (O.told outside.old) (O.told outside.new))
+        (λ fault. IsLastDone fault [] × HearsOnly script.now from.0 way.old (O.told outside.old) (O.told outside.new)) }
+    ensures puts { OnOk result (PutsNews at.number workspace.old.lines.items workspace.new.lines.items) }
 {
     if way.carrier.is_closed() {
         return Ok(());

@@ -1,3 +1,7 @@
+//! The buffers that a relay reads into and writes from.
+
+ghost use Rattle.std.specs.Prelude.{◌≡◌, []};
+
 use std::alloc::Global;
 
 /// The most octets that one read asks for.
@@ -15,7 +19,9 @@ pub(crate) struct Workspace {
 
 impl Workspace {
     /// No line waits.
-    pub(crate) fn new(alloc: Global) -> Workspace {
+    pub(crate) fn new(alloc: Global) -> Workspace
+        ensures { result.lines.items ≡ [] }
+    {
         Workspace {
             alloc,
             read: [0; MOST_READ],

@@ -1,3 +1,4 @@
+-- What this crate states: its definitions, by module.
 pub mod Units
 pub mod UnitKinds
 pub mod Loads

@@ -1,3 +1,4 @@
+-- What this crate states: its definitions, by module.
 pub mod Kinds
 pub mod ScriptRanges
 pub mod Table

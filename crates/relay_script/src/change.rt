@@ -1,3 +1,5 @@
+//! What a line of a script changes at a unit.
+
 use er_base::Octets;
 
 /// What a line of a script does to what is given for a unit.

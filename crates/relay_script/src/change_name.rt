@@ -1,3 +1,5 @@
+//! The first words of a script's lines.
+
 ghost use Rattle.std.specs.Prelude.{◌≡◌};
 ghost use Rattle.relay_script.specs.Table.{change_word, change_named};
 

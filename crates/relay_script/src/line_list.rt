@@ -1,3 +1,5 @@
+//! The lines of a script, kept.
+
 ghost use Rattle.std.specs.Prelude.{◌≡◌};
 
 use crate::script_line::ScriptLine;

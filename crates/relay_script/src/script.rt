@@ -1,3 +1,5 @@
+//! What a script says.
+
 use crate::line_list::LineList;
 
 /// What a script says.

@@ -1,3 +1,5 @@
+//! A line of a script: which unit of each connection it names, and what it does.
+
 use crate::change::Change;
 use crate::unit_kind::UnitKind;
 use er_base::Side;

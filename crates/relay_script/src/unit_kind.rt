@@ -1,3 +1,5 @@
+//! The kinds of units that a script can name.
+
 ghost use Rattle.std.specs.Prelude.{◌≡◌, ◌<◌};
 ghost use Rattle.relay_script.specs.Kinds.{unit_kind_word, kind_named, kind_place};
 

@@ -1,3 +1,4 @@
+-- What this crate states: its definitions, by module.
 pub mod Keys
 pub mod Pairs
 pub mod Safety

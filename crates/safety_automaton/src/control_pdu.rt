@@ -1,3 +1,5 @@
+//! The SaPDUs that carry no user octets, as a side sends them.
+
 ghost use Rattle.std.specs.Prelude.{◌≡◌};
 ghost use Rattle.sapdu.specs.SpellingLaws.{HasUserOctets, HasNumber};
 ghost use Rattle.sapdu.specs.Reading.{view};

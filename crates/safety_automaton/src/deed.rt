@@ -1,3 +1,5 @@
+//! What a side did with octets from its peer.
+
 use er_base::Release;
 
 /// What a side of a safe connection did with octets from its peer.

@@ -1,3 +1,5 @@
+//! Where a side finds the KMAC of a pair of ETCS numbers.
+
 ghost use Rattle.std.specs.Prelude.{List, ◌≡◌};
 ghost use Rattle.safety_automaton.specs.Keys.{KmacEntry, key_at, AreKmacEntriesApart};
 ghost use Rattle.safety_automaton.specs.Pairs.{entries_if};

@@ -1,3 +1,5 @@
+//! Where a side stands, and what it waits for.
+
 ghost use Rattle.std.specs.Prelude.{ℕ, ◌≡◌, ◌==◌, List, Option};
 ghost use Rattle.cbc_mac.specs.Mac.{mac_of};
 ghost use Rattle.safety_automaton.specs.Safety.{session_in};

@@ -1,3 +1,5 @@
+//! What came of an event: the next phase, and what is to be done.
+
 use crate::control_pdu::ControlPdu;
 use crate::deed::SafeDeed;
 

@@ -1,3 +1,5 @@
+//! Which end of the safe connection a side is.
+
 ghost use Rattle.std.specs.Prelude.{◌≡◌};
 ghost use Rattle.safety_automaton.specs.Safety.{flag_of, other_role};
 

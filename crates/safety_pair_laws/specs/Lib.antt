@@ -1,3 +1,4 @@
+-- What this crate states: its definitions, by module.
 pub mod Facts
 pub mod Openings
 pub mod Talks

@@ -1,3 +1,4 @@
+-- What this crate states: its definitions, by module.
 pub mod Messages
 pub mod Rooms
 pub mod Kinds

@@ -1,3 +1,5 @@
+//! The kinds of SaPDU, by their message type identifier.
+
 ghost use Rattle.std.specs.Prelude.{◌≡◌, ◌+◌};
 ghost use Rattle.sapdu.specs.Kinds.{row_of_sapdu_kind, kind_with};
 ghost use Rattle.sapdu.specs.Spelling.{df};

@@ -1,3 +1,5 @@
+//! The user's message in a DT SaPDU.
+
 ghost use Rattle.std.specs.Prelude.{◌≡◌};
 ghost use Rattle.sapdu.specs.Messages.{is_message};
 

@@ -1,3 +1,5 @@
+//! The SaPDUs of SUBSET-037.
+
 use crate::kind::SaKind;
 
 /// An SaPDU of SUBSET-037 without its direction flag.

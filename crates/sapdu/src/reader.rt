@@ -1,3 +1,5 @@
+//! An SaPDU read from its octets.
+
 ghost use Rattle.std.specs.Prelude.{◌≡◌, ◌+◌, ◌≤◌, length};
 ghost use Rattle.sapdu.specs.Kinds.{row_of_sapdu_kind};
 ghost use Rattle.sapdu.specs.Spelling.{read_of, di_in, fault_of_length};

@@ -1,3 +1,5 @@
+//! The text that a MAC is made over.
+
 ghost use Rattle.std.specs.Prelude.{◌≡◌, ◌+◌, ◌-◌, ◌<◌, ◌≤◌, ◌^◌, [], ◌∷◌, ◌++◌, length, drop};
 ghost use Rattle.er_base.specs.Octets.{two, three, eight};
 ghost use Rattle.sapdu.specs.SpellingLaws.{HasUserOctets, HasNumber};

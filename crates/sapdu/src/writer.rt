@@ -1,3 +1,5 @@
+//! An SaPDU written as octets.
+
 ghost use Rattle.std.specs.Prelude.{◌≡◌, length};
 ghost use Rattle.er_base.specs.Stored.{HasRoom, Appends};
 ghost use Rattle.sapdu.specs.Spelling.{spelling};

@@ -1,1 +1,2 @@
+-- What this crate states: its definitions, by module.
 pub mod Session

@@ -1,3 +1,4 @@
+-- What this crate states: its definitions, by module.
 pub mod Blocks
 pub mod Joining
 pub mod JoiningLaws

@@ -1,3 +1,5 @@
+//! Blocks that are joined to one TPDU.
+
 ghost use Rattle.std.specs.Prelude.{◌≡◌, []};
 ghost use Rattle.std.specs.Borrow.{sem};
 ghost use Rattle.t70_header.specs.Joining.{block_step, fault_of_header};

@@ -1,3 +1,5 @@
+//! The header in front of a TPDU.
+
 ghost use Rattle.std.specs.Prelude.{◌+◌, [], length};
 ghost use Rattle.er_base.specs.Stored.{HasRoom, Appends};
 ghost use Rattle.t70_header.specs.Blocks.{last_block};

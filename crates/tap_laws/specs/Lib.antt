@@ -1,3 +1,4 @@
+-- What this crate states: its definitions, by module.
 pub mod LookingUp
 pub mod Progress
 pub mod Runs

@@ -1,3 +1,4 @@
+-- What this crate states: its definitions, by module.
 pub mod Hearing
 pub mod Given
 pub mod VerdictWords
@@ -9,7 +10,6 @@ pub mod EndWords
 pub mod Ends
 pub mod EndTexts
 pub mod StreamEnds
-pub mod Audits
 pub mod Ears
 pub mod KnownAnswers
 pub mod KnownEnds

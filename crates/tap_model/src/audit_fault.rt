@@ -1,3 +1,5 @@
+//! Why an audit ends before its last line.
+
 ghost use Rattle.std.specs.Prelude.{◌≡◌};
 ghost use Rattle.tap_model.specs.declared.audit_fault.AuditFault.TheVariants as fault;
 

@@ -1,3 +1,5 @@
+//! The verdict on an item that was heard.
+
 ghost use Rattle.std.specs.Prelude.{◌≡◌};
 ghost use Rattle.tap_model.specs.VerdictWords.{verdict_word};
 

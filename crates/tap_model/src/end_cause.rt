@@ -1,3 +1,5 @@
+//! Why no more was heard of what a side of a link sent.
+
 ghost use Rattle.std.specs.Prelude.{◌≡◌};
 ghost use Rattle.tap_model.specs.EndWords.{end_word};
 

@@ -1,8 +1,9 @@
 //! Why a key file is refused.
 
-use crate::line_words::LineWords;
+use crate::line_words::{LineWords, word_at};
 use crate::sentence::{NOTHING, Piece, Sentence, put_sentence};
 use crate::shown::put_text;
+use crate::table::texts_of;
 use er_base::NoMemory;
 use std::alloc::Global;
 use std::fmt::Write;
@@ -18,53 +19,52 @@ pub fn keys_refused(
     let mut line = String::new(alloc);
     put_text(&mut line, name)?;
     line.push_str(": ")?;
-    let words = LineWords::of(last);
-    if let (b"document", Some(text)) = (words.at(2), text) {
-        put_place(&mut line, alloc, text)?;
+    if word_at(last, 2) == b"document".as_slice() {
+        put_place(&mut line, alloc, text.unwrap_or(b""))?;
     }
-    put_sentence(&mut line, &sentence(&words))?;
+    put_sentence(&mut line, &sentence(last))?;
     Ok(line)
 }
 
 // What stands behind `! keys`, in words.
-fn sentence<'a>(words: &LineWords<'a>) -> Sentence<'a> {
+fn sentence(last: &[u8]) -> Sentence<'_> {
+    let words = LineWords::of(last);
     let (before, between) = around(words.at(2), words.at(3), words.at(4));
-    let second = match words.at(2) {
-        b"field" | b"twice" | b"none" => words.at(4),
-        _ => b"",
-    };
-    let first = match words.at(2) {
-        b"document" => b"",
-        _ => words.at(3),
-    };
     [
         Piece::Text(before),
-        Piece::Plain(first),
+        Piece::Plain(words.at(3)),
         Piece::Text(between),
-        Piece::Plain(second),
+        Piece::Plain(words.at(4)),
         NOTHING,
     ]
 }
 
+// Of each fault but that of a field, what stands before its first number, and between that and the second one.
+const FAULTS: &str = "\
+document|it is no document of TOML|
+hex|entry |: kmac isn't 48 hexadecimal digits
+number|entry |: a number is out of its range: engine and rbc are 0 to 16777215, from and to 0 to 1000000000000000
+range|entry |: from is behind to
+twice|of one pair, and holding at one moment, are the entries | and \n\
+version|the version is to be 1 or 2, and is |
+none|no key holds now of engine | and radio block centre ";
+
 // What stands before the first number of a fault, and between it and the second one.
 fn around(fault: &[u8], entry: &[u8], name: &[u8]) -> (&'static str, &'static str) {
-    match fault {
-        b"document" => ("it is no document of TOML", ""),
-        b"field" if entry == b"0".as_slice() => ("entry ", field_of_document(name)),
-        b"field" => ("entry ", field(name)),
-        b"hex" => ("entry ", ": kmac isn't 48 hexadecimal digits"),
-        b"number" => (
-            "entry ",
-            ": a number is out of its range: engine and rbc are 0 to 16777215, from and to 0 to 1000000000000000",
-        ),
-        b"range" => ("entry ", ": from is behind to"),
-        b"twice" => (
-            "of one pair, and holding at one moment, are the entries ",
-            " and ",
-        ),
-        b"version" => ("the version is to be 1 or 2, and is ", ""),
-        b"none" => ("no key holds now of engine ", " and radio block centre "),
-        _ => ("the key file is refused", ""),
+    if fault == b"field".as_slice() {
+        return ("entry ", field_of(entry, name));
+    }
+    match texts_of(FAULTS, fault) {
+        Some(texts) => texts,
+        None => ("the key file is refused", ""),
+    }
+}
+
+fn field_of(entry: &[u8], name: &[u8]) -> &'static str {
+    if entry == b"0".as_slice() {
+        field_of_document(name)
+    } else {
+        field(name)
     }
 }
 

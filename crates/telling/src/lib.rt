@@ -16,6 +16,7 @@ mod refusals;
 mod script_words;
 mod sentence;
 mod shown;
+mod table;
 mod tally;
 mod tap_words;
 mod trace_words;

@@ -41,6 +41,11 @@ impl<'a> LineWords<'a> {
     }
 }
 
+/// The word of a line at this place, as far as the first twelve.
+pub(crate) fn word_at(line: &[u8], place: usize) -> &[u8] {
+    LineWords::of(line).at(place)
+}
+
 fn without_line_feed(line: &[u8]) -> &[u8] {
     match line {
         [before @ .., b'\n'] => before,

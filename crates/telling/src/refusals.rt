@@ -2,13 +2,14 @@
 
 use crate::drill_words::{drill_words, levels, setting_values};
 use crate::file_kind::FileKind;
-use crate::line_words::LineWords;
+use crate::line_words::{LineWords, word_at};
 use crate::script_words::script_words;
 use crate::sentence::{NOTHING, Piece, Sentence, put_sentence};
 use crate::shown::put_text;
+use crate::table::texts_of;
 use crate::tap_words::tap_words;
 use crate::trace_words::{EVENTS, OUTCOMES, REFUSALS, event_words, outcome_words, refusal_words};
-use crate::wanted::Wanted;
+use crate::wanted::{Behind, Wanted};
 use er_base::{NoMemory, decimal};
 use std::alloc::Global;
 use std::fmt::Write;
@@ -47,12 +48,11 @@ pub fn file_refused(
 pub fn overfull(alloc: Global, name: &str, last: &[u8]) -> Result<String, NoMemory> {
     let mut line = String::new(alloc);
     put_text(&mut line, name)?;
-    let told = LineWords::of(last);
     let sentence = [
         Piece::Text(": a frame would be the 4097th that waits on link "),
-        Piece::Plain(told.at(2)),
+        Piece::Plain(word_at(last, 2)),
         Piece::Text(" of what "),
-        Piece::Plain(told.at(3)),
+        Piece::Plain(word_at(last, 3)),
         Piece::Text(" sent"),
     ];
     put_sentence(&mut line, &sentence)?;
@@ -63,20 +63,24 @@ pub fn overfull(alloc: Global, name: &str, last: &[u8]) -> Result<String, NoMemo
 pub fn recording_differs(alloc: Global, name: &str, last: &[u8]) -> Result<String, NoMemory> {
     let mut line = String::new(alloc);
     put_text(&mut line, name)?;
-    let told = LineWords::of(last);
     let sentence = [
         Piece::Text(": line "),
-        Piece::Plain(told.at(2)),
+        Piece::Plain(word_at(last, 2)),
         Piece::Text(": "),
-        Piece::Text(match told.at(3) {
-            b"differs" => "a replay prints another line there, or none",
-            b"cut" => "no LF ends it, and it wasn't read: the recording is cut",
-            _ => "it isn't there, and a replay prints one",
-        }),
+        Piece::Text(difference(word_at(last, 3))),
         NOTHING,
     ];
     put_sentence(&mut line, &sentence)?;
     Ok(line)
+}
+
+// What is wrong at the line of a recording.
+fn difference(why: &[u8]) -> &'static str {
+    match why {
+        b"differs" => "a replay prints another line there, or none",
+        b"cut" => "no LF ends it, and it wasn't read: the recording is cut",
+        _ => "it isn't there, and a replay prints one",
+    }
 }
 
 // The line of a file with this number, from 1.
@@ -175,7 +179,7 @@ struct Shape {
     wanted: &'static [Wanted],
 }
 
-fn shape_at(place: usize, found: Option<(&'static str, &'static [Wanted])>) -> Option<Shape> {
+fn shape_at(place: usize, found: Option<Behind>) -> Option<Shape> {
     let (spelled, wanted) = found?;
     Some(Shape {
         place,
@@ -317,29 +321,33 @@ fn setting<'a>(words: &LineWords<'a>) -> Sentence<'a> {
     }
 }
 
+// Why a line of a trace isn't done though it is in the grammar: what stands before the number of its connection, and behind it.
+const OF_TRACES: &str = "\
+noconn|connection | hasn't begun: its first event is a call or an answer
+nokey|no key of the pair of connection | holds at that moment
+many|256 ends are live, and one more would be connection |
+twice|connection | has begun before
+back|the moment is before that of an event above it, at connection |";
+
+// The same of a line of another file, around the number of its link.
+const OF_OTHERS: &str = "\
+nolink|no line above it opens link |
+twice|a line above it opens link | too
+back|a tick above it is at a later moment than |";
+
 // A line that is in the grammar, and isn't done.
 fn not_done<'a>(kind: FileKind, why: &[u8], words: &LineWords<'a>) -> Sentence<'a> {
-    let is_trace = kind == FileKind::Trace;
-    let (before, behind) = match why {
-        b"noconn" => (
-            "connection ",
-            " hasn't begun: its first event is a call or an answer",
-        ),
-        b"nokey" => ("no key of the pair of connection ", " holds at that moment"),
-        b"many" => ("256 ends are live, and one more would be connection ", ""),
-        b"nolink" => ("no line above it opens link ", ""),
-        b"twice" if is_trace => ("connection ", " has begun before"),
-        b"twice" => ("a line above it opens link ", " too"),
-        b"back" if is_trace => (
-            "the moment is before that of an event above it, at connection ",
-            "",
-        ),
-        b"back" => ("a tick above it is at a later moment than ", ""),
-        _ => ("it is refused: ", ""),
+    let (table, place) = match kind {
+        FileKind::Trace => (OF_TRACES, 2),
+        _ => (OF_OTHERS, 1),
+    };
+    let (before, behind) = match texts_of(table, why) {
+        Some(texts) => texts,
+        None => ("it is refused: ", ""),
     };
     [
         Piece::Text(before),
-        Piece::Plain(words.at(if is_trace { 2 } else { 1 })),
+        Piece::Plain(words.at(place)),
         Piece::Text(behind),
         NOTHING,
         NOTHING,

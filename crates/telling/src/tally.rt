@@ -155,18 +155,24 @@ impl Tally {
 
     // An outcome, behind its connection: the release, where it is one.
     fn outcome(&mut self, words: &[u8]) -> Option<Release> {
-        match next_word(words) {
-            Some((b"connected", _)) => self.connected = self.connected.saturating_add(1),
-            Some((b"accepted", _)) => self.accepted = self.accepted.saturating_add(1),
-            Some((b"refused", _)) => self.refused = self.refused.saturating_add(1),
-            Some((b"released", rest)) => {
-                let release = release_of(rest)?;
-                self.release(release);
-                return Some(release);
-            }
+        let (word, rest) = next_word(words)?;
+        if word == b"released".as_slice() {
+            let release = release_of(rest)?;
+            self.release(release);
+            return Some(release);
+        }
+        self.count_outcome(word);
+        None
+    }
+
+    // The word of an outcome that is no release.
+    fn count_outcome(&mut self, word: &[u8]) {
+        match word {
+            b"connected" => self.connected = self.connected.saturating_add(1),
+            b"accepted" => self.accepted = self.accepted.saturating_add(1),
+            b"refused" => self.refused = self.refused.saturating_add(1),
             _ => {}
         }
-        None
     }
 
     fn release(&mut self, release: Release) {

@@ -1,3 +1,5 @@
+//! What a word or a file should have been, for people.
+
 use er_base::{MOST_ETCS_NUMBER, MOST_MOMENT, decimal};
 use relay_script::UnitKind;
 
@@ -79,6 +81,22 @@ impl Wanted {
             Wanted::Any => true,
         }
     }
+}
+
+/// What stands behind a word, spelled and word by word.
+pub(crate) type Behind = (&'static str, &'static [Wanted]);
+
+/// A word, and what stands behind it.
+pub(crate) type Row = (&'static str, &'static str, &'static [Wanted]);
+
+/// What stands behind a word by a table; None where no row has the word.
+pub(crate) fn behind(rows: &[Row], word: &[u8]) -> Option<Behind> {
+    for (known, spelled, wanted) in rows {
+        if known.as_bytes() == word {
+            return Some((*spelled, *wanted));
+        }
+    }
+    None
 }
 
 fn is_number(word: &[u8], least: u64, most: u64) -> bool {

@@ -1,3 +1,5 @@
+//! Words, numbers and octets.
+
 use er_base::{
     LineFault, NoMemory, Octets, PrintedWord, TextFault, laws, put_line, read_exact, read_number16,
     read_text,

@@ -1,3 +1,5 @@
+//! The steps that a bulk drill draws.
+
 use drill_bulk::steps;
 use er_base::Side;
 use er_scenario::Step;

@@ -46,22 +46,32 @@ fn check_value_of_the_nine_digits(rt: HostRuntime) {
     assert!(rt; is_printed && is_intact && check_octets(0x01, &[0x3f]) == [0xeb, 0xdf]);
 }
 
+// Whether the check sequence of a string is this one by each body, and by pieces.
+fn is_given(string: &[u8], sequence: u16) -> bool {
+    let mut running = Running::new();
+    let third = string.len() / 3;
+    running.add(&string[..third]);
+    running.add(&string[third..]);
+    running.value() == sequence
+        && fcs(string) == sequence
+        && fcs_by_octets(string) == sequence
+        && fcs_by_bits(string) == sequence
+}
+
+// Fills a string with the next octets of the sequence.
+fn fill(string: &mut [u8], number: &mut u32) {
+    for octet in string.iter_mut() {
+        *number = number.wrapping_mul(1_664_525).wrapping_add(1_013_904_223);
+        *octet = (*number >> 24) as u8;
+    }
+}
+
 #[test]
 fn agrees_with_another_implementation(rt: HostRuntime) {
     let mut number: u32 = 1;
     let mut octets = [0; 300];
     for (count, other) in OTHERS.iter().enumerate() {
-        for octet in octets[..count].iter_mut() {
-            number = number.wrapping_mul(1_664_525).wrapping_add(1_013_904_223);
-            *octet = (number >> 24) as u8;
-        }
-        let string = &octets[..count];
-        assert_eq!(rt; fcs(string), *other);
-        assert_eq!(rt; fcs_by_octets(string), *other);
-        assert_eq!(rt; fcs_by_bits(string), *other);
-        let mut running = Running::new();
-        running.add(&string[..count / 3]);
-        running.add(&string[count / 3..]);
-        assert_eq!(rt; running.value(), *other);
+        fill(&mut octets[..count], &mut number);
+        assert!(rt; is_given(&octets[..count], *other), "{count}");
     }
 }

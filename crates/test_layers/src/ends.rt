@@ -1,3 +1,5 @@
+//! Two ends that talk in memory.
+
 use des_block::TripleKey;
 use er_end::End;
 use er_settings::Settings;
@@ -16,13 +18,17 @@ const SABM: &[u8] = b"\x7E\x01\x3F\xEB\xDF\x7E";
 fn an_end_that_calls_begins(rt: HostRuntime) -> Result<(), Fail> {
     let settings = Settings::usual();
     let mut end = End::call(rt.alloc(), &settings, 5, 9, KEY, 0x0102030405060708, 0)?;
-    assert!(rt; end.start(0).out == SABM);
+    let is_begun = end.start(0).out == SABM;
+    drop(end);
+    assert!(rt; is_begun);
     Ok(())
 }
 
 #[test]
 fn an_end_that_answers_waits(rt: HostRuntime) -> Result<(), Fail> {
     let end = End::answer(rt.alloc(), &Settings::usual(), 9, 0x1122334455667788, 0)?;
-    assert!(rt; end.deadline().is_some());
+    let is_waiting = end.deadline().is_some();
+    drop(end);
+    assert!(rt; is_waiting);
     Ok(())
 }

@@ -1,3 +1,5 @@
+//! Key files and the keys that are found in them.
+
 use des_block::TripleKey;
 use key_store::KeyStore;
 use safety_automaton::KeyFinder;

@@ -79,11 +79,14 @@ const OUTSIDE: [(TripleKey, u64, u64, TripleKey); 5] = [
     ),
 ];
 
+// Whether these session keys are derived, with types and without.
+fn are_derived(kmac: &TripleKey, ra: u64, rb: u64, keys: &TripleKey) -> bool {
+    derive(kmac, ra, rb) == *keys && Kmac::new(*kmac).session_keys(ra, rb).key() == *keys
+}
+
 #[test]
 fn outside_vectors(rt: HostRuntime) {
     for (kmac, ra, rb, keys) in OUTSIDE {
-        assert_eq!(rt; derive(&kmac, ra, rb), keys, "Ra {ra}");
-        let typed = Kmac::new(kmac).session_keys(ra, rb);
-        assert_eq!(rt; typed.key(), keys, "Ra {ra}, by types");
+        assert!(rt; are_derived(&kmac, ra, rb, &keys), "Ra {ra}");
     }
 }

@@ -43,21 +43,28 @@ const OUTSIDE: [(usize, usize, u64); 15] = [
     (2, 1024, 0x47bb_fb86_b332_6655),
 ];
 
-#[test]
-fn outside_vectors(rt: HostRuntime) {
+// The longest text.
+fn longest_text() -> [u8; 1024] {
     let mut text = [0; 1024];
     for i in 0..1024usize {
         text[i] = ((7 * i + 3) % 256) as u8;
     }
+    text
+}
+
+// Whether a text has this MAC under one of the keys, prepared or not.
+fn is_made(set: usize, text: &[u8], answer: u64) -> bool {
+    let Some(key) = KEYS.get(set) else {
+        return false;
+    };
+    !text.is_empty() && mac(key, text) == answer && MacKey::new(key).mac(text) == answer
+}
+
+#[test]
+fn outside_vectors(rt: HostRuntime) {
+    let text = longest_text();
     for (set, length, answer) in OUTSIDE {
-        assert!(rt; set < 3 && 0 < length && length <= 1024);
-        let key = KEYS[set];
-        assert_eq!(rt; mac(&key, &text[..length]), answer, "{length} octets");
-        let prepared = MacKey::new(&key);
-        assert_eq!(rt;
-            prepared.mac(&text[..length]),
-            answer,
-            "{length} octets under prepared keys"
-        );
+        let text = text.get(..length).unwrap_or(&[]);
+        assert!(rt; is_made(set, text, answer), "{length} octets");
     }
 }

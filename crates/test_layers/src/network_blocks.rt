@@ -1,3 +1,5 @@
+//! Blocks of the network header, joined.
+
 use er_base::{Room, octets_of};
 use std::test::Fail;
 use t70_header::{Joiner, wrap};

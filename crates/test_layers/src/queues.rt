@@ -1,3 +1,5 @@
+//! Queues of messages that wait.
+
 use message_queue::MessageQueue;
 use std::test::Fail;
 

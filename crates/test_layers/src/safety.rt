@@ -1,3 +1,5 @@
+//! Set-up, messages and release of two sides of the safety layer.
+
 use des_block::TripleKey;
 use er_base::{EtcsNumber, Room};
 use safety_automaton::{PairKey, Safe, SafeDeed, SafeState};

@@ -1,3 +1,5 @@
+//! SaPDUs, written and read.
+
 ghost use Rattle.sapdu.specs.SpellingLaws.{HasUserOctets, HasNumber};
 ghost use Rattle.sapdu.specs.Reading.{view};
 

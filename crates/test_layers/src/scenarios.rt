@@ -1,3 +1,5 @@
+//! Lines of scenarios, read.
+
 use er_scenario::{laws, print, read};
 use std::alloc::Global;
 use std::test::Fail;

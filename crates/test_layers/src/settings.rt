@@ -1,3 +1,5 @@
+//! Settings and their bounds.
+
 use er_settings::Settings;
 use std::test::Fail;
 

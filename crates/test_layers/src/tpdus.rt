@@ -1,3 +1,5 @@
+//! TPDUs, written and read.
+
 use er_base::{decimal, octets_of};
 use std::alloc::Global;
 use std::test::Fail;

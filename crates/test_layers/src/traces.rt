@@ -1,3 +1,5 @@
+//! Lines of traces, read and printed.
+
 ghost use Rattle.er_settings.specs.Ranges.{AllAllowed};
 
 use er_base::Release;

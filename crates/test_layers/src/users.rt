@@ -1,3 +1,5 @@
+//! The users that the loop ships.
+
 use er_users::{Echo, Lister, Replies, SafeUser, Silent, Tally};
 use std::test::Fail;
 

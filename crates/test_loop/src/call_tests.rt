@@ -2,10 +2,13 @@
 
 use crate::serving::{HEADER, SET_UP, clock, clock_at_0, plan, randoms_behind};
 use crate::train::{CENTRE, KMAC};
-use er_base::NoMemory;
+use er_base::{EtcsNumber, NoMemory};
 use er_users::{SafeUser, Silent};
-use link_memory::{Act, MemoryClock, MemorySink, MemoryWires};
+use link_memory::{Act, MemoryCabinet, MemoryClock, MemorySink, MemoryWires};
+use outside::Parts;
 use readiness_loop::{LoopFault, Served, Stop, dial};
+use safety_automaton::PairKey;
+use session_keys::Kmac;
 use std::alloc::Global;
 use std::test::Fail;
 
@@ -60,19 +63,16 @@ fn play_call(
     let mut randoms = randoms_behind(0);
     let mut users: Vec<Box<dyn SafeUser>> = Vec::new(alloc);
     users.push(Box::new(alloc, Silent::new())?)?;
-    let end = dial(
-        alloc,
-        KMAC,
-        &plan(turns),
-        "there",
-        5,
-        CENTRE,
-        users,
+    let pair = PairKey::new(EtcsNumber::new(5), EtcsNumber::new(CENTRE), Kmac::new(KMAC));
+    let mut cabinet = MemoryCabinet::new(alloc);
+    let mut outside = Parts::new(
+        &mut cabinet,
+        &mut sink,
         &mut wires,
         &mut clock,
         &mut randoms,
-        &mut sink,
     );
+    let end = dial(alloc, &pair, &plan(turns), "there", users, &mut outside);
     let mut given = Vec::new(alloc);
     wires.given(1, &mut given)?;
     Ok(Called { end, sink, given })

@@ -104,9 +104,9 @@ fn is_whole(lines: &[u8]) -> bool {
 // Whether the replay of a text is that text.
 fn is_replayed(alloc: Global, keys: &KeyStore, text: &[u8]) -> Result<bool, Fail> {
     let trace = read(alloc, text)?;
-    let mut sink = MemorySink::with_capacity(alloc, text.len())?;
-    replay(alloc, keys, &trace, &mut sink)?;
-    Ok(sink.held() == text)
+    let mut printed = Vec::new(alloc);
+    replay(alloc, keys, &trace, &mut printed)?;
+    Ok(printed.as_slice() == text)
 }
 
 #[test]

@@ -4,7 +4,8 @@ use crate::serving::{HEADER, SET_UP, bring, clock_at_0, plan, randoms_behind, se
 use crate::train::{CENTRE, keys};
 use er_base::NoMemory;
 use er_users::{SafeUser, Silent};
-use link_memory::{Act, MemorySink, MemoryWires};
+use link_memory::{Act, MemoryCabinet, MemorySink, MemoryWires};
+use outside::Parts;
 use readiness_loop::serve;
 use std::alloc::Global;
 use std::test::Fail;
@@ -125,6 +126,15 @@ fn stalled(alloc: Global) -> Result<MemorySink, Fail> {
     let mut sink = MemorySink::with_capacity(alloc, 4_000_000)?;
     let mut users: Vec<Box<dyn SafeUser>> = Vec::new(alloc);
     users.push(Box::new(alloc, Silent::new())?)?;
+    let mut randoms = randoms_behind(0);
+    let mut cabinet = MemoryCabinet::new(alloc);
+    let mut outside = Parts::new(
+        &mut cabinet,
+        &mut sink,
+        &mut wires,
+        &mut clock,
+        &mut randoms,
+    );
     serve(
         alloc,
         &keys,
@@ -132,10 +142,7 @@ fn stalled(alloc: Global) -> Result<MemorySink, Fail> {
         "here",
         CENTRE,
         users,
-        &mut wires,
-        &mut clock,
-        &mut randoms_behind(0),
-        &mut sink,
+        &mut outside,
     )?;
     Ok(sink)
 }

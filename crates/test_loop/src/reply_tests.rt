@@ -12,8 +12,9 @@ use er_base::NoMemory;
 use er_end::SendRefused;
 use er_users::{Replies, SafeUser};
 use key_store::KeyStore;
-use link_memory::{Act, MemorySink, MemoryWires};
+use link_memory::{Act, MemoryCabinet, MemorySink, MemoryWires};
 use link_trait::Clock;
+use outside::Parts;
 use readiness_loop::serve;
 use std::alloc::Global;
 use std::cell::RefCell;
@@ -172,6 +173,14 @@ fn printed(
     let mut randoms = randoms_behind(0);
     let mut users: Vec<Box<dyn SafeUser>> = Vec::new(alloc);
     users.push(user)?;
+    let mut cabinet = MemoryCabinet::new(alloc);
+    let mut outside = Parts::new(
+        &mut cabinet,
+        &mut sink,
+        &mut wires,
+        &mut clock,
+        &mut randoms,
+    );
     serve(
         alloc,
         keys,
@@ -179,10 +188,7 @@ fn printed(
         "here",
         CENTRE,
         users,
-        &mut wires,
-        &mut clock,
-        &mut randoms,
-        &mut sink,
+        &mut outside,
     )?;
     Ok(sink)
 }

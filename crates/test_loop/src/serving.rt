@@ -8,7 +8,8 @@ use er_base::{NoMemory, Octets};
 use er_settings::Settings;
 use er_users::{Echo, SafeUser};
 use key_store::KeyStore;
-use link_memory::{Act, MemoryClock, MemorySink, MemoryWires};
+use link_memory::{Act, MemoryCabinet, MemoryClock, MemorySink, MemoryWires};
+use outside::Parts;
 use rand_core::{Rng, SeedableRng};
 use rand_pcg::Lcg64Xsh32;
 use readiness_loop::{LinePlan, LoopFault, Served, serve};
@@ -82,6 +83,14 @@ pub(crate) fn served(
     for _ in 0..echos {
         users.push(Box::new(alloc, Echo::new())?)?;
     }
+    let mut cabinet = MemoryCabinet::new(alloc);
+    let mut outside = Parts::new(
+        &mut cabinet,
+        &mut sink,
+        &mut wires,
+        &mut clock,
+        &mut randoms,
+    );
     let end = serve(
         alloc,
         keys,
@@ -89,10 +98,7 @@ pub(crate) fn served(
         "here",
         CENTRE,
         users,
-        &mut wires,
-        &mut clock,
-        &mut randoms,
-        &mut sink,
+        &mut outside,
     );
     Ok(Ran { end, sink })
 }
@@ -110,6 +116,8 @@ pub(crate) fn serve_in_memory(
     wires.fail(failing)?;
     let mut clock = clock(alloc)?;
     let mut sink = MemorySink::with_capacity(alloc, 262_144)?;
+    let mut cabinet = MemoryCabinet::new(alloc);
+    let mut outside = Parts::new(&mut cabinet, &mut sink, &mut wires, &mut clock, randoms);
     serve(
         alloc,
         keys,
@@ -117,10 +125,7 @@ pub(crate) fn serve_in_memory(
         "here",
         CENTRE,
         users,
-        &mut wires,
-        &mut clock,
-        randoms,
-        &mut sink,
+        &mut outside,
     )?;
     Ok(sink)
 }

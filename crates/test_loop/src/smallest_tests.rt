@@ -3,7 +3,8 @@
 use crate::serving::{HEADER, Ran, clock_at_0, plan, randoms_behind};
 use er_users::{SafeUser, Silent};
 use key_store::KeyStore;
-use link_memory::{Act, MemorySink, MemoryWires};
+use link_memory::{Act, MemoryCabinet, MemorySink, MemoryWires};
+use outside::Parts;
 use readiness_loop::{Served, Stop, serve};
 use std::alloc::Global;
 use std::test::Fail;
@@ -33,18 +34,15 @@ fn smallest(alloc: Global, users: u8, turns: u64) -> Result<Ran, Fail> {
     for _ in 0..users {
         minds.push(Box::new(alloc, Silent::new())?)?;
     }
-    let end = serve(
-        alloc,
-        &keys,
-        &plan(turns),
-        "here",
-        9,
-        minds,
+    let mut cabinet = MemoryCabinet::new(alloc);
+    let mut outside = Parts::new(
+        &mut cabinet,
+        &mut sink,
         &mut wires,
         &mut clock,
         &mut randoms,
-        &mut sink,
     );
+    let end = serve(alloc, &keys, &plan(turns), "here", 9, minds, &mut outside);
     Ok(Ran { end, sink })
 }
 

@@ -1,3 +1,5 @@
+//! The objects in memory that commands run over.
+
 use er_program::{FileCabinet, MachineClock, StdoutSink};
 use link_trait::{Cabinet, Clock, FetchFault, Sink};
 use std::fs::OpenFile;

@@ -1,3 +1,5 @@
+//! The command `bits`, over objects in memory.
+
 use crate::program_off_line::ends_so;
 use er_base::NoMemory;
 use link_memory::MemoryCabinet;

@@ -7,6 +7,7 @@ use er_program::{Status, run};
 use er_users::{SafeUser, Silent};
 use link_memory::{Act, MemoryCabinet, MemorySink, MemoryWires};
 use link_trait::{Happening, Wires};
+use outside::Parts;
 use rand_core::SeedableRng;
 use rand_pcg::Lcg64Xsh32;
 use std::alloc::Global;
@@ -129,16 +130,8 @@ fn ended(
     let mut randoms = Lcg64Xsh32::seed_from_u64(1);
     let mut users: Vec<Box<dyn SafeUser>> = Vec::new(alloc);
     users.push(Box::new(alloc, Silent::new())?)?;
-    Ok(run(
-        alloc,
-        words.as_slice(),
-        &mut cabinet,
-        sink,
-        wires,
-        &mut clock,
-        &mut randoms,
-        users,
-    ))
+    let mut parts = Parts::new(&mut cabinet, sink, wires, &mut clock, &mut randoms);
+    Ok(run(alloc, words.as_slice(), users, &mut parts))
 }
 
 // Whether the next call is the one that is to fail, so that as many were made as stand before it.

@@ -3,6 +3,7 @@
 use er_base::NoMemory;
 use er_program::{Status, run};
 use link_memory::{MemoryCabinet, MemoryClock, MemorySink, MemoryWires};
+use outside::Parts;
 use rand_core::SeedableRng;
 use rand_pcg::Lcg64Xsh32;
 use std::alloc::Global;
@@ -32,17 +33,8 @@ pub(crate) fn run_off_line(
     let mut wires = MemoryWires::new(alloc, Vec::new(alloc), 0, 8, 64)?;
     let mut clock = clock_at_0(alloc)?;
     let mut randoms = Lcg64Xsh32::seed_from_u64(1);
-    let users = Vec::new(alloc);
-    Ok(run(
-        alloc,
-        words,
-        cabinet,
-        sink,
-        &mut wires,
-        &mut clock,
-        &mut randoms,
-        users,
-    ))
+    let mut parts = Parts::new(cabinet, sink, &mut wires, &mut clock, &mut randoms);
+    Ok(run(alloc, words, Vec::new(alloc), &mut parts))
 }
 
 // Whether the words end with this status and print this, where this write of the sink fails; there is no write 0.

@@ -1,9 +1,10 @@
+//! The commands `replay` and `check`, over objects in memory.
+
 ghost use Rattle.std.specs.Prelude.{[], ◌∷◌};
 
 use des_block::TripleKey;
 use er_base::{NoMemory, decimal_word};
 use er_trace::read;
-use link_memory::MemorySink;
 use safety_automaton::KeyFinder;
 use std::alloc::Global;
 use std::test::Fail;
@@ -43,9 +44,9 @@ fn replays(
     let Ok(trace) = read(alloc, text) else {
         return Ok(false);
     };
-    let mut sink = MemorySink::with_capacity(alloc, 65_536)?;
-    let answer = replay(alloc, &OneKey, &trace, &mut sink);
-    Ok(answer == end && sink.held() == printed)
+    let mut text = Vec::new(alloc);
+    let answer = replay(alloc, &OneKey, &trace, &mut text);
+    Ok(answer == end && text.as_slice() == printed)
 }
 
 const SET_UP_TIME: &[u8] = b"trace 1 7 15 128 1000 5 40000

@@ -1,3 +1,5 @@
+//! Worlds of links that drills step through.
+
 ghost use Rattle.std.specs.Prelude.{◌≡◌, false, IfOk};
 ghost use Rattle.er_scenario.specs.declared.level.Level.TheVariants as level;
 ghost use Rattle.drill_model.specs.Steps.{HasEtcsNumbers};

@@ -1,3 +1,5 @@
+//! What a sweep counts.
+
 use std::fmt;
 use x224_tpdu::{TpFault, Tpdu};
 

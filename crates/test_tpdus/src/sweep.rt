@@ -1,3 +1,5 @@
+//! All TPDUs of some shapes, one by one.
+
 ghost use Rattle.std.specs.Prelude.{◌≡◌, ◌≤◌, ◌<◌, ◌↔◌, IsTrue, IfSome, length};
 ghost use Rattle.x224_tpdu.specs.declared.kind.Kind.TheVariants.{Er};
 ghost use Rattle.x224_tpdu.specs.Spellings.{pdu_of, kind_in};

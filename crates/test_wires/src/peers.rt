@@ -1,3 +1,5 @@
+//! The peers of the wires that are tested.
+
 ghost use Rattle.std.specs.Prelude.{◌<◌, length};
 
 use link_trait::{Conn, Failed, Happening, ReadAnswer, Wires, WriteAnswer};
@@ -124,14 +126,6 @@ fn serves_a_peer<W: Wires>(rt: HostRuntime, wires: &mut W, address: &str) -> io:
     Ok(is_accepted && exchanged && ends(rt, wires)?)
 }
 
-#[test]
-fn a_peer_is_accepted_read_answered_and_ends(rt: HostRuntime) -> Result<(), Fail> {
-    let address = free_address(rt)?;
-    let mut wires = MioWires::new(rt.alloc(), rt)?;
-    assert!(rt; serves_a_peer(rt, &mut wires, address.as_str())?);
-    Ok(())
-}
-
 // A peer is called, and gets six octets.
 fn calls_a_peer<W: Wires>(
     rt: HostRuntime,
@@ -144,15 +138,6 @@ fn calls_a_peer<W: Wires>(
     let written = write_soon(rt, wires, Conn(1), b"octets")?;
     listener.accept()?.0.read_exact(&mut read)?;
     Ok(is_dialled && written == WriteAnswer::Some(6) && &read == b"octets")
-}
-
-#[test]
-fn a_peer_is_dialled_and_written_to(rt: HostRuntime) -> Result<(), Fail> {
-    let listener = listener(rt)?;
-    let address = address_of(rt, &listener)?;
-    let mut wires = MioWires::new(rt.alloc(), rt)?;
-    assert!(rt; calls_a_peer(rt, &mut wires, &listener, address.as_str())?);
-    Ok(())
 }
 
 // Whether a dial that is refused, at once or later, is told as a failure.
@@ -172,17 +157,6 @@ fn listens_nowhere<W: Wires>(wires: &mut W, taken: &str) -> bool {
         }
     }
     wires.dial("localhost:4711").is_err()
-}
-
-#[test]
-fn calls_that_fail(rt: HostRuntime) -> Result<(), Fail> {
-    let listener = listener(rt)?;
-    let taken = address_of(rt, &listener)?;
-    let mut wires = MioWires::new(rt.alloc(), rt)?;
-    assert!(rt; listens_nowhere(&mut wires, taken.as_str()));
-    drop(listener);
-    assert!(rt; is_refused(rt, &mut wires, taken.as_str())?);
-    Ok(())
 }
 
 // Peers come until one waits, and that one is accepted behind a close.
@@ -209,15 +183,6 @@ fn holds_one_back<W: Wires>(
     }
     wires.close(Conn(9));
     Ok(accepted(rt, wires)? == Some(Conn(MOST_CONNECTIONS as u64 + 1)))
-}
-
-#[test]
-fn no_more_are_accepted_than_can_be_open(rt: HostRuntime) -> Result<(), Fail> {
-    let address = free_address(rt)?;
-    let mut wires = MioWires::new(rt.alloc(), rt)?;
-    let mut peers = Vec::new(rt.alloc());
-    assert!(rt; holds_one_back(rt, &mut wires, address.as_str(), &mut peers)?);
-    Ok(())
 }
 
 // What the newest fault says.
@@ -254,16 +219,6 @@ fn waits(rt: HostRuntime, wires: &mut MioWires<HostRuntime>) -> io::Result<bool>
     Ok(is_quiet && (60..200).contains(&took))
 }
 
-#[test]
-fn people_are_told_and_waits_end(rt: HostRuntime) -> Result<(), Fail> {
-    let listener = listener(rt)?;
-    let taken = address_of(rt, &listener)?;
-    let mut wires = MioWires::new(rt.alloc(), rt)?;
-    assert!(rt; tells_people(rt, &mut wires, taken.as_str())?);
-    assert!(rt; waits(rt, &mut wires)?);
-    Ok(())
-}
-
 // Whether the peer at this address is accepted within so many turns, in which connection 1 never stops being readable.
 fn is_accepted_beside<W: Wires>(
     rt: HostRuntime,
@@ -298,14 +253,6 @@ fn hears_of_others<W: Wires>(rt: HostRuntime, wires: &mut W, address: &str) -> i
     Ok(is_first && is_heard && is_accepted_beside(rt, wires, address, 40)?)
 }
 
-#[test]
-fn one_that_is_always_readable_holds_nobody_back(rt: HostRuntime) -> Result<(), Fail> {
-    let address = free_address(rt)?;
-    let mut wires = MioWires::new(rt.alloc(), rt)?;
-    assert!(rt; hears_of_others(rt, &mut wires, address.as_str())?);
-    Ok(())
-}
-
 // Whether a connection, though there is room at it, isn't told to be writable.
 fn is_not_told_of_room<W: Wires>(rt: HostRuntime, wires: &mut W, conn: Conn) -> io::Result<bool> {
     for _ in 0..5 {
@@ -327,10 +274,106 @@ fn tells_no_room<W: Wires>(rt: HostRuntime, wires: &mut W, address: &str) -> io:
     Ok(is_accepted && is_not_told_of_room(rt, wires, Conn(1))?)
 }
 
-#[test]
-fn room_that_nobody_waits_for_is_not_told(rt: HostRuntime) -> Result<(), Fail> {
+// A peer that listens is called.
+fn calls_a_listener<W: Wires>(rt: HostRuntime, wires: &mut W) -> Result<bool, Fail> {
+    let listener = listener(rt)?;
+    let address = address_of(rt, &listener)?;
+    Ok(calls_a_peer(rt, wires, &listener, address.as_str())?)
+}
+
+// Calls fail at a listener's address, and a dial of it once the listener is gone.
+fn fails<W: Wires>(rt: HostRuntime, wires: &mut W) -> Result<bool, Fail> {
+    let listener = listener(rt)?;
+    let taken = address_of(rt, &listener)?;
+    let is_nowhere = listens_nowhere(wires, taken.as_str());
+    drop(listener);
+    Ok(is_nowhere && is_refused(rt, wires, taken.as_str())?)
+}
+
+// People are told beside a listener, and a turn behind that waits.
+fn tells_and_waits(rt: HostRuntime, wires: &mut MioWires<HostRuntime>) -> Result<bool, Fail> {
+    let listener = listener(rt)?;
+    let taken = address_of(rt, &listener)?;
+    Ok(tells_people(rt, wires, taken.as_str())? && waits(rt, wires)?)
+}
+
+// What is shown of wires over sockets.
+#[derive(Clone, Copy)]
+enum Case {
+    Serving,
+    Calling,
+    Failing,
+    HoldingBack,
+    TellingPeople,
+    HearingOfOthers,
+    TellingNoRoom,
+}
+
+// Whether wires show it, at an address that nobody had.
+fn is_shown(
+    rt: HostRuntime,
+    wires: &mut MioWires<HostRuntime>,
+    address: &str,
+    case: Case,
+) -> Result<bool, Fail> {
+    match case {
+        Case::Serving => Ok(serves_a_peer(rt, wires, address)?),
+        Case::Calling => calls_a_listener(rt, wires),
+        Case::Failing => fails(rt, wires),
+        Case::HoldingBack => holds_one_back(rt, wires, address, &mut Vec::new(rt.alloc())),
+        Case::TellingPeople => tells_and_waits(rt, wires),
+        Case::HearingOfOthers => Ok(hears_of_others(rt, wires, address)?),
+        Case::TellingNoRoom => Ok(tells_no_room(rt, wires, address)?),
+    }
+}
+
+// The same of new wires: their one owner, so that they are let go in one place.
+fn shows(rt: HostRuntime, case: Case) -> Result<bool, Fail> {
     let address = free_address(rt)?;
     let mut wires = MioWires::new(rt.alloc(), rt)?;
-    assert!(rt; tells_no_room(rt, &mut wires, address.as_str())?);
+    let is_shown = is_shown(rt, &mut wires, address.as_str(), case);
+    drop(wires);
+    is_shown
+}
+
+#[test]
+fn a_peer_is_accepted_read_answered_and_ends(rt: HostRuntime) -> Result<(), Fail> {
+    assert!(rt; shows(rt, Case::Serving)?);
+    Ok(())
+}
+
+#[test]
+fn a_peer_is_dialled_and_written_to(rt: HostRuntime) -> Result<(), Fail> {
+    assert!(rt; shows(rt, Case::Calling)?);
+    Ok(())
+}
+
+#[test]
+fn calls_that_fail(rt: HostRuntime) -> Result<(), Fail> {
+    assert!(rt; shows(rt, Case::Failing)?);
+    Ok(())
+}
+
+#[test]
+fn no_more_are_accepted_than_can_be_open(rt: HostRuntime) -> Result<(), Fail> {
+    assert!(rt; shows(rt, Case::HoldingBack)?);
+    Ok(())
+}
+
+#[test]
+fn people_are_told_and_waits_end(rt: HostRuntime) -> Result<(), Fail> {
+    assert!(rt; shows(rt, Case::TellingPeople)?);
+    Ok(())
+}
+
+#[test]
+fn one_that_is_always_readable_holds_nobody_back(rt: HostRuntime) -> Result<(), Fail> {
+    assert!(rt; shows(rt, Case::HearingOfOthers)?);
+    Ok(())
+}
+
+#[test]
+fn room_that_nobody_waits_for_is_not_told(rt: HostRuntime) -> Result<(), Fail> {
+    assert!(rt; shows(rt, Case::TellingNoRoom)?);
     Ok(())
 }

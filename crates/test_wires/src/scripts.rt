@@ -99,10 +99,19 @@ const SCRIPTS: [&[Step]; 8] = [
 // The most octets that a script brings.
 const MOST_BROUGHT: usize = 5000;
 
+// The octets that peers send.
+fn sent_octets(rt: HostRuntime) -> Result<Vec<u8>, Fail> {
+    let mut octets = Vec::with_capacity(rt.alloc(), MOST_BROUGHT)?;
+    for at in 0..MOST_BROUGHT {
+        octets.push((at % 251) as u8)?;
+    }
+    Ok(octets)
+}
+
 // The peer of connection 1 on this machine, or nobody, where what it does stands in the script of wires in memory.
 #[derive(Drop)]
-struct Peer {
-    address: Option<String>,
+struct Peer<'a> {
+    address: Option<&'a str>,
     stream: Option<net::TcpStream>,
     // What it sends, what of that was read at the wires, and how many octets were written to it.
     octets: Vec<u8>,
@@ -111,16 +120,12 @@ struct Peer {
     given: usize,
 }
 
-impl Peer {
-    fn new(rt: HostRuntime, address: Option<String>) -> Result<Peer, Fail> {
-        let mut octets = Vec::with_capacity(rt.alloc(), MOST_BROUGHT)?;
-        for at in 0..MOST_BROUGHT {
-            octets.push((at % 251) as u8)?;
-        }
+impl<'a> Peer<'a> {
+    fn new(rt: HostRuntime, address: Option<&'a str>) -> Result<Peer<'a>, Fail> {
         Ok(Peer {
             address,
             stream: None,
-            octets,
+            octets: sent_octets(rt)?,
             sent: 0,
             taken: 0,
             given: 0,
@@ -128,8 +133,8 @@ impl Peer {
     }
 
     fn connect(&mut self, rt: HostRuntime) -> io::Result<()> {
-        if let Some(address) = &self.address {
-            self.stream = Some(net::TcpStream::connect(&rt, address.as_str())?);
+        if let Some(address) = self.address {
+            self.stream = Some(net::TcpStream::connect(&rt, address)?);
         }
         Ok(())
     }
@@ -195,7 +200,7 @@ impl Peer {
 
 // Reads until so many octets more came, and whether they are those that the peer sent. No turn is bounded by time: where
 // something stands to be told, none waits.
-fn takes<W: Wires>(wires: &mut W, peer: &mut Peer, count: usize) -> bool {
+fn takes<W: Wires>(wires: &mut W, peer: &mut Peer<'_>, count: usize) -> bool {
     let mut read = [0; 4096];
     let until = peer.taken.saturating_add(count);
     for _ in 0..100 {
@@ -222,7 +227,7 @@ fn takes<W: Wires>(wires: &mut W, peer: &mut Peer, count: usize) -> bool {
 }
 
 // Writes until there is no room.
-fn fills<W: Wires>(wires: &mut W, peer: &mut Peer) -> bool {
+fn fills<W: Wires>(wires: &mut W, peer: &mut Peer<'_>) -> bool {
     let piece = [7; 4096];
     for _ in 0..100_000 {
         match wires.write(Conn(1), &piece) {
@@ -257,7 +262,7 @@ fn closes<W: Wires>(rt: HostRuntime, wires: &mut W) -> io::Result<bool> {
 fn is_done<W: Wires>(
     rt: HostRuntime,
     wires: &mut W,
-    peer: &mut Peer,
+    peer: &mut Peer<'_>,
     step: Step,
 ) -> io::Result<bool> {
     match step {
@@ -292,7 +297,7 @@ fn is_done<W: Wires>(
 fn plays<W: Wires>(
     rt: HostRuntime,
     wires: &mut W,
-    peer: &mut Peer,
+    peer: &mut Peer<'_>,
     steps: &[Step],
 ) -> io::Result<bool> {
     for step in steps {
@@ -303,8 +308,8 @@ fn plays<W: Wires>(
     Ok(true)
 }
 
-// The acts of wires in memory for a script.
-fn acts(rt: HostRuntime, peer: &Peer, steps: &[Step]) -> Result<Vec<Act>, Fail> {
+// The acts of wires in memory for a script whose peer sends these octets.
+fn acts(rt: HostRuntime, sent: &[u8], steps: &[Step]) -> Result<Vec<Act>, Fail> {
     let mut acts = Vec::new(rt.alloc());
     let mut from = 0_usize;
     for step in steps {
@@ -312,7 +317,7 @@ fn acts(rt: HostRuntime, peer: &Peer, steps: &[Step]) -> Result<Vec<Act>, Fail> 
             Step::Connect => acts.push(Act::Accept)?,
             Step::Bring(count) => {
                 let until = from.saturating_add(count);
-                let brought = peer.octets.get(from..until).unwrap_or(&[]);
+                let brought = sent.get(from..until).unwrap_or(&[]);
                 from = until;
                 let octets = Octets::new(Vec::from_slice(rt.alloc(), brought)?);
                 acts.push(Act::Bring { conn: 1, octets })?;
@@ -326,26 +331,54 @@ fn acts(rt: HostRuntime, peer: &Peer, steps: &[Step]) -> Result<Vec<Act>, Fail> 
     Ok(acts)
 }
 
-// Whether a script is answered as it must be by wires in memory.
-fn plays_in_memory(rt: HostRuntime, steps: &[Step]) -> Result<bool, Fail> {
-    let mut peer = Peer::new(rt, None)?;
-    let acts = acts(rt, &peer, steps)?;
-    let mut wires = MemoryWires::new(rt.alloc(), acts, 10_000, 100, 100_000)?;
+// Whether a script is answered as it must be by wires that listen here, where the peer connects to this address, if to any.
+fn is_answered<W: Wires>(
+    rt: HostRuntime,
+    wires: &mut W,
+    here: &str,
+    address: Option<&str>,
+    steps: &[Step],
+) -> Result<bool, Fail> {
+    if wires.listen(here).is_err() {
+        return Ok(false);
+    }
+    let mut peer = Peer::new(rt, address)?;
+    let played = plays(rt, wires, &mut peer, steps);
+    drop(peer);
+    Ok(played?)
+}
+
+// Whether it is by these wires in memory, at which the calls of the script fail.
+fn is_answered_with_failures(
+    rt: HostRuntime,
+    wires: &mut MemoryWires,
+    steps: &[Step],
+) -> Result<bool, Fail> {
     for step in steps {
         if let Step::Reset(call) = *step {
             wires.fail(call)?;
         }
     }
-    Ok(wires.listen("here").is_ok() && plays(rt, &mut wires, &mut peer, steps)?)
+    is_answered(rt, wires, "here", None, steps)
 }
 
-// Whether it is by wires over sockets.
+// Whether it is by new wires in memory.
+fn plays_in_memory(rt: HostRuntime, steps: &[Step]) -> Result<bool, Fail> {
+    let acts = acts(rt, sent_octets(rt)?.as_slice(), steps)?;
+    let mut wires = MemoryWires::new(rt.alloc(), acts, 10_000, 100, 100_000)?;
+    let played = is_answered_with_failures(rt, &mut wires, steps);
+    drop(wires);
+    played
+}
+
+// Whether it is by new wires over sockets.
 fn plays_over_sockets(rt: HostRuntime, steps: &[Step]) -> Result<bool, Fail> {
     let address = address_of(rt, &listener(rt)?)?;
     let mut wires = MioWires::new(rt.alloc(), rt)?;
-    let is_listening = wires.listen(address.as_str()).is_ok();
-    let mut peer = Peer::new(rt, Some(address))?;
-    Ok(is_listening && plays(rt, &mut wires, &mut peer, steps)?)
+    let address = address.as_str();
+    let played = is_answered(rt, &mut wires, address, Some(address), steps);
+    drop(wires);
+    played
 }
 
 #[test]

@@ -1,3 +1,4 @@
+-- What this crate states: its definitions, by module.
 pub mod Connections
 pub mod Printed
 pub mod Checks

@@ -1,3 +1,5 @@
+//! Why a replay ends before the last event of its trace.
+
 ghost use Rattle.std.specs.Prelude.{◌≡◌};
 ghost use Rattle.trace_model.specs.declared.replay_fault.ReplayFault.TheVariants as fault;
 

@@ -1,9 +1,8 @@
 -- A recording held against what its replay prints: one line more, and the end.
-use Rattle.std.proofs.Common.{arith, ◌≡◌, ℕ, zero, suc, ◌+◌, ◌<◌, ◌==◌, Bool, true, false, if◌then◌else◌, List, [], ◌∷◌, ◌++◌, length, nat_lt, Option, Some, None, Result, Ok, Err, refl, sym, ap, ◌∙◌, subst, inl, inr, eqb-true}
+use Rattle.std.proofs.Common.{arith, ◌≡◌, ℕ, suc, ◌+◌, ◌<◌, ◌==◌, Bool, true, false, if◌then◌else◌, List, [], ◌∷◌, length, nat_lt, Err, refl, sym, ap, ◌∙◌, inl, inr, eqb-true}
 use Rattle.std.specs.Prelude.{filter}
 use Rattle.std.proofs.lemmas.Bool.{cases_lt, lt-ltb, le-ltb}
 use Rattle.std.specs.Str.{bytes_eq}
-use Rattle.er_base.specs.declared.no_memory.NoMemory.{NoMemory}
 use Rattle.er_base.specs.Lines.{lines_of, is_skipped, onto_first_line}
 use Rattle.er_settings.specs.Values.{Settings}
 use Rattle.er_trace.specs.declared.entry.Entry.{Entry}
@@ -12,10 +11,9 @@ use Rattle.trace_model.specs.declared.check_verdict.CheckVerdict.{CheckVerdict}
 use Rattle.trace_model.specs.declared.check_verdict.CheckVerdict.TheVariants.{Same, Differs, Cut, Missing}
 use Rattle.trace_model.specs.declared.replay_fault.ReplayFault.{ReplayFault}
 use Rattle.trace_model.specs.declared.replay_fault.ReplayFault.TheVariants as fault
-use Rattle.trace_model.specs.Printed.{text_of_trace}
-use Rattle.trace_model.specs.Recordings.{ended_part, unskipped, first_difference, is_outcome_line, verdict_on_rest, check_verdict, IsJudged, IsChecked}
-use Rattle.trace_model.specs.Replays.{WroteAll, Replays}
-use Rattle.trace_replay.specs.Compared.{KPrinted, faults_by, cause_by, verdict_left}
+use Rattle.trace_model.specs.Recordings.{ended_part, unskipped, first_difference, is_outcome_line, check_verdict, IsJudged, IsChecked}
+use Rattle.trace_replay.specs.Replays.{HasReplayedAll, ReplaysAll}
+use Rattle.trace_replay.specs.Compared.{verdict_left}
 
 lt_suc : (m n : ℕ) → nat_lt (suc m) (suc n) ≡ nat_lt m n
 lt_suc m n =
@@ -107,26 +105,15 @@ first_left file printed =
 -- ---- a replay into memory
 
 pub checked_all : (s : Settings) (f : Finds) (entries : List Entry) (file octets : List ℕ) (verdict : CheckVerdict)
-    → WroteAll s f entries (Some []) (Some octets) → verdict ≡ check_verdict file octets → IsJudged s f entries file verdict
-checked_all s f entries file octets verdict wrote is = record {
-  taken = wrote.taken;
-  is = is ∙ ap (check_verdict file) wrote.written;
-}
+    → HasReplayedAll s f entries [] octets → verdict ≡ check_verdict file octets → IsJudged s f entries file verdict
+checked_all s f entries file octets verdict all is = record { taken = all.taken; is = is ∙ ap (check_verdict file) all.text }
 
-checked_part : (s : Settings) (f : Finds) (entries : List Entry) (file octets : List ℕ) (why : ReplayFault) (want : Option NoMemory)
-    → Replays s f entries (Some []) (Some octets) 0 (faults_by want) (Err why) → IsChecked s f entries file (Err (cause_by why want))
-checked_part s f entries file octets (fault.NoConn line conn) want wrote = wrote.first
-checked_part s f entries file octets (fault.ConnTwice line conn) want wrote = wrote.first
-checked_part s f entries file octets (fault.MomentBack line was moment) want wrote = wrote.first
-checked_part s f entries file octets (fault.NoKey line engine rbc) want wrote = wrote.first
-checked_part s f entries file octets (fault.Many line live) want wrote = wrote.first
-checked_part s f entries file octets fault.Sink None wrote = absurd (let rose = wrote.1 in omega (arith, rose))
-checked_part s f entries file octets fault.Sink (Some want) wrote = tt
-checked_part s f entries file octets (fault.NoMemory other) want wrote = tt
-
--- from nothing that was printed
-pub checked_from : (s : Settings) (f : Finds) (entries : List Entry) (file : List ℕ) (why : ReplayFault) (start now : KPrinted) → start ≡ record { octets = []; want = None }
-    → Replays s f entries (Some start.octets) (Some now.octets) (faults_by start.want) (faults_by now.want) (Err why) → IsChecked s f entries file (Err (cause_by why now.want))
-checked_from s f entries file why start now is wrote =
-    checked_part s f entries file now.octets why now.want
-    (subst (λ (p : KPrinted). Replays s f entries (Some p.octets) (Some now.octets) (faults_by p.want) (faults_by now.want) (Err why)) is wrote)
+pub checked_part : (s : Settings) (f : Finds) (entries : List Entry) (file out octets : List ℕ) (why : ReplayFault)
+    → ReplaysAll s f entries out octets (Err why) → IsChecked s f entries file (Err why)
+checked_part s f entries file out octets (fault.NoConn line conn) part = part.first
+checked_part s f entries file out octets (fault.ConnTwice line conn) part = part.first
+checked_part s f entries file out octets (fault.MomentBack line was moment) part = part.first
+checked_part s f entries file out octets (fault.NoKey line engine rbc) part = part.first
+checked_part s f entries file out octets (fault.Many line live) part = part.first
+checked_part s f entries file out octets fault.Sink part = absurd part
+checked_part s f entries file out octets (fault.NoMemory want) part = tt

@@ -1,4 +1,3 @@
-pub mod Written
 pub mod Alike
 pub mod Cuts
 pub mod Overs

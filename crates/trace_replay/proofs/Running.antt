@@ -10,7 +10,6 @@ use Rattle.er_base.specs.LineTexts.{line_text}
 use Rattle.er_settings.specs.Values.{Settings}
 use Rattle.er_trace.specs.declared.entry.Entry.{Entry}
 use Rattle.er_trace.specs.Texts.{header_words, AreReadableEntries, IsReadableEntry}
-use Rattle.link_trait.specs.Outside.{Grew, GrewPart, Rose}
 use Rattle.er_end_model.specs.Steps.{Finds}
 use Rattle.er_end.specs.KeptEnds.{KEnd}
 use Rattle.trace_model.specs.declared.replay_fault.ReplayFault.{ReplayFault}
@@ -18,14 +17,16 @@ use Rattle.trace_model.specs.declared.replay_fault.ReplayFault.TheVariants.{NoCo
 use Rattle.trace_model.specs.Connections.{end_behind}
 use Rattle.trace_model.specs.Checks.{fault_of_trace_event, role_check, role_of, last_moment, is_named, is_opened, connections_opened_in_trace}
 use Rattle.trace_model.specs.Printed.{entry_text, entries_text, text_of_trace}
-use Rattle.trace_model.specs.Replays.{AreTaken, WroteBefore, WrotePart, Replays}
+use Rattle.trace_model.specs.Replays.{AreTaken}
 use Rattle.trace_replay.specs.declared.connections.Connections.{Connections}
 use Rattle.trace_replay.specs.Places.{count_of, AllHold, HoldsOfAllConnections}
-use Rattle.trace_replay.specs.Takings.{TakesTraceEvent, Taken, HasReplayedTraceEvent, RefusesTraceEvent, Fails, ReplaysOne}
+use Rattle.trace_replay.specs.Takings.{TakesTraceEvent, Taken}
+use Rattle.trace_replay.specs.Standing.{StandsBehind}
+use Rattle.trace_replay.specs.Replays.{HasTakenNext, ReplaysNext, HasReplayedFirst, ReplaysAll}
+use Rattle.trace_replay.specs.declared.run.Replaying.{Replaying}
 use Rattle.trace_replay.specs.Going.{TakenTo, HasReplayedFirstEvents}
 use Rattle.trace_replay.proofs.Changes.{place_is}
 use Rattle.trace_replay.proofs.Holdings.{last_more, hidden}
-use Rattle.trace_replay.proofs.Written.{grew_nothing, grew_then, part_then, part_whole, part_nothing, part_more, rose_later}
 
 -- ---- one event
 
@@ -50,42 +51,46 @@ module _ (s : Settings) (f : Finds) (before : List Entry) (e : Entry) where
     | inr y ↦ y
   ]
 
-  pub back_refuses : (last : ℕ) (new : Connections) (a : Option (List ℕ)) (c : ℕ) → last ≡ last_moment before → e.moment < last
-      → ReplaysOne s f before e new a a c c (Err (MomentBack e.line last e.moment))
-  back_refuses last new a c is p =
-      subst (λ (l : ℕ). ReplaysOne s f before e new a a c c (Err (MomentBack e.line l e.moment))) (sym is)
-      (record { refused = back_fault (below e.moment (last_moment before) (subst (λ (l : ℕ). e.moment < l) is p)); written = grew_nothing a })
+  -- the moment goes back
+  pub back_refuses : (r new : Replaying) (out now : List ℕ) → StandsBehind s f before r → e.moment < r.last
+      → ReplaysNext s f before e new out now (Err (MomentBack e.line r.last e.moment))
+  unfolding StandsBehind
+  back_refuses r new out now stands p =
+      subst (λ (l : ℕ). ReplaysNext s f before e new out now (Err (MomentBack e.line l e.moment))) (sym stands.last)
+      (back_fault (below e.moment (last_moment before) (subst (λ (l : ℕ). e.moment < l) stands.last p)))
 
-  pub not_back : (last : ℕ) → last ≡ last_moment before → last ≤ e.moment → last_moment before ≤ e.moment
-  not_back last is p = subst (λ (l : ℕ). l ≤ e.moment) is p
+  -- it doesn't
+  pub not_back : (r : Replaying) → StandsBehind s f before r → r.last ≤ e.moment → last_moment before ≤ e.moment
+  unfolding StandsBehind
+  not_back r stands p = subst (λ (l : ℕ). l ≤ e.moment) stands.last p
 
-  on_time : (last : ℕ) → last ≡ last_moment before → last ≤ e.moment → fault_of_trace_event s f before e ≡ role_check s f before e (role_of e.event)
-  on_time last is p = on_fault (above e.moment (last_moment before) (not_back last is p))
+  pub connections_hold : (r : Replaying) → StandsBehind s f before r → HoldsOfAllConnections s f before r.connections
+  unfolding StandsBehind
+  connections_hold r stands = stands.connections
 
-  pub refuses : (last : ℕ) (new : Connections) (out now : List ℕ) (a : Option (List ℕ)) (c : ℕ) (fault : ReplayFault) → last ≡ last_moment before → last ≤ e.moment
-      → TakesTraceEvent {T = Unit {0}} s f before e new out now (Err fault) → ReplaysOne s f before e new a a c c (Err fault)
-  refuses last new out now a c (NoConn line conn) is p t = record { refused = on_time last is p ∙ t; written = grew_nothing a }
-  refuses last new out now a c (ConnTwice line conn) is p t = record { refused = on_time last is p ∙ t; written = grew_nothing a }
-  refuses last new out now a c (MomentBack line was moment) is p t = absurd t
-  refuses last new out now a c (NoKey line engine rbc) is p t = record { refused = on_time last is p ∙ t; written = grew_nothing a }
-  refuses last new out now a c (Many line live) is p t = record { refused = on_time last is p ∙ t; written = grew_nothing a }
-  refuses last new out now a c Sink is p t = absurd t
-  refuses last new out now a c (NoMemory want) is p t = grew_nothing a
+  on_time : last_moment before ≤ e.moment → fault_of_trace_event s f before e ≡ role_check s f before e (role_of e.event)
+  on_time p = on_fault (above e.moment (last_moment before) p)
 
-  pub replayed : (last : ℕ) (new : Connections) (out now lines : List ℕ) (a b : Option (List ℕ)) → last ≡ last_moment before → last ≤ e.moment
-      → Taken s f before e new out now → out ≡ [] → lines ≡ now → Grew a b lines → HasReplayedTraceEvent s f before e new a b
-  replayed last new out now lines a b is p t none all grew = record {
-    taken = on_time last is p ∙ t.allowed;
-    written = subst (λ (l : List ℕ). Grew a b l) (all ∙ t.text ∙ ap (λ (l : List ℕ). l ++ entry_text s f before e) none) grew;
-    holds = t.holds;
-  }
+  pub refuses : (c : Connections) (new : Replaying) (out now : List ℕ) (fault : ReplayFault) → last_moment before ≤ e.moment
+      → TakesTraceEvent {T = Unit {0}} s f before e c out now (Err fault) → ReplaysNext s f before e new out now (Err fault)
+  refuses c new out now (NoConn line conn) p t = on_time p ∙ t
+  refuses c new out now (ConnTwice line conn) p t = on_time p ∙ t
+  refuses c new out now (MomentBack line was moment) p t = absurd t
+  refuses c new out now (NoKey line engine rbc) p t = on_time p ∙ t
+  refuses c new out now (Many line live) p t = on_time p ∙ t
+  refuses c new out now Sink p t = absurd t
+  refuses c new out now (NoMemory want) p t = tt
 
-  pub fails : (last : ℕ) (new : Connections) (out now lines : List ℕ) (a b : Option (List ℕ)) (c d : ℕ) → last ≡ last_moment before → last ≤ e.moment
-      → Taken s f before e new out now → out ≡ [] → lines ≡ now → GrewPart a b lines → Rose c d → Fails s f before e a b c d
-  fails last new out now lines a b c d is p t none all grew rose = record {
-    taken = on_time last is p ∙ t.allowed;
-    written = subst (λ (l : List ℕ). GrewPart a b l) (all ∙ t.text ∙ ap (λ (l : List ℕ). l ++ entry_text s f before e) none) grew;
-    rose = rose;
+  pub takes : (new : Replaying) (out now : List ℕ) → last_moment before ≤ e.moment → new.last ≡ e.moment → Taken s f before e new.connections out now
+      → HasTakenNext s f before e new out now
+  unfolding StandsBehind
+  takes new out now p newest t = record {
+    taken = on_time p ∙ t.allowed;
+    text = t.text;
+    stands = record {
+      connections = t.holds;
+      last = (let more = last_more before e in let at : e.moment ≡ last_moment (before ++ e ∷ []) = omega (arith, more, p) in newest ∙ at);
+    };
   }
 
 -- ---- lists
@@ -179,122 +184,81 @@ module _ (s : Settings) (f : Finds) (entries : List Entry) where
     count = ap (λ (l : List (ℕ × KEnd)). length l) live;
   }
 
-  pub went_none : (c : Connections) (a : Option (List ℕ)) (g : ℕ) → c.live.entries ≡ [] → c.over.entries ≡ [] → HasReplayedFirstEvents s f entries 0 c 0 a a g g
-  unfolding entries_text last_moment
-  went_none c a g live over = record {
-    holds = hidden s f [] c (none_held c live over);
-    last_is = refl;
+  pub none_behind : (r : Replaying) → r.connections.live.entries ≡ [] → r.connections.over.entries ≡ [] → r.last ≡ 0 → StandsBehind s f [] r
+  unfolding StandsBehind last_moment
+  none_behind r live over last = record { connections = hidden s f [] r.connections (none_held r.connections live over); last = last }
+
+  pub went_none : (r : Replaying) (start : List ℕ) → StandsBehind s f [] r → HasReplayedFirstEvents s f entries 0 r start start
+  unfolding entries_text
+  went_none r start stands = record {
+    stands = stands;
     taken = λ first x rest is less. absurd (let u : ⊥ = omega (arith, less) in u);
-    written = grew_nothing a;
-    later = omega arith;
+    text = sym (append-nil start);
   }
 
-  not_before : (before : List Entry) (e : Entry) → fault_of_trace_event s f before e ≡ None → last_moment before ≤ e.moment
-  not_before before e none = elim (cases_Bool (nat_lt e.moment (last_moment before))) [
-    | inl y ↦ absurd (let q : None ≡ Some (MomentBack e.line (last_moment before) e.moment) = sym none ∙ back_fault s f before e y in let u : ⊥ = cc in u)
-    | inr y ↦ ltb-false e.moment (last_moment before) y
-  ]
-
-  pub went_more : (n : ℕ) (e : Entry) (c d : Connections) (last : ℕ) (a b x : Option (List ℕ)) (g h i : ℕ) → HasReplayedFirstEvents s f entries n c last a b g h
-      → slice_get entries n ≡ Some e → h ≤ i → HasReplayedTraceEvent s f (take n entries) e d b x → HasReplayedFirstEvents s f entries (suc n) d e.moment a x g i
-  went_more n e c d last a b x g h i w here later r = record {
-    holds = subst (λ (l : List Entry). HoldsOfAllConnections s f l d) (sym (take_next entries n e here)) r.holds;
-    last_is =
-        (let more = last_more (take n entries) e in
-        let le = not_before (take n entries) e r.taken in
-        let at : e.moment ≡ last_moment (take n entries ++ e ∷ []) = omega (arith, more, le) in
-        at ∙ ap (λ (l : List Entry). last_moment l) (sym (take_next entries n e here)));
-    taken = taken_more n e here r.taken w.taken;
-    written = subst (λ (t : List ℕ). Grew a x t) (sym (texts_more n e here)) (grew_then a b x (entries_text s f [] (take n entries)) (entry_text s f (take n entries) e) w.written r.written);
-    later = (let w1 : g ≤ h = w.later in omega (arith, w1, later));
+  went_more : (n : ℕ) (e : Entry) (r new : Replaying) (start out now front text : List ℕ) → HasReplayedFirstEvents s f entries n r start out
+      → slice_get entries n ≡ Some e → HasTakenNext s f (take n entries) e new front text → front ≡ [] → now ≡ out ++ text
+      → HasReplayedFirstEvents s f entries (suc n) new start now
+  went_more n e r new start out now front text w here t none more = record {
+    stands = subst (λ (l : List Entry). StandsBehind s f l new) (sym (take_next entries n e here)) t.stands;
+    taken = taken_more n e here t.taken w.taken;
+    text =
+        more
+        ∙ ap (λ (l : List ℕ). out ++ l) (t.text ∙ ap (λ (l : List ℕ). l ++ entry_text s f (take n entries) e) none)
+        ∙ ap (λ (l : List ℕ). l ++ entry_text s f (take n entries) e) w.text
+        ∙ append_assoc start (entries_text s f [] (take n entries)) (entry_text s f (take n entries) e)
+        ∙ ap (λ (l : List ℕ). start ++ l) (sym (texts_more n e here));
   }
 
-  pub went_next : (n : ℕ) (e : Entry) (c d : Connections) (last : ℕ) (a b x : Option (List ℕ)) (g h i : ℕ) → HasReplayedFirstEvents s f entries n c last a b g h
-      → slice_get entries n ≡ Some e → h ≤ i → HasReplayedTraceEvent s f (take n entries) e d b x → HasReplayedFirstEvents s f entries (n + 1) d e.moment a x g i
-  went_next n e c d last a b x g h i w here later r =
+  pub went_next : (n : ℕ) (e : Entry) (r new : Replaying) (start out now front text : List ℕ) → HasReplayedFirstEvents s f entries n r start out
+      → slice_get entries n ≡ Some e → HasTakenNext s f (take n entries) e new front text → front ≡ [] → now ≡ out ++ text
+      → HasReplayedFirstEvents s f entries (n + 1) new start now
+  went_next n e r new start out now front text w here t none more =
       let plus : suc n ≡ n + 1 = omega arith in
-      subst (λ (k : ℕ). HasReplayedFirstEvents s f entries k d e.moment a x g i) plus (went_more n e c d last a b x g h i w here later r)
+      subst (λ (k : ℕ). HasReplayedFirstEvents s f entries k new start now) plus (went_more n e r new start out now front text w here t none more)
 
   abbrev pub header : List ℕ
   header = line_text (header_words s)
 
+  -- what was made, with the header
+  with_header : (n : ℕ) (r : Replaying) (start mid out : List ℕ) → HasReplayedFirstEvents s f entries n r mid out → mid ≡ start ++ header
+      → out ≡ start ++ text_of_trace s f (take n entries)
+  with_header n r start mid out w head =
+      w.text ∙ ap (λ (l : List ℕ). l ++ entries_text s f [] (take n entries)) head ∙ append_assoc start header (entries_text s f [] (take n entries))
+
   -- the end
-  pub went_end : (n : ℕ) (c : Connections) (last : ℕ) (start a b : Option (List ℕ)) (g h count : ℕ) → HasReplayedFirstEvents s f entries n c last a b g h → length entries ≤ n
-      → Grew start a header → Replays s f entries start b count h (Ok tt)
-  went_end n c last start a b g h count w all head =
+  pub went_end : (n : ℕ) (r : Replaying) (start mid out : List ℕ) → HasReplayedFirstEvents s f entries n r mid out → length entries ≤ n → mid ≡ start ++ header
+      → ReplaysAll s f entries start out (Ok tt)
+  went_end n r start mid out w all head =
       let whole : take n entries ≡ entries = take_all n entries all in
       record {
         taken = subst (λ (l : List Entry). AreTaken s f l) whole (are_taken n w.taken);
-        written =
-            subst (λ (l : List Entry). Grew start b (text_of_trace s f l)) whole
-            (grew_then start a b header (entries_text s f [] (take n entries)) head w.written);
+        text = with_header n r start mid out w head ∙ ap (λ (l : List Entry). start ++ text_of_trace s f l) whole;
       }
 
-  -- an event that isn't taken, or a write that fails
-  pub went_err : (n : ℕ) (e : Entry) (c d : Connections) (last : ℕ) (start a b x : Option (List ℕ)) (g h i count : ℕ) (fault : ReplayFault) → HasReplayedFirstEvents s f entries n c last a b g h
-      → slice_get entries n ≡ Some e → ReplaysOne s f (take n entries) e d b x h i (Err fault)
-      → Grew start a header → count ≤ g → Replays s f entries start x count i (Err fault)
-  went_err n e c d last start a b x g h i count fault w here r head before = by fault r
+  -- an event that isn't taken
+  pub went_err : (n : ℕ) (e : Entry) (r new : Replaying) (start mid out front text : List ℕ) (fault : ReplayFault) → HasReplayedFirstEvents s f entries n r mid out
+      → slice_get entries n ≡ Some e → mid ≡ start ++ header → ReplaysNext s f (take n entries) e new front text (Err fault) → ReplaysAll s f entries start out (Err fault)
+  went_err n e r new start mid out front text fault w here head next = by fault next
     where
-      so_far : Grew start b (header ++ (entries_text s f [] (take n entries)))
-      so_far = grew_then start a b header (entries_text s f [] (take n entries)) head w.written
-
-      still : Grew b x [] → Grew start x (header ++ (entries_text s f [] (take n entries)))
-      still p = subst (λ (t : List ℕ). Grew start x t) (append-nil (header ++ (entries_text s f [] (take n entries)))) (grew_then start b x (header ++ (entries_text s f [] (take n entries))) [] so_far p)
-
-      refuse : (fault : ReplayFault) → RefusesTraceEvent s f (take n entries) e fault b x → WroteBefore s f entries fault start x
-      refuse fault r = record {
+      refuse : (fault : ReplayFault) → fault_of_trace_event s f (take n entries) e ≡ Some fault → HasReplayedFirst s f entries fault start out
+      refuse fault refused = record {
         first = record {
           first = take n entries;
           entry = e;
           rest = drop (suc n) entries;
           is = split_at entries n e here;
           taken = are_taken n w.taken;
-          refused = r.refused;
+          refused = refused;
         };
-        written = still r.written;
+        text = with_header n r start mid out w head;
       }
 
-      one_text : text_of_trace s f (take (suc n) entries) ≡ (header ++ (entries_text s f [] (take n entries))) ++ entry_text s f (take n entries) e
-      one_text = ap (λ (t : List ℕ). header ++ t) (texts_more n e here) ∙ sym (append_assoc header (entries_text s f [] (take n entries)) (entry_text s f (take n entries) e))
-
-      by : (fault : ReplayFault) → ReplaysOne s f (take n entries) e d b x h i (Err fault) → Replays s f entries start x count i (Err fault)
-      by (NoConn line conn) r = refuse (NoConn line conn) r
-      by (ConnTwice line conn) r = refuse (ConnTwice line conn) r
-      by (MomentBack line was moment) r = refuse (MomentBack line was moment) r
-      by (NoKey line engine rbc) r = refuse (NoKey line engine rbc) r
-      by (Many line live) r = refuse (Many line live) r
-      by Sink r = (
-        record {
-          first = take (suc n) entries;
-          rest = drop (suc n) entries;
-          is = sym (take-append-drop (suc n) entries);
-          taken = are_taken (suc n) (taken_more n e here r.taken w.taken);
-          written = subst (λ (t : List ℕ). GrewPart start x t) (sym one_text) (part_then start b x (header ++ (entries_text s f [] (take n entries))) (entry_text s f (take n entries) e) so_far r.written);
-        },
-        rose_later count h i (let p : g ≤ h = w.later in omega (arith, p, before)) r.rose,
-      )
-      by (NoMemory want) r = record {
-        first = take n entries;
-        rest = drop n entries;
-        is = sym (take-append-drop n entries);
-        taken = are_taken n w.taken;
-        written = part_whole start x (header ++ (entries_text s f [] (take n entries))) (still r);
-      }
-
-  none_taken : AreTaken s f []
-  none_taken [] e rest is = absurd (let u : ⊥ = cc in u)
-  none_taken (y ∷ first) e rest is = absurd (let u : ⊥ = cc in u)
-
-  -- before the first event
-  pub wrote_nothing : (a : Option (List ℕ)) → WrotePart s f entries a a
-  wrote_nothing a = record { first = []; rest = entries; is = refl; taken = none_taken; written = part_nothing a (text_of_trace s f []) }
-
-  pub header_failed : (a b : Option (List ℕ)) (lines : List ℕ) → lines ≡ header → GrewPart a b lines → WrotePart s f entries a b
-  header_failed a b lines is p = record {
-    first = [];
-    rest = entries;
-    is = refl;
-    taken = none_taken;
-    written = part_more a b header (entries_text s f [] []) (subst (λ (t : List ℕ). GrewPart a b t) is p);
-  }
+      by : (fault : ReplayFault) → ReplaysNext s f (take n entries) e new front text (Err fault) → ReplaysAll s f entries start out (Err fault)
+      by (NoConn line conn) next = refuse (NoConn line conn) next
+      by (ConnTwice line conn) next = refuse (ConnTwice line conn) next
+      by (MomentBack line was moment) next = refuse (MomentBack line was moment) next
+      by (NoKey line engine rbc) next = refuse (NoKey line engine rbc) next
+      by (Many line live) next = refuse (Many line live) next
+      by Sink next = absurd next
+      by (NoMemory want) next = tt

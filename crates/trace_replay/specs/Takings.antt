@@ -11,7 +11,6 @@ use Rattle.er_trace.specs.Texts.{entry_words}
 use Rattle.er_end_model.specs.Outcomes.{Outcome, Refused, RefusedReleased, NothingToTake}
 use Rattle.er_settings.specs.Values.{Settings}
 use Rattle.er_trace.specs.declared.entry.Entry.{Entry}
-use Rattle.link_trait.specs.Outside.{Grew, GrewPart, Rose}
 use Rattle.er_end_model.specs.Steps.{Finds}
 use Rattle.er_end_model.specs.Ends.{End, Come, step_event}
 use Rattle.er_end.specs.declared.event.Event.{Event as EndEvent}
@@ -20,7 +19,7 @@ use Rattle.er_end.specs.Given.{model_event_of}
 use Rattle.trace_model.specs.declared.replay_fault.ReplayFault.{ReplayFault}
 use Rattle.trace_model.specs.declared.replay_fault.ReplayFault.TheVariants.{NoConn, ConnTwice, MomentBack, NoKey, Many, Sink, NoMemory}
 use Rattle.trace_model.specs.Connections.{goes_on, happens}
-use Rattle.trace_model.specs.Checks.{role_of, role_check, fault_of_trace_event}
+use Rattle.trace_model.specs.Checks.{role_of, role_check}
 use Rattle.trace_model.specs.Printed.{outcomes_text, entry_text}
 use Rattle.trace_replay.specs.declared.connections.Connections.{Connections}
 use Rattle.trace_replay.specs.Places.{FollowsEnd, HoldsOfAllConnections, StandsForAlikeEnd}
@@ -92,30 +91,3 @@ TakesTraceEvent s f before e new out now (Err (NoKey line engine rbc)) = role_ch
 TakesTraceEvent s f before e new out now (Err (Many line live)) = role_check s f before e (role_of e.event) ≡ Some (Many line live)
 TakesTraceEvent s f before e new out now (Err Sink) = ⊥
 TakesTraceEvent s f before e new out now (Err (NoMemory want)) = Unit {0}
-
--- an event was replayed: its lines were written
-pub record HasReplayedTraceEvent (settings : Settings) (finds : Finds) (before : List Entry) (e : Entry) (new : Connections) (a b : Option (List ℕ)) : Type 0 where
-  pub taken : fault_of_trace_event settings finds before e ≡ None
-  pub written : Grew a b (entry_text settings finds before e)
-  pub holds : HoldsOfAllConnections settings finds (before ++ e ∷ []) new
-
--- it wasn't taken, and nothing was written
-pub record RefusesTraceEvent (settings : Settings) (finds : Finds) (before : List Entry) (e : Entry) (fault : ReplayFault) (a b : Option (List ℕ)) : Type 0 where
-  pub refused : fault_of_trace_event settings finds before e ≡ Some fault
-  pub written : Grew a b []
-
--- a write failed
-pub record Fails (settings : Settings) (finds : Finds) (before : List Entry) (e : Entry) (a b : Option (List ℕ)) (c d : ℕ) : Type 0 where
-  pub taken : fault_of_trace_event settings finds before e ≡ None
-  pub written : GrewPart a b (entry_text settings finds before e)
-  pub rose : Rose c d
-
-abbrev pub ReplaysOne : Settings → Finds → List Entry → Entry → Connections → Option (List ℕ) → Option (List ℕ) → ℕ → ℕ → Result (Unit {0}) ReplayFault → Type 0
-ReplaysOne s f before e new a b c d (Ok done) = HasReplayedTraceEvent s f before e new a b
-ReplaysOne s f before e new a b c d (Err (NoConn line conn)) = RefusesTraceEvent s f before e (NoConn line conn) a b
-ReplaysOne s f before e new a b c d (Err (ConnTwice line conn)) = RefusesTraceEvent s f before e (ConnTwice line conn) a b
-ReplaysOne s f before e new a b c d (Err (MomentBack line was moment)) = RefusesTraceEvent s f before e (MomentBack line was moment) a b
-ReplaysOne s f before e new a b c d (Err (NoKey line engine rbc)) = RefusesTraceEvent s f before e (NoKey line engine rbc) a b
-ReplaysOne s f before e new a b c d (Err (Many line live)) = RefusesTraceEvent s f before e (Many line live) a b
-ReplaysOne s f before e new a b c d (Err Sink) = Fails s f before e a b c d
-ReplaysOne s f before e new a b c d (Err (NoMemory want)) = Grew a b []

@@ -5,7 +5,6 @@ ghost use Rattle.er_trace.specs.Texts.{CanBeRead};
 ghost use Rattle.trace_model.specs.Recordings.{IsChecked};
 
 use crate::comparing::verdict_on;
-use crate::printed_text::PrintedText;
 use crate::run::replay;
 use er_trace::Trace;
 use safety_automaton::KeyFinder;
@@ -25,9 +24,7 @@ pub fn check<K: KeyFinder>(
     requires { CanBeRead trace.now }
     ensures { IsChecked trace.now.settings (key_at (K.entries keys.now)) trace.now.entries file.now result }
 {
-    let mut printed = PrintedText::new(alloc);
-    match replay(alloc, keys, trace, &mut printed) {
-        Ok(()) => Ok(verdict_on(file, printed.octets())),
-        Err(fault) => Err(printed.cause_of(fault)),
-    }
+    let mut printed = Vec::new(alloc);
+    replay(alloc, keys, trace, &mut printed)?;
+    Ok(verdict_on(file, printed.as_slice()))
 }

@@ -1,3 +1,4 @@
+-- What this crate states: its definitions, by module.
 pub mod Segments
 pub mod Tpdus
 pub mod Refusals

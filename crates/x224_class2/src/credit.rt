@@ -1,3 +1,5 @@
+//! A credit: four bits.
+
 ghost use Rattle.std.specs.Prelude.{◌≡◌, ◌<◌};
 
 use std::marker::Model;

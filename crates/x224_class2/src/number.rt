@@ -1,3 +1,5 @@
+//! TPDU numbers of seven bits.
+
 ghost use Rattle.std.specs.Prelude.{◌≡◌, ◌+◌, ◌%◌, ◌<◌};
 ghost use Rattle.x224_class2.specs.Kept.{distance};
 

@@ -1,3 +1,5 @@
+//! What waits to be sent at a transport.
+
 ghost use Rattle.std.specs.Prelude.{◌≡◌, ◌<◌, ◌≤◌, [], ◌∷◌, ◌++◌, length, slice_index_or, drop, IfOk, if◌then◌else◌, nat_lt};
 
 use er_base::NoMemory;

@@ -1,3 +1,5 @@
+//! The sizes that a TPDU may have.
+
 ghost use Rattle.std.specs.Prelude.{◌≡◌, ◌≤◌, min};
 ghost use Rattle.x224_tpdu.specs.Spellings.{IsSize};
 

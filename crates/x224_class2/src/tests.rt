@@ -1,3 +1,5 @@
+//! One transport by itself, and two that talk.
+
 ghost use Rattle.std.specs.Prelude.{◌≡◌, ◌<◌, ◌≤◌, length};
 ghost use Rattle.x224_class2.specs.Kept.{stage_behind};
 ghost use Rattle.x224_class2.specs.Resting.{deed_of};

@@ -1,3 +1,5 @@
+//! One side of a connection of X.224 class 2.
+
 ghost use Rattle.std.specs.Prelude.{◌≡◌, ◌≢◌, ◌+◌, ◌<◌, ◌≤◌, ◌&&◌, [], length, true, false, IfOk, IfErr, MatchResult, min, is_some, if◌then◌else◌};
 ghost use Rattle.std.specs.Borrow.{sem};
 ghost use Rattle.er_base.specs.Stored.{HasRoom, Appends};

@@ -1,3 +1,5 @@
+//! The kinds of TPDU, by their code.
+
 ghost use Rattle.std.specs.Prelude.{◌≡◌, ◌<◌};
 ghost use Rattle.x224_tpdu.specs.Kinds.{kind_of_tpdu_code};
 

@@ -1,3 +1,5 @@
+//! Parameters: code, length, value (X.224, 13.2.3).
+
 ghost use Rattle.std.specs.Prelude.{◌≡◌, ℕ, ◌<◌, [], ◌∷◌, length, Some, None, MatchOption, MatchResult};
 ghost use Rattle.x224_tpdu.specs.Parameters.{parameters_in, may_stand, size_octet};
 ghost use Rattle.x224_tpdu.specs.Spellings.{NamesSize};

@@ -1,3 +1,5 @@
+//! The parts of a TPDU, cut from its octets.
+
 ghost use Rattle.std.specs.Prelude.{◌≡◌, Some, MatchResult};
 ghost use Rattle.x224_tpdu.specs.Faults.{first_fault};
 ghost use Rattle.x224_tpdu.specs.Parts.{layout_in, IsLayout};

@@ -1,3 +1,5 @@
+//! A TPDU read from its octets.
+
 ghost use Rattle.std.specs.Prelude.{◌≡◌, ◌≤◌, [], ◌∷◌, ◌++◌, length, Some, None, MatchResult, OnOk};
 ghost use Rattle.er_base.specs.Octets.{two};
 ghost use Rattle.x224_tpdu.specs.declared.kind.Kind.TheVariants.{Cr, Cc, Dr, Dc, Dt, Ak, Er};

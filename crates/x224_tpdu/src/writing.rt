@@ -1,3 +1,5 @@
+//! A TPDU written as octets.
+
 ghost use Rattle.std.specs.Prelude.{◌≡◌, ◌++◌, [], ◌∷◌, length};
 ghost use Rattle.er_base.specs.Octets.{two};
 ghost use Rattle.er_base.specs.Stored.{HasRoom, Appends};

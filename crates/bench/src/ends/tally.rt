@@ -1,3 +1,5 @@
+//! What is counted while two ends talk.
+
 use std::fmt;
 
 /// What came of all events.

@@ -1,9 +1,10 @@
-//! The loop's clock and its journal.
+//! The loop's clock, its journal, and files of which there are none.
 
-ghost use Rattle.std.specs.Prelude.{None};
+ghost use Rattle.std.specs.Prelude.{None, ◌-◌, ◌^◌};
 
 use crate::trains::train::MOMENT;
-use link_trait::{Clock, Failed, Sink};
+use link_trait::{Cabinet, Clock, Failed, FetchFault, Sink};
+use std::alloc::Global;
 
 /// A clock that stands at the one moment of all events. It tells nothing.
 #[derive(Drop)]
@@ -30,5 +31,17 @@ impl Sink for LoopSink {
     fn write(&mut self, piece: &[u8]) -> Result<(), Failed> {
         self.octets = self.octets.saturating_add(piece.len() as u64);
         Ok(())
+    }
+}
+
+/// A cabinet that has no file. It tells nothing.
+#[derive(Drop)]
+pub struct NoFiles;
+
+impl Cabinet for NoFiles {
+    ghost state = { λ _. record { files = None; asked = None; faults = 2 ^ 64 - 1 } };
+
+    fn fetch(&mut self, _alloc: Global, _name: &str) -> Result<Vec<u8>, FetchFault> {
+        Err(FetchFault::Failed)
     }
 }

@@ -1,3 +1,5 @@
+//! Both sides of the transport that is measured.
+
 ghost use Rattle.std.specs.Prelude.{◌≡◌, ◌<◌, ◌≤◌, true, length};
 ghost use Rattle.x224_class2.specs.Transport.{is_open};
 

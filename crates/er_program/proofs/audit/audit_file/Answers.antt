@@ -1,10 +1,13 @@
--- What was read, audited or refused.
-use Rattle.er_program.proofs.AuditRuns.{ends_read, ends_unread}
+-- What was read, audited or refused; and want of memory.
+use Rattle.er_tap.specs.Files.{tap_of}
+use Rattle.er_program.proofs.KeyedSpending.{spent_audit}
 use Rattle.er_program.proofs.audit.audit_file.Goals as goal
 
-pub returns-in-Ok-clause-ends : goal.returns-in-Ok-clause-ends
-returns-in-Ok-clause-ends g c = ends_read _ _ _ _ _ _ _ _ _ c.in-Ok.ensures.exact c.audit_lines.ensures.ends
+pub returns-in-Ok : goal.returns-in-Ok
+returns-in-Ok g c = record { does = rw c.in-Ok.ensures.exact c.audit_lines.ensures.does }
 
-pub returns-in-Err-At-clause-ends : goal.returns-in-Err-At-clause-ends
-returns-in-Err-At-clause-ends g c =
-    ends_unread _ _ _ _ _ _ _ _ _ _ (rw c.in-Err-At.field-0-is at c.in-Err-At.ensures.exact) c.out_of_form.ensures.gives
+pub returns-in-Err-At : goal.returns-in-Err-At
+returns-in-Err-At g c = record { does = rw (rw c.in-Err-At.field-0-is at c.in-Err-At.ensures.exact) c.out_of_form.ensures.does }
+
+pub returns-in-Err-NoMemory : goal.returns-in-Err-NoMemory
+returns-in-Err-NoMemory g c = record { does = spent_audit c.args.with_ends c.args.store.now (tap_of c.args.octets.now) _ }

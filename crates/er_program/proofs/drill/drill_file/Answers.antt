@@ -17,7 +17,7 @@ use Rattle.er_program.proofs.drill.drill_file.Goals as goal
 spent : (read : Result Scenario TextFault) (t : Told) → Does (drills_read read) t t OutOfMemory
 spent (Ok s) t = does_spent_unknowing (CanBeRead s) (drills_steps (plan_of s) [] s.steps) t
 spent (Err (text.At line why)) t = does_spent _ _ t
-spent (Err (text.NoMemory want)) t = does_spent _ _ t
+spent (Err (text.NoMemory want)) t = does_spent_unknowing ⊥ _ t
 
 drilled : (read : Result Scenario TextFault) (s : Scenario) (before now : Told) (end : End) → read ≡ Ok s → CanBeRead s → Does (drills_steps (plan_of s) [] s.steps) before now end
     → Does (drills_read read) before now end

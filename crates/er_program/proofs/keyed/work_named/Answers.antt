@@ -1,18 +1,23 @@
--- The file that was fetched, and how the run ends without it.
-use Rattle.er_program.specs.KeyedWriting.{IsOfWork, BeginsOfWork}
-use Rattle.er_program.proofs.KeyedRuns.{ends_fetched, ends_lost}
-use Rattle.er_program.proofs.Askings.{asks_read, asks_lost}
+-- The fetch gave a file, or none, or memory ran out in it.
+use Rattle.outside.specs.ScriptSteps.{does_had, does_had_none, does_spent_fetching}
+use Rattle.er_statuses.specs.FileScripts.{behind_fetch}
+use Rattle.er_program.specs.KeyedScripts.{does_work}
 use Rattle.er_program.proofs.keyed.work_named.Goals as goal
 
-pub returns-in-Ok-clause-ends : goal.returns-in-Ok-clause-ends
-returns-in-Ok-clause-ends g c =
-    ends_fetched (IsOfWork c.args.work) (BeginsOfWork c.args.work) _ _ c.in-Ok.octets.items _ _ _ _ _ _ _ _ c.in-Ok.ensures.file (rw (c.as_slice.ensures.value, c.in-Ok.ensures.untouched) at c.work_on.ensures.ends)
+pub returns-in-Ok : goal.returns-in-Ok
+returns-in-Ok g c = record {
+  does = does_had c.args.name.now c.in-Ok.octets.items (behind_fetch c.args.name.now (does_work c.args.work c.args.store.now)) _ _ _ _
+      c.in-Ok.ensures.does (rw c.as_slice.ensures.value at c.work_on.ensures.does);
+}
 
-pub returns-in-Ok-clause-asks : goal.returns-in-Ok-clause-asks
-returns-in-Ok-clause-asks g c = asks_read c.args.work _ _ _ _ _ _ _ _ _ (rw c.in-Ok.ensures.untouched at c.work_on.ensures.ends)
+pub returns-in-Err-Failed : goal.returns-in-Err-Failed
+returns-in-Err-Failed g c = record {
+  does = does_had_none c.args.name.now (behind_fetch c.args.name.now (does_work c.args.work c.args.store.now)) _ _ _ _
+      (rw c.in-Err-Failed.field-0-is at c.in-Err-Failed.ensures.does) c.unfetched.ensures.does;
+}
 
-pub returns-in-Err-clause-ends : goal.returns-in-Err-clause-ends
-returns-in-Err-clause-ends g c = ends_lost (IsOfWork c.args.work) (BeginsOfWork c.args.work) _ _ _ _ _ _ _ _ _ _ c.in-Err.ensures.ended
-
-pub returns-in-Err-clause-asks : goal.returns-in-Err-clause-asks
-returns-in-Err-clause-asks g c = asks_lost _ _ _ _ _ _ _ _ c.in-Err.ensures.ended
+pub returns-in-Err-NoMemory : goal.returns-in-Err-NoMemory
+returns-in-Err-NoMemory g c = record {
+  does = does_spent_fetching c.args.name.now (behind_fetch c.args.name.now (does_work c.args.work c.args.store.now)) _ _
+      (rw c.in-Err-NoMemory.field-0-is at c.in-Err-NoMemory.ensures.does);
+}

@@ -1,17 +1,18 @@
--- The key file that is good, and the one that is refused.
-use Rattle.er_program.specs.KeyedWriting.{IsOfWork, BeginsOfWork}
-use Rattle.er_program.proofs.KeyedRuns.{ends_good, ends_bad}
-use Rattle.er_program.proofs.Askings.{asks_good, asks_bad}
+-- The store that was read, and the key file that is refused.
+use Rattle.outside.specs.ScriptSteps.{does_spent_asking}
+use Rattle.er_statuses.specs.FileScripts.{behind_fetch, fetches_file}
+use Rattle.er_statuses.specs.FileSteps.{does_keyed, does_keyless}
+use Rattle.er_program.specs.KeyedScripts.{does_work}
 use Rattle.er_program.proofs.keyed.work_with.Goals as goal
 
-pub returns-in-Ok-clause-ends : goal.returns-in-Ok-clause-ends
-returns-in-Ok-clause-ends g c = ends_good (IsOfWork c.args.work) (BeginsOfWork c.args.work) _ _ _ _ _ _ _ _ _ _ _ c.in-Ok.ensures.exact c.work_named.ensures.ends
+pub returns-in-Ok : goal.returns-in-Ok
+returns-in-Ok g c = record {
+  does = does_keyed (λ entries. fetches_file c.args.name.now (does_work c.args.work entries)) _ _ _ _ _ c.in-Ok.ensures.exact c.work_named.ensures.does;
+}
 
-pub returns-in-Ok-clause-asks : goal.returns-in-Ok-clause-asks
-returns-in-Ok-clause-asks g c = asks_good _ _ _ _ _ _ c.work_named.ensures.asked c.work_named.ensures.asks
-
-pub returns-in-Err-clause-ends : goal.returns-in-Err-clause-ends
-returns-in-Err-clause-ends g c = ends_bad (IsOfWork c.args.work) (BeginsOfWork c.args.work) _ _ _ _ _ _ _ _ _ _ _ c.in-Err.ensures.exact c.keys_refused.ensures.want c.keys_refused.ensures.gives
-
-pub returns-in-Err-clause-asks : goal.returns-in-Err-clause-asks
-returns-in-Err-clause-asks g c = asks_bad _ _ _ _ _ _ _ _ c.keys_refused.ensures.want c.keys_refused.ensures.gives
+pub returns-in-Err : goal.returns-in-Err
+returns-in-Err g c = record {
+  does = does_keyless (λ entries. fetches_file c.args.name.now (does_work c.args.work entries))
+      (λ entries t. does_spent_asking c.args.name.now (behind_fetch c.args.name.now (does_work c.args.work entries)) t)
+      c.in-Err.fault _ _ _ _ c.in-Err.ensures.exact c.keys_refused.ensures.ends;
+}

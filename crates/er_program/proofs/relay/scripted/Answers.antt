@@ -10,4 +10,4 @@ pub returns-in-Err-At : goal.returns-in-Err-At
 returns-in-Err-At g c = record { ends = rw (rw c.in-Err-At.field-0-is at c.in-Err-At.ensures.exact) c.out_of_form.ensures.does }
 
 pub returns-in-Err-NoMemory : goal.returns-in-Err-NoMemory
-returns-in-Err-NoMemory g c = record { ends = spent_script (script_of c.args.octets.now) _ }
+returns-in-Err-NoMemory g c = record { ends = spent_script (script_of c.args.octets.now) c.args.command.now.dial.now _ }

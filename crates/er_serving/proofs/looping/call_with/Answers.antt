@@ -1,15 +1,20 @@
 -- The key that holds, and none.
-use Rattle.std.proofs.Common.{sym, inr, refl}
-use Rattle.er_serving.proofs.LineEndings.{call_lacks}
+use Rattle.std.proofs.Common.{sym}
+use Rattle.er_serving.proofs.LineEndings.{call_lacks, keeps_asked, keeps_lacking}
 use Rattle.er_serving.proofs.looping.call_with.Goals as goal
 
 pub returns-in-Some-clause-ends : goal.returns-in-Some-clause-ends
 returns-in-Some-clause-ends g c = λ keys.
-    rw (← c.outside.view_is) (c.dial_with.ensures.ends keys _ c.now-now.result _ c.now-now.ensures.told (sym (rw (c.get.ensures.same, c.get-2.ensures.same) at c.in-Some.ensures.found)))
+    c.dial_with.ensures.ends keys _ c.moment-now.result _ c.moment-now.ensures.does (sym (rw (c.get.ensures.same, c.get-2.ensures.same) at c.in-Some.ensures.found))
+
+pub returns-in-Some-clause-keeps : goal.returns-in-Some-clause-keeps
+returns-in-Some-clause-keeps g c = keeps_asked (g.O.Outside.told c.args.outside.now) (g.O.Outside.told c.moment-now.new.self) (g.O.Outside.told c.dial_with.new.outside) c.moment-now.result c.moment-now.ensures.does c.dial_with.ensures.keeps
 
 pub returns-in-None-clause-ends : goal.returns-in-None-clause-ends
 returns-in-None-clause-ends g c = λ keys.
-    rw (← c.outside.view_is) (call_lacks keys c.args.address.now c.args.pair.engine c.args.pair.rbc c.args.turns _ _ _ _ c.now-now.result c.no_key.result c.now-now.ensures.told
-    (sym (rw (c.get.ensures.same, c.get-2.ensures.same) at c.in-None.ensures.found))
-    (record { calls = refl; failed = refl; turns_failed = refl; listening = refl; clock = inr (c.now-now.result, c.now-now.ensures.told) })
-    c.no_key.ensures.gives)
+    call_lacks keys c.args.address.now c.args.pair.engine c.args.pair.rbc c.args.turns _ _ (g.O.Outside.told c.args.outside.now) (g.O.Outside.told c.moment-now.new.self) (g.O.Outside.told c.no_key.new.outside) c.moment-now.result c.no_key.result c.moment-now.ensures.does
+    (sym (rw (c.get.ensures.same, c.get-2.ensures.same) at c.in-None.ensures.found)) c.no_key.ensures.does
+
+pub returns-in-None-clause-keeps : goal.returns-in-None-clause-keeps
+returns-in-None-clause-keeps g c =
+    keeps_lacking (g.O.Outside.told c.args.outside.now) (g.O.Outside.told c.moment-now.new.self) (g.O.Outside.told c.no_key.new.outside) c.moment-now.result c.args.pair.engine c.args.pair.rbc c.no_key.result c.moment-now.ensures.does c.no_key.ensures.does

@@ -10,7 +10,7 @@ loop-link-preserved g c =
     let most = c.loop-link-test.true in
     record {
       leads =
-          leads_then _ _ _ _ _ _ _ _ (links_more c.args.ends _ c.args.lines.now c.args.openings.now c.loop-link.link most) c.loop-link.invariant.leads _ _ c.in_ok-audit_number.ensures.later c.in_ok-audit_number.ensures.writes;
+          leads_then _ _ _ _ _ _ (links_more c.args.ends _ c.args.lines.now c.args.openings.now c.loop-link.link most) c.loop-link.invariant.leads _ c.in_ok-audit_number.ensures.writes;
       told = ends_told c.args.lines.now c.args.openings.now c.loop-link.link _ _ _ most c.in_ok-audit_number.ensures.told c.loop-link.invariant.told;
       least = omega arith;
       most = omega (arith, most);
@@ -20,12 +20,12 @@ pub returns-in_err-audit_number-clause-writes : goal.returns-in_err-audit_number
 returns-in_err-audit_number-clause-writes g c =
     let p = err_from_is_err_and c.from_residual.result c.from_residual.ensures.1 in
     rw (p.1, p.2)
-    (leads_fault _ _ _ _ _ _ _ _ (links_more c.args.ends _ c.args.lines.now c.args.openings.now c.loop-link.link c.loop-link-test.true) c.loop-link.invariant.leads _ _ c.in_err-audit_number.field-0.0 c.in_err-audit_number.ensures.writes)
+    (leads_fault _ _ _ _ _ _ (links_more c.args.ends _ c.args.lines.now c.args.openings.now c.loop-link.link c.loop-link-test.true) c.loop-link.invariant.leads _ c.in_err-audit_number.field-0.0 c.in_err-audit_number.ensures.writes)
 
 pub returns-clause-writes : goal.returns-clause-writes
 returns-clause-writes g c =
     let past = c.loop-link-test.false in
-    leads_end _ _ _ _ _ _ (links_none c.args.ends _ c.args.lines.now c.args.openings.now c.loop-link.link (omega (arith, past))) c.loop-link.invariant.leads
+    leads_end _ _ _ _ (links_none c.args.ends _ c.args.lines.now c.args.openings.now c.loop-link.link (omega (arith, past))) c.loop-link.invariant.leads
 
 pub returns-clause-told : goal.returns-clause-told
 returns-clause-told g c =

@@ -7,9 +7,9 @@ use Rattle.link_audit.proofs.run.audit_links.Given as goal
 
 abbrev pub invariant-loop-link : goal.invariant-loop-link
 invariant-loop-link g l = record {
-  leads : LeadsToSameWriting (g.S.Sink.state l.fn.sink).held (g.S.Sink.state l.fn.sink).faults (links_opened l.ends (key_at (g.K.KeyFinder.entries l.keys)) l.lines l.openings 1 64) (g.S.Sink.state l.sink).held (g.S.Sink.state l.sink).faults
+  leads : LeadsToSameWriting (g.O.Outside.told l.fn.outside) (links_opened l.ends (key_at (g.K.KeyFinder.entries l.keys)) l.lines l.openings 1 64) (g.O.Outside.told l.outside)
       (links_opened l.ends (key_at (g.K.KeyFinder.entries l.keys)) l.lines l.openings l.link (65 - l.link));
-  told : l.told.items ++ ends_opened l.lines l.openings l.link (65 - l.link) ≡ l.fn.told.items ++ ends_opened l.lines l.openings 1 64;
+  told : l.made.ends.items ++ ends_opened l.lines l.openings l.link (65 - l.link) ≡ l.fn.made.ends.items ++ ends_opened l.lines l.openings 1 64;
   least : 1 ≤ l.link;
   most : l.link ≤ 65;
 }

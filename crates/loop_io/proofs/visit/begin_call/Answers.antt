@@ -9,10 +9,10 @@ pub returns-in_err-call-clause-does : goal.returns-in_err-call-clause-does
 returns-in_err-call-clause-does g c =
     let p = err_from_is_err_and c.from_residual.result c.from_residual.ensures.1 in
     rw (p.1, p.2)
-    (serves_broke (g.S.Sink.state c.args.sink.now) (g.S.Sink.state c.call.new.sink) (g.W.Wires.state c.args.wires.now) (rules_of_session (g.K.KeyFinder.entries c.args.keys.now) c.args.when.now.setup) c.args.when.now.moment c.args.session.now (Begins c.args.call.now.engine c.args.call.now.rbc c.args.call.now.rb) c.in_err-call.field-0.0 (c.in_err-call.ensures.chooses (g.K.KeyFinder.entries c.args.keys.now)))
+    (serves_broke (g.O.Outside.told c.args.outside.now) (g.O.Outside.told c.call.new.outside) (rules_of_session (g.K.KeyFinder.entries c.args.keys.now) c.args.when.now.setup) c.args.when.now.moment c.args.session.now (Begins c.args.call.now.engine c.args.call.now.rbc c.args.call.now.rb) c.in_err-call.field-0.0 (c.in_err-call.ensures.chooses (g.K.KeyFinder.entries c.args.keys.now)))
 
 pub returns-clause-does : goal.returns-clause-does
 returns-clause-does g c =
     let entries = g.K.KeyFinder.entries c.args.keys.now in
-    serves (g.S.Sink.state c.args.sink.now) (g.S.Sink.state c.call.new.sink) (g.W.Wires.state c.args.wires.now) (seen (g.S.Sink.state c.rest.new.sink) (g.W.Wires.state c.rest.new.wires)) (rules_of_session (g.K.KeyFinder.entries c.args.keys.now) c.args.when.now.setup) c.args.when.now.moment c.args.session.now c.call.new.self c.rest.new.session (Begins c.args.call.now.engine c.args.call.now.rbc c.args.call.now.rb) c.rest.result
+    serves (g.O.Outside.told c.args.outside.now) (g.O.Outside.told c.call.new.outside) (seen (g.O.Outside.told c.rest.new.outside)) (rules_of_session (g.K.KeyFinder.entries c.args.keys.now) c.args.when.now.setup) c.args.when.now.moment c.args.session.now c.call.new.self c.rest.new.session (Begins c.args.call.now.engine c.args.call.now.rbc c.args.call.now.rb) c.rest.result
     (c.in_ok-call.ensures.chooses entries) (c.rest.ensures.does entries)

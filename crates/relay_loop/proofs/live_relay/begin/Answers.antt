@@ -1,7 +1,9 @@
 -- Nothing was opened yet.
-use Rattle.std.proofs.lemmas.Result.{on_ok_weaker}
-use Rattle.relay_loop.proofs.RelayRuns.{relays_begun}
+use Rattle.relay_loop.proofs.RelayRuns.{ran_begun, begun_deaf, begun_sunk, ends_begun}
 use Rattle.relay_loop.proofs.live_relay.begin.Goals as goal
 
 pub returns-in-Ok : goal.returns-in-Ok
-returns-in-Ok g c = on_ok_weaker c.write_header.result (λ wrote script. relays_begun script c.args.listen.now _ _ _ _ c.in-Ok.ensures.does wrote) c.write_header.ensures
+returns-in-Ok g c = λ script dial. ends_begun c.write_header.result script dial c.args.listen.now _ _ _ c.in-Ok.ensures.does c.write_header.ensures.wrote c.write_header.ensures.broke
+
+pub returns-in-Err : goal.returns-in-Err
+returns-in-Err g c = λ script dial. begun_deaf script dial c.args.listen.now _ _ c.in-Err.ensures.does

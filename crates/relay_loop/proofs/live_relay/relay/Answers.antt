@@ -1,10 +1,15 @@
 -- All turns.
-use Rattle.std.proofs.lemmas.Result.{on_ok_weaker}
-use Rattle.relay_loop.proofs.RelayRuns.{relays}
+use Rattle.std.proofs.lemmas.Result.{err_from_is_err_and}
+use Rattle.relay_loop.proofs.RelayMoments.{relays_end, relays_broken}
 use Rattle.relay_loop.proofs.live_relay.relay.Goals as goal
 
 pub returns : goal.returns
 returns g c = record {
-  relays = on_ok_weaker c.run.result
-      (λ so_far. relays c.args.script.now _ _ _ (so_far _ (rw c.new-live.ensures (c.in_ok-begin.ensures c.args.script.now)))) c.run.ensures;
+  relays = relays_end c.run.result c.args.script.now c.args.dial.now _ _ _ _ _
+      (c.run.ensures _ (rw (c.new-live.ensures.links, c.new-live.ensures.accepted, c.new-live.ensures.lines) (c.in_ok-begin.ensures c.args.script.now c.args.dial.now)));
+}
+
+pub returns-in_err-begin : goal.returns-in_err-begin
+returns-in_err-begin g c = record {
+  relays = relays_broken _ c.args.script.now c.args.dial.now _ _ (c.in_err-begin.ensures c.args.script.now c.args.dial.now);
 }

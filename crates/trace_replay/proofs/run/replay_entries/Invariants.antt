@@ -5,5 +5,4 @@ use Rattle.trace_replay.proofs.run.replay_entries.Given as goal
 
 abbrev pub invariant-loop-entry : goal.invariant-loop-entry
 invariant-loop-entry g l =
-    HasReplayedFirstEvents l.trace.settings (key_at (g.K.KeyFinder.entries l.keys)) l.trace.entries l.entry-index l.connections l.last (g.S.Sink.state l.fn.sink).held (g.S.Sink.state l.sink).held
-    (g.S.Sink.state l.fn.sink).faults (g.S.Sink.state l.sink).faults
+    HasReplayedFirstEvents l.trace.settings (key_at (g.K.KeyFinder.entries l.keys)) l.trace.entries l.entry-index l.replaying l.fn.out.items l.out.items

@@ -12,12 +12,12 @@ use Rattle.readiness_loop.proofs.book.Book.sweep.Goals as goal
 pub returns-clause-does : goal.returns-clause-does
 returns-clause-does g c =
     due_does
-    (seen (g.S.Sink.state c.args.sink.now) (g.W.Wires.state c.args.wires.now))
-    (seen (g.S.Sink.state c.visit_all.new.sink) (g.W.Wires.state c.visit_all.new.wires))
+    (seen (g.O.Outside.told c.args.outside.now))
+    (seen (g.O.Outside.told c.visit_all.new.outside))
     c.args.when.now.moment (visited kept_ends (rules_of_session (g.K.KeyFinder.entries c.args.keys.now) c.args.when.now.setup) c.args.when.now.moment (visit_of c.args.reason)) c.as_slice.result.now
     (sessions c.args.self.now.slots c.args.self.now.places) _ c.visit_all.result
     (by_moments (rules_of_session (g.K.KeyFinder.entries c.args.keys.now) c.args.when.now.setup) c.args.when.now.moment (visit_of c.args.reason) c.requires.timed)
-    (numbers_rise (g.W.Wires.state c.args.wires.now).opened c.args.self.now.slots c.args.self.now.places c.args.self.now.wake_times.pairs c.requires.order.seated c.requires.order.awaited)
-    (c.as_slice.ensures.value ∙ due_is (g.W.Wires.state c.args.wires.now).opened c.args.when.now.moment c.args.self.now.slots c.args.self.now.places c.args.self.now.wake_times.pairs _ c.requires.order.seated c.requires.order.awaited
+    (numbers_rise (g.O.Outside.told c.args.outside.now).wires.opened c.args.self.now.slots c.args.self.now.places c.args.self.now.wake_times.pairs c.requires.order.seated c.requires.order.awaited)
+    (c.as_slice.ensures.value ∙ due_is (g.O.Outside.told c.args.outside.now).wires.opened c.args.when.now.moment c.args.self.now.slots c.args.self.now.places c.args.self.now.wake_times.pairs _ c.requires.order.seated c.requires.order.awaited
     c.in_ok-due.ensures.ordered c.in_ok-due.ensures.same c.in_ok-due.ensures.sorted)
     c.visit_all.ensures.does

@@ -1,7 +1,8 @@
-use Rattle.std.proofs.Common.{get_or, refl, ◌∙◌, arith}
+use Rattle.std.proofs.Common.{get_or}
 use Rattle.std.proofs.lemmas.Result.{err_from_is_err_and}
 use Rattle.std.proofs.lemmas.Option.{slice_get-get_or}
 use Rattle.readiness_loop.proofs.Sweeps.{swept_none, swept_next, swept_all, swept_breaks}
+use Rattle.readiness_loop.proofs.Quiets.{keeps_all, keeps_then}
 use Rattle.readiness_loop.proofs.book.Book.visit_all.Goals as goal
 
 pub loop-number-init : goal.loop-number-init
@@ -9,7 +10,7 @@ loop-number-init g c = record {
   swept = swept_none _ _ _ _;
   seated = c.requires.seated;
   awaited = c.requires.awaited;
-  keep = record { sunk = omega arith; stay = record { opened = refl; listening = refl; turn_count = refl; count = omega arith } };
+  keep = keeps_all (g.O.Outside.told c.args.outside.now);
 }
 
 pub loop-number-preserved : goal.loop-number-preserved
@@ -18,15 +19,7 @@ loop-number-preserved g c = record {
       (slice_get-get_or c.args.sequence.now c.loop-number.number-index 0 c.loop-number-test.true) c.in_ok-visit.ensures.does;
   seated = c.in_ok-visit.ensures.seated;
   awaited = c.in_ok-visit.ensures.awaited;
-  keep = record {
-    sunk = omega (arith, c.loop-number.invariant.keep.sunk, c.visit.ensures.keep.sunk);
-    stay = record {
-      opened = c.visit.ensures.keep.stay.opened ∙ c.loop-number.invariant.keep.stay.opened;
-      listening = c.visit.ensures.keep.stay.listening ∙ c.loop-number.invariant.keep.stay.listening;
-      turn_count = c.visit.ensures.keep.stay.turn_count ∙ c.loop-number.invariant.keep.stay.turn_count;
-      count = omega (arith, c.loop-number.invariant.keep.stay.count, c.visit.ensures.keep.stay.count);
-    };
-  };
+  keep = keeps_then _ _ _ c.loop-number.invariant.keep c.visit.ensures.keep;
 }
 
 pub returns-in_err-visit-clause-does : goal.returns-in_err-visit-clause-does

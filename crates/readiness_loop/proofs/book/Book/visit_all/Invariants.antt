@@ -10,11 +10,11 @@ use Rattle.readiness_loop.proofs.book.Book.visit_all.Given as goal
 
 abbrev pub invariant-loop-number : goal.invariant-loop-number
 invariant-loop-number g l = record {
-  swept : SweptSome (seen (g.S.Sink.state l.fn.sink) (g.W.Wires.state l.fn.wires))
-      (seen (g.S.Sink.state l.sink) (g.W.Wires.state l.wires))
+  swept : SweptSome (seen (g.O.Outside.told l.fn.outside))
+      (seen (g.O.Outside.told l.outside))
       (visited kept_ends (rules_of_session (g.K.KeyFinder.entries l.keys) l.when.setup) l.when.moment (visit_of l.reason)) l.sequence l.number-index
       (sessions l.fn.self.slots l.fn.self.places) (sessions l.self.slots l.self.places);
-  seated : AreSeated (g.W.Wires.state l.wires).opened l.self.slots l.self.places.entries;
+  seated : AreSeated (g.O.Outside.told l.outside).wires.opened l.self.slots l.self.places.entries;
   awaited : AreAwaited l.self.slots l.self.places l.self.wake_times.pairs;
-  keep : Keep g.S.Sink g.W.Wires l.fn.sink l.sink l.fn.wires l.wires;
+  keep : Keep (g.O.Outside.told l.fn.outside) (g.O.Outside.told l.outside);
 }

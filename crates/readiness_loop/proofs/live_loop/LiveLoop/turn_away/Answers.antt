@@ -7,13 +7,11 @@ pub returns-in_err-write_event-clause-does : goal.returns-in_err-write_event-cla
 returns-in_err-write_event-clause-does g c = λ l is.
     let p = err_from_is_err_and c.from_residual.result c.from_residual.ensures.1 in
     rw (p.1, p.2)
-    (away_breaks (g.S.Sink.state c.args.sink.now) (g.S.Sink.state c.write_event.new.sink)
-    (g.W.Wires.state c.args.wires.now) l c.args.self.now.moment c.args.conn.0 c.args.why c.in_err-write_event.field-0.0 is c.in_err-write_event.ensures.puts)
+    (away_breaks (g.O.Outside.told c.args.outside.now) (g.O.Outside.told c.write_event.new.outside) l c.args.self.now.moment c.args.conn.0 c.args.why c.in_err-write_event.field-0.0 is c.in_err-write_event.ensures.puts)
 
 pub returns-clause-does : goal.returns-clause-does
 returns-clause-does g c = λ l is.
     let number : c.args.conn.0 < 2 ^ 64 = omega arith in
-    away_acted (g.S.Sink.state c.args.sink.now) (g.S.Sink.state c.write_event.new.sink)
-    (g.W.Wires.state c.args.wires.now) (g.W.Wires.state c.close.new.self)
+    away_acted (g.O.Outside.told c.args.outside.now) (g.O.Outside.told c.write_event.new.outside) (g.O.Outside.told c.close.new.self)
     l c.args.self.now.moment c.args.conn.0 c.args.why is
-    (opens_so c.args.self.now.moment c.args.conn.0 c.args.why c.write_event.ensures.within number c.requires) c.in_ok-write_event.ensures.puts c.close.ensures.told c.close.ensures.count
+    (opens_so c.args.self.now.moment c.args.conn.0 c.args.why c.write_event.ensures.within number c.requires) c.in_ok-write_event.ensures.puts c.close.ensures.does

@@ -1,6 +1,7 @@
 -- By what the octets came to.
 use Rattle.std.proofs.Common.{◌≡◌, false, List, ℕ, refl, ap, sym, ◌∙◌, ◌++◌}
 use Rattle.relay_carrier.proofs.Takes.{takes_held, takes_outside, takes_one}
+use Rattle.relay_carrier.proofs.Prompts.{due_most, unit_most}
 use Rattle.relay_carrier.proofs.carrier.Carrier.take.Goals as goal
 
 pub returns-in-Held-clause-given : goal.returns-in-Held-clause-given
@@ -36,3 +37,16 @@ returns-in_ok-due-in-Unit-clause-given c =
     (λ came s.
     takes_one c.units_go_on.ensures c.loads_go_on.ensures c.args.script.now _ _ _ c.args.moment _ _ _ _ came s unclosed
     (rw (sym c.held-in-Unit.ensures) at told) (rw same at c.take-used.ensures.stands) (c.in_ok-due-in-Unit.ensures.unit _ s.counts))
+
+pub returns-in-Held-clause-prompt : goal.returns-in-Held-clause-prompt
+returns-in-Held-clause-prompt c = rw (sym c.self.view_is) (λ came s none most newest moment. newest)
+
+pub returns-in_ok-extend_from_slice-in-Outside-clause-prompt : goal.returns-in_ok-extend_from_slice-in-Outside-clause-prompt
+returns-in_ok-extend_from_slice-in-Outside-clause-prompt c =
+    rw (sym c.self.view_is) (λ came s none most newest moment. due_most _ c.args.moment _ most (c.due_at-due.ensures.due 0 refl) newest moment)
+
+pub returns-in_ok-due-in-Unit-clause-prompt : goal.returns-in_ok-due-in-Unit-clause-prompt
+returns-in_ok-due-in-Unit-clause-prompt c =
+    rw (sym c.self.view_is)
+    (λ came s none most newest moment.
+    unit_most c.args.script.now.lines _ _ _ _ c.args.moment _ most none (c.in_ok-due-in-Unit.ensures.unit _ s.counts).due_is newest moment)

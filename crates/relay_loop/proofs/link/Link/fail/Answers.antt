@@ -1,12 +1,19 @@
 -- By the side that failed.
-use Rattle.std.proofs.lemmas.Result.{on_ok_weaker}
-use Rattle.relay_loop.proofs.LinkCalls.{stays_both, stays_e, stays_r}
+use Rattle.std.proofs.Common.{refl}
+use Rattle.relay_loop.proofs.Results.{both_ok}
+use Rattle.relay_loop.proofs.LinkReads.{news_visit}
 use Rattle.relay_loop.proofs.link.Link.fail.Goals as goal
 
 pub returns-in-E : goal.returns-in-E
 returns-in-E c =
-    on_ok_weaker c.fail.result (λ m. stays_both c.args.self.now _ _ (stays_e c.args.self.now c.fail.new.failed (λ s. (m s).0)) (stays_r _ c.fail.new.towards (λ s. (m s).1))) c.fail.ensures
+    both_ok c.fail.result
+    (λ moves puts script t.
+    news_visit script c.args.at.number c.args.self.now _ _ _ t c.requires.number puts refl refl refl (moves script).0 (moves script).1)
+    c.fail.ensures.moves c.fail.ensures.puts
 
 pub returns-in-R : goal.returns-in-R
 returns-in-R c =
-    on_ok_weaker c.fail-in-R.result (λ m. stays_both c.args.self.now _ _ (stays_r c.args.self.now c.fail-in-R.new.failed (λ s. (m s).0)) (stays_e _ c.fail-in-R.new.towards (λ s. (m s).1))) c.fail-in-R.ensures
+    both_ok c.fail-in-R.result
+    (λ moves puts script t.
+    news_visit script c.args.at.number c.args.self.now _ _ _ t c.requires.number puts refl refl refl (moves script).1 (moves script).0)
+    c.fail-in-R.ensures.moves c.fail-in-R.ensures.puts

@@ -1,8 +1,25 @@
 -- Above the most it is turned away.
-use Rattle.std.proofs.lemmas.Result.{on_ok_weaker}
-use Rattle.relay_loop.proofs.RelayAccepts.{accepts_none}
+use Rattle.std.proofs.Common.{◌+◌, refl}
+use Rattle.std.proofs.lemmas.Result.{err_from_is_err_and}
+use Rattle.relay_loop.proofs.RelayAccepts.{readies_open, readies_end, accept_at_once}
+use Rattle.relay_loop.proofs.RelayDials.{open_line_text_is}
 use Rattle.relay_loop.proofs.live_relay.LiveRelay.accept.Goals as goal
 
-pub returns-then-len-ge-MOST_CONNECTIONS : goal.returns-then-len-ge-MOST_CONNECTIONS
-returns-then-len-ge-MOST_CONNECTIONS g c =
-    on_ok_weaker c.turn_away.result (λ i script. rw c.turn_away.ensures.links (accepts_none script c.args.conn.0 c.args.self.now.links.items _ _ i)) c.turn_away.ensures.idles
+pub returns-in_err-put_open-clause-accepts : goal.returns-in_err-put_open-clause-accepts
+returns-in_err-put_open-clause-accepts g c = λ script.
+    let p = err_from_is_err_and c.from_residual.result c.from_residual.ensures.1 in
+    rw (p.1, p.2) (accept_at_once _ script c.args.dial.now _ _ c.args.conn.0 _ _ _ refl)
+
+pub returns-then-len-ge-MOST_CONNECTIONS-clause-accepts : goal.returns-then-len-ge-MOST_CONNECTIONS-clause-accepts
+returns-then-len-ge-MOST_CONNECTIONS-clause-accepts g c = λ script.
+    readies_end c.turn_away.result script c.args.dial.now _ _ (c.args.self.now.accepted + 1) c.args.conn.0 _ _ _ _ _ _ _ _
+    (readies_open script c.args.dial.now c.args.self.now.moment (c.args.self.now.accepted + 1) c.args.conn.0 _ _ _ _
+    (open_line_text_is _ _ c.args.self.now.moment (c.args.self.now.accepted + 1) c.in_ok-put_open.ensures))
+    (c.turn_away.ensures.accepts script c.args.dial.now)
+
+pub returns-clause-accepts : goal.returns-clause-accepts
+returns-clause-accepts g c = λ script.
+    readies_end c.dial.result script c.args.dial.now _ _ (c.args.self.now.accepted + 1) c.args.conn.0 _ _ _ _ _ _ _ _
+    (readies_open script c.args.dial.now c.args.self.now.moment (c.args.self.now.accepted + 1) c.args.conn.0 _ _ _ _
+    (open_line_text_is _ _ c.args.self.now.moment (c.args.self.now.accepted + 1) c.in_ok-put_open.ensures))
+    (c.dial.ensures.accepts script)

@@ -1,0 +1,10 @@
+mod Steadies
+mod Turning
+mod Telling
+mod Doing
+mod Alone
+mod Rooms
+mod Firsts
+mod Beginnings
+mod Takings
+mod Claimed

@@ -1,0 +1,33 @@
+//! The laws of a loop with an application, each as a function of which its contract is the statement: they run nothing.
+
+ghost use Rattle.application_model.specs.Laws.{ServiceIsAsClaimed, WaitsForRoomAlone, ToldBeginsTheJournal, DoneBeginsTheAsked, AllAskedIsDone, HasWordsOfRecording};
+
+/// Whatever comes, the application is told in turn, its lines are done in turn, each connection goes by its own events, and what a live connection accepted is
+/// taken and told in order, or waits. Refuses that a message is taken for an application that isn't there, that a line is told twice, and that a send to a
+/// connection that is gone is dropped silently.
+pub fn service_is_as_claimed()
+    ensures { ServiceIsAsClaimed }
+{}
+
+/// A message waits for nothing but room and an application. Refuses a loop that takes nothing, or one message a turn.
+pub fn waits_for_room_alone()
+    ensures { WaitsForRoomAlone }
+{}
+
+/// What an application was told of a connection, at each moment, begins the lines of its journal from where it attached on. Refuses that a line is told before
+/// its event.
+pub fn told_begins_the_journal()
+    ensures { ToldBeginsTheJournal }
+{}
+
+/// What was done of the application's lines, at each moment, begins what they asked for, in order; and where nothing is owed it is all of that. Refuses that a
+/// `send` is an event twice, or at another connection, and a release that no line asked for.
+pub fn done_begins_the_asked()
+    ensures begins { DoneBeginsTheAsked }
+    ensures all { AllAskedIsDone }
+{}
+
+/// The lines to the application have the words of the recording.
+pub fn words_are_the_recordings()
+    ensures { HasWordsOfRecording }
+{}

@@ -1,0 +1,4 @@
+-- What this crate states: its definitions, by module.
+pub mod Texts
+pub mod Refusals
+pub mod Laws

@@ -1,0 +1,2 @@
+-- What this crate states: its definitions, by module.
+pub mod Sides

@@ -1,0 +1,63 @@
+//! What an end promises, as facts that a caller can cite. The functions do nothing; their contracts are the laws.
+
+ghost use Rattle.er_end_promises.specs.AfterRelease.{EndsRestOnceReleased, ReleaseIsToldAtOnce};
+ghost use Rattle.er_end_promises.specs.Calls.{CallsInTurn, CallsTellDeeds};
+ghost use Rattle.er_end_promises.specs.Order.{TakenBeginsAccepted, TakenInOrder};
+ghost use Rattle.er_end_promises.specs.Verified.{AcceptedWereBrought, AcceptsOneAtMost, AcceptsVerifiedAlone, VerifiedAreAccepted};
+
+use er_end::laws::{keeping, standing};
+use er_end_model::laws::{events_give, events_speak_once, octets_are_heard, releases};
+use safety_automaton::laws::accepts_verified;
+
+/// A released end hears nothing and says nothing: no event makes it accept a message, connect, or give octets to the line. A send is refused with its
+/// release, a take still gives the messages that waited, and what its calls that read tell stays.
+pub fn rests_after_release()
+    ensures { EndsRestOnceReleased }
+{}
+
+/// A release is told by the call that releases, with its reason, and by no other.
+pub fn release_is_told()
+    ensures { ReleaseIsToldAtOnce }
+{
+    standing();
+    releases();
+}
+
+/// A message is accepted only where its MAC verified under the session keys, at an end that is connected and not released, and one event accepts one at
+/// the most. Octets that its calls were given brought it.
+pub fn accepted_are_verified()
+    ensures verified { AcceptsVerifiedAlone }
+    ensures one { AcceptsOneAtMost }
+    ensures brought { AcceptedWereBrought }
+{
+    keeping();
+    standing();
+    octets_are_heard();
+    accepts_verified();
+}
+
+/// And each such message is accepted, by the call that was given its last octets.
+pub fn verified_are_accepted()
+    ensures { VerifiedAreAccepted }
+{
+    standing();
+    events_give();
+    events_speak_once();
+    accepts_verified();
+    accepted_are_verified();
+}
+
+/// What the user takes is the oldest message that was accepted and not taken: what was taken is a beginning of what was accepted, and the rest waits.
+pub fn taken_in_order()
+    ensures each { TakenInOrder }
+    ensures opened { TakenBeginsAccepted }
+{
+    keeping();
+}
+
+/// What a call answers, and what the end lends behind it, is what the call tells; and what calls tell one after the other is what each tells, in turn. By
+/// these a loop over calls is proved.
+pub fn calls_in_turn()
+    ensures deeds { CallsTellDeeds }
+    ensures turn { CallsInTurn }
+{}
