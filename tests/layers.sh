@@ -26,6 +26,12 @@ if sources | xargs -r grep -nE '\b(AllocError|AllocFailed)\b|::OutOfMemory\b' /d
   status=1
 fi
 
+# The program's main makes the real objects and calls what is proved of them: it stays short enough to be read whole.
+if [ "$(wc -l < crates/euroradio/src/main.rt)" -gt 300 ]; then
+  echo "crates/euroradio/src/main.rt has more than 300 lines"
+  status=1
+fi
+
 # crates.txt is the map: a crate lists the libraries that its own files name, and no other.
 if ! python3 - << 'PY'
 import os, re, sys
