@@ -81,8 +81,8 @@ extern "C" {
 #endif
 
 /* The version of this header, as euroradio_version answers it: 100 times the major number, and the minor one. */
-#define EURORADIO_VERSION 200
-#define EURORADIO_VERSION_TEXT "2.0" /* the same for people */
+#define EURORADIO_VERSION 201
+#define EURORADIO_VERSION_TEXT "2.1" /* the same for people */
 
 /* A handle. */
 typedef struct euroradio_end {
@@ -101,7 +101,7 @@ typedef struct euroradio_end {
 #define EURORADIO_RELEASED 1      /* send: the end is released; nothing was sent */
 #define EURORADIO_NOT_CONNECTED 2 /* send: the safe connection doesn't stand yet; nothing was sent */
 #define EURORADIO_LENGTH 3        /* send: a message has 1 to 1,023 octets; nothing was sent */
-#define EURORADIO_FULL 4          /* send: 16 messages wait to be sent; nothing was sent */
+#define EURORADIO_FULL 4          /* send: 16 messages wait to be sent, as euroradio_unsent tells; nothing was sent */
 #define EURORADIO_NONE 5          /* take: no message waits; deadline: no tick is wanted; released, connected: no */
 #define EURORADIO_CLOSED (-1)     /* the handle holds no end */
 #define EURORADIO_OPEN (-2)       /* the handle holds an end already */
@@ -115,6 +115,7 @@ typedef struct euroradio_end {
 #define EURORADIO_MESSAGE_MOST 1023                  /* octets of a message */
 #define EURORADIO_OUT_MOST 200208                    /* octets that one event sends, at most */
 #define EURORADIO_WAITING_MOST 15                    /* accepted messages that wait to be taken, at most */
+#define EURORADIO_UNSENT_MOST 16                     /* messages that wait to be sent, at most */
 #define EURORADIO_MOMENT_MOST UINT64_C(1000000000000000) /* 10^15: the last moment, in milliseconds */
 
 /* What both ends of a link agree on. EURORADIO_SETTINGS_INIT has the usual values. */
@@ -311,6 +312,14 @@ int32_t euroradio_deadline(euroradio_end *end, uint64_t *moment);
 /* How many accepted messages wait to be taken, at most EURORADIO_WAITING_MOST; 0 where the handle holds no end. No
  * reader of a lock: see THREADS. */
 size_t euroradio_waiting(euroradio_end *end);
+
+/* How many messages wait to be sent: the last segment of each wasn't handed down to the link yet, since the peer granted
+ * no credit for it or the window is full. At most EURORADIO_UNSENT_MOST; while so many wait, and only then, a send is
+ * refused as FULL: a program that asks first can leave its own messages where they are, and those that it relays
+ * untaken. It falls as octets come. A message that isn't among them was handed down, and may be lost with the link all
+ * the same. Behind a release it stays as it is: so many never went. 0 where the handle holds no end. No reader of a
+ * lock: see THREADS. Since version 2.1. */
+size_t euroradio_unsent(euroradio_end *end);
 
 /* Whether and why the end is released, at any time: at OK deeds->released is 1, deeds->reason, sub and by_peer say
  * why, and all else is zero; at NONE it isn't released. No reader of a lock: see THREADS. Answers OK, NONE; CLOSED. */

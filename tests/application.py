@@ -1,4 +1,6 @@
-"""For application.sh beside it: application.py FOLDER. A fake of the loop's side of an application's socket, and what the examples say to it."""
+"""For application.sh beside it: application.py FOLDER. Fakes of the loop's side of an application's socket, and what the examples say to it, over a broker too."""
+import atexit
+import functools
 import os
 import re
 import signal
@@ -6,6 +8,10 @@ import socket
 import subprocess
 import sys
 import time
+
+sys.dont_write_bytecode = True
+
+import sites  # noqa: E402
 
 WORK = sys.argv[1]
 GRAMMAR = re.compile(r"(send [0-9]+ (-|([0-9a-fA-F]{2})+)|release [0-9]+ [0-9]{1,3}|drain|keys|counts)")
@@ -45,7 +51,10 @@ class Loop:
 
 
 def started(example, loop, *words):
-    return subprocess.Popen([sys.executable, f"examples/application/{example}.py", loop.path, *words], stdin=subprocess.PIPE, stdout=subprocess.PIPE, text=True)
+    words = [sys.executable, f"examples/application/{example}.py", loop.path, *words]
+    program = subprocess.Popen(words, stdin=subprocess.PIPE, stdout=subprocess.PIPE, text=True)
+    atexit.register(program.kill)
+    return program
 
 
 def ended(program, status=0):
@@ -136,13 +145,153 @@ def train_is_released():
     ended(program, 1)
 
 
+def bridge_passes_requests(programs):
+    """It attaches once a centre is there; what is asked reaches the connection it is meant for, once, or is answered `gone` or `fault`."""
+    programs.start_broker()
+    site = sites.Site(programs.folder, "first.site")
+    all_sites = [site]
+    programs.start_bridge(site)
+    began = time.monotonic()
+    sites.run(all_sites, lambda: time.monotonic() > began + 1)
+    assert site.line is None, "it attached before a centre was there"
+    programs.start_centre()
+    train = sites.Train(5)
+    train.goal = 1
+    site.call(train)
+    sites.run(all_sites, lambda: train.answered == 1)
+    where = programs.printed("connected")[0][0]
+    of_loop = "euroradio/first.site/asked"
+    name, run, conn, peer = where.split("/")
+    asked = [f"{of_loop}/{way}" for way in (f"{run}/{conn}/{peer}", f"{run}/{conn}/6", f"00000000/{conn}/{peer}", f"{run}/2/{peer}")]
+    train.awaited.extend("ab")
+    site.heard.clear()
+    programs.publish(asked[0], "send 61 #a.1", asked[0], "send 61 #a.1", asked[1], "send 63", asked[2], "send 63", asked[3], "release 3")
+    programs.publish(asked[0], "send 62\ndrain", asked[0], "send", asked[0], "drain", of_loop, "send 1 63", of_loop, "stop", of_loop + "/1", "counts")
+    programs.publish(asked[0], "send 62 #b.1", of_loop, "counts", of_loop, "keys", asked[0], "release 7", of_loop, "drain")
+    sites.run(all_sites, lambda: "drain" in site.heard)
+    assert site.heard == ["send 1 61", "send 1 62", "counts", "keys", "release 1 7", "drain"], site.heard
+    site.tell("message 1 " + REPORTS[0])
+    site.tell("fault 4 word")
+    sites.run(all_sites, lambda: len(programs.printed("fault")) == 7 and len(programs.printed("gone")) == 4)
+    programs.publish("euroradio/centre", "gone")
+    site.tell("fault 5 word")
+    began = time.monotonic()
+    sites.run(all_sites, lambda: time.monotonic() > began + 1)
+    assert len(programs.printed("fault")) == 7, "it was read while no centre was there"
+    programs.publish("euroradio/centre", "here")
+    sites.run(all_sites, lambda: len(programs.printed("fault")) == 8)
+    # The last is the answer to a message that waited behind the release.
+    assert [row[0].split("/", 1)[1] for row in programs.printed("gone")] == [f"{run}/1/6", "00000000/1/5", f"{run}/2/5", f"{run}/1/5"]
+    assert programs.printed("fault")[-2:] == [[name, "4", "word"], [name, "5", "word"]]
+    assert programs.printed("counts") + programs.printed("keys") == [[name, "1", "1", "1", "0"], [name, "2"]]
+    assert programs.printed("released") == [[where, "0", "7", "local"]]
+
+
+def centre_repeats_and_goes_on(programs):
+    """What was refused as full is said again, and what was refused otherwise isn't. What was told while no centre was there a new one answers."""
+    programs.start_broker()
+    site = sites.Site(programs.folder, "site")
+    programs.start_bridge(site)
+    programs.start_centre()
+    train = sites.Train(9)
+    site.call(train)
+    sites.run([site], lambda: not train.awaited)
+    train.awaited.append("c")
+    site.tell("message 1 61\nrefused 1 61 notconnected\nrefused 1 62 released 0 0\nrefused 1 63 full 16")
+    sites.run([site], lambda: not train.awaited)
+    assert site.heard == [f"send 1 {b'welcome-train-9'.hex()}", "send 1 63"], site.heard
+    programs.stop("centre", subprocess.Popen.kill)
+    train.goal = 4
+    train.report()
+    sites.run([site], lambda: not site.untold)
+    programs.start_centre()
+    sites.run([site], lambda: not train.awaited)
+
+
+def trains_over_a_broker(programs):
+    """Sixty trains at three sites hear each answer once, in order: a site is killed with its bridge and comes back, a loop ends, the broker is stopped."""
+    programs.start_broker()
+    programs.start_centre()
+    first, second, third = all_sites = [sites.Site(programs.folder, f"site-{number}") for number in (1, 2, 3)]
+    for site in all_sites:
+        programs.start_bridge(site)
+    trains = [sites.Train(number) for number in range(1, 61)]
+    for train in trains:
+        all_sites[train.number % 3].call(train)
+
+    def until(answers):
+        sites.run(all_sites, lambda: sum(train.answered for train in trains) >= answers * len(trains))
+
+    def towards(goal):
+        for train in trains:
+            train.goal = goal
+            train.report()
+
+    towards(10)
+    until(10)
+    towards(20)
+    until(13)
+    programs.stop("site-3", subprocess.Popen.kill)
+    all_sites.remove(third)
+    for train in third.end():
+        all_sites[train.number % 2].call(train)
+    programs.publish("euroradio/site-3/asked", "drain")
+    until(20)
+    towards(30)
+    until(23)
+    here = second.end()
+    for site in (second, third):
+        site.begin()
+    programs.start_bridge(third)
+    all_sites.append(third)
+    for train in reversed(here):
+        (second, third)[train.number % 2].call(train)
+    until(30)
+    towards(40)
+    until(33)
+    programs.stop("broker")
+    for train in first.trains.values():
+        train.ahead, train.more = 60, "." * 900
+    towards(100)
+    began = time.monotonic()
+    sites.run(all_sites, lambda: time.monotonic() > began + 2 and len(first.untold) < 800)
+    assert first.untold, "more was taken than bounded memory bears"
+    programs.start_broker()
+    until(100)
+    for site in all_sites:
+        for conn in list(site.trains):
+            site.release(conn, 0, "peer")
+    sites.run(all_sites, lambda: len(programs.printed("released")) == len(trains))
+    assert "drain" not in third.heard, "it heard what was asked of the bridge before it"
+    told = [tuple(row) for row in programs.printed("connected")]
+    assert len(told) == len(set(told)) == first.calls + second.calls + third.calls
+
+
+# Whoever ends this ends what it started.
+signal.signal(signal.SIGTERM, lambda *_: sys.exit(1))
 passed = failed = 0
-for test in (centre_answers, centre_comes_back, centre_reads_while_it_writes, train_reports, train_is_released):
+tests = [centre_answers, centre_comes_back, centre_reads_while_it_writes, train_reports, train_is_released]
+between = sites.found()
+if between is None:
+    print("skipped: the cases with a broker, since mosquitto or python3-paho-mqtt isn't installed")
+
+
+def with_programs(test):
+    """The test with programs that end with it, in a folder of its own."""
+    @functools.wraps(test)
+    def whole():
+        with sites.Programs(os.path.join(WORK, test.__name__), *between) as programs:
+            test(programs)
+    return whole
+
+
+tests += [with_programs(test) for test in (bridge_passes_requests, centre_repeats_and_goes_on, trains_over_a_broker) if between]
+for test in tests:
     began = time.monotonic()
     try:
         test()
         passed += 1
-    except (AssertionError, OSError, subprocess.TimeoutExpired) as fault:
+    except (AssertionError, OSError, subprocess.SubprocessError) as fault:
         failed += 1
         print(f"{test.__name__}: {type(fault).__name__} {fault} after {time.monotonic() - began:.1f} s")
 print(f"{passed} passed, {failed} failed")

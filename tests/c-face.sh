@@ -184,7 +184,7 @@ for change in 's/uint32_t me, uint32_t peer,/uint32_t me, uint64_t peer,/' 's/ui
   's/uint8_t sub, euroradio_deeds/uint32_t sub, euroradio_deeds/' 's/^int32_t euroradio_tick/uint32_t euroradio_tick/' \
   's/^size_t euroradio_out(euroradio_end \*end, size_t from, /size_t euroradio_out(euroradio_end *end, /' '/^size_t euroradio_waiting/d' \
   's/_NUMBER (-4)/_NUMBER (-5)/' 's/_FULL 4 /_FULL 3 /' 's/    uint8_t back; .*//' 's/    size_t used; /    uint32_t used; /' \
-  '/uint32_t window;/{h;d};/uint32_t credit;/G' 's/ const uint64_t kmac\[3\]/ const uint64_t kmac[2]/' 's/1000000000000000/100000000000000/' 's/200208/200207/' \
+  '/uint32_t window;/{h;d};/uint32_t credit;/G' 's/ const uint64_t kmac\[3\]/ const uint64_t kmac[2]/' 's/1000000000000000/100000000000000/' 's/200208/200207/' 's/_UNSENT_MOST 16/_UNSENT_MOST 15/' \
   's/    void \*private_end;/    uint64_t private_end;/' 's/    uint64_t kmac\[3\];/    uint64_t kmac[4];/' 's/_VERSION [0-9]*/_VERSION 1/' \
   's/const uint8_t \*keys,/uint8_t *keys,/' 's/_VERSION_TEXT "[0-9.]*"/_VERSION_TEXT "1.0"/' 's/_KEY_HEX 4/_KEY_HEX 5/' 's/EURORADIO_WHY(3, 1)/EURORADIO_WHY(3, 2)/' \
   's/(reason) \* 256/(reason) * 100/' 's/ uint64_t key\[3\]/ uint64_t *key/' 's/    size_t other; .*//'; do

@@ -41,10 +41,14 @@ CLAIMS = [
     ("One end's audit", "tap_laws/specs/OneEnd"),
     ("An audit on any line", "tap_laws/specs/AnyLine"),
     ("What an audit calls good was sent", "tap_laws/specs/Genuine"),
-    ("What an end promises", "er_end_promises/specs/Verified", "er_end_promises/specs/AfterRelease", "er_end_promises/specs/Order"),
+    ("What an end promises", "er_end_promises/specs/Verified", "er_end_promises/specs/AfterRelease", "er_end_promises/specs/Order",
+     "er_end_promises/specs/Sending"),
     ("An outside whose recording goes first", "recorded/specs/Recordings"),
+    ("What is counted of a journal", "counted/specs/Counting"),
+    ("Recorded before it goes, inside", "recorded_runs/specs/Inside"),
     ("What a relay did", "relay_loop/specs/Laws"),
     ("A loop with an application", "application_model/specs/Laws"),
+    ("The stack's ends under an application", "application_ends/specs/Laws"),
     ("Calls on one handle in C", "er_end_c/specs/Runs"),
 ]
 # Files that are marked `-- Representation:` and named by an exported clause all the same: docs/CLAIMS.md tells them.

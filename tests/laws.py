@@ -10,7 +10,7 @@ import sys
 
 TOP = os.path.dirname(os.path.dirname(os.path.abspath(__file__)))
 GHOST = re.compile(r"^ghost use Rattle\.(\w+)\.specs\.(\w+)\.\{([^}]*)\};", re.M)
-LAW = re.compile(r"((?:^///[^\n]*\n)*)^pub fn (\w+)\(([^)]*)\)[^\n]*\n(.*?)^\{", re.M | re.S)
+LAW = re.compile(r"((?:^///[^\n]*\n)*)^pub fn (\w+)(?:<[^>]*>)?\(([^)]*)\)[^\n]*\n(.*?)^\{", re.M | re.S)
 WORD = re.compile(r"(?<![\w.])[A-Za-z_◌]\w*")
 
 

@@ -32,6 +32,14 @@ if [ "$(wc -l < crates/euroradio/src/main.rt)" -gt 300 ]; then
   status=1
 fi
 
+# The loop writes its header alone as plain octets: the lines of each event are recorded with what they count.
+if sources | grep -E '^crates/(loop_session|loop_io|readiness_loop)/src/' | xargs -r grep -nE '\.write\(|\bwrite_lines\(' /dev/null |
+  grep -vE '^crates/loop_session/src/event_lines.rt:[0-9]+: +match outside\.write\(lines\) \{$' |
+  grep -vE '^crates/readiness_loop/src/serving.rt:[0-9]+: +write_lines\(line\.as_slice\(\), outside\)$'; then
+  echo "the loop writes what isn't its header without a tally"
+  status=1
+fi
+
 # crates.txt is the map: a crate lists the libraries that its own files name, and no other.
 if ! python3 - << 'PY'
 import os, re, sys

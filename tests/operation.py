@@ -444,7 +444,7 @@ for _ in range(8):
 status, rest = server.end(None)
 check(status == 0 and server.replays(), f"a server ends by its turns: {status}")
 line = rest.splitlines()[-1:] or [""]
-counted = re.match(r"euroradio: connections (\d+), turned away 0, connected (\d+), messages accepted (\d+), said (\d+), refused 0, frames (\d+), bad 0", line[0])
+counted = re.match(r"euroradio: connections (\d+), turned away 0, connected (\d+), messages accepted (\d+), said (\d+), refused 0, ignored 0", line[0])
 with open(server.recording) as f:
     text = f.read()
 for what, word in ((1, r"> \d+ \d+ answer "), (2, r"< \d+ connected "), (3, r"< \d+ accepted "), (4, r"> \d+ \d+ send ")):
@@ -466,7 +466,7 @@ with socket.create_connection((host, int(port))) as line:
             pass
         time.sleep(0.02)
 status, rest = server.end(None)
-check(status == 0 and "frames 1, bad 3" in rest, f"bad frames are counted: {status} {rest}")
+check(status == 0 and "refused 0, ignored 3" in rest, f"bad frames are counted: {status} {rest}")
 
 # ---- an interrupt
 

@@ -30,10 +30,11 @@ static const euroradio_key keys[] = {
 static struct session session;
 static int has_left;
 
-/* What the centre does behind each event: it sends each message back, and notes how the train leaves. */
+/* What the centre does behind each event: it sends each message back, and notes how the train leaves. While as many
+ * messages wait to be sent as may, it takes none: the train's credit runs out then, and the train waits too. */
 static void user(struct session *it, const euroradio_deeds *deeds) {
     uint8_t text[EURORADIO_MESSAGE_MOST];
-    if (deeds->message > 0)
+    while (euroradio_waiting(&it->end) > 0 && euroradio_unsent(&it->end) < EURORADIO_UNSENT_MOST)
         session_send(it, text, session_take(it, text));
     if (deeds->released)
         has_left = deeds->by_peer && deeds->reason == 0;

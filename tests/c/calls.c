@@ -391,6 +391,7 @@ static void judge_closed(euroradio_end *end) {
     CHECK(euroradio_taken(end, octets, 4) == 0);
     CHECK(octets[0] == 1 && octets[1] == 2 && octets[2] == 3 && octets[3] == 4);
     CHECK(euroradio_waiting(end) == 0);
+    CHECK(euroradio_unsent(end) == 0);
     euroradio_free(end);
     CHECK(before.private_open != end->private_open || is_same(end, &before));
 }
@@ -592,6 +593,42 @@ static void refusals(void) {
     CHECK(heap_blocks == 0);
 }
 
+/* What waits to be sent: a send is refused as FULL exactly while 16 messages wait, and all that were sent come. Behind a
+ * release they wait for good. */
+static void unsent(void) {
+    struct wire wire;
+    uint8_t text[EURORADIO_MESSAGE_MOST];
+    size_t before;
+    int32_t status;
+    int sent = 0;
+    int i;
+    memset(text, 0x41, sizeof text);
+    CHECK(open_wire(&wire, &usual));
+    CHECK(euroradio_unsent(&wire.engine.end) == 0 && euroradio_unsent(&wire.centre.end) == 0);
+    set_up(&wire);
+    CHECK(euroradio_unsent(&wire.engine.end) == 0 && euroradio_unsent(&wire.centre.end) == 0);
+    for (i = 0; i < 60; i++) {
+        before = euroradio_unsent(&wire.engine.end);
+        CHECK(before <= EURORADIO_UNSENT_MOST);
+        status = send_text(&wire, &wire.engine, text, sizeof text);
+        CHECK(status == (before < EURORADIO_UNSENT_MOST ? EURORADIO_OK : EURORADIO_FULL));
+        sent += status == EURORADIO_OK;
+    }
+    CHECK(euroradio_unsent(&wire.engine.end) == EURORADIO_UNSENT_MOST);
+    CHECK(euroradio_unsent(&wire.centre.end) == 0);
+    CHECK(sent >= EURORADIO_UNSENT_MOST && sent < 60);
+    run(&wire);
+    CHECK(euroradio_unsent(&wire.engine.end) == 0);
+    CHECK(wire.centre.accepted == sent && wire.centre.taken == sent);
+
+    for (i = 0; i < 60; i++)
+        (void)send_text(&wire, &wire.engine, text, sizeof text);
+    leave(&wire, &wire.engine, 7);
+    CHECK(euroradio_unsent(&wire.engine.end) == EURORADIO_UNSENT_MOST);
+    close_wire(&wire);
+    CHECK(heap_blocks == 0);
+}
+
 /* The peer's release, and the three of the line. */
 static void releases(void) {
     struct wire wire;
@@ -789,6 +826,7 @@ int main(void) {
     moments_back();
     starts();
     refusals();
+    unsent();
     releases();
     connections();
     copies();

@@ -90,6 +90,50 @@ static void waiting(void) {
     CHECK(heap_blocks == 0);
 }
 
+/* The engine sends its next messages while fewer than 16 wait to be sent, and the centre sends back each that it takes on
+ * the same terms, until nothing moves. */
+static void exchange(struct wire *wire, uint8_t *sent, uint8_t last) {
+    do {
+        run(wire);
+        while (*sent < last && euroradio_unsent(&wire->engine.end) < EURORADIO_UNSENT_MOST) {
+            ++*sent;
+            CHECK(send_text(wire, &wire->engine, sent, 1) == EURORADIO_OK);
+        }
+        while (euroradio_waiting(&wire->centre.end) > 0 &&
+               euroradio_unsent(&wire->centre.end) < EURORADIO_UNSENT_MOST) {
+            CHECK(take(wire, &wire->centre) == EURORADIO_OK);
+            CHECK(send_text(wire, &wire->centre, wire->centre.text, wire->centre.text_length) == EURORADIO_OK);
+        }
+    } while (wire->engine.length > 0 || wire->centre.length > 0);
+}
+
+/* While the engine takes nothing both stop, with all places full; then each message comes back, once and in order. */
+static void echoes(void) {
+    enum { LAST = 200 };
+    euroradio_settings settings = EURORADIO_SETTINGS_INIT;
+    struct wire wire;
+    uint8_t sent = 0;
+    uint8_t back;
+    CHECK(open_wire(&wire, &settings));
+    wire.keeps = 1;
+    set_up(&wire);
+    exchange(&wire, &sent, LAST);
+    CHECK(sent < LAST);
+    CHECK(euroradio_unsent(&wire.engine.end) == EURORADIO_UNSENT_MOST);
+    CHECK(euroradio_unsent(&wire.centre.end) == EURORADIO_UNSENT_MOST);
+    CHECK(sent == wire.engine.accepted + EURORADIO_UNSENT_MOST + (int)euroradio_waiting(&wire.centre.end) +
+                      EURORADIO_UNSENT_MOST);
+    for (back = 1; back <= LAST; back++) {
+        CHECK(take(&wire, &wire.engine) == EURORADIO_OK);
+        CHECK(wire.engine.text_length == 1 && wire.engine.text[0] == back);
+        exchange(&wire, &sent, LAST);
+    }
+    CHECK(sent == LAST && euroradio_unsent(&wire.engine.end) == 0 && euroradio_unsent(&wire.centre.end) == 0);
+    CHECK(take(&wire, &wire.engine) == EURORADIO_NONE);
+    close_wire(&wire);
+    CHECK(heap_blocks == 0);
+}
+
 /* Random octets, and frames of which an octet is altered, come to both ends: what is told stays in its bounds. */
 static void noise(unsigned seed) {
     euroradio_settings settings = EURORADIO_SETTINGS_INIT;
@@ -140,6 +184,7 @@ int main(void) {
         for (k = 0; k < sizeof pieces / sizeof pieces[0]; k++)
             messages(&settings[i], pieces[k]);
     waiting();
+    echoes();
     for (i = 0; i < 20; i++)
         noise((unsigned)i);
     return checked("wired");

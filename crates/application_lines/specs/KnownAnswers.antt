@@ -14,8 +14,10 @@ use Rattle.application_lines.specs.declared.request.Request.TheVariants as reque
 use Rattle.application_lines.specs.Requests.{request_said}
 use Rattle.application_lines.specs.Streams.{pieces_tell, stream_says}
 use Rattle.application_lines.specs.Standings.{LineStanding, at_first_line, at_last_piece, says_from, line_standing_from}
-use Rattle.application_lines.specs.Notices.{EndReleased, Unconnected, OfLength, Overfull, Connected, Message, Refused, Released, Gone, Counts, Keys, KeysFault, Fault, notice_words}
-use Rattle.application_lines.specs.NoticeReadings.{connected_notice_in, message_notice_in, refusal_in, refused_notice_in, released_notice_in, gone_notice_in, counts_notice_in, keys_notice_in, fault_notice_in, notice_in, notices_in}
+use Rattle.application_lines.specs.Notices.{EndReleased, Unconnected, OfLength, Overfull, Connected, Message, Refused, Released, Gone, Counts, Keys, KeysFault}
+use Rattle.application_lines.specs.Notices.{Fault, notice_words}
+use Rattle.application_lines.specs.NoticeReadings.{connected_notice_in, message_notice_in, refusal_in, refused_notice_in, released_notice_in, gone_notice_in}
+use Rattle.application_lines.specs.NoticeReadings.{counts_notice_in, keys_notice_in, fault_notice_in, notice_in, notices_in}
 use Rattle.application_lines.specs.NoticeLaws.{told_so}
 
 pub each_request :
@@ -53,7 +55,8 @@ pub each_notice :
     ∷ Refused 2 (1 ∷ []) (Overfull 16) ∷ Released 4 (record { reason = 0; sub = 9; by_peer = true })
     ∷ Released 4 (record { reason = 1; sub = 5; by_peer = false }) ∷ Gone 3 ∷ Counts 1 2 3 4 ∷ Keys 5
     ∷ KeysFault (codes "twice" ∷ codes "1" ∷ codes "2" ∷ []) ∷ KeysFault (codes "fetch" ∷ []) ∷ Fault 9 Long ∷ [])
-unfolding notices_in notice_in connected_notice_in message_notice_in refusal_in refused_notice_in released_notice_in gone_notice_in counts_notice_in keys_notice_in fault_notice_in lines_of rows_of words_of decimal_of number_argument octets_argument text_argument octets_spelled decode_pairs
+unfolding notices_in notice_in connected_notice_in message_notice_in refusal_in refused_notice_in released_notice_in gone_notice_in counts_notice_in
+    keys_notice_in fault_notice_in lines_of rows_of words_of decimal_of number_argument octets_argument text_argument octets_spelled decode_pairs
 each_notice = refl
 
 pub printed_notices :

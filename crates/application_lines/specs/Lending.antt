@@ -5,7 +5,8 @@ use Rattle.application_lines.specs.declared.notice.Notice.{Notice}
 use Rattle.application_lines.specs.declared.notice.Notice.TheVariants as lent
 use Rattle.application_lines.specs.declared.notice.Refusal.{Refusal}
 use Rattle.application_lines.specs.declared.notice.Refusal.TheVariants as refusal
-use Rattle.application_lines.specs.Notices.{NoticeRefusal, EndReleased, Unconnected, OfLength, Overfull, ApplicationNotice, Connected, Message, Refused, Released, Gone, Counts, Keys, KeysFault, Fault}
+use Rattle.application_lines.specs.Notices.{NoticeRefusal, EndReleased, Unconnected, OfLength, Overfull, ApplicationNotice, Connected, Message, Refused}
+use Rattle.application_lines.specs.Notices.{Released, Gone, Counts, Keys, KeysFault, Fault}
 
 abbrev pub refusal_lent : Refusal → NoticeRefusal
 refusal_lent (refusal.Released reason sub) = EndReleased reason sub

@@ -12,7 +12,8 @@ use Rattle.application_lines.specs.declared.request.Request.TheVariants as reque
 use Rattle.application_lines.specs.declared.request_name.RequestName.TheVariants as name
 use Rattle.application_lines.specs.Requests.{request_word, IsRequestText, IsRequestInRange}
 use Rattle.application_lines.specs.Streams.{stream_says}
-use Rattle.application_lines.specs.Notices.{NoticeRefusal, EndReleased, Unconnected, OfLength, Overfull, ApplicationNotice, Connected, Message, Refused, Released, Gone, Counts, Keys, KeysFault, Fault, notice_words, notice_text}
+use Rattle.application_lines.specs.Notices.{NoticeRefusal, EndReleased, Unconnected, OfLength, Overfull, ApplicationNotice, Connected, Message, Refused}
+use Rattle.application_lines.specs.Notices.{Released, Gone, Counts, Keys, KeysFault, Fault, notice_words, notice_text}
 use Rattle.application_lines.specs.NoticeReadings.{notices_in}
 
 -- ---- to the application

@@ -9,7 +9,8 @@ use Rattle.er_base.specs.declared.why.Why.TheVariants as why
 use Rattle.er_base.specs.Arguments.{◌>>=◌, some_or, number_argument, text_argument}
 use Rattle.er_base.specs.Lines.{Row, lines_of, rows_of}
 use Rattle.er_base.specs.Numbers.{decimal_of}
-use Rattle.application_lines.specs.Notices.{NoticeRefusal, EndReleased, Unconnected, OfLength, Overfull, ApplicationNotice, Connected, Message, Refused, Released, Gone, Counts, Keys, KeysFault, Fault, line_fault_word, releaser_name}
+use Rattle.application_lines.specs.Notices.{NoticeRefusal, EndReleased, Unconnected, OfLength, Overfull, ApplicationNotice, Connected, Message, Refused}
+use Rattle.application_lines.specs.Notices.{Released, Gone, Counts, Keys, KeysFault, Fault, line_fault_word, releaser_name}
 
 -- any number of 64 bits, an ETCS number, an octet, and HEX
 abbrev any_number_in : List ℕ → Result ℕ Why

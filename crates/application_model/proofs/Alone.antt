@@ -58,13 +58,13 @@ events_append conn [] b = refl
 events_append conn (item ∷ a) b =
     ap (λ (x : List EventAt). events_of_item conn item ++ x) (events_append conn a b) ∙ sym (append_assoc (events_of_item conn item) (events_at conn a) (events_at conn b))
 
-outcomes_append : (conn : ℕ) (a b : List ServiceItem) → outcomes_at_connection conn (a ++ b) ≡ outcomes_at_connection conn a ++ outcomes_at_connection conn b
+pub outcomes_append : (conn : ℕ) (a b : List ServiceItem) → outcomes_at_connection conn (a ++ b) ≡ outcomes_at_connection conn a ++ outcomes_at_connection conn b
 outcomes_append conn [] b = refl
 outcomes_append conn (item ∷ a) b =
     ap (λ (x : List TraceOutcome). outcomes_of_item conn item ++ x) (outcomes_append conn a b)
     ∙ sym (append_assoc (outcomes_of_item conn item) (outcomes_at_connection conn a) (outcomes_at_connection conn b))
 
-alone_append : (kind : EndKind) (before a b : List EventAt)
+pub alone_append : (kind : EndKind) (before a b : List EventAt)
     → outcomes_alone kind before (a ++ b) ≡ outcomes_alone kind before a ++ outcomes_alone kind (before ++ a) b
 alone_append kind before [] b = ap (λ (x : List EventAt). outcomes_alone kind x b) (sym (append-nil before))
 alone_append kind before (x ∷ a) b =
@@ -160,7 +160,7 @@ accepted_append (trace.RefusedFull waiting ∷ a) b = accepted_append a b
 accepted_append (trace.Released release ∷ a) b = accepted_append a b
 accepted_append (trace.Octets octets ∷ a) b = accepted_append a b
 
-taken_append : (a b : List TraceOutcome) → texts_taken (a ++ b) ≡ texts_taken a ++ texts_taken b
+pub taken_append : (a b : List TraceOutcome) → texts_taken (a ++ b) ≡ texts_taken a ++ texts_taken b
 taken_append [] b = refl
 taken_append (trace.Connected peer ∷ a) b = taken_append a b
 taken_append (trace.Accepted text ∷ a) b = taken_append a b

@@ -8,3 +8,5 @@ mod Firsts
 mod Beginnings
 mod Takings
 mod Claimed
+mod Messages
+mod Knowing

@@ -10,7 +10,8 @@ use Rattle.application_lines.specs.declared.request.Request.TheVariants as reque
 use Rattle.application_lines.specs.Notices.{ApplicationNotice, Connected, Message, Refused, Released, Gone, Counts, Keys, KeysFault, Fault}
 use Rattle.application_model.specs.Ends.{KnownEnd, is_known, numbers_known, numbers_unparted, EventAt, EndKind, KeepsMessages, texts_accepted, texts_taken}
 use Rattle.application_model.specs.Lines.{notices_of_event, connected_lines, is_line_of, lines_of_connection}
-use Rattle.application_model.specs.Histories.{ServiceHappening, Attaches, Departs, Brings, Takes, Opens, Befalls, Closes, KeysRead, ServiceItem, Came, LineRead, Occurred, Informed, KeysFetched}
+use Rattle.application_model.specs.Histories.{ServiceHappening, Attaches, Departs, Brings, Takes, Opens, Befalls, Closes, KeysRead, ServiceItem, Came, LineRead}
+use Rattle.application_model.specs.Histories.{Occurred, Informed, KeysFetched}
 use Rattle.application_model.specs.Services.{Attendance, Absent, Attached, has_room, Service, at_start, behind_items, inform}
 use Rattle.application_model.specs.Turns.{Debt, IsDoneInTurn}
 

@@ -2,7 +2,8 @@
 use Rattle.std.specs.Prelude.{◌≡◌, ℕ, ◌==◌, not, Bool, if◌then◌else◌, List, [], ◌∷◌, ◌++◌, map, filter}
 use Rattle.std.specs.List.{flat_map, list_any}
 use Rattle.er_trace.specs.declared.event.Event.{Event}
-use Rattle.er_trace.specs.Outcomes.{TraceOutcome, Connected, Accepted, Taken, Empty, RefusedReleased, RefusedNotConnected, RefusedLength, RefusedFull, Released, Octets}
+use Rattle.er_trace.specs.Outcomes.{TraceOutcome, Connected, Accepted, Taken, Empty, RefusedReleased, RefusedNotConnected, RefusedLength, RefusedFull, Released}
+use Rattle.er_trace.specs.Outcomes.{Octets}
 
 -- how far the end of a connection is: its connection is being set up; it is connected to this peer; it was released
 pub data EndStage : Type 0 where

@@ -19,8 +19,11 @@ use Rattle.application_lines.specs.Requests.{request_said}
 use Rattle.application_lines.specs.Standings.{at_last_piece, line_standing_from, says_from}
 use Rattle.application_lines.specs.Streams.{pieces_tell}
 use Rattle.application_model.specs.Ends.{EventAt, EndKind, texts_accepted}
-use Rattle.application_model.specs.Histories.{Attaches, Departs, Brings, Opens, Befalls, Came, LineRead, Occurred, Informed}
-use Rattle.application_model.specs.Services.{behind_items, one_then, takes_most, takes_at, takes_waiting, releases_all, reads_line, reads_lines, meets, serves_one, serves_all, service_history}
+use Rattle.application_model.specs.Claims.{events_at, outcomes_at_connection}
+use Rattle.application_model.specs.Laws.{texts_told}
+use Rattle.application_model.specs.Histories.{ServiceHappening, ServiceItem, Attaches, Departs, Brings, Opens, Befalls, Came, LineRead, Occurred, Informed}
+use Rattle.application_model.specs.Services.{behind_items, one_then, takes_most, takes_at, takes_waiting, releases_all, reads_line, reads_lines, meets}
+use Rattle.application_model.specs.Services.{serves_one, serves_all, service_history}
 
 -- an end that is connected to 7 by the octet 0, and accepts any other octets as a message
 abbrev outcomes_heard : List ℕ → List TraceOutcome
@@ -74,5 +77,24 @@ pub small_run :
     ∷ Came (Brings (codes "drain\n")) ∷ LineRead (Asks request.Drain)
     ∷ Occurred 9 1 (event.Release 0) (trace.Released (record { reason = 0; sub = 0; by_peer = false }) ∷ [])
     ∷ Informed (Released 1 (record { reason = 0; sub = 0; by_peer = false })) ∷ []
-unfolding behind_items one_then takes_most takes_at takes_waiting releases_all reads_line reads_lines meets serves_one serves_all says_from line_standing_from pieces_tell at_last_piece words_of request_said decimal_of number_argument octets_argument text_argument octets_spelled decode_pairs line_text line_end hex_of digits encode_with
+unfolding behind_items one_then takes_most takes_at takes_waiting releases_all reads_line reads_lines meets serves_one serves_all says_from line_standing_from
+    pieces_tell at_last_piece words_of request_said decimal_of number_argument octets_argument text_argument octets_spelled decode_pairs line_text line_end
+    hex_of digits encode_with
 small_run = refl
+
+-- a message that is accepted before an application comes waits, and is told once one is there
+abbrev brought : List (ℕ × ServiceHappening)
+brought = (0, Opens answer) ∷ (1, Befalls 1 (heard (0 ∷ []))) ∷ (2, Befalls 1 (heard (5 ∷ []))) ∷ []
+
+abbrev run_of : List (ℕ × ServiceHappening) → List ServiceItem
+run_of happenings = service_history small happenings
+
+pub small_texts :
+    (texts_accepted (outcomes_at_connection 1 (run_of brought)) ≡ (5 ∷ []) ∷ [])
+    × (texts_told 1 (run_of brought) ≡ [])
+    × (small.waiting (events_at 1 (run_of brought)) ≡ (5 ∷ []) ∷ [])
+    × (texts_told 1 (run_of (brought ++ (3, Attaches) ∷ [])) ≡ (5 ∷ []) ∷ [])
+    × (texts_told 2 (run_of (brought ++ (3, Attaches) ∷ [])) ≡ [])
+    × (small.waiting (events_at 1 (run_of (brought ++ (3, Attaches) ∷ []))) ≡ [])
+unfolding behind_items one_then takes_most takes_at takes_waiting meets serves_one serves_all line_text line_end digits
+small_texts = (refl, refl, refl, refl, refl, refl)

@@ -1,19 +1,23 @@
 -- What the definitions of a loop with an application imply.
-use Rattle.std.specs.Prelude.{true, take, drop, ◌≡◌, ℕ, List, [], ◌∷◌, ◌++◌, codes}
-use Rattle.std.specs.List.{flat_map, filter_map}
+use Rattle.std.specs.Prelude.{true, take, drop, ◌≡◌, ◌≢◌, ℕ, ◌==◌, if◌then◌else◌, List, [], ◌∷◌, ◌++◌, codes}
+use Rattle.std.specs.List.{All, flat_map, filter_map}
 use Rattle.std.specs.Fmt.{decimal}
 use Rattle.er_base.specs.declared.release.Release.{Release}
 use Rattle.er_base.specs.Hexadecimal.{hex_of}
+use Rattle.er_trace.specs.declared.event.Event.{Event}
 use Rattle.er_trace.specs.declared.event.Event.TheVariants as event
 use Rattle.er_trace.specs.Outcomes as trace
+use Rattle.er_trace.specs.Outcomes.{TraceOutcome}
 use Rattle.er_trace.specs.Texts.{words_of_outcome}
-use Rattle.application_lines.specs.Notices.{ApplicationNotice, Connected, Message, Refused, Released, EndReleased, Unconnected, OfLength, Overfull, notice_words}
-use Rattle.application_model.specs.Ends.{is_known, EventAt, EndKind}
+use Rattle.application_lines.specs.Notices.{ApplicationNotice, Connected, Message, Refused, Released, Gone, Counts, Keys, KeysFault, Fault, EndReleased}
+use Rattle.application_lines.specs.Notices.{Unconnected, OfLength, Overfull, notice_words}
+use Rattle.application_model.specs.Ends.{SettingUp, KnownEnd, end_stage_behind, is_known, EventAt, EndKind, KeepsMessages, texts_accepted, texts_taken}
 use Rattle.application_model.specs.Lines.{connected_lines, lines_of_connection, notices_of_event}
 use Rattle.application_model.specs.Histories.{ServiceHappening, Attaches, Departs, ServiceItem, Came, LineRead, Occurred, Informed, KeysFetched}
 use Rattle.application_model.specs.Services.{has_room, Service, at_start, behind_item, behind_items, service_history}
 use Rattle.application_model.specs.Turns.{IsDoneInTurn}
 use Rattle.application_model.specs.Claims.{IsBeginning, lines_due, RequestDeed, deeds_owed, deed_done, deeds_due, ServesItsApplication}
+use Rattle.application_model.specs.Claims.{events_at, outcomes_at_connection, outcomes_alone}
 
 -- whatever comes, the loop does as is claimed
 abbrev pub ServiceIsAsClaimed : Type 0
@@ -34,6 +38,66 @@ WaitsForRoomAlone =
     → is_known conn (behind_items at_start (service_history kind happenings)).known ≡ true
     → kind.waiting ((behind_items at_start (service_history kind happenings)).ends conn) ≡ []
 
+-- ---- what is accepted is told
+
+-- nothing but a take takes a message
+abbrev pub TakesAlone : EndKind → Type 0
+TakesAlone kind = (before : List EventAt) (moment : ℕ) (what : Event) → what ≢ event.Take → texts_taken (kind.tells before moment what) ≡ []
+
+-- what an application was told, and of it the messages of a connection
+abbrev pub told_in_item : ServiceItem → List ApplicationNotice
+told_in_item (Came happening) = []
+told_in_item (LineRead line) = []
+told_in_item (Occurred moment conn what outcomes) = []
+told_in_item (Informed notice) = notice ∷ []
+told_in_item KeysFetched = []
+
+abbrev pub text_told : ℕ → ApplicationNotice → List (List ℕ)
+text_told conn (Connected c peer) = []
+text_told conn (Message c text) = if conn == c then text ∷ [] else []
+text_told conn (Refused c text why) = []
+text_told conn (Released c release) = []
+text_told conn (Gone c) = []
+text_told conn (Counts live opened connected messages) = []
+text_told conn (Keys entries) = []
+text_told conn (KeysFault words) = []
+text_told conn (Fault line why) = []
+
+abbrev pub texts_told : ℕ → List ServiceItem → List (List ℕ)
+texts_told conn items = flat_map (text_told conn) (flat_map told_in_item items)
+
+-- behind all that comes: the messages that the end of a connection accepted are those that were told, in order, and then those that wait at it
+abbrev pub AcceptedAreTold : Type 0
+AcceptedAreTold =
+    (kind : EndKind) (happenings : List (ℕ × ServiceHappening)) (conn : ℕ) → KeepsMessages kind → TakesAlone kind
+    → texts_accepted (outcomes_at_connection conn (service_history kind happenings))
+    ≡ texts_told conn (service_history kind happenings)
+    ++ kind.waiting ((behind_items at_start (service_history kind happenings)).ends conn)
+
+-- ---- what is known of a live connection
+
+-- what came at the end of a connection is its events, in order
+abbrev pub EndsHaveTheirEvents : Type 0
+EndsHaveTheirEvents = (items : List ServiceItem) (conn : ℕ) → (behind_items at_start items).ends conn ≡ events_at conn items
+
+-- how far its end is by all that the events at it told
+abbrev pub IsKnownByEvents : EndKind → (ℕ → List EventAt) → KnownEnd → Type 0
+IsKnownByEvents kind ends known = known.stage ≡ end_stage_behind SettingUp (outcomes_alone kind [] (ends known.number))
+
+-- behind all that comes
+abbrev pub KnowsByEvents : Type 0
+KnowsByEvents =
+    (kind : EndKind) (happenings : List (ℕ × ServiceHappening))
+    → All (IsKnownByEvents kind (behind_items at_start (service_history kind happenings)).ends)
+    (behind_items at_start (service_history kind happenings)).known
+
+-- what comes of an event is what its end tells behind the events that came at it before
+abbrev pub EachTellsItsOwn : Type 0
+EachTellsItsOwn =
+    (kind : EndKind) (happenings : List (ℕ × ServiceHappening)) (before after : List ServiceItem) (moment conn : ℕ) (what : Event)
+    (outcomes : List TraceOutcome) → service_history kind happenings ≡ before ++ Occurred moment conn what outcomes ∷ after
+    → outcomes ≡ kind.tells (events_at conn before) moment what
+
 -- ---- what it means that an application is told in turn
 
 -- no application comes or leaves
@@ -46,20 +110,13 @@ abbrev pub AreNoChanges : List ServiceItem → Type 0
 AreNoChanges [] = Unit {0}
 AreNoChanges (item ∷ items) = IsNoChange item × AreNoChanges items
 
--- the lines of the events of a history, and those that were told
+-- the lines of the events of a history
 abbrev pub journal_of_item : ServiceItem → List ApplicationNotice
 journal_of_item (Came happening) = []
 journal_of_item (LineRead line) = []
 journal_of_item (Occurred moment conn what outcomes) = notices_of_event conn what outcomes
 journal_of_item (Informed notice) = []
 journal_of_item KeysFetched = []
-
-abbrev pub told_in_item : ServiceItem → List ApplicationNotice
-told_in_item (Came happening) = []
-told_in_item (LineRead line) = []
-told_in_item (Occurred moment conn what outcomes) = []
-told_in_item (Informed notice) = notice ∷ []
-told_in_item KeysFetched = []
 
 -- from where an application attached on, up to any moment while it is there: of each connection it was told a beginning of who was connected, and of the lines
 -- of its journal
@@ -102,7 +159,8 @@ pub record HasWordsOfRecording : Type 0 where
   pub released : (conn : ℕ) (r : Release) → notice_words (Released conn r) ≡ words_with (decimal conn ∷ []) (words_of_outcome (trace.Released r))
   pub message : (conn : ℕ) (text : List ℕ) → notice_words (Message conn text) ≡ codes "message" ∷ decimal conn ∷ drop 1 (words_of_outcome (trace.Taken text))
   pub refused_released : (conn : ℕ) (text : List ℕ) (r : Release)
-      → notice_words (Refused conn text (EndReleased r.reason r.sub)) ≡ words_with (decimal conn ∷ hex_of text ∷ []) (words_of_outcome (trace.RefusedReleased r))
+      → notice_words (Refused conn text (EndReleased r.reason r.sub))
+      ≡ words_with (decimal conn ∷ hex_of text ∷ []) (words_of_outcome (trace.RefusedReleased r))
   pub unconnected : (conn : ℕ) (text : List ℕ)
       → notice_words (Refused conn text Unconnected) ≡ words_with (decimal conn ∷ hex_of text ∷ []) (words_of_outcome trace.RefusedNotConnected)
   pub of_length : (conn : ℕ) (text : List ℕ) (octets : ℕ)

@@ -5,7 +5,8 @@ use Rattle.er_trace.specs.declared.event.Event.{Event}
 use Rattle.er_trace.specs.declared.event.Event.TheVariants as event
 use Rattle.er_trace.specs.Outcomes as trace
 use Rattle.er_trace.specs.Outcomes.{TraceOutcome}
-use Rattle.application_lines.specs.Notices.{NoticeRefusal, EndReleased, Unconnected, OfLength, Overfull, ApplicationNotice, Connected, Message, Refused, Released, Gone, Counts, Keys, KeysFault, Fault}
+use Rattle.application_lines.specs.Notices.{NoticeRefusal, EndReleased, Unconnected, OfLength, Overfull, ApplicationNotice, Connected, Message, Refused}
+use Rattle.application_lines.specs.Notices.{Released, Gone, Counts, Keys, KeysFault, Fault}
 use Rattle.application_model.specs.Ends.{EndStage, SettingUp, Speaking, Parted, KnownEnd}
 
 -- a send of the application was refused; nothing else is refused

@@ -10,9 +10,11 @@ use Rattle.application_lines.specs.declared.request.Request.{Request}
 use Rattle.application_lines.specs.declared.request.Request.TheVariants as request
 use Rattle.application_lines.specs.Notices.{ApplicationNotice, Gone, Counts, Keys, KeysFault, Fault, notice_text}
 use Rattle.application_lines.specs.Standings.{LineStanding, at_first_line, line_standing_from, says_from}
-use Rattle.application_model.specs.Ends.{SettingUp, KnownEnd, known_behind, without_end, is_known, numbers_known, numbers_unparted, EventAt, EndKind, texts_taken}
+use Rattle.application_model.specs.Ends.{SettingUp, KnownEnd, known_behind, without_end, is_known, numbers_known, numbers_unparted, EventAt, EndKind}
+use Rattle.application_model.specs.Ends.{texts_taken}
 use Rattle.application_model.specs.Lines.{notices_of_event, connected_lines}
-use Rattle.application_model.specs.Histories.{KeysAnswer, Hold, AreFaulty, ServiceHappening, Attaches, Departs, Brings, Takes, Opens, Befalls, Closes, KeysRead, ServiceItem, Came, LineRead, Occurred, Informed, KeysFetched}
+use Rattle.application_model.specs.Histories.{KeysAnswer, Hold, AreFaulty, ServiceHappening, Attaches, Departs, Brings, Takes, Opens, Befalls, Closes, KeysRead}
+use Rattle.application_model.specs.Histories.{ServiceItem, Came, LineRead, Occurred, Informed, KeysFetched}
 
 -- no application is there; or one is, where its stream stands, and how many octets wait for it
 pub data Attendance : Type 0 where

@@ -1,9 +1,9 @@
 //! The laws of a loop with an application, each as a function of which its contract is the statement: they run nothing.
 
-ghost use Rattle.application_model.specs.Laws.{ServiceIsAsClaimed, WaitsForRoomAlone, ToldBeginsTheJournal, DoneBeginsTheAsked, AllAskedIsDone, HasWordsOfRecording};
+ghost use Rattle.application_model.specs.Laws.{ServiceIsAsClaimed, WaitsForRoomAlone, AcceptedAreTold, EndsHaveTheirEvents, KnowsByEvents, EachTellsItsOwn, ToldBeginsTheJournal, DoneBeginsTheAsked, AllAskedIsDone, HasWordsOfRecording};
 
-/// Whatever comes, the application is told in turn, its lines are done in turn, each connection goes by its own events, and what a live connection accepted is
-/// taken and told in order, or waits. Refuses that a message is taken for an application that isn't there, that a line is told twice, and that a send to a
+/// Whatever comes, the application is told in turn, its lines are done in turn, each connection goes by its own events, and what a connection accepted is taken
+/// in order, or waits. Refuses that a message is taken for an application that isn't there, that a line is told twice, and that a send to a
 /// connection that is gone is dropped silently.
 pub fn service_is_as_claimed()
     ensures { ServiceIsAsClaimed }
@@ -12,6 +12,25 @@ pub fn service_is_as_claimed()
 /// A message waits for nothing but room and an application. Refuses a loop that takes nothing, or one message a turn.
 pub fn waits_for_room_alone()
     ensures { WaitsForRoomAlone }
+{}
+
+/// Of ends that keep messages, and of which nothing but a take takes one: each message that an end accepted was told, in order, or waits at it. Refuses a loop
+/// that takes where no application is there, and one that tells a message as it is accepted.
+pub fn accepted_are_told()
+    ensures { AcceptedAreTold }
+{}
+
+/// What a loop knows of a live connection is what the events at its end told, and these are the events of that connection. Refuses a loop that uses a number
+/// again.
+pub fn knows_by_events()
+    ensures knows { KnowsByEvents }
+    ensures ends { EndsHaveTheirEvents }
+{}
+
+/// What comes of each event is what the end of its connection tells behind the events that came at it before. Refuses a loop that gives an end an event twice,
+/// and prints what came of the second.
+pub fn each_event_by_its_end()
+    ensures { EachTellsItsOwn }
 {}
 
 /// What an application was told of a connection, at each moment, begins the lines of its journal from where it attached on. Refuses that a line is told before

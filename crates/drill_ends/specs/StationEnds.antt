@@ -41,7 +41,8 @@ told_frames calling extended frames = map (λ f. told.Frame (sent_octets calling
 
 abbrev pub TellsFrames : List ℕ → List Told → List Told → Type 0
 TellsFrames written before now =
-    (calling extended : Bool) (frames : List Frame) → written ≡ octets_of_sent_frames calling extended frames → now ≡ before ++ told_frames calling extended frames
+    (calling extended : Bool) (frames : List Frame) → written ≡ octets_of_sent_frames calling extended frames
+    → now ≡ before ++ told_frames calling extended frames
 
 -- in the midst of it: what is left leads from here to where all lead from the beginning
 pub record TellingFrames (calling extended : Bool) (frames : List Frame) (rest : List ℕ) (before now : List Told) : Type 0 where
@@ -84,14 +85,15 @@ StationReads moment old octets new before now =
     → StationDid new selective (stream ++ octets) before now (frames_heard selective moment (news stream octets) s)
 
 -- in the midst of it: some octets were given, and with what is left it is all
-pub record IsWithinReading (selective : Bool) (moment : ℕ) (s : Station) (stream octets rest : List ℕ) (kept : StationEnd) (before now : List Told) : Type 0 where
-  pub at : Station
-  pub given : List ℕ
-  pub came : List DrillOutcome
-  pub whole : given ++ rest ≡ stream ++ octets
-  pub leads : frames_heard selective moment (news stream octets) s
-      ≡ ((frames_heard selective moment (news given rest) at).0, came ++ (frames_heard selective moment (news given rest) at).1)
-  pub did : StationDid kept selective given before now (at, came)
+pub record IsWithinReading (selective : Bool) (moment : ℕ) (s : Station) (stream octets rest : List ℕ) (kept : StationEnd) (before now : List Told) : Type 0
+  where
+    pub at : Station
+    pub given : List ℕ
+    pub came : List DrillOutcome
+    pub whole : given ++ rest ≡ stream ++ octets
+    pub leads : frames_heard selective moment (news stream octets) s
+        ≡ ((frames_heard selective moment (news given rest) at).0, came ++ (frames_heard selective moment (news given rest) at).1)
+    pub did : StationDid kept selective given before now (at, came)
 
 -- an end of level link or link-sr went on so, and told its outcomes
 pub record StationWent (new : StationEnd) (before now : List Told) (a : EndAtLevel × List DrillOutcome) : Type 0 where

@@ -3,7 +3,8 @@
 -- frame from flag to flag.
 use Rattle.std.specs.Prelude.{ℕ, Bool, List, [], ◌∷◌, ◌++◌, Option, Some, None}
 use Rattle.des_block.specs.declared.triple_key.TripleKey.{TripleKey}
-use Rattle.safety_automaton.specs.Safety.{Safety, SafetyEvent, ConnectRequest, Received, DataRequest, DisconnectRequest, Refusal, SafetyOutcome, SentAu1, SentAu2, SentAu3, SentAr, ReceivedAr, AcceptedDt, SentDt, ReleasedLocally, ReleasedByPeer, NothingDone}
+use Rattle.safety_automaton.specs.Safety.{Safety, SafetyEvent, ConnectRequest, Received, DataRequest, DisconnectRequest, Refusal, SafetyOutcome, SentAu1}
+use Rattle.safety_automaton.specs.Safety.{SentAu2, SentAu3, SentAr, ReceivedAr, AcceptedDt, SentDt, ReleasedLocally, ReleasedByPeer, NothingDone}
 use Rattle.safety_automaton.specs.Safety as safety
 use Rattle.safety_pair_laws.specs.Facts.{Sent, Sealed, Verified, Connected, Accepted, heard_in}
 use Rattle.hdlc_station_model.specs.Stations.{Station}

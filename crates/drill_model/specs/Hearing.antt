@@ -20,7 +20,8 @@ use Rattle.er_end_model.specs.Steps.{new_event_at}
 use Rattle.er_end_model.specs.Ends.{End as Stack, hears_each}
 use Rattle.hdlc_station_model.specs.Events as station_events
 use Rattle.er_end_model.specs.Hearing.{IsTextOf}
-use Rattle.drill_model.specs.Outcomes.{DrillOutcome, OfSafety, Handed, Arrived, Up, Took, NothingToTake, Refused, Released, Frame, Expired, UserReleased, Passed, Lost, Repeated, Altered, Inserted, NothingWaits, IsShort, Occurrence, at_end}
+use Rattle.drill_model.specs.Outcomes.{DrillOutcome, OfSafety, Handed, Arrived, Up, Took, NothingToTake, Refused, Released, Frame, Expired, UserReleased}
+use Rattle.drill_model.specs.Outcomes.{Passed, Lost, Repeated, Altered, Inserted, NothingWaits, IsShort, Occurrence, at_end}
 use Rattle.drill_model.specs.Ends.{EndAtLevel, OfSafe, OfStation, OfStack}
 use Rattle.drill_model.specs.Links.{Link, OfStations, end_of, key_on, LinkStep, life}
 use Rattle.drill_model.specs.Worlds.{DrillPlan, link_at, history_on, world_run}

@@ -11,7 +11,8 @@ use Rattle.safety_pair_laws.specs.Openings.{Agrees}
 use Rattle.safety_pair_laws.specs.Messages as pair
 use Rattle.hdlc_station_model.specs.Lines.{station_bound}
 use Rattle.er_end_model.specs.Bounds.{end_bound}
-use Rattle.drill_model.specs.Outcomes.{DrillOutcome, OfSafety, Handed, Arrived, Up, Took, NothingToTake, Refused, Released, Frame, Expired, UserReleased, Passed, Lost, Repeated, Altered, Inserted, NothingWaits, IsShort, Occurrence}
+use Rattle.drill_model.specs.Outcomes.{DrillOutcome, OfSafety, Handed, Arrived, Up, Took, NothingToTake, Refused, Released, Frame, Expired, UserReleased}
+use Rattle.drill_model.specs.Outcomes.{Passed, Lost, Repeated, Altered, Inserted, NothingWaits, IsShort, Occurrence}
 use Rattle.drill_model.specs.Links.{LinkOpening, OfPair, OfStations, OfStacks, Link}
 
 -- ---- messages

@@ -47,12 +47,15 @@ pub known_effects : effects_in (history (
     ))
     ≡ (E, Sends (0x41 ∷ [])) ∷ (E, IsRefused) ∷ (E, Repeats) ∷ (E, Loses) ∷ (E, Alters) ∷ (R, Inserts) ∷ (E, Inserts) ∷ (R, Passes (1 ∷ []))
     ∷ (R, Releases 7) ∷ (E, Expires) ∷ (E, Passes (1 ∷ [])) ∷ (E, Passes changed) ∷ []
-unfolding drain tick_each_link frames_of between_flags all_but_last cut verdict_on verdict_on_content checked_part check_number unescaped ends_in_escape spelling escaped escaped_octet content_of control_of fcs_of fcs_bits dividend remainder divided_once add_front sent_bits low_bits low_number
+unfolding drain tick_each_link frames_of between_flags all_but_last cut verdict_on verdict_on_content checked_part check_number unescaped ends_in_escape
+    spelling escaped escaped_octet content_of control_of fcs_of fcs_bits dividend remainder divided_once add_front sent_bits low_bits low_number
 known_effects = refl
 
 -- steps at another link bring about nothing here
-pub known_elsewhere : effects_in (history (does.Wire 2 ∷ does.Wire 1 ∷ does.Send 2 E (0x41 ∷ []) ∷ does.Lose 2 E ∷ does.Copy 1 E 2 E ∷ does.Release 2 E 7 ∷ [])) ≡ []
-unfolding drain tick_each_link frames_of between_flags all_but_last cut verdict_on verdict_on_content checked_part check_number unescaped ends_in_escape spelling escaped escaped_octet content_of control_of fcs_of fcs_bits dividend remainder divided_once add_front sent_bits low_bits low_number
+pub known_elsewhere : effects_in (history
+    (does.Wire 2 ∷ does.Wire 1 ∷ does.Send 2 E (0x41 ∷ []) ∷ does.Lose 2 E ∷ does.Copy 1 E 2 E ∷ does.Release 2 E 7 ∷ [])) ≡ []
+unfolding drain tick_each_link frames_of between_flags all_but_last cut verdict_on verdict_on_content checked_part check_number unescaped ends_in_escape
+    spelling escaped escaped_octet content_of control_of fcs_of fcs_bits dividend remainder divided_once add_front sent_bits low_bits low_number
 known_elsewhere = refl
 
 -- a tick at a station that is up: T1 doesn't run at 5,000, and runs from the send on, so it isn't late at 5,999 and is at 6,000
@@ -60,18 +63,21 @@ abbrev ticking : List Step
 ticking = does.Wire 1 ∷ does.Drain 1 2 ∷ does.Tick 5000 ∷ does.Send 1 E (0x41 ∷ []) ∷ does.Tick 5999 ∷ []
 
 pub known_in_time : is_disturbed (history ticking) ≡ false
-unfolding drain tick_each_link frames_of between_flags all_but_last cut verdict_on verdict_on_content checked_part check_number unescaped ends_in_escape spelling escaped escaped_octet content_of control_of fcs_of fcs_bits dividend remainder divided_once add_front sent_bits low_bits low_number
+unfolding drain tick_each_link frames_of between_flags all_but_last cut verdict_on verdict_on_content checked_part check_number unescaped ends_in_escape
+    spelling escaped escaped_octet content_of control_of fcs_of fcs_bits dividend remainder divided_once add_front sent_bits low_bits low_number
 known_in_time = refl
 
 pub known_late : effects_in (history (ticking ++ does.Tick 6000 ∷ []))
     ≡ (E, Passes set_up) ∷ (R, Passes (0x7e ∷ 0x01 ∷ 0x73 ∷ 0x83 ∷ 0x57 ∷ 0x7e ∷ [])) ∷ (E, Sends (0x41 ∷ [])) ∷ (E, Expires) ∷ []
-unfolding drain tick_each_link frames_of between_flags all_but_last cut verdict_on verdict_on_content checked_part check_number unescaped ends_in_escape spelling escaped escaped_octet content_of control_of fcs_of fcs_bits dividend remainder divided_once add_front sent_bits low_bits low_number
+unfolding drain tick_each_link frames_of between_flags all_but_last cut verdict_on verdict_on_content checked_part check_number unescaped ends_in_escape
+    spelling escaped escaped_octet content_of control_of fcs_of fcs_bits dividend remainder divided_once add_front sent_bits low_bits low_number
 known_late = refl
 
 -- so far this link is loss-free; one whose frames were lost and repeated keeps its order and isn't loss-free, and one with a frame that was put
 -- or changed doesn't keep it
 pub known_loss_free : IsLossFree (OfStations false) (history ticking)
-unfolding drain tick_each_link frames_of between_flags all_but_last cut verdict_on verdict_on_content checked_part check_number unescaped ends_in_escape spelling escaped escaped_octet content_of control_of fcs_of fcs_bits dividend remainder divided_once add_front sent_bits low_bits low_number
+unfolding drain tick_each_link frames_of between_flags all_but_last cut verdict_on verdict_on_content checked_part check_number unescaped ends_in_escape
+    spelling escaped escaped_octet content_of control_of fcs_of fcs_bits dividend remainder divided_once add_front sent_bits low_bits low_number
 known_loss_free = record { undisturbed = refl; agree = tt }
 
 abbrev losing : List Step
@@ -130,7 +136,8 @@ known_other_link = refl
 
 -- the set-up frame of e, copied to r: it waits there before what waited
 pub known_copied : changed_by_step (world_run plan (does.Wire 1 ∷ [])).0 1 R (does.Copy 1 E 1 R) waiting ≡ set_up ∷ waiting
-unfolding drain tick_each_link frames_of between_flags all_but_last cut verdict_on verdict_on_content checked_part check_number unescaped ends_in_escape spelling escaped escaped_octet content_of control_of fcs_of fcs_bits dividend remainder divided_once add_front sent_bits low_bits low_number
+unfolding drain tick_each_link frames_of between_flags all_but_last cut verdict_on verdict_on_content checked_part check_number unescaped ends_in_escape
+    spelling escaped escaped_octet content_of control_of fcs_of fcs_bits dividend remainder divided_once add_front sent_bits low_bits low_number
 known_copied = refl
 
 -- ---- text
@@ -159,5 +166,7 @@ abbrev setting_up : List Step
 setting_up = does.Wire 1 ∷ does.Pass 1 E ∷ does.Drain 1 9 ∷ []
 
 pub known_drill_text : first_lines plan setting_up ++ last_lines plan setting_up ≡ codes "1 r up\n1 e up\n1 passes 1\n1 end passes 2 waiting 0 0\n"
-unfolding digits head up_line passes_line closing_line closing_from drain tick_each_link frames_of between_flags all_but_last cut verdict_on verdict_on_content checked_part check_number unescaped ends_in_escape spelling escaped escaped_octet content_of control_of fcs_of fcs_bits dividend remainder divided_once add_front sent_bits low_bits low_number
+unfolding digits head up_line passes_line closing_line closing_from drain tick_each_link frames_of between_flags all_but_last cut verdict_on
+    verdict_on_content checked_part check_number unescaped ends_in_escape spelling escaped escaped_octet content_of control_of fcs_of fcs_bits dividend
+    remainder divided_once add_front sent_bits low_bits low_number
 known_drill_text = refl

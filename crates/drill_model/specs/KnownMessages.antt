@@ -57,7 +57,8 @@ pub known_safe : history_on 1 (world_run safe_plan (
     ≡ at_end E (OfSafety (Sent (0x41 ∷ []) key text)) ∷ at_end E (Frame dt) ∷ at_end E Repeated ∷ at_end E (Passed dt)
     ∷ at_end R (OfSafety (Accepted dt (0x41 ∷ []) key text)) ∷ at_end E Altered ∷ at_end E (Passed changed_dt)
     ∷ at_end R (Released (record { reason = 4; sub = 1; by_peer = false })) ∷ at_end R (Frame (0x11 ∷ 4 ∷ 1 ∷ [])) ∷ []
-unfolding bits number pick xor box_output substituted cipher_function rounds cipher keys_from round_keys triple_encipher blocks chained mac_bits mac_of message_text eight number_in
+unfolding bits number pick xor box_output substituted cipher_function rounds cipher keys_from round_keys triple_encipher blocks chained mac_bits mac_of
+    message_text eight number_in
 known_safe = refl
 
 -- ---- the set-up
@@ -71,7 +72,8 @@ abbrev calling : List Step
 calling = does.Link 1 5 9 key (Some other_key) 0x99aabbccddeeff00 0x1112131415161718 ∷ does.Pass 1 E ∷ does.Pass 1 R ∷ []
 
 pub known_other_kmac : releases_in (history_on 1 (world_run safe_plan calling).1) ≡ record { reason = 3; sub = 2; by_peer = false } ∷ []
-unfolding bits number pick xor box_output substituted cipher_function rounds cipher keys_from round_keys triple_encipher blocks chained mac_bits mac_of session_of au2_text eight number_in
+unfolding bits number pick xor box_output substituted cipher_function rounds cipher keys_from round_keys triple_encipher blocks chained mac_bits mac_of
+    session_of au2_text eight number_in
 known_other_kmac = refl
 
 -- ---- level full
@@ -91,28 +93,41 @@ abbrev set_up : List (List ℕ)
 set_up =
     (0x7e ∷ 0x01 ∷ 0x3f ∷ 0xeb ∷ 0xdf ∷ 0x7e ∷ [])
     ∷ (0x7e ∷ 0x01 ∷ 0x73 ∷ 0x83 ∷ 0x57 ∷ 0x7e ∷ [])
-    ∷ (0x7e ∷ 0x01 ∷ 0x00 ∷ 0x01 ∷ 0x00 ∷ 0x09 ∷ 0xef ∷ 0x00 ∷ 0x00 ∷ 0x00 ∷ 0x01 ∷ 0x20 ∷ 0xc0 ∷ 0x01 ∷ 0x07 ∷ 0x42 ∷ 0x00 ∷ 0x00 ∷ 0x05 ∷ 0x01 ∷ 0x11 ∷ 0x12 ∷ 0x13 ∷ 0x14 ∷ 0x15 ∷ 0x16 ∷ 0x17 ∷ 0x18 ∷ 0x92 ∷ 0xdb ∷ 0x7e ∷ [])
-    ∷ (0x7e ∷ 0x03 ∷ 0x20 ∷ 0x01 ∷ 0x00 ∷ 0x09 ∷ 0xdf ∷ 0x00 ∷ 0x01 ∷ 0x00 ∷ 0x01 ∷ 0x20 ∷ 0xc0 ∷ 0x01 ∷ 0x07 ∷ 0x25 ∷ 0x00 ∷ 0x00 ∷ 0x09 ∷ 0x01 ∷ 0x99 ∷ 0xaa ∷ 0xbb ∷ 0xcc ∷ 0xdd ∷ 0xee ∷ 0xff ∷ 0x00 ∷ 0xd7 ∷ 0x67 ∷ 0x83 ∷ 0x27 ∷ 0xc9 ∷ 0x3c ∷ 0xe4 ∷ 0x79 ∷ 0xe1 ∷ 0xe6 ∷ 0x7e ∷ [])
-    ∷ (0x7e ∷ 0x01 ∷ 0x22 ∷ 0x01 ∷ 0x00 ∷ 0x04 ∷ 0xf0 ∷ 0x00 ∷ 0x01 ∷ 0x80 ∷ 0x06 ∷ 0xd2 ∷ 0x19 ∷ 0xc5 ∷ 0x6d ∷ 0x38 ∷ 0xfa ∷ 0xdb ∷ 0x7c ∷ 0xef ∷ 0x17 ∷ 0x7e ∷ [])
+    ∷ (0x7e ∷ 0x01 ∷ 0x00 ∷ 0x01 ∷ 0x00 ∷ 0x09 ∷ 0xef ∷ 0x00 ∷ 0x00 ∷ 0x00 ∷ 0x01 ∷ 0x20 ∷ 0xc0 ∷ 0x01 ∷ 0x07 ∷ 0x42 ∷ 0x00 ∷ 0x00 ∷ 0x05 ∷ 0x01 ∷ 0x11 ∷ 0x12
+    ∷ 0x13 ∷ 0x14 ∷ 0x15 ∷ 0x16 ∷ 0x17 ∷ 0x18 ∷ 0x92 ∷ 0xdb ∷ 0x7e ∷ [])
+    ∷ (0x7e ∷ 0x03 ∷ 0x20 ∷ 0x01 ∷ 0x00 ∷ 0x09 ∷ 0xdf ∷ 0x00 ∷ 0x01 ∷ 0x00 ∷ 0x01 ∷ 0x20 ∷ 0xc0 ∷ 0x01 ∷ 0x07 ∷ 0x25 ∷ 0x00 ∷ 0x00 ∷ 0x09 ∷ 0x01 ∷ 0x99 ∷ 0xaa
+    ∷ 0xbb ∷ 0xcc ∷ 0xdd ∷ 0xee ∷ 0xff ∷ 0x00 ∷ 0xd7 ∷ 0x67 ∷ 0x83 ∷ 0x27 ∷ 0xc9 ∷ 0x3c ∷ 0xe4 ∷ 0x79 ∷ 0xe1 ∷ 0xe6 ∷ 0x7e ∷ [])
+    ∷ (0x7e ∷ 0x01 ∷ 0x22 ∷ 0x01 ∷ 0x00 ∷ 0x04 ∷ 0xf0 ∷ 0x00 ∷ 0x01 ∷ 0x80 ∷ 0x06 ∷ 0xd2 ∷ 0x19 ∷ 0xc5 ∷ 0x6d ∷ 0x38 ∷ 0xfa ∷ 0xdb ∷ 0x7c ∷ 0xef ∷ 0x17 ∷ 0x7e
+    ∷ [])
     ∷ (0x7e ∷ 0x03 ∷ 0x42 ∷ 0x01 ∷ 0x00 ∷ 0x04 ∷ 0x6f ∷ 0x00 ∷ 0x01 ∷ 0x01 ∷ 0xf7 ∷ 0x98 ∷ 0x7e ∷ [])
-    ∷ (0x7e ∷ 0x03 ∷ 0x44 ∷ 0x01 ∷ 0x00 ∷ 0x04 ∷ 0xf0 ∷ 0x00 ∷ 0x01 ∷ 0x80 ∷ 0x13 ∷ 0x23 ∷ 0xa6 ∷ 0x37 ∷ 0x41 ∷ 0x6a ∷ 0xa6 ∷ 0xbd ∷ 0x77 ∷ 0x7d ∷ 0x5d ∷ 0x20 ∷ 0x7e ∷ [])
+    ∷ (0x7e ∷ 0x03 ∷ 0x44 ∷ 0x01 ∷ 0x00 ∷ 0x04 ∷ 0xf0 ∷ 0x00 ∷ 0x01 ∷ 0x80 ∷ 0x13 ∷ 0x23 ∷ 0xa6 ∷ 0x37 ∷ 0x41 ∷ 0x6a ∷ 0xa6 ∷ 0xbd ∷ 0x77 ∷ 0x7d ∷ 0x5d ∷ 0x20
+    ∷ 0x7e ∷ [])
     ∷ (0x7e ∷ 0x03 ∷ 0x41 ∷ 0xa2 ∷ 0x76 ∷ 0x7e ∷ [])
     ∷ (0x7e ∷ 0x01 ∷ 0x64 ∷ 0x01 ∷ 0x00 ∷ 0x04 ∷ 0x6f ∷ 0x00 ∷ 0x01 ∷ 0x01 ∷ 0x4c ∷ 0xa8 ∷ 0x7e ∷ [])
     ∷ (0x7e ∷ 0x01 ∷ 0x61 ∷ 0x10 ∷ 0x64 ∷ 0x7e ∷ []) ∷ []
 
 abbrev message : List ℕ
-message = (0x7e ∷ 0x01 ∷ 0x66 ∷ 0x01 ∷ 0x00 ∷ 0x04 ∷ 0xf0 ∷ 0x00 ∷ 0x01 ∷ 0x81 ∷ 0x0a ∷ 0x41 ∷ 0xf5 ∷ 0xef ∷ 0xb9 ∷ 0x65 ∷ 0x41 ∷ 0x96 ∷ 0xa5 ∷ 0xbd ∷ 0xb7 ∷ 0xfc ∷ 0x7e ∷ [])
+message = (0x7e ∷ 0x01 ∷ 0x66 ∷ 0x01 ∷ 0x00 ∷ 0x04 ∷ 0xf0 ∷ 0x00 ∷ 0x01 ∷ 0x81 ∷ 0x0a ∷ 0x41 ∷ 0xf5 ∷ 0xef ∷ 0xb9 ∷ 0x65 ∷ 0x41 ∷ 0x96 ∷ 0xa5 ∷ 0xbd ∷ 0xb7
+    ∷ 0xfc ∷ 0x7e ∷ [])
 
 -- the same with another last octet of its MAC, and the check sequence of that
 abbrev changed : List ℕ
-changed = (0x7e ∷ 0x01 ∷ 0x66 ∷ 0x01 ∷ 0x00 ∷ 0x04 ∷ 0xf0 ∷ 0x00 ∷ 0x01 ∷ 0x81 ∷ 0x0a ∷ 0x41 ∷ 0xf5 ∷ 0xef ∷ 0xb9 ∷ 0x65 ∷ 0x41 ∷ 0x96 ∷ 0xa5 ∷ 0xbc ∷ 0x3e ∷ 0xed ∷ 0x7e ∷ [])
+changed = (0x7e ∷ 0x01 ∷ 0x66 ∷ 0x01 ∷ 0x00 ∷ 0x04 ∷ 0xf0 ∷ 0x00 ∷ 0x01 ∷ 0x81 ∷ 0x0a ∷ 0x41 ∷ 0xf5 ∷ 0xef ∷ 0xb9 ∷ 0x65 ∷ 0x41 ∷ 0x96 ∷ 0xa5 ∷ 0xbc ∷ 0x3e
+    ∷ 0xed ∷ 0x7e ∷ [])
 
-pub known_frames : flat_map (λ o. came.frames_of_outcome o.outcome) (history (does.Pass 1 E ∷ [])) ≡ set_up ++ message ∷ (0x7e ∷ 0x01 ∷ 0x81 ∷ 0x1e ∷ 0x83 ∷ 0x7e ∷ []) ∷ []
-unfolding reading parameters_in segments_of drain hand_waiting_tpdus frames_of between_flags all_but_last cut verdict_on verdict_on_content checked_part check_number unescaped ends_in_escape spelling escaped escaped_octet content_of control_of fcs_of fcs_bits dividend remainder divided_once add_front sent_bits low_bits low_number bits number pick xor box_output substituted cipher_function rounds cipher keys_from round_keys triple_encipher blocks chained mac_bits mac_of session_of au2_text au3_text ar_text message_text eight number_in
+pub known_frames : flat_map (λ o. came.frames_of_outcome o.outcome) (history (does.Pass 1 E ∷ []))
+    ≡ set_up ++ message ∷ (0x7e ∷ 0x01 ∷ 0x81 ∷ 0x1e ∷ 0x83 ∷ 0x7e ∷ []) ∷ []
+unfolding reading parameters_in segments_of drain hand_waiting_tpdus frames_of between_flags all_but_last cut verdict_on verdict_on_content checked_part
+    check_number unescaped ends_in_escape spelling escaped escaped_octet content_of control_of fcs_of fcs_bits dividend remainder divided_once add_front
+    sent_bits low_bits low_number bits number pick xor box_output substituted cipher_function rounds cipher keys_from round_keys triple_encipher blocks
+    chained mac_bits mac_of session_of au2_text au3_text ar_text message_text eight number_in
 known_frames = refl
 
 pub known_accepted : accepted_by R (history (does.Pass 1 E ∷ [])) ≡ (0x41 ∷ []) ∷ []
-unfolding reading parameters_in segments_of drain hand_waiting_tpdus frames_of between_flags all_but_last cut verdict_on verdict_on_content checked_part check_number unescaped ends_in_escape spelling escaped escaped_octet content_of control_of fcs_of fcs_bits dividend remainder divided_once add_front sent_bits low_bits low_number bits number pick xor box_output substituted cipher_function rounds cipher keys_from round_keys triple_encipher blocks chained mac_bits mac_of session_of au2_text au3_text ar_text message_text eight number_in
+unfolding reading parameters_in segments_of drain hand_waiting_tpdus frames_of between_flags all_but_last cut verdict_on verdict_on_content checked_part
+    check_number unescaped ends_in_escape spelling escaped escaped_octet content_of control_of fcs_of fcs_bits dividend remainder divided_once add_front
+    sent_bits low_bits low_number bits number pick xor box_output substituted cipher_function rounds cipher keys_from round_keys triple_encipher blocks
+    chained mac_bits mac_of session_of au2_text au3_text ar_text message_text eight number_in
 known_accepted = refl
 
 -- the changed one isn't accepted, and both ends are released with 4.1
@@ -120,10 +135,16 @@ abbrev exchanged : List Step
 exchanged = does.Lose 1 E ∷ does.Put 1 E changed ∷ does.Drain 1 20 ∷ []
 
 pub known_refused : accepted_by R (history exchanged) ≡ []
-unfolding reading parameters_in segments_of drain hand_waiting_tpdus frames_of between_flags all_but_last cut verdict_on verdict_on_content checked_part check_number unescaped ends_in_escape spelling escaped escaped_octet content_of control_of fcs_of fcs_bits dividend remainder divided_once add_front sent_bits low_bits low_number bits number pick xor box_output substituted cipher_function rounds cipher keys_from round_keys triple_encipher blocks chained mac_bits mac_of session_of au2_text au3_text ar_text message_text eight number_in
+unfolding reading parameters_in segments_of drain hand_waiting_tpdus frames_of between_flags all_but_last cut verdict_on verdict_on_content checked_part
+    check_number unescaped ends_in_escape spelling escaped escaped_octet content_of control_of fcs_of fcs_bits dividend remainder divided_once add_front
+    sent_bits low_bits low_number bits number pick xor box_output substituted cipher_function rounds cipher keys_from round_keys triple_encipher blocks
+    chained mac_bits mac_of session_of au2_text au3_text ar_text message_text eight number_in
 known_refused = refl
 
 pub known_releases : releases_in (history exchanged)
     ≡ record { reason = 4; sub = 1; by_peer = false } ∷ record { reason = 4; sub = 1; by_peer = true } ∷ []
-unfolding reading parameters_in segments_of drain hand_waiting_tpdus frames_of between_flags all_but_last cut verdict_on verdict_on_content checked_part check_number unescaped ends_in_escape spelling escaped escaped_octet content_of control_of fcs_of fcs_bits dividend remainder divided_once add_front sent_bits low_bits low_number bits number pick xor box_output substituted cipher_function rounds cipher keys_from round_keys triple_encipher blocks chained mac_bits mac_of session_of au2_text au3_text ar_text message_text eight number_in
+unfolding reading parameters_in segments_of drain hand_waiting_tpdus frames_of between_flags all_but_last cut verdict_on verdict_on_content checked_part
+    check_number unescaped ends_in_escape spelling escaped escaped_octet content_of control_of fcs_of fcs_bits dividend remainder divided_once add_front
+    sent_bits low_bits low_number bits number pick xor box_output substituted cipher_function rounds cipher keys_from round_keys triple_encipher blocks
+    chained mac_bits mac_of session_of au2_text au3_text ar_text message_text eight number_in
 known_releases = refl

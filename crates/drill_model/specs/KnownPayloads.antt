@@ -47,11 +47,13 @@ pub known_set_up : (world_run plan (does.Wire 1 ∷ does.Drain 1 5 ∷ [])).1
     ∷ On 1 (at_end R (Passed answer))
     ∷ On 1 (at_end E Up)
     ∷ Drained 1 2 ∷ []
-unfolding drain tick_each_link frames_of between_flags all_but_last cut verdict_on verdict_on_content checked_part check_number unescaped ends_in_escape spelling escaped escaped_octet content_of control_of fcs_of fcs_bits dividend remainder divided_once add_front sent_bits low_bits low_number
+unfolding drain tick_each_link frames_of between_flags all_but_last cut verdict_on verdict_on_content checked_part check_number unescaped ends_in_escape
+    spelling escaped escaped_octet content_of control_of fcs_of fcs_bits dividend remainder divided_once add_front sent_bits low_bits low_number
 known_set_up = refl
 
 -- the first of two I frames is lost: the called station asks for it once, and both are sent again
-pub known_loss : (world_run plan (does.Wire 1 ∷ does.Drain 1 5 ∷ does.Send 1 E (0x41 ∷ []) ∷ does.Send 1 E (0x42 ∷ []) ∷ does.Lose 1 E ∷ does.Pass 1 E ∷ does.Pass 1 R ∷ does.Drain 1 9 ∷ [])).1
+pub known_loss : (world_run plan (does.Wire 1 ∷ does.Drain 1 5 ∷ does.Send 1 E (0x41 ∷ []) ∷ does.Send 1 E (0x42 ∷ []) ∷ does.Lose 1 E ∷ does.Pass 1 E
+    ∷ does.Pass 1 R ∷ does.Drain 1 9 ∷ [])).1
     ≡ On 1 (at_end E (Frame set_up))
     ∷ On 1 (at_end E (Passed set_up))
     ∷ On 1 (at_end R Up)
@@ -78,11 +80,13 @@ pub known_loss : (world_run plan (does.Wire 1 ∷ does.Drain 1 5 ∷ does.Send 1
     ∷ On 1 (at_end R (Passed (0x7e ∷ 0x01 ∷ 0x21 ∷ 0x14 ∷ 0x26 ∷ 0x7e ∷ [])))
     ∷ On 1 (at_end R (Passed ready))
     ∷ Drained 1 4 ∷ []
-unfolding drain tick_each_link frames_of between_flags all_but_last cut verdict_on verdict_on_content checked_part check_number unescaped ends_in_escape spelling escaped escaped_octet content_of control_of fcs_of fcs_bits dividend remainder divided_once add_front sent_bits low_bits low_number
+unfolding drain tick_each_link frames_of between_flags all_but_last cut verdict_on verdict_on_content checked_part check_number unescaped ends_in_escape
+    spelling escaped escaped_octet content_of control_of fcs_of fcs_bits dividend remainder divided_once add_front sent_bits low_bits low_number
 known_loss = refl
 
 -- the set-up frame is lost and sent again as T1 expires; then the called station is released before it is up, and sends nothing
-pub known_releases : (world_run plan (does.Wire 1 ∷ does.Lose 1 E ∷ does.Tick 999 ∷ does.Tick 1000 ∷ does.Release 1 R 7 ∷ does.Send 1 R (0x41 ∷ []) ∷ does.Release 1 R 8 ∷ does.Pass 1 E ∷ [])).1
+pub known_releases : (world_run plan (does.Wire 1 ∷ does.Lose 1 E ∷ does.Tick 999 ∷ does.Tick 1000 ∷ does.Release 1 R 7 ∷ does.Send 1 R (0x41 ∷ [])
+    ∷ does.Release 1 R 8 ∷ does.Pass 1 E ∷ [])).1
     ≡ On 1 (at_end E (Frame set_up))
     ∷ On 1 (at_end E Lost)
     ∷ On 1 (at_end E Expired)
@@ -92,11 +96,13 @@ pub known_releases : (world_run plan (does.Wire 1 ∷ does.Lose 1 E ∷ does.Tic
     ∷ On 1 (at_end R (Refused (RefusedReleased (record { reason = 0; sub = 7; by_peer = false }))))
     ∷ On 1 (at_end R (UserReleased 8))
     ∷ On 1 (at_end E (Passed set_up)) ∷ []
-unfolding drain tick_each_link frames_of between_flags all_but_last cut verdict_on verdict_on_content checked_part check_number unescaped ends_in_escape spelling escaped escaped_octet content_of control_of fcs_of fcs_bits dividend remainder divided_once add_front sent_bits low_bits low_number
+unfolding drain tick_each_link frames_of between_flags all_but_last cut verdict_on verdict_on_content checked_part check_number unescaped ends_in_escape
+    spelling escaped escaped_octet content_of control_of fcs_of fcs_bits dividend remainder divided_once add_front sent_bits low_bits low_number
 known_releases = refl
 
 -- octets that cut one frame and close it with another, which is empty: each is an event of its own
-pub known_pieces : (world_run plan (does.Wire 1 ∷ does.Drain 1 5 ∷ does.Put 1 E (0x9d ∷ 0xcf ∷ 0x7e ∷ 0x7e ∷ 0x01 ∷ 0x02 ∷ 0x8d ∷ 0x35 ∷ 0x7e ∷ []) ∷ does.Put 1 E (0x7e ∷ 0x01 ∷ 0x00 ∷ 0x41 ∷ []) ∷ does.Drain 1 2 ∷ [])).1
+pub known_pieces : (world_run plan (does.Wire 1 ∷ does.Drain 1 5 ∷ does.Put 1 E (0x9d ∷ 0xcf ∷ 0x7e ∷ 0x7e ∷ 0x01 ∷ 0x02 ∷ 0x8d ∷ 0x35 ∷ 0x7e ∷ [])
+    ∷ does.Put 1 E (0x7e ∷ 0x01 ∷ 0x00 ∷ 0x41 ∷ []) ∷ does.Drain 1 2 ∷ [])).1
     ≡ On 1 (at_end E (Frame set_up))
     ∷ On 1 (at_end E (Passed set_up))
     ∷ On 1 (at_end R Up)
@@ -113,11 +119,15 @@ pub known_pieces : (world_run plan (does.Wire 1 ∷ does.Drain 1 5 ∷ does.Put 
     ∷ On 1 (at_end R (Arrived []))
     ∷ On 1 (at_end R (Frame ready))
     ∷ Drained 1 2 ∷ []
-unfolding drain tick_each_link frames_of between_flags all_but_last cut verdict_on verdict_on_content checked_part check_number unescaped ends_in_escape spelling escaped escaped_octet content_of control_of fcs_of fcs_bits dividend remainder divided_once add_front sent_bits low_bits low_number
+unfolding drain tick_each_link frames_of between_flags all_but_last cut verdict_on verdict_on_content checked_part check_number unescaped ends_in_escape
+    spelling escaped escaped_octet content_of control_of fcs_of fcs_bits dividend remainder divided_once add_front sent_bits low_bits low_number
 known_pieces = refl
 
 -- before the set-up is answered 16 payloads may wait
-pub known_full : (world_run plan (does.Wire 1 ∷ does.Send 1 E [] ∷ does.Send 1 E (1 ∷ []) ∷ does.Send 1 E (2 ∷ []) ∷ does.Send 1 E (3 ∷ []) ∷ does.Send 1 E (4 ∷ []) ∷ does.Send 1 E (5 ∷ []) ∷ does.Send 1 E (6 ∷ []) ∷ does.Send 1 E (7 ∷ []) ∷ does.Send 1 E (8 ∷ []) ∷ does.Send 1 E (9 ∷ []) ∷ does.Send 1 E (10 ∷ []) ∷ does.Send 1 E (11 ∷ []) ∷ does.Send 1 E (12 ∷ []) ∷ does.Send 1 E (13 ∷ []) ∷ does.Send 1 E (14 ∷ []) ∷ does.Send 1 E (15 ∷ []) ∷ does.Send 1 E (16 ∷ []) ∷ does.Send 1 E (17 ∷ []) ∷ [])).1
+pub known_full : (world_run plan (does.Wire 1 ∷ does.Send 1 E [] ∷ does.Send 1 E (1 ∷ []) ∷ does.Send 1 E (2 ∷ []) ∷ does.Send 1 E (3 ∷ [])
+    ∷ does.Send 1 E (4 ∷ []) ∷ does.Send 1 E (5 ∷ []) ∷ does.Send 1 E (6 ∷ []) ∷ does.Send 1 E (7 ∷ []) ∷ does.Send 1 E (8 ∷ []) ∷ does.Send 1 E (9 ∷ [])
+    ∷ does.Send 1 E (10 ∷ []) ∷ does.Send 1 E (11 ∷ []) ∷ does.Send 1 E (12 ∷ []) ∷ does.Send 1 E (13 ∷ []) ∷ does.Send 1 E (14 ∷ [])
+    ∷ does.Send 1 E (15 ∷ []) ∷ does.Send 1 E (16 ∷ []) ∷ does.Send 1 E (17 ∷ []) ∷ [])).1
     ≡ On 1 (at_end E (Frame set_up))
     ∷ On 1 (at_end E (Refused (RefusedLength 0)))
     ∷ On 1 (at_end E (Handed (1 ∷ [])))
@@ -137,7 +147,8 @@ pub known_full : (world_run plan (does.Wire 1 ∷ does.Send 1 E [] ∷ does.Send
     ∷ On 1 (at_end E (Handed (15 ∷ [])))
     ∷ On 1 (at_end E (Handed (16 ∷ [])))
     ∷ On 1 (at_end E (Refused (RefusedFull 16))) ∷ []
-unfolding drain tick_each_link frames_of between_flags all_but_last cut verdict_on verdict_on_content checked_part check_number unescaped ends_in_escape spelling escaped escaped_octet content_of control_of fcs_of fcs_bits dividend remainder divided_once add_front sent_bits low_bits low_number
+unfolding drain tick_each_link frames_of between_flags all_but_last cut verdict_on verdict_on_content checked_part check_number unescaped ends_in_escape
+    spelling escaped escaped_octet content_of control_of fcs_of fcs_bits dividend remainder divided_once add_front sent_bits low_bits low_number
 known_full = refl
 
 -- ---- level link-sr
@@ -184,7 +195,8 @@ behind_set_up more =
     ∷ Drained 1 2 ∷ more
 
 -- the first of three I frames is lost: the two behind it are held, it alone is asked for and sent again, and all three are taken at once
-pub known_repair : (world_run selective_plan (does.Wire 1 ∷ does.Drain 1 4 ∷ does.Send 1 E (0x01 ∷ []) ∷ does.Send 1 E (0x02 ∷ []) ∷ does.Send 1 E (0x03 ∷ []) ∷ does.Lose 1 E ∷ does.Drain 1 20 ∷ [])).1
+pub known_repair : (world_run selective_plan
+    (does.Wire 1 ∷ does.Drain 1 4 ∷ does.Send 1 E (0x01 ∷ []) ∷ does.Send 1 E (0x02 ∷ []) ∷ does.Send 1 E (0x03 ∷ []) ∷ does.Lose 1 E ∷ does.Drain 1 20 ∷ [])).1
     ≡ behind_set_up (
     On 1 (at_end E (Handed (0x01 ∷ [])))
     ∷ On 1 (at_end E (Frame first_info))
@@ -206,12 +218,15 @@ pub known_repair : (world_run selective_plan (does.Wire 1 ∷ does.Drain 1 4 ∷
     ∷ On 1 (at_end R (Passed ready_three))
     ∷ Drained 1 5 ∷ []
     )
-unfolding drain tick_each_link frames_of between_flags all_but_last cut verdict_on verdict_on_content checked_part check_number unescaped ends_in_escape spelling escaped escaped_octet content_of control_of fcs_of fcs_bits dividend remainder divided_once add_front sent_bits low_bits low_number
+unfolding drain tick_each_link frames_of between_flags all_but_last cut verdict_on verdict_on_content checked_part check_number unescaped ends_in_escape
+    spelling escaped escaped_octet content_of control_of fcs_of fcs_bits dividend remainder divided_once add_front sent_bits low_bits low_number
 known_repair = refl
 
 -- the SREJ is lost too: no later frame asks again, and nothing moves until T1 expires; then all three are sent again, and RR answers the two that
 -- are old by then
-pub known_lost_request : (world_run selective_plan (does.Wire 1 ∷ does.Drain 1 4 ∷ does.Send 1 E (0x01 ∷ []) ∷ does.Send 1 E (0x02 ∷ []) ∷ does.Send 1 E (0x03 ∷ []) ∷ does.Lose 1 E ∷ does.Pass 1 E ∷ does.Lose 1 R ∷ does.Drain 1 20 ∷ does.Tick 999 ∷ does.Tick 1000 ∷ does.Drain 1 20 ∷ [])).1
+pub known_lost_request : (world_run selective_plan
+    (does.Wire 1 ∷ does.Drain 1 4 ∷ does.Send 1 E (0x01 ∷ []) ∷ does.Send 1 E (0x02 ∷ []) ∷ does.Send 1 E (0x03 ∷ []) ∷ does.Lose 1 E ∷ does.Pass 1 E
+    ∷ does.Lose 1 R ∷ does.Drain 1 20 ∷ does.Tick 999 ∷ does.Tick 1000 ∷ does.Drain 1 20 ∷ [])).1
     ≡ behind_set_up (
     On 1 (at_end E (Handed (0x01 ∷ [])))
     ∷ On 1 (at_end E (Frame first_info))
@@ -243,11 +258,14 @@ pub known_lost_request : (world_run selective_plan (does.Wire 1 ∷ does.Drain 1
     ∷ On 1 (at_end R (Passed ready_three))
     ∷ Drained 1 6 ∷ []
     )
-unfolding drain tick_each_link frames_of between_flags all_but_last cut verdict_on verdict_on_content checked_part check_number unescaped ends_in_escape spelling escaped escaped_octet content_of control_of fcs_of fcs_bits dividend remainder divided_once add_front sent_bits low_bits low_number
+unfolding drain tick_each_link frames_of between_flags all_but_last cut verdict_on verdict_on_content checked_part check_number unescaped ends_in_escape
+    spelling escaped escaped_octet content_of control_of fcs_of fcs_bits dividend remainder divided_once add_front sent_bits low_bits low_number
 known_lost_request = refl
 
 -- the first and the third of four I frames are lost: each is asked for once and sent again once
-pub known_two_gaps : (world_run selective_plan (does.Wire 1 ∷ does.Drain 1 4 ∷ does.Send 1 E (0x01 ∷ []) ∷ does.Send 1 E (0x02 ∷ []) ∷ does.Send 1 E (0x03 ∷ []) ∷ does.Send 1 E (0x04 ∷ []) ∷ does.Lose 1 E ∷ does.Pass 1 E ∷ does.Lose 1 E ∷ does.Drain 1 20 ∷ [])).1
+pub known_two_gaps : (world_run selective_plan
+    (does.Wire 1 ∷ does.Drain 1 4 ∷ does.Send 1 E (0x01 ∷ []) ∷ does.Send 1 E (0x02 ∷ []) ∷ does.Send 1 E (0x03 ∷ []) ∷ does.Send 1 E (0x04 ∷ [])
+    ∷ does.Lose 1 E ∷ does.Pass 1 E ∷ does.Lose 1 E ∷ does.Drain 1 20 ∷ [])).1
     ≡ behind_set_up (
     On 1 (at_end E (Handed (0x01 ∷ [])))
     ∷ On 1 (at_end E (Frame first_info))
@@ -279,5 +297,6 @@ pub known_two_gaps : (world_run selective_plan (does.Wire 1 ∷ does.Drain 1 4 �
     ∷ On 1 (at_end R (Passed ready_four))
     ∷ Drained 1 7 ∷ []
     )
-unfolding drain tick_each_link frames_of between_flags all_but_last cut verdict_on verdict_on_content checked_part check_number unescaped ends_in_escape spelling escaped escaped_octet content_of control_of fcs_of fcs_bits dividend remainder divided_once add_front sent_bits low_bits low_number
+unfolding drain tick_each_link frames_of between_flags all_but_last cut verdict_on verdict_on_content checked_part check_number unescaped ends_in_escape
+    spelling escaped escaped_octet content_of control_of fcs_of fcs_bits dividend remainder divided_once add_front sent_bits low_bits low_number
 known_two_gaps = refl

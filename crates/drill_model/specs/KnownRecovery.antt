@@ -41,7 +41,8 @@ abbrev losing : List Step
 losing = does.Wire 1 ∷ does.Drain 1 5 ∷ does.Send 1 E (0x41 ∷ []) ∷ does.Lose 1 E ∷ []
 
 pub known_repairable : OfBoth (λ level l. IsRepairable (history level losing) l) losing
-unfolding drain tick_each_link frames_of between_flags all_but_last cut verdict_on verdict_on_content checked_part check_number unescaped ends_in_escape spelling escaped escaped_octet content_of control_of fcs_of fcs_bits dividend remainder divided_once add_front sent_bits low_bits low_number
+unfolding drain tick_each_link frames_of between_flags all_but_last cut verdict_on verdict_on_content checked_part check_number unescaped ends_in_escape
+    spelling escaped escaped_octet content_of control_of fcs_of fcs_bits dividend remainder divided_once add_front sent_bits low_bits low_number
 known_repairable = (
   record { ordered = record { numbered = tt; ordered = refl }; agree = tt; e_live = refl; r_live = refl },
   record { ordered = record { numbered = tt; ordered = refl }; agree = tt; e_live = refl; r_live = refl },
@@ -49,7 +50,8 @@ known_repairable = (
 
 -- no frame waits, and one payload was sent: at most (1 + 2 * 4) * (1 + 2) + 2 passes
 pub known_bound : OfBoth (λ level l. drain_bound (plan_at level) (history level losing) l ≡ 29) losing
-unfolding drain tick_each_link frames_of between_flags all_but_last cut verdict_on verdict_on_content checked_part check_number unescaped ends_in_escape spelling escaped escaped_octet content_of control_of fcs_of fcs_bits dividend remainder divided_once add_front sent_bits low_bits low_number
+unfolding drain tick_each_link frames_of between_flags all_but_last cut verdict_on verdict_on_content checked_part check_number unescaped ends_in_escape
+    spelling escaped escaped_octet content_of control_of fcs_of fcs_bits dividend remainder divided_once add_front sent_bits low_bits low_number
 known_bound = (refl, refl)
 
 -- a drain has nothing to pass, and the payload isn't accepted
@@ -57,12 +59,14 @@ abbrev drained : List Step
 drained = losing ++ does.Drain 1 29 ∷ []
 
 pub known_missing : OfBoth (λ level m. NoneWaits m × (accepted_by R (history level drained) ≡ [])) drained
-unfolding drain tick_each_link frames_of between_flags all_but_last cut verdict_on verdict_on_content checked_part check_number unescaped ends_in_escape spelling escaped escaped_octet content_of control_of fcs_of fcs_bits dividend remainder divided_once add_front sent_bits low_bits low_number
+unfolding drain tick_each_link frames_of between_flags all_but_last cut verdict_on verdict_on_content checked_part check_number unescaped ends_in_escape
+    spelling escaped escaped_octet content_of control_of fcs_of fcs_bits dividend remainder divided_once add_front sent_bits low_bits low_number
 known_missing = (((refl, refl), refl), ((refl, refl), refl))
 
 -- at 1,000 the calling station's T1 is found expired, and the called one's doesn't run; not yet at 999
 pub known_expired : OfBoth (λ level m. GoOn 1000 m) drained
-unfolding drain tick_each_link frames_of between_flags all_but_last cut verdict_on verdict_on_content checked_part check_number unescaped ends_in_escape spelling escaped escaped_octet content_of control_of fcs_of fcs_bits dividend remainder divided_once add_front sent_bits low_bits low_number
+unfolding drain tick_each_link frames_of between_flags all_but_last cut verdict_on verdict_on_content checked_part check_number unescaped ends_in_escape
+    spelling escaped escaped_octet content_of control_of fcs_of fcs_bits dividend remainder divided_once add_front sent_bits low_bits low_number
 known_expired = ((inr (refl, omega arith), inl refl), (inr (refl, omega arith), inl refl))
 
 -- behind the tick and one drain more it is accepted
@@ -70,7 +74,8 @@ abbrev repaired : List Step
 repaired = losing ++ does.Drain 1 29 ∷ does.Tick 1000 ∷ does.Drain 1 29 ∷ []
 
 pub known_recovery : OfBoth (λ level k. NoneWaits k × (accepted_by R (history level repaired) ≡ (0x41 ∷ []) ∷ [])) repaired
-unfolding drain tick_each_link frames_of between_flags all_but_last cut verdict_on verdict_on_content checked_part check_number unescaped ends_in_escape spelling escaped escaped_octet content_of control_of fcs_of fcs_bits dividend remainder divided_once add_front sent_bits low_bits low_number
+unfolding drain tick_each_link frames_of between_flags all_but_last cut verdict_on verdict_on_content checked_part check_number unescaped ends_in_escape
+    spelling escaped escaped_octet content_of control_of fcs_of fcs_bits dividend remainder divided_once add_front sent_bits low_bits low_number
 known_recovery = (((refl, refl), refl), ((refl, refl), refl))
 
 -- a moment before it repairs nothing
@@ -78,5 +83,6 @@ abbrev too_early : List Step
 too_early = losing ++ does.Drain 1 29 ∷ does.Tick 999 ∷ does.Drain 1 29 ∷ []
 
 pub known_too_early : OfBoth (λ level k. NoneWaits k × (accepted_by R (history level too_early) ≡ [])) too_early
-unfolding drain tick_each_link frames_of between_flags all_but_last cut verdict_on verdict_on_content checked_part check_number unescaped ends_in_escape spelling escaped escaped_octet content_of control_of fcs_of fcs_bits dividend remainder divided_once add_front sent_bits low_bits low_number
+unfolding drain tick_each_link frames_of between_flags all_but_last cut verdict_on verdict_on_content checked_part check_number unescaped ends_in_escape
+    spelling escaped escaped_octet content_of control_of fcs_of fcs_bits dividend remainder divided_once add_front sent_bits low_bits low_number
 known_too_early = (((refl, refl), refl), ((refl, refl), refl))

@@ -35,12 +35,16 @@ abbrev losing : List Step
 losing = link_call_step ∷ does.Lose 1 E ∷ []
 
 pub known_repairable : Behind IsRepairable losing
-unfolding drain tick_each_link hand_waiting_tpdus eight frames_of between_flags all_but_last cut verdict_on verdict_on_content checked_part check_number unescaped ends_in_escape spelling escaped escaped_octet content_of control_of fcs_of fcs_bits dividend remainder divided_once add_front sent_bits low_bits low_number
+unfolding drain tick_each_link hand_waiting_tpdus eight frames_of between_flags all_but_last cut verdict_on verdict_on_content checked_part check_number
+    unescaped ends_in_escape spelling escaped escaped_octet content_of control_of fcs_of fcs_bits dividend remainder divided_once add_front sent_bits low_bits
+    low_number
 known_repairable = record { ordered = record { numbered = tt; ordered = refl }; agree = refl; e_live = refl; r_live = refl }
 
 -- at 1,000 the engine's T1 is found expired, the radio block centre's doesn't run, and the time for the set-up isn't spent
 pub known_expired : Behind (λ history l. NoneWaits l × GoOn 1000 l) losing
-unfolding drain tick_each_link hand_waiting_tpdus eight frames_of between_flags all_but_last cut verdict_on verdict_on_content checked_part check_number unescaped ends_in_escape spelling escaped escaped_octet content_of control_of fcs_of fcs_bits dividend remainder divided_once add_front sent_bits low_bits low_number
+unfolding drain tick_each_link hand_waiting_tpdus eight frames_of between_flags all_but_last cut verdict_on verdict_on_content checked_part check_number
+    unescaped ends_in_escape spelling escaped escaped_octet content_of control_of fcs_of fcs_bits dividend remainder divided_once add_front sent_bits low_bits
+    low_number
 known_expired = ((refl, refl), ((inr (refl, omega arith), refl), (inl refl, refl)))
 
 abbrev IsSpentAt40000 : EndAtLevel → Type 0
@@ -50,16 +54,23 @@ IsSpentAt40000 (OfStack m) = is_spent (new_event_at model 40000 m.core) ≡ true
 
 -- at 40,000 it is spent, at both ends
 pub known_spent : Behind (λ history l. IsSpentAt40000 l.e × IsSpentAt40000 l.r) losing
-unfolding drain tick_each_link hand_waiting_tpdus eight frames_of between_flags all_but_last cut verdict_on verdict_on_content checked_part check_number unescaped ends_in_escape spelling escaped escaped_octet content_of control_of fcs_of fcs_bits dividend remainder divided_once add_front sent_bits low_bits low_number
+unfolding drain tick_each_link hand_waiting_tpdus eight frames_of between_flags all_but_last cut verdict_on verdict_on_content checked_part check_number
+    unescaped ends_in_escape spelling escaped escaped_octet content_of control_of fcs_of fcs_bits dividend remainder divided_once add_front sent_bits low_bits
+    low_number
 known_spent = (refl, refl)
 
 -- behind the tick the frame is sent again, and the set-up goes on
 pub known_again : flat_map (λ o. came.frames_of_outcome o.outcome) (history_on 1 (world_run plan (losing ++ does.Tick 1000 ∷ does.Drain 1 2 ∷ [])).1)
     ≡ set_up_frame_octets ∷ set_up_frame_octets ∷ set_up_answer_frame ∷ call ∷ []
-unfolding drain tick_each_link hand_waiting_tpdus eight frames_of between_flags all_but_last cut verdict_on verdict_on_content checked_part check_number unescaped ends_in_escape spelling escaped escaped_octet content_of control_of fcs_of fcs_bits dividend remainder divided_once add_front sent_bits low_bits low_number
+unfolding drain tick_each_link hand_waiting_tpdus eight frames_of between_flags all_but_last cut verdict_on verdict_on_content checked_part check_number
+    unescaped ends_in_escape spelling escaped escaped_octet content_of control_of fcs_of fcs_bits dividend remainder divided_once add_front sent_bits low_bits
+    low_number
 known_again = refl
 
 -- not a moment before
-pub known_too_early : flat_map (λ o. came.frames_of_outcome o.outcome) (history_on 1 (world_run plan (losing ++ does.Tick 999 ∷ does.Drain 1 2 ∷ [])).1) ≡ set_up_frame_octets ∷ []
-unfolding drain tick_each_link hand_waiting_tpdus eight frames_of between_flags all_but_last cut verdict_on verdict_on_content checked_part check_number unescaped ends_in_escape spelling escaped escaped_octet content_of control_of fcs_of fcs_bits dividend remainder divided_once add_front sent_bits low_bits low_number
+pub known_too_early : flat_map (λ o. came.frames_of_outcome o.outcome) (history_on 1 (world_run plan (losing ++ does.Tick 999 ∷ does.Drain 1 2 ∷ [])).1)
+    ≡ set_up_frame_octets ∷ []
+unfolding drain tick_each_link hand_waiting_tpdus eight frames_of between_flags all_but_last cut verdict_on verdict_on_content checked_part check_number
+    unescaped ends_in_escape spelling escaped escaped_octet content_of control_of fcs_of fcs_bits dividend remainder divided_once add_front sent_bits low_bits
+    low_number
 known_too_early = refl

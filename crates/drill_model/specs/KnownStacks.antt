@@ -50,7 +50,9 @@ pub known_frames : (world_run plan (link_call_step ∷ does.Pass 1 E ∷ does.Pa
     ∷ On 1 (at_end E (Frame call))
     ∷ On 1 (at_end E (Refused RefusedNotConnected))
     ∷ On 1 (at_end R NothingToTake) ∷ []
-unfolding drain tick_each_link hand_waiting_tpdus eight frames_of between_flags all_but_last cut verdict_on verdict_on_content checked_part check_number unescaped ends_in_escape spelling escaped escaped_octet content_of control_of fcs_of fcs_bits dividend remainder divided_once add_front sent_bits low_bits low_number
+unfolding drain tick_each_link hand_waiting_tpdus eight frames_of between_flags all_but_last cut verdict_on verdict_on_content checked_part check_number
+    unescaped ends_in_escape spelling escaped escaped_octet content_of control_of fcs_of fcs_bits dividend remainder divided_once add_front sent_bits low_bits
+    low_number
 known_frames = refl
 
 -- the time for the set-up runs from the moment of the opening: behind it T1 expires first, then both ends are released
@@ -64,5 +66,7 @@ pub known_time : (world_run plan (does.Tick 500 ∷ link_call_step ∷ does.Tick
     ∷ On 1 (at_end R (Released (record { reason = 6; sub = 1; by_peer = false })))
     ∷ On 1 (at_end E (UserReleased 7))
     ∷ On 1 (at_end R (Refused (RefusedReleased (record { reason = 6; sub = 1; by_peer = false })))) ∷ []
-unfolding drain tick_each_link hand_waiting_tpdus eight frames_of between_flags all_but_last cut verdict_on verdict_on_content checked_part check_number unescaped ends_in_escape spelling escaped escaped_octet content_of control_of fcs_of fcs_bits dividend remainder divided_once add_front sent_bits low_bits low_number
+unfolding drain tick_each_link hand_waiting_tpdus eight frames_of between_flags all_but_last cut verdict_on verdict_on_content checked_part check_number
+    unescaped ends_in_escape spelling escaped escaped_octet content_of control_of fcs_of fcs_bits dividend remainder divided_once add_front sent_bits low_bits
+    low_number
 known_time = refl

@@ -26,5 +26,6 @@ two_turns =
     ∷ does.Send 1 E (0x42 ∷ []) ∷ does.Lose 1 E ∷ does.Wire 64 ∷ does.Drain 64 64 ∷ []
 
 pub known_totals : totals_of (world_run plan two_turns).1 ≡ record { sent = 2; accepted = 1; passes = 8; lost = 1; repeated = 1 }
-unfolding sum_from drain tick_each_link frames_of between_flags all_but_last cut verdict_on verdict_on_content checked_part check_number unescaped ends_in_escape spelling escaped escaped_octet content_of control_of fcs_of fcs_bits dividend remainder divided_once add_front sent_bits low_bits low_number
+unfolding sum_from drain tick_each_link frames_of between_flags all_but_last cut verdict_on verdict_on_content checked_part check_number unescaped
+    ends_in_escape spelling escaped escaped_octet content_of control_of fcs_of fcs_bits dividend remainder divided_once add_front sent_bits low_bits low_number
 known_totals = refl

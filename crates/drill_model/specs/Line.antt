@@ -7,7 +7,8 @@ use Rattle.er_base.specs.declared.side.Side.{Side}
 use Rattle.er_scenario.specs.declared.step.Step.{Step}
 use Rattle.er_scenario.specs.declared.step.Step.TheVariants as does
 use Rattle.safety_pair_laws.specs.Facts.{is_side}
-use Rattle.drill_model.specs.Outcomes.{DrillOutcome, OfSafety, Handed, Arrived, Up, Took, NothingToTake, Refused, Released, Frame, Expired, UserReleased, Passed, Lost, Repeated, Altered, Inserted, NothingWaits, IsShort, Occurrence}
+use Rattle.drill_model.specs.Outcomes.{DrillOutcome, OfSafety, Handed, Arrived, Up, Took, NothingToTake, Refused, Released, Frame, Expired, UserReleased}
+use Rattle.drill_model.specs.Outcomes.{Passed, Lost, Repeated, Altered, Inserted, NothingWaits, IsShort, Occurrence}
 use Rattle.drill_model.specs.Links.{Link, waiting_of}
 use Rattle.drill_model.specs.Worlds.{DrillPlan, World, link_at, history_on, world_step, world_run}
 use Rattle.drill_model.specs.Kinds.{passed_in}

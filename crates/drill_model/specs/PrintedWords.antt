@@ -8,7 +8,8 @@ use Rattle.er_base.specs.Octets.{AreOctets}
 use Rattle.er_scenario.specs.declared.scenario.Scenario.{Scenario}
 use Rattle.safety_pair_laws.specs.Facts.{Sent, Sealed, Verified, Connected, Accepted}
 use Rattle.er_end_model.specs.Outcomes.{SendRefusal, RefusedReleased, RefusedNotConnected, RefusedLength, RefusedFull}
-use Rattle.drill_model.specs.Outcomes.{DrillOutcome, OfSafety, Handed, Arrived, Up, Took, NothingToTake, Refused, Released, Frame, Expired, UserReleased, Passed, Lost, Repeated, Altered, Inserted, NothingWaits, IsShort}
+use Rattle.drill_model.specs.Outcomes.{DrillOutcome, OfSafety, Handed, Arrived, Up, Took, NothingToTake, Refused, Released, Frame, Expired, UserReleased}
+use Rattle.drill_model.specs.Outcomes.{Passed, Lost, Repeated, Altered, Inserted, NothingWaits, IsShort}
 use Rattle.drill_model.specs.Worlds.{plan_of, steps_of, world_run}
 use Rattle.drill_model.specs.Marks.{MarkedCame, MarkedOn, MarkedDrain, marks_from}
 use Rattle.drill_model.specs.Texts.{lines, drill_text}

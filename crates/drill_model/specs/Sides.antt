@@ -13,7 +13,8 @@ use Rattle.safety_automaton.specs.Safety as safety
 use Rattle.safety_pair_laws.specs.Facts.{is_side}
 use Rattle.safety_pair_laws.specs.Messages.{IsConnectedPhase}
 use Rattle.er_end_model.specs.Outcomes.{SendRefusal, RefusedReleased, RefusedNotConnected, RefusedLength, RefusedFull}
-use Rattle.drill_model.specs.Outcomes.{DrillOutcome, OfSafety, Handed, Arrived, Up, Took, NothingToTake, Refused, Released, Frame, Expired, UserReleased, Passed, Lost, Repeated, Altered, Inserted, NothingWaits, IsShort, Occurrence, at_end}
+use Rattle.drill_model.specs.Outcomes.{DrillOutcome, OfSafety, Handed, Arrived, Up, Took, NothingToTake, Refused, Released, Frame, Expired, UserReleased}
+use Rattle.drill_model.specs.Outcomes.{Passed, Lost, Repeated, Altered, Inserted, NothingWaits, IsShort, Occurrence, at_end}
 use Rattle.drill_model.specs.Ends.{EndAtLevel, OfSafe, OfStation, OfStack}
 use Rattle.drill_model.specs.Links.{Link, end_of}
 use Rattle.drill_model.specs.Worlds.{DrillPlan, link_at, history_on, world_step, world_run}

@@ -10,7 +10,8 @@ use Rattle.er_scenario.specs.declared.step.Step.{Step}
 use Rattle.er_scenario.specs.declared.scenario.Scenario.{Scenario}
 use Rattle.safety_pair_laws.specs.Facts.{Fact, Sent, Sealed, Verified, Connected, Accepted}
 use Rattle.er_end_model.specs.Outcomes.{SendRefusal, RefusedReleased, RefusedNotConnected, RefusedLength, RefusedFull}
-use Rattle.drill_model.specs.Outcomes.{DrillOutcome, OfSafety, Handed, Arrived, Up, Took, NothingToTake, Refused, Released, Frame, Expired, UserReleased, Passed, Lost, Repeated, Altered, Inserted, NothingWaits, IsShort}
+use Rattle.drill_model.specs.Outcomes.{DrillOutcome, OfSafety, Handed, Arrived, Up, Took, NothingToTake, Refused, Released, Frame, Expired, UserReleased}
+use Rattle.drill_model.specs.Outcomes.{Passed, Lost, Repeated, Altered, Inserted, NothingWaits, IsShort}
 use Rattle.drill_model.specs.Links.{Link}
 use Rattle.drill_model.specs.Worlds.{DrillPlan, World, Came, plan_of, steps_of, link_at, history_on, world_step, world_run}
 use Rattle.drill_model.specs.Marks.{MarkedOccurrence, MarkedCame, MarkedOn, MarkedDrain, marks_from}

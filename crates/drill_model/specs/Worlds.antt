@@ -16,7 +16,8 @@ use Rattle.safety_pair_laws.specs.Facts.{SideFact}
 use Rattle.safety_pair_laws.specs.Openings.{OfFixed, OfKeys}
 use Rattle.drill_model.specs.Outcomes.{NothingWaits, Occurrence, at_end, facts_in}
 use Rattle.drill_model.specs.Waiting.{Lose, Repeat, Alter, Put}
-use Rattle.drill_model.specs.Links.{Link, LinkOpening, OfPair, OfStations, OfStacks, opened_link, waiting_of, LinkStep, Send, Pass, Change, Take, Release, Tick, link_step}
+use Rattle.drill_model.specs.Links.{Link, LinkOpening, OfPair, OfStations, OfStacks, opened_link, waiting_of, LinkStep, Send, Pass, Change, Take, Release, Tick}
+use Rattle.drill_model.specs.Links.{link_step}
 
 -- what a drill is run with: its level, the settings of its links, and whether frames are printed
 pub record DrillPlan : Type 0 where

@@ -33,7 +33,8 @@ messages_left_by_event Stalled messages = messages
 
 -- behind an event those wait that it left, and what it accepted
 abbrev pub WaitsMove : Type 0
-WaitsMove = (now : ℕ) (event : Event) (k : KEnd) → waiting_in (kept_end_behind_event now event k) ≡ messages_left_by_event event (waiting_in k) ++ accepted_in (tells now event k)
+WaitsMove = (now : ℕ) (event : Event) (k : KEnd)
+    → waiting_in (kept_end_behind_event now event k) ≡ messages_left_by_event event (waiting_in k) ++ accepted_in (tells now event k)
 
 abbrev pub is_octets : Event → Bool
 is_octets Start = false

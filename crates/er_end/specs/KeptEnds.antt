@@ -12,7 +12,8 @@ use Rattle.x224_class2.specs.Kept as transport
 use Rattle.safety_automaton.specs.Safety.{Safety, initiator, responder}
 use Rattle.safety_automaton.specs.Reports as reports
 use Rattle.er_end_model.specs.Outcomes.{Outcome, SendRefusal}
-use Rattle.er_end_model.specs.Steps.{Finds, new_event_at, step_start, step_frame, refusal_of, step_send_unless, step_take, step_release, step_tick, step_break, deadline, outcomes_of, if_taken}
+use Rattle.er_end_model.specs.Steps.{Finds, new_event_at, step_start, step_frame, refusal_of, step_send_unless, step_take, step_release, step_tick, step_break}
+use Rattle.er_end_model.specs.Steps.{deadline, outcomes_of, if_taken}
 use Rattle.er_end_model.specs.Ends.{Opening, Call, Answer, Event, Start, Come, Send, Take, Leave, Tick, Ended, Fault, Stalled, refusal_or_outcomes}
 use Rattle.er_end.specs.Inboxes.{empty}
 use Rattle.er_end.specs.KeptLayers.{KCore, kept}

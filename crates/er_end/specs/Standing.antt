@@ -11,7 +11,8 @@ use Rattle.er_end_model.specs.Outcomes.{Outcome}
 use Rattle.er_end_model.specs.Stacks.{Stack}
 use Rattle.er_end_model.specs.Layers.{Upper, Core, model}
 use Rattle.er_end_model.specs.Steps.{deadline}
-use Rattle.er_end_model.specs.Ends.{Opening, Call, Answer, Event, Start, Come, Send, Take, Leave, Tick, Ended, Fault, Stalled, End, opened, step_event, Moment, end_run, outcomes}
+use Rattle.er_end_model.specs.Ends.{Opening, Call, Answer, Event, Start, Come, Send, Take, Leave, Tick, Ended, Fault, Stalled, End, opened, step_event, Moment}
+use Rattle.er_end_model.specs.Ends.{end_run, outcomes}
 use Rattle.er_end.specs.Inboxes.{newest_of}
 use Rattle.er_end.specs.KeptLayers.{KLine, KUpper, KCore, kept}
 use Rattle.er_end.specs.KeptEnds.{KEnd, kept_opened, kept_end_behind_event, tells, used_of, deadline_of}

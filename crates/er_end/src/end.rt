@@ -10,6 +10,7 @@ ghost use Rattle.safety_automaton.specs.Reports.{kept_side_without_texts};
 ghost use Rattle.x224_class2.specs.Kept.{kept_made};
 ghost use Rattle.er_end_model.specs.Ends.{Call, Answer};
 ghost use Rattle.er_end.specs.Inboxes.{first_in, newest_of};
+ghost use Rattle.er_end.specs.KeptLayers.{kept};
 ghost use Rattle.er_end.specs.KeptEnds.{kept_opened, kept_core_made, kept_end_made, after_start, used_of, after_octets, refusal_of_send, after_send, after_take, after_release, after_tick, after_break, kept_end_behind_event, tells, waiting_in, deadline_of};
 ghost use Rattle.er_end.specs.Given.{model_event_of, used_by, outcomes_in, TellsEndOutcomes};
 ghost use Rattle.er_end.specs.Shown.{Shows, refusal_view};
@@ -352,9 +353,17 @@ impl End {
 
     /// The octets that the last event sent, to the line.
     pub fn out(&self) -> &[u8]
-        ensures { result.now ≡ self.now.core.line.out }
+        ensures value { result.now ≡ self.now.core.line.out }
+        ensures most { length result.now ≤ 134160 }
     {
         self.layers.line.out()
+    }
+
+    /// How many messages that the user sent wait for their last segment to be handed down: where 16 do, a send is refused as full.
+    pub fn unsent(&self) -> usize
+        ensures { result ≡ kept.waiting self.now.core.upper }
+    {
+        self.layers.transport.waiting()
     }
 
     /// The message that the last event accepted. It waits until it is taken.

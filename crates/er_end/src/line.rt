@@ -149,8 +149,10 @@ impl Line {
 
     /// Lends the octets that were sent in this event.
     pub fn out(&self) -> &[u8]
-        ensures { result.now ≡ self.now.out }
+        ensures value { result.now ≡ self.now.out }
+        ensures most { length result.now ≤ 134160 }
     {
+        let _ = &self.station;
         self.out.held()
     }
 }

@@ -9,6 +9,7 @@ use Rattle.er_end_model.specs.Ends.{Opening, Call, Answer, Event, End, opened, s
 use Rattle.er_end_model.specs.Ends as event
 use Rattle.er_end.specs.Inboxes.{newest_of, first_in}
 use Rattle.er_end.specs.KeptEnds.{KEnd, kept_end_behind_event, told_by, used_of, refusal_of_send, after_send, waiting_in}
+use Rattle.x224_class2.specs.Standing.{CountsStand}
 use Rattle.er_end.specs.Standing.{EndStands, MadeStands, StepsAlike, ShowsAlike}
 use Rattle.er_end.specs.Standing as standing
 use Rattle.er_end_c.specs.declared.handle.CEnd.{CEnd}
@@ -18,7 +19,7 @@ use Rattle.er_end_c.specs.Statuses.{late_moment, misused_start}
 use Rattle.er_end_c.specs.Deeds.{no_deeds, deed_flag, deeds_told, status_told, release_deeds, counts_shown}
 use Rattle.er_end_c.specs.Handles.{optional_key_entries, key_entries_of_handle, end_held_in_handle}
 use Rattle.er_end_c.specs.Makings.{held_made, is_start_awaited_at, moment_of_opening}
-use Rattle.er_end_c.specs.Reads.{text_of_held_end, text_or_empty, out_of, newest_accepted_message, message_last_taken, none_or, else_, deadline_status, shown_deadline, shown_release_status, shown_release, count_waiting_at_handle, shown_counts, peer_unless_released, connection_status, shown_peer}
+use Rattle.er_end_c.specs.Reads.{text_of_held_end, text_or_empty, out_of, newest_accepted_message, message_last_taken, none_or, else_, deadline_status, shown_deadline, shown_release_status, shown_release, count_waiting_at_handle, count_unsent_at_handle, shown_counts, peer_unless_released, connection_status, shown_peer}
 use Rattle.er_end_c.specs.Calls.{HandleCall, Start, Octets, Send, Take, Release, Tick, Ended, Fault, Stalled, is_moment_too_late, moment_of, event_of, octet_count_of_call, finds_in, handle_end_behind_call, told_at, deeds_at, deeds_with_back, is_back, is_start_misused, start_awaited_behind, last_moment_behind, peer_noted, held_behind_call, held_after, status_after, deeds_after, DoesHandleCall}
 use Rattle.er_end_c.proofs.Taking.{last_taken}
 use Rattle.er_end_c.proofs.Using.{uses_octets}
@@ -307,8 +308,8 @@ one steps keeps entries a first next m peer last is_due holds does texts =
 
 -- ---- what is read
 
-reads : ShowsAlike → (end : CEnd) (entries : List KmacEntry) (m : End) (peer : Option ℕ) (last : ℕ) (is_due : Bool) → Holds end entries m peer last is_due → ReadsAs end m
-reads shows end entries m peer last is_due holds =
+reads : ShowsAlike → CountsStand → (end : CEnd) (entries : List KmacEntry) (m : End) (peer : Option ℕ) (last : ℕ) (is_due : Bool) → Holds end entries m peer last is_due → ReadsAs end m
+reads shows counted end entries m peer last is_due holds =
     let k : KEnd = holds.found.end in let s = shows k m holds.tied in
     record {
       wanted = ap deadline_status holds.there ∙ ap none_or s.0;
@@ -316,6 +317,7 @@ reads shows end entries m peer last is_due holds =
       over = ap shown_release_status holds.there ∙ ap none_or s.1;
       why = ap shown_release holds.there ∙ ap release_deeds s.1;
       waits = ap count_waiting_at_handle holds.there ∙ s.2;
+      unsent = ap count_unsent_at_handle holds.there ∙ (counted k.core.upper.transport m.core.upper.transport holds.tied.core.upper.transport).1;
       counts = ap shown_counts holds.there ∙ ap counts_shown s.4;
     }
 
@@ -331,21 +333,21 @@ tells_peer shows end entries m peer last is_due holds =
 
 -- ---- a run
 
-run_from : StepsAlike → KeptStandsForStream → ShowsAlike → (entries : List KmacEntry) (calls : List Answered) (first last : CEnd) (m : End) (peer : Option ℕ) (before : ℕ) (is_due : Bool) → Holds first entries m peer before is_due
+run_from : StepsAlike → KeptStandsForStream → ShowsAlike → CountsStand → (entries : List KmacEntry) (calls : List Answered) (first last : CEnd) (m : End) (peer : Option ℕ) (before : ℕ) (is_due : Bool) → Holds first entries m peer before is_due
     → LeadsToHandle calls first last
     → AreAnswered (key_at entries) calls is_due m × TellBack calls is_due before × ReadsAs last (model_run (key_at entries) calls is_due m)
     × TellsPeer last (model_run (key_at entries) calls is_due m) (peer_behind_calls (key_at entries) calls is_due m peer)
-run_from steps keeps shows entries [] first last m peer before is_due holds same =
+run_from steps keeps shows counted entries [] first last m peer before is_due holds same =
     let here : Holds last entries m peer before is_due = record { found = holds.found; there = same ∙ holds.there; keyed = holds.keyed; tied = holds.tied; named = holds.named; passed = holds.passed; due = holds.due } in
-    (tt, tt, reads shows last entries m peer before is_due here, tells_peer shows last entries m peer before is_due here)
-run_from steps keeps shows entries (a ∷ calls) first last m peer before is_due holds leads =
+    (tt, tt, reads shows counted last entries m peer before is_due here, tells_peer shows last entries m peer before is_due here)
+run_from steps keeps shows counted entries (a ∷ calls) first last m peer before is_due holds leads =
     let next : CEnd = leads.0 in
     let o = one steps keeps entries a first next m peer before is_due holds leads.1 leads.2 in
-    let rest = run_from steps keeps shows entries calls next last (model_after (key_at entries) a is_due m) (peer_after (key_at entries) a is_due m peer)
+    let rest = run_from steps keeps shows counted entries calls next last (model_after (key_at entries) a is_due m) (peer_after (key_at entries) a is_due m peer)
     (left_by (reception_of a.call is_due) (greatest_passed a.call before) before) (is_due_after a.call is_due) o.2 leads.3 in
     ((o.0, rest.0), (o.1, rest.1), rest.2, rest.3)
 
-pub runs_as_model : MadeStands → StepsAlike → KeptStandsForStream → ShowsAlike → RunsAsModel
-runs_as_model made steps keeps shows opening entries calls first last allowed is leads =
-    run_from steps keeps shows (optional_key_entries entries) calls first last (opened opening) None (moment_of_opening opening) (is_start_due_at opening)
+pub runs_as_model : MadeStands → StepsAlike → KeptStandsForStream → ShowsAlike → CountsStand → RunsAsModel
+runs_as_model made steps keeps shows counted opening entries calls first last allowed is leads =
+    run_from steps keeps shows counted (optional_key_entries entries) calls first last (opened opening) None (moment_of_opening opening) (is_start_due_at opening)
     (record { found = held_made opening entries; there = is; keyed = refl; tied = made opening allowed; named = refl; passed = refl; due = due_at opening }) leads

@@ -4,7 +4,8 @@ use Rattle.std.specs.Prelude.{ℕ, ℤ, pos, negsuc, ◌≡◌, Bool, true, fals
 use Rattle.std.proofs.Common.{inl, inr}
 use Rattle.er_base.specs.declared.release.Release.{Release}
 use Rattle.hdlc_station_model.specs.declared.counts.Counts.{Counts}
-use Rattle.er_end_model.specs.Outcomes.{Outcome, ConnectedTo, Accepted, Taken, NothingToTake, Refused, WasReleased, Octets, RefusedReleased, RefusedNotConnected, RefusedLength, RefusedFull}
+use Rattle.er_end_model.specs.Outcomes.{Outcome, ConnectedTo, Accepted, Taken, NothingToTake, Refused, WasReleased, Octets, RefusedReleased}
+use Rattle.er_end_model.specs.Outcomes.{RefusedNotConnected, RefusedLength, RefusedFull}
 use Rattle.er_settings.specs.Values.{Settings}
 use Rattle.des_block.specs.declared.triple_key.TripleKey.{TripleKey}
 use Rattle.er_base.specs.Octets.{number_in}
@@ -21,7 +22,9 @@ use Rattle.er_end_c.specs.declared.handle.CEnd.{CEnd}
 use Rattle.er_end_c.specs.declared.held.Held.{Held}
 use Rattle.er_end_c.specs.Deeds.{deeds_told, deeds_by_outcome_kind, release_deeds, status_told, counts_shown}
 use Rattle.er_end_c.specs.Handles.{is_handle_open}
-use Rattle.er_end_c.specs.Calls.{HandleCall, Start, Octets as OctetsCall, Send, Take, Release as ReleaseCall, Tick, Ended, Fault, Stalled, is_moment_too_late, is_back, last_moment_behind, is_start_misused, start_awaited_behind, event_of, deeds_with_back, peer_noted, held_after, status_after, deeds_after}
+use Rattle.er_end_c.specs.Calls.{HandleCall, Start, Octets as OctetsCall, Send, Take, Release as ReleaseCall, Tick, Ended, Fault, Stalled, is_moment_too_late}
+use Rattle.er_end_c.specs.Calls.{is_back, last_moment_behind, is_start_misused, start_awaited_behind, event_of, deeds_with_back, peer_noted, held_after}
+use Rattle.er_end_c.specs.Calls.{status_after, deeds_after}
 use Rattle.er_end_c.specs.Makings.{are_allowed, is_number, fault_of_handle_making, held_made, entry_shown, fault_status}
 use Rattle.er_end_c.specs.Reads.{none_or, deadline_status, shown_deadline, shown_release_status, shown_release, connection_status, shown_peer, found_status}
 use Rattle.er_end_c.specs.Kmacs.{kmac_status, kmac_written}

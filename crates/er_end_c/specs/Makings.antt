@@ -1,5 +1,6 @@
 -- Contract: what the makers of an end answer and leave.
-use Rattle.std.specs.Prelude.{ℕ, ℤ, ◌≡◌, ◌==◌, ◌&&◌, ◌||◌, ◌^◌, min, nat_lt, Bool, true, false, not, if◌then◌else◌, List, Option, Some, None, Result, Ok, Err, ◌⊎◌, slice_index_or}
+use Rattle.std.specs.Prelude.{ℕ, ℤ, ◌≡◌, ◌==◌, ◌&&◌, ◌||◌, ◌^◌, min, nat_lt, Bool, true, false, not, if◌then◌else◌, List, Option, Some, None, Result, Ok, Err}
+use Rattle.std.specs.Prelude.{◌⊎◌, slice_index_or}
 use Rattle.des_block.specs.declared.triple_key.TripleKey.{TripleKey}
 use Rattle.safety_automaton.specs.Keys.{KmacEntry}
 use Rattle.er_settings.specs.Values.{Settings}

@@ -1,6 +1,7 @@
 -- Contract: what the calls that read a handle answer, by what it holds.
 use Rattle.std.specs.Prelude.{ℕ, ℤ, List, [], ◌++◌, length, take, drop, Option, Some, None}
 use Rattle.er_end.specs.Inboxes.{newest_of}
+use Rattle.er_end.specs.KeptLayers.{kept}
 use Rattle.er_end.specs.KeptEnds.{KEnd, waiting_in, deadline_of}
 use Rattle.er_end_c.specs.declared.held.Held.{Held}
 use Rattle.er_end_c.specs.declared.face.CDeeds.{CDeeds}
@@ -42,6 +43,11 @@ octets_written_over octets into = octets ++ drop (length octets) into
 abbrev pub count_waiting_at_handle : Option Held → ℕ
 count_waiting_at_handle None = 0
 count_waiting_at_handle (Some h) = length (waiting_in h.end)
+
+-- the messages of the user whose last segment wasn't handed down yet
+abbrev pub count_unsent_at_handle : Option Held → ℕ
+count_unsent_at_handle None = 0
+count_unsent_at_handle (Some h) = kept.waiting h.end.core.upper
 
 abbrev pub none_or : {A : Type 0} → Option A → ℤ
 none_or None = none

@@ -13,7 +13,9 @@ use Rattle.er_end_c.specs.Statuses.{late_moment, misused_start}
 use Rattle.er_end_c.specs.Deeds.{no_deeds, deeds_told, status_told, release_deeds, counts_shown}
 use Rattle.er_end_c.specs.Handles.{optional_key_entries, end_held_in_handle}
 use Rattle.er_end_c.specs.Makings.{IsHandleMade, moment_of_opening}
-use Rattle.er_end_c.specs.Reads.{text_of_held_end, out_of, newest_accepted_message, message_last_taken, none_or, else_, deadline_status, shown_deadline, shown_release_status, shown_release, count_waiting_at_handle, shown_counts, peer_unless_released, connection_status, shown_peer}
+use Rattle.er_end_c.specs.Reads.{text_of_held_end, out_of, newest_accepted_message, message_last_taken, none_or, else_, deadline_status, shown_deadline}
+use Rattle.er_end_c.specs.Reads.{shown_release_status, shown_release, count_waiting_at_handle, count_unsent_at_handle, shown_counts}
+use Rattle.er_end_c.specs.Reads.{peer_unless_released, connection_status, shown_peer}
 use Rattle.er_end_c.specs.Used.{UsesOctets}
 use Rattle.er_end_c.specs.Calls.{HandleCall, Start, Octets, Send, Take, Release, Tick, Ended, Fault, Stalled, is_moment_too_late, moment_of, DoesHandleCall}
 
@@ -169,7 +171,8 @@ is_take Ended = false
 is_take Fault = false
 is_take Stalled = false
 
--- a call answers what the step of the model tells, for the octets that it uses and by whether its moment went back: as its status, as its deeds, and as the texts to be copied, unless it is a send that was
+-- a call answers what the step of the model tells, for the octets that it uses and by whether its moment went back: as its status, as its deeds, and as the
+-- texts to be copied, unless it is a send that was
 -- refused, behind which those of the event before may still be copied
 pub record IsAnswered (a : Answered) (told : List Outcome) : Type 0 where
   pub answer : a.status ≡ status_told told
@@ -249,19 +252,22 @@ pub record TellsPeer (end : CEnd) (m : End) (peer : Option ℕ) : Type 0 where
   pub stands : connection_status (end_held_in_handle end) ≡ none_or (peer_unless_released m.core.released peer)
   pub named : (before : ℕ) → shown_peer before (end_held_in_handle end) ≡ else_ before (peer_unless_released m.core.released peer)
 
--- the calls that read answer what the model says of its end
+-- the calls that read answer what the model says of its end. (One that told as unsent each message that the peer's transport hasn't
+-- acknowledged yet, or those that the end's own user hasn't taken: `unsent` is false of both)
 pub record ReadsAs (end : CEnd) (m : End) : Type 0 where
   pub wanted : deadline_status (end_held_in_handle end) ≡ none_or (deadline model m.core)
   pub moment : (before : ℕ) → shown_deadline before (end_held_in_handle end) ≡ else_ before (deadline model m.core)
   pub over : shown_release_status (end_held_in_handle end) ≡ none_or m.core.released
   pub why : shown_release (end_held_in_handle end) ≡ release_deeds m.core.released
   pub waits : count_waiting_at_handle (end_held_in_handle end) ≡ model.untaken m.core.upper
+  pub unsent : count_unsent_at_handle (end_held_in_handle end) ≡ model.waiting m.core.upper
   pub counts : shown_counts (end_held_in_handle end) ≡ counts_shown (model.counts m.core.line)
 
 -- of a handle whose end was made by an opening, with keys
 abbrev pub RunsAsModel : Type 0
 RunsAsModel =
-    (opening : Opening) (entries : Option (List KmacEntry)) (calls : List Answered) (first last : CEnd) → IsAllowed opening → IsHandleMade first opening entries → LeadsToHandle calls first last
+    (opening : Opening) (entries : Option (List KmacEntry)) (calls : List Answered) (first last : CEnd) → IsAllowed opening
+    → IsHandleMade first opening entries → LeadsToHandle calls first last
     → AreAnswered (key_at (optional_key_entries entries)) calls (is_start_due_at opening) (opened opening)
     × TellBack calls (is_start_due_at opening) (moment_of_opening opening)
     × ReadsAs last (model_run (key_at (optional_key_entries entries)) calls (is_start_due_at opening) (opened opening))

@@ -8,5 +8,6 @@ pub fn runs()
     ensures { RunsAsModel }
 {
     er_end::laws::standing();
+    x224_class2::laws::standing();
     hdlc_frames::laws::kept_stands_for_stream();
 }

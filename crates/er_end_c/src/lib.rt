@@ -27,5 +27,6 @@ pub use keys::{euroradio_key_file, euroradio_kmac};
 pub use makers::{euroradio_answer, euroradio_answer_keys, euroradio_call, euroradio_end_free};
 pub use reads::{
     euroradio_accepted, euroradio_connected, euroradio_counted, euroradio_deadline, euroradio_out,
-    euroradio_reason, euroradio_released, euroradio_taken, euroradio_version, euroradio_waiting,
+    euroradio_reason, euroradio_released, euroradio_taken, euroradio_unsent, euroradio_version,
+    euroradio_waiting,
 };

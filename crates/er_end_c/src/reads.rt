@@ -5,7 +5,7 @@ ghost use Rattle.er_base.specs.ReasonWords.{reason_words};
 ghost use Rattle.er_end.specs.KeptEnds.{waiting_in, deadline_of};
 ghost use Rattle.er_end.specs.Inboxes.{newest_of};
 ghost use Rattle.er_end_c.specs.Handles.{end_held_in_handle};
-ghost use Rattle.er_end_c.specs.Reads.{text_of_held_end, text_or_empty, copied, octets_written_over, out_of, newest_accepted_message, message_last_taken, shown_release, shown_release_status, shown_counts, peer_unless_released, connection_status, shown_peer, found_status, count_waiting_at_handle, shown_deadline, deadline_status};
+ghost use Rattle.er_end_c.specs.Reads.{text_of_held_end, text_or_empty, copied, octets_written_over, out_of, newest_accepted_message, message_last_taken, shown_release, shown_release_status, shown_counts, peer_unless_released, connection_status, shown_peer, found_status, count_waiting_at_handle, count_unsent_at_handle, shown_deadline, deadline_status};
 
 use crate::face::{CCounts, CDeeds};
 use crate::handle::CEnd;
@@ -24,6 +24,7 @@ pub extern "C" fn euroradio_out(
     ensures held { end_held_in_handle end.new ≡ end_held_in_handle end.old }
     ensures copied { into.new ≡ octets_written_over (copied (text_of_held_end out_of (end_held_in_handle end.old)) from (length into.old)) into.old }
     ensures count { result ≡ length (copied (text_of_held_end out_of (end_held_in_handle end.old)) from (length into.old)) }
+    ensures most { length (text_of_held_end out_of (end_held_in_handle end.old)) ≤ 134160 }
 {
     let Some(held) = end.take_held(alloc) else {
         return 0;
@@ -89,11 +90,26 @@ pub extern "C" fn euroradio_deadline(alloc: Global, end: &mut CEnd, moment: &mut
 pub extern "C" fn euroradio_waiting(alloc: Global, end: &mut CEnd) -> usize
     ensures held { end_held_in_handle end.new ≡ end_held_in_handle end.old }
     ensures count { result ≡ count_waiting_at_handle (end_held_in_handle end.old) }
+    ensures most { result ≤ 15 }
 {
     let Some(held) = end.take_held(alloc) else {
         return 0;
     };
     let count = held.end.waiting();
+    end.put_held(held);
+    count
+}
+
+/// How many messages that the user sent wait for their last segment to be handed down.
+#[unsafe(no_mangle)]
+pub extern "C" fn euroradio_unsent(alloc: Global, end: &mut CEnd) -> usize
+    ensures held { end_held_in_handle end.new ≡ end_held_in_handle end.old }
+    ensures count { result ≡ count_unsent_at_handle (end_held_in_handle end.old) }
+{
+    let Some(held) = end.take_held(alloc) else {
+        return 0;
+    };
+    let count = held.end.unsent();
     end.put_held(held);
     count
 }
@@ -182,9 +198,9 @@ pub extern "C" fn euroradio_reason(reason: u8, sub: u8, into: &mut [u8]) -> usiz
 /// The version of the library: 100 times the major one, and the minor one.
 #[unsafe(no_mangle)]
 pub extern "C" fn euroradio_version() -> u32
-    ensures { result ≡ 200 }
+    ensures { result ≡ 201 }
 {
-    200
+    201
 }
 
 // Copies what fits, from an index on: how many octets.

@@ -5,5 +5,6 @@ pub mod Speaking
 pub mod Giving
 pub mod Origins
 pub mod Behind
+pub mod KeptReleases
 pub mod Releasing
 pub mod Timing

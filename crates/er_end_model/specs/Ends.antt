@@ -10,7 +10,8 @@ use Rattle.x224_class2.specs.Transport.{side_made}
 use Rattle.safety_automaton.specs.Safety.{Safety, initiator, responder}
 use Rattle.safety_automaton.specs.Reports as reports
 use Rattle.er_end_model.specs.Outcomes.{Outcome, Refused, SendRefusal}
-use Rattle.er_end_model.specs.Steps.{Finds, new_event_at, step_start, step_frame, refusal_of, step_send_unless, step_take, step_release, is_spent, step_tick, step_break, outcomes_of, if_taken}
+use Rattle.er_end_model.specs.Steps.{Finds, new_event_at, step_start, step_frame, refusal_of, step_send_unless, step_take, step_release, is_spent, step_tick}
+use Rattle.er_end_model.specs.Steps.{step_break, outcomes_of, if_taken}
 use Rattle.er_end_model.specs.Layers.{Upper, Core, model}
 
 -- how an end is opened: it calls, or it answers; at a moment

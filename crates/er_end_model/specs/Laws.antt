@@ -8,10 +8,12 @@ use Rattle.hdlc_frames.specs.Framing.{Verdict}
 use Rattle.hdlc_station_model.specs.Stations.{is_down}
 use Rattle.x224_class2.specs.declared.stage.Stage.{Stage}
 use Rattle.x224_class2.specs.declared.stage.Stage.TheVariants as stages
-use Rattle.safety_automaton.specs.Safety.{no_keys, Safety, SafetyOutcome, SentAu1, SentAu2, SentAu3, SentAr, ReceivedAr, AcceptedDt, SentDt, Refused, ReleasedLocally, ReleasedByPeer, NothingDone, sealed_by, verified_by, step}
+use Rattle.safety_automaton.specs.Safety.{no_keys, Safety, SafetyOutcome, SentAu1, SentAu2, SentAu3, SentAr, ReceivedAr, AcceptedDt, SentDt, Refused}
+use Rattle.safety_automaton.specs.Safety.{ReleasedLocally, ReleasedByPeer, NothingDone, sealed_by, verified_by, step}
 use Rattle.safety_automaton.specs.Reports.{kept_side_without_texts}
 use Rattle.er_end_model.specs.Outcomes.{RefusedReleased}
-use Rattle.er_end_model.specs.Steps.{Finds, new_event_at, has_next_tpdu, hand_waiting_tpdus, most_offers, step_start, step_frame, refusal_of, on_send, step_take, step_release, step_tick, step_break, is_connected, outcomes_of}
+use Rattle.er_end_model.specs.Steps.{Finds, new_event_at, has_next_tpdu, hand_waiting_tpdus, most_offers, step_start, step_frame, refusal_of, on_send}
+use Rattle.er_end_model.specs.Steps.{step_take, step_release, step_tick, step_break, is_connected, outcomes_of}
 use Rattle.er_end_model.specs.Layers.{Spoken, Core, model}
 use Rattle.er_end_model.specs.Ends.{Opening, Come, End, Moment, opened, end_run, outcomes}
 
@@ -75,7 +77,8 @@ pub record SpeaksOnce (key_of : ℕ → ℕ → Option TripleKey) (x y : Core) :
 pub record EventsSpeakOnce : Type 0 where
   pub made : (opening : Opening) → IsSane (opened opening).core
   pub starts : (now : ℕ) (x : Core) → IsSane x → SpeaksOnce no_keys x (step_start model now x)
-  pub comes : (finds : Finds) (now : ℕ) (verdict : Verdict) (x : Core) → IsSane x → SpeaksOnce (finds (max x.moment now)) x (step_frame model finds now verdict x)
+  pub comes : (finds : Finds) (now : ℕ) (verdict : Verdict) (x : Core) → IsSane x
+      → SpeaksOnce (finds (max x.moment now)) x (step_frame model finds now verdict x)
   pub sends : (now : ℕ) (user : List ℕ) (x : Core) → IsSane x → SpeaksOnce no_keys x (on_send model user (new_event_at model now x))
   pub uses : (now : ℕ) (x : Core) → IsSane x → SpeaksOnce no_keys x (step_take model now x)
   pub leaves : (now sub : ℕ) (x : Core) → IsSane x → SpeaksOnce no_keys x (step_release model now sub x)

@@ -7,7 +7,8 @@ use Rattle.hdlc_station_model.specs.Stations.{Station, settled}
 use Rattle.hdlc_station_model.specs.Sending.{waiting}
 use Rattle.hdlc_station_model.specs.Calls as station
 use Rattle.x224_class2.specs.Tpdus.{GivenTpdu, octets_given}
-use Rattle.x224_class2.specs.Transport.{Transport, is_new, is_open, after_connect, after_accept, after_hand, after_taken, waiting_count, reception, next_tpdu, after_next, with_given}
+use Rattle.x224_class2.specs.Transport.{Transport, is_new, is_open, after_connect, after_accept, after_hand, after_taken, waiting_count, reception, next_tpdu}
+use Rattle.x224_class2.specs.Transport.{after_next, with_given}
 use Rattle.safety_automaton.specs.Safety.{SafetyEvent, SafetyOutcome}
 use Rattle.er_end_model.specs.Stacks.{Ops, Stack}
 

@@ -55,7 +55,8 @@ Origin Brought (Octets octets) = Unit {0}
 
 -- of octets that come to an end
 abbrev pub OctetOutcomesHaveOrigin : Type 0
-OctetOutcomesHaveOrigin = (finds : Finds) (now : ℕ) (octets : List ℕ) (m : End) → All (Origin (Brings finds now octets m)) (step_event now (Come finds octets) m).1
+OctetOutcomesHaveOrigin = (finds : Finds) (now : ℕ) (octets : List ℕ) (m : End)
+    → All (Origin (Brings finds now octets m)) (step_event now (Come finds octets) m).1
 
 -- ---- a run
 

@@ -49,7 +49,8 @@ StationReleases why finds now x verdict = (station_behind x now verdict).deed �
 -- the payload that the station took is no block, or makes a TPDU that is too long
 abbrev pub BlockIsFaulty : FrameFact
 BlockIsFaulty finds now x verdict =
-    (payload : List ℕ) × (fault : BlockFault) × ((station_behind x now verdict).deed.payload ≡ Some payload) × ((joining.block_step x.joined payload).1 ≡ Err fault)
+    (payload : List ℕ) × (fault : BlockFault) × ((station_behind x now verdict).deed.payload ≡ Some payload)
+    × ((joining.block_step x.joined payload).1 ≡ Err fault)
 
 -- a TPDU that the station and the blocks made of a frame
 pub record IsTpduOf (x : Core) (now : ℕ) (verdict : Verdict) (tpdu : List ℕ) : Type 0 where

@@ -2,7 +2,8 @@
 -- transport and the safety side. What these answer goes down; then, while no payload waits at the station, the next TPDU is handed
 -- down in a block; last comes the answer that the station still owes. An event that releases the end does neither, unless a line says so.
 use Rattle.hdlc_station_model.specs.Receiving.{is_some_octets}
-use Rattle.std.specs.Prelude.{ℕ, zero, suc, ◌==◌, nat_le, max, min, Bool, true, false, not, ◌&&◌, if◌then◌else◌, List, [], ◌∷◌, ◌++◌, length, Option, Some, None, is_some, Ok, Err}
+use Rattle.std.specs.Prelude.{ℕ, zero, suc, ◌==◌, nat_le, max, min, Bool, true, false, not, ◌&&◌, if◌then◌else◌, List, [], ◌∷◌, ◌++◌, length, Option, Some}
+use Rattle.std.specs.Prelude.{None, is_some, Ok, Err}
 use Rattle.er_base.specs.declared.release.Release.{Release}
 use Rattle.er_base.specs.declared.cause.Cause.{Cause}
 use Rattle.er_base.specs.declared.cause.Cause.TheVariants.{User, DisconnectWithoutDi, BlockRefused, SetUpTimeSpent}
@@ -18,10 +19,13 @@ use Rattle.x224_class2.specs.Transport as transport
 use Rattle.x224_class2.specs.Refusals.{protocol_error}
 use Rattle.sapdu.specs.Spelling.{Di, spelling, di_in}
 use Rattle.sapdu.specs.Messages.{is_message}
-use Rattle.safety_automaton.specs.Safety.{no_keys, Safety, Phase, Ready, WaitAu1, WaitAu2, WaitAu3, WaitAr, Connected, Released, SafetyEvent, ConnectRequest, Received, DataRequest, DisconnectRequest, SafetyOutcome, flag_of, peer_flag, sealed_by, verified_by, octets_sent_in_outcome, step}
+use Rattle.safety_automaton.specs.Safety.{no_keys, Safety, Phase, Ready, WaitAu1, WaitAu2, WaitAu3, WaitAr, Connected, Released, SafetyEvent, ConnectRequest}
+use Rattle.safety_automaton.specs.Safety.{Received, DataRequest, DisconnectRequest, SafetyOutcome, flag_of, peer_flag, sealed_by, verified_by}
+use Rattle.safety_automaton.specs.Safety.{octets_sent_in_outcome, step}
 use Rattle.safety_automaton.specs.Reports.{KeptSafe, Report, ToldAnswered, ToldConnected, ToldAccepted, ToldReleased, ToldIgnored, report_of}
 use Rattle.safety_automaton.specs.Reports as reports
-use Rattle.er_end_model.specs.Outcomes.{SendRefusal, RefusedReleased, RefusedNotConnected, RefusedLength, RefusedFull, Outcome, ConnectedTo, Accepted, Taken, NothingToTake, WasReleased, Octets}
+use Rattle.er_end_model.specs.Outcomes.{SendRefusal, RefusedReleased, RefusedNotConnected, RefusedLength, RefusedFull, Outcome, ConnectedTo, Accepted, Taken}
+use Rattle.er_end_model.specs.Outcomes.{NothingToTake, WasReleased, Octets}
 use Rattle.er_end_model.specs.Stacks.{Ops, Stack}
 
 -- how KMACs are looked up: by a moment, the engine's number and the radio block centre's
@@ -185,7 +189,8 @@ connect_with_text o text x = if is_some_octets text then record x { upper = o.co
 abbrev pub on_link_up : {S U : Type 0} → Ops S U → Stack S U → Stack S U
 on_link_up o x =
     let a = step no_keys x.safe.safety ConnectRequest in
-    if o.may_connect x.upper && is_ready x.safe.safety.phase then connect_with_text o (octets_sent_in_outcome a.1) (with_safety_step o ConnectRequest a x) else x
+    if o.may_connect x.upper && is_ready x.safe.safety.phase then connect_with_text o (octets_sent_in_outcome a.1) (with_safety_step o ConnectRequest a x)
+    else x
 
 -- a payload that was taken, the link that came up, or a release of the station, which sent its last frame
 abbrev pub on_link_told : {S U : Type 0} → Ops S U → Finds → Option (List ℕ) → Bool → Option Release → Stack S U → Stack S U

@@ -39,7 +39,8 @@ IsOneFrame stream line = (octets : List ℕ) (rest : List (List ℕ)) → line �
 abbrev pub OneFrame : Type 0
 OneFrame =
     (s : EndLinkOpening) (steps : List PairStep) → AllFit steps → (end_link_after s steps).order_kept ≡ true
-    → IsOneFrame (end_link_after s steps).r.stream (end_link_after s steps).from_e × IsOneFrame (end_link_after s steps).e.stream (end_link_after s steps).from_r
+    → IsOneFrame (end_link_after s steps).r.stream (end_link_after s steps).from_e
+    × IsOneFrame (end_link_after s steps).e.stream (end_link_after s steps).from_r
 
 -- ---- a loss-free line, where the keys agree
 
@@ -64,7 +65,8 @@ pub record HasAll (l : EndLink) : Type 0 where
 
 abbrev pub Delivery : Type 0
 Delivery =
-    (s : EndLinkOpening) (steps : List PairStep) → AllFit steps → Agree s → (end_link_after s steps).loss_free ≡ true → IsEmpty (end_link_after s steps) → HasAll (end_link_after s steps)
+    (s : EndLinkOpening) (steps : List PairStep) → AllFit steps → Agree s → (end_link_after s steps).loss_free ≡ true → IsEmpty (end_link_after s steps)
+    → HasAll (end_link_after s steps)
 
 -- the greatest number of deliveries
 abbrev pub bound : Settings → EndLink → ℕ
@@ -72,7 +74,8 @@ bound settings l = end_bound settings l.e.core.upper.sent l.r.core.upper.sent
 
 abbrev pub DeliveryBound : Type 0
 DeliveryBound =
-    (s : EndLinkOpening) (steps : List PairStep) → AllFit steps → Agree s → (end_link_after s steps).loss_free ≡ true → (end_link_after s steps).passes ≤ bound s.settings (end_link_after s steps)
+    (s : EndLinkOpening) (steps : List PairStep) → AllFit steps → Agree s → (end_link_after s steps).loss_free ≡ true
+    → (end_link_after s steps).passes ≤ bound s.settings (end_link_after s steps)
 
 -- never more than 254 frames wait in one direction: at modulo 128 at most 127 I frames, and an RR for each of the other direction
 abbrev pub FewWait : Type 0
@@ -83,5 +86,6 @@ FewWait =
 -- a drain of as many passes leaves no frame waiting
 abbrev pub DrainEmpties : Type 0
 DrainEmpties =
-    (s : EndLinkOpening) (steps : List PairStep) (most : ℕ) → AllFit steps → Agree s → (end_link_after s steps).loss_free ≡ true → bound s.settings (end_link_after s steps) ≤ most
+    (s : EndLinkOpening) (steps : List PairStep) (most : ℕ) → AllFit steps → Agree s → (end_link_after s steps).loss_free ≡ true
+    → bound s.settings (end_link_after s steps) ≤ most
     → ((drained (end_kind s.finder) most (end_link_after s steps)).from_e ≡ []) × ((drained (end_kind s.finder) most (end_link_after s steps)).from_r ≡ [])

@@ -68,4 +68,5 @@ end_kind finds = record {
 -- two ends that were just made; the one that calls begins
 abbrev pub opened_end_link : EndLinkOpening → EndLink
 opened_end_link s =
-    opened_pair_link (end_kind s.finder) s.moment (end.opened (Call s.settings s.engine s.rbc s.kmac s.rb s.moment)) (end.opened (Answer s.settings s.rbc s.ra s.moment))
+    opened_pair_link (end_kind s.finder) s.moment (end.opened (Call s.settings s.engine s.rbc s.kmac s.rb s.moment))
+    (end.opened (Answer s.settings s.rbc s.ra s.moment))

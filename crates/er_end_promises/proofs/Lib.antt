@@ -4,3 +4,4 @@ pub mod Taking
 pub mod Accepting
 pub mod Bringing
 pub mod Releasing
+pub mod Sending

@@ -4,3 +4,4 @@ pub mod Calls
 pub mod AfterRelease
 pub mod Verified
 pub mod Order
+pub mod Sending

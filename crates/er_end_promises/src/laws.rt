@@ -3,8 +3,10 @@
 ghost use Rattle.er_end_promises.specs.AfterRelease.{EndsRestOnceReleased, ReleaseIsToldAtOnce};
 ghost use Rattle.er_end_promises.specs.Calls.{CallsInTurn, CallsTellDeeds};
 ghost use Rattle.er_end_promises.specs.Order.{TakenBeginsAccepted, TakenInOrder};
+ghost use Rattle.er_end_promises.specs.Sending.{CallGivesAtMost, TakesWhileFewWait};
 ghost use Rattle.er_end_promises.specs.Verified.{AcceptedWereBrought, AcceptsOneAtMost, AcceptsVerifiedAlone, VerifiedAreAccepted};
 
+use er_end::End;
 use er_end::laws::{keeping, standing};
 use er_end_model::laws::{events_give, events_speak_once, octets_are_heard, releases};
 use safety_automaton::laws::accepts_verified;
@@ -60,4 +62,16 @@ pub fn taken_in_order()
 pub fn calls_in_turn()
     ensures deeds { CallsTellDeeds }
     ensures turn { CallsInTurn }
+{}
+
+/// What a call gives to the line is 134,160 octets at the most: the call behind which there is this end.
+pub fn octets_fit(end: &End)
+    ensures { CallGivesAtMost end.now }
+{
+    let _ = end.out();
+}
+
+/// A message of 1 to 1,023 octets that is sent at a connected end is taken exactly while fewer than 16 wait to be sent, as `End::unsent` tells them.
+pub fn takes_while_few_wait()
+    ensures { TakesWhileFewWait }
 {}

@@ -1,5 +1,6 @@
 -- What a run of the program answers where no write fails and memory suffices: a status and a text (this profile).
-use Rattle.std.specs.Prelude.{◌≡◌, ◌<◌, ℕ, List, [], ◌∷◌, ◌++◌, take, length, slice_get, nat_lt, Bool, if◌then◌else◌, Option, Some, None, Result, Ok, Err, codes}
+use Rattle.std.specs.Prelude.{◌≡◌, ◌<◌, ℕ, List, [], ◌∷◌, ◌++◌, take, length, slice_get, nat_lt, Bool, if◌then◌else◌, Option, Some, None, Result, Ok, Err}
+use Rattle.std.specs.Prelude.{codes}
 use Rattle.std.specs.Fmt.{decimal}
 use Rattle.er_base.specs.LineTexts.{line_text}
 use Rattle.er_base.specs.declared.text_fault.TextFault.{TextFault}
@@ -225,13 +226,15 @@ IsFetchedSecond Is keys name None a = a ≡ record { status = 2; text = fetch_li
 IsFetchedSecond Is keys name (Some file) a = Is keys file a
 
 -- the answer to the second file word, where the key file has these entries
-pub record IsSecondFileAnswer (Is : List KmacEntry → List ℕ → Answer → Type 0) (keys : List KmacEntry) (name : List ℕ) (files : Files) (c d : ℕ) (a : Answer) : Type 0 where
+pub record IsSecondFileAnswer (Is : List KmacEntry → List ℕ → Answer → Type 0) (keys : List KmacEntry) (name : List ℕ) (files : Files) (c d : ℕ) (a : Answer)
+    : Type 0 where
   pub fetched : Option (List ℕ)
   pub stands : HasFetched name fetched files c d
   pub is : IsFetchedSecond Is keys name fetched a
 
 -- the second file is asked for where the key file is good
-abbrev pub IsAnswerBehindKeys : (List KmacEntry → List ℕ → Answer → Type 0) → Result (List KmacEntry) KeyFileFault → (name : List ℕ) → Files → ℕ → ℕ → Answer → Type 0
+abbrev pub IsAnswerBehindKeys : (List KmacEntry → List ℕ → Answer → Type 0) → Result (List KmacEntry) KeyFileFault → (name : List ℕ) → Files → ℕ → ℕ → Answer
+    → Type 0
 IsAnswerBehindKeys Is (Err fault) name files c d a = a ≡ keys_answer fault
 IsAnswerBehindKeys Is (Ok keys) name files c d a = IsSecondFileAnswer Is keys name files c d a
 

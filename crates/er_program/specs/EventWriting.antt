@@ -53,11 +53,16 @@ pub record ReplayedTo (s : Settings) (f : Finds) (entries : List TraceEntry) (n 
 -- all were replayed, or the first that isn't taken is yet to be told; or the script broke off
 abbrev pub ReplaysEvents : Settings → Finds → List TraceEntry → (before now : Told) → Result (Unit {0}) ReplayFault → Type 0
 ReplaysEvents s f entries before now (Ok done) = LeadsOn (replays_events s f [] entries) (Ends 0) before now
-ReplaysEvents s f entries before now (Err (NoConn line conn)) = LeadsOn (replays_events s f [] entries) (says_last 3 (replay_fault_line (NoConn line conn))) before now
-ReplaysEvents s f entries before now (Err (ConnTwice line conn)) = LeadsOn (replays_events s f [] entries) (says_last 3 (replay_fault_line (ConnTwice line conn))) before now
-ReplaysEvents s f entries before now (Err (MomentBack line was moment)) = LeadsOn (replays_events s f [] entries) (says_last 3 (replay_fault_line (MomentBack line was moment))) before now
-ReplaysEvents s f entries before now (Err (NoKey line engine rbc)) = LeadsOn (replays_events s f [] entries) (says_last 3 (replay_fault_line (NoKey line engine rbc))) before now
-ReplaysEvents s f entries before now (Err (Many line live)) = LeadsOn (replays_events s f [] entries) (says_last 3 (replay_fault_line (Many line live))) before now
+ReplaysEvents s f entries before now (Err (NoConn line conn)) =
+    LeadsOn (replays_events s f [] entries) (says_last 3 (replay_fault_line (NoConn line conn))) before now
+ReplaysEvents s f entries before now (Err (ConnTwice line conn)) =
+    LeadsOn (replays_events s f [] entries) (says_last 3 (replay_fault_line (ConnTwice line conn))) before now
+ReplaysEvents s f entries before now (Err (MomentBack line was moment)) =
+    LeadsOn (replays_events s f [] entries) (says_last 3 (replay_fault_line (MomentBack line was moment))) before now
+ReplaysEvents s f entries before now (Err (NoKey line engine rbc)) =
+    LeadsOn (replays_events s f [] entries) (says_last 3 (replay_fault_line (NoKey line engine rbc))) before now
+ReplaysEvents s f entries before now (Err (Many line live)) =
+    LeadsOn (replays_events s f [] entries) (says_last 3 (replay_fault_line (Many line live))) before now
 ReplaysEvents s f entries before now (Err Sink) = Does (replays_events s f [] entries) before now Sunk
 ReplaysEvents s f entries before now (Err (NoMemory want)) = Does (replays_events s f [] entries) before now OutOfMemory
 

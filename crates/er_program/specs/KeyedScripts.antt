@@ -39,7 +39,8 @@ prints_or_refuses (Some fault) lines next = says_last 3 (replay_fault_line fault
 unfoldable pub replays_events : Settings → Finds → (done entries : List TraceEntry) → Script
 replays_events settings finds done [] = Ends 0
 replays_events settings finds done (entry ∷ rest) =
-    prints_or_refuses (fault_of_trace_event settings finds done entry) (entry_text settings finds done entry) (replays_events settings finds (done ++ entry ∷ []) rest)
+    prints_or_refuses (fault_of_trace_event settings finds done entry) (entry_text settings finds done entry)
+    (replays_events settings finds (done ++ entry ∷ []) rest)
 
 -- the header is printed before them
 abbrev pub replays_trace : Settings → Finds → List TraceEntry → Script

@@ -35,10 +35,11 @@ BeginsOfWork work.Check keys file text = IsNothing text
 BeginsOfWork (work.Audit ends) keys file text = BeginsTap ends keys (tap_of file) text
 
 -- of the file of that name
-pub record BeginsFile (Begins : List KmacEntry → List ℕ → List ℕ → Type 0) (keys : List KmacEntry) (name : List ℕ) (files : Files) (text : List ℕ) : Type 0 where
-  pub file : List ℕ
-  pub stands : HasFile files name file
-  pub begins : Begins keys file text
+pub record BeginsFile (Begins : List KmacEntry → List ℕ → List ℕ → Type 0) (keys : List KmacEntry) (name : List ℕ) (files : Files) (text : List ℕ) : Type 0
+  where
+    pub file : List ℕ
+    pub stands : HasFile files name file
+    pub begins : Begins keys file text
 
 abbrev pub BeginsSecondFile : (List KmacEntry → List ℕ → List ℕ → Type 0) → List KmacEntry → (name : List ℕ) → Files → List ℕ → Type 0
 BeginsSecondFile Begins keys name files text = (text ≡ []) ⊎ BeginsFile Begins keys name files text

@@ -10,7 +10,8 @@ use Rattle.drill_model.specs.Headline.{Holds}
 use Rattle.link_trait.specs.Outside.{Grew, GrewPart, HasFile}
 use Rattle.er_program.specs.Commands.{Command, Misused, Drill, Bits, Migrate, Replay, Check, Audit, Bulk, Serve, Call}
 use Rattle.er_statuses.specs.LastLines.{memory_line, fault_line, overfull_line, why_word}
-use Rattle.er_program.specs.Answers.{replay_fault_line, IsAnswer, IsScenarioAnswer, FirstFault, AreDone, first_steps, lines_of_first, fault_answer, IsKeysAnswer, IsTraceAnswer, IsBulkAnswer}
+use Rattle.er_program.specs.Answers.{replay_fault_line, IsAnswer, IsScenarioAnswer, FirstFault, AreDone, first_steps, lines_of_first, fault_answer}
+use Rattle.er_program.specs.Answers.{IsKeysAnswer, IsTraceAnswer, IsBulkAnswer}
 use Rattle.er_statuses.specs.Answers.{Answer, HasFetched, Files, keys_answer}
 use Rattle.er_program.specs.BitTexts.{most_line_octets, verdict_lines, verdicts_in, bits_text}
 use Rattle.er_program.specs.BulkTexts.{bulk_plan, steps_of_bulk, totals_of_bulk, totals_line, FirstOverfull}

@@ -7,7 +7,8 @@ use Rattle.er_serving.specs.Outsides.{Outside, traffic_of, IsUnasked, IsLeftAlon
 use Rattle.er_serving.specs.LineCommands as line
 use Rattle.er_statuses.specs.LastLines.{usage_line, fetch_line, memory_line}
 use Rattle.er_program.specs.Answers.{bits_answer}
-use Rattle.er_program.specs.Runs.{Drilled, BitsRead, Migrated, Replayed, BulkCounted, IsOutOfForm, IsDrillBrokenOff, BitsTooLong, IsTraceOutOfForm, IsEventRefused, IsBulkOverfull, IsSpent, IsTextBegun, HasStatus, HasKeysStatus, HasKeyedStatus, HasTraceStatus, HasBulkStatus}
+use Rattle.er_program.specs.Runs.{Drilled, BitsRead, Migrated, Replayed, BulkCounted, IsOutOfForm, IsDrillBrokenOff, BitsTooLong, IsTraceOutOfForm}
+use Rattle.er_program.specs.Runs.{IsEventRefused, IsBulkOverfull, IsSpent, IsTextBegun, HasStatus, HasKeysStatus, HasKeyedStatus, HasTraceStatus, HasBulkStatus}
 use Rattle.er_statuses.specs.Answers.{AreKeysRefused}
 use Rattle.er_program.specs.AuditRuns.{Audited, IsTapOutOfForm, IsTapLineRefused, HasTapStatus}
 use Rattle.er_program.specs.CheckRuns.{Checked, IsRecordingOutOfForm, IsRecordedEventRefused, IsDifferent, HasRecordingStatus}
@@ -77,7 +78,8 @@ IsRefused (Drill name) before now = IsOutOfForm name now.files before.held now.h
 IsRefused (Bits name) before now = BitsTooLong name now.files before.held now.held
 IsRefused (Migrate keys) before now = ⊥
 IsRefused (Replay keys trace) before now = IsTraceOutOfForm keys trace now.files before.held now.held ⊎ IsEventRefused keys trace now.files before.held now.held
-IsRefused (Check keys trace) before now = IsRecordingOutOfForm keys trace now.files before.held now.held ⊎ IsRecordedEventRefused keys trace now.files before.held now.held
+IsRefused (Check keys trace) before now =
+    IsRecordingOutOfForm keys trace now.files before.held now.held ⊎ IsRecordedEventRefused keys trace now.files before.held now.held
 IsRefused (Audit keys tap ends) before now = IsTapOutOfForm keys tap now.files before.held now.held ⊎ IsTapLineRefused keys tap now.files before.held now.held
 IsRefused (Bulk seed count) before now = ⊥
 IsRefused (Serve keys address rbc turns) before now = ⊥
@@ -94,7 +96,8 @@ IsKeyless (Check keys trace) before now = AreKeysRefused keys now.files before.a
 IsKeyless (Audit keys tap ends) before now = AreKeysRefused keys now.files before.asked now.asked before.held now.held
 IsKeyless (Bulk seed count) before now = ⊥
 IsKeyless (Serve keys address rbc turns) before now = AreKeysRefused keys now.files before.asked now.asked before.held now.held
-IsKeyless (Call keys address engine rbc turns) before now = AreKeysRefused keys now.files before.asked now.asked before.held now.held ⊎ IsPairKeyless (line.Call keys address engine rbc turns) before now
+IsKeyless (Call keys address engine rbc turns) before now =
+    AreKeysRefused keys now.files before.asked now.asked before.held now.held ⊎ IsPairKeyless (line.Call keys address engine rbc turns) before now
 
 -- a beginning of what the run would have printed
 abbrev pub HasPrintedBeginning : Command → GivenToLoop → Outside → Outside → Type 0
@@ -137,8 +140,10 @@ IsOutOfMemory (Replay keys trace) g before now = IsSpent (Replay keys trace) now
 IsOutOfMemory (Check keys trace) g before now = IsSpent (Check keys trace) now.files before.held now.held
 IsOutOfMemory (Audit keys tap ends) g before now = IsSpent (Audit keys tap ends) now.files before.held now.held
 IsOutOfMemory (Bulk seed count) g before now = IsSpent (Bulk seed count) now.files before.held now.held
-IsOutOfMemory (Serve keys address rbc turns) g before now = IsMemoryTold (line.Serve keys address rbc turns) g before now (λ held held_now. Grew held held_now memory_line)
-IsOutOfMemory (Call keys address engine rbc turns) g before now = IsMemoryTold (line.Call keys address engine rbc turns) g before now (λ held held_now. Grew held held_now memory_line)
+IsOutOfMemory (Serve keys address rbc turns) g before now =
+    IsMemoryTold (line.Serve keys address rbc turns) g before now (λ held held_now. Grew held held_now memory_line)
+IsOutOfMemory (Call keys address engine rbc turns) g before now =
+    IsMemoryTold (line.Call keys address engine rbc turns) g before now (λ held held_now. Grew held held_now memory_line)
 
 -- status 8: a frame would be one more than may wait in one direction
 abbrev pub IsOverfull : Command → Outside → Outside → Type 0
@@ -211,13 +216,18 @@ IsComplete (Bits name) before now status = (Rose before.unfetched now.unfetched 
     → ((file : List ℕ) × HasFile now.files name file × (status ≡ (bits_answer file).status)) ⊎ (status ≡ 7)
 IsComplete (Migrate keys) before now status = (Rose before.unfetched now.unfetched → ⊥) → (Rose before.sunk now.sunk → ⊥)
     → ((file : List ℕ) × HasFile now.files keys file × HasKeysStatus file status) ⊎ (status ≡ 7)
-IsComplete (Replay keys trace) before now status = (Rose before.unfetched now.unfetched → ⊥) → (Rose before.sunk now.sunk → ⊥) → HasKeyedStatus HasTraceStatus keys trace now.files status ⊎ (status ≡ 7)
-IsComplete (Check keys trace) before now status = (Rose before.unfetched now.unfetched → ⊥) → (Rose before.sunk now.sunk → ⊥) → HasKeyedStatus HasRecordingStatus keys trace now.files status ⊎ (status ≡ 7)
-IsComplete (Audit keys tap ends) before now status = (Rose before.unfetched now.unfetched → ⊥) → (Rose before.sunk now.sunk → ⊥) → HasKeyedStatus (HasTapStatus ends) keys tap now.files status ⊎ (status ≡ 7)
+IsComplete (Replay keys trace) before now status = (Rose before.unfetched now.unfetched → ⊥) → (Rose before.sunk now.sunk → ⊥)
+    → HasKeyedStatus HasTraceStatus keys trace now.files status ⊎ (status ≡ 7)
+IsComplete (Check keys trace) before now status = (Rose before.unfetched now.unfetched → ⊥) → (Rose before.sunk now.sunk → ⊥)
+    → HasKeyedStatus HasRecordingStatus keys trace now.files status ⊎ (status ≡ 7)
+IsComplete (Audit keys tap ends) before now status = (Rose before.unfetched now.unfetched → ⊥) → (Rose before.sunk now.sunk → ⊥)
+    → HasKeyedStatus (HasTapStatus ends) keys tap now.files status ⊎ (status ≡ 7)
 IsComplete (Bulk seed count) before now status = (Rose before.sunk now.sunk → ⊥) → HasBulkStatus seed count status ⊎ (status ≡ 7)
-IsComplete (Serve keys address rbc turns) before now status = (Rose before.unfetched now.unfetched → ⊥) → (Rose before.sunk now.sunk → ⊥) → (Rose before.turns_failed now.turns_failed → ⊥)
+IsComplete (Serve keys address rbc turns) before now status = (Rose before.unfetched now.unfetched → ⊥) → (Rose before.sunk now.sunk → ⊥)
+    → (Rose before.turns_failed now.turns_failed → ⊥)
     → HasLineStatus (line.Serve keys address rbc turns) before now status ⊎ (status ≡ 7)
-IsComplete (Call keys address engine rbc turns) before now status = (Rose before.unfetched now.unfetched → ⊥) → (Rose before.sunk now.sunk → ⊥) → (Rose before.turns_failed now.turns_failed → ⊥)
+IsComplete (Call keys address engine rbc turns) before now status = (Rose before.unfetched now.unfetched → ⊥) → (Rose before.sunk now.sunk → ⊥)
+    → (Rose before.turns_failed now.turns_failed → ⊥)
     → HasLineStatus (line.Call keys address engine rbc turns) before now status ⊎ (status ≡ 7)
 
 -- ---- a run

@@ -8,7 +8,8 @@ use Rattle.link_trait.specs.Outside.{Grew, GrewPart, Rose}
 use Rattle.er_program.specs.Commands.{Command, Misused, Drill, Bits, Migrate, Replay, Check, Audit, Bulk, Serve, Call}
 use Rattle.er_statuses.specs.LastLines.{usage_line}
 use Rattle.er_statuses.specs.Answers.{Answer, Files}
-use Rattle.er_program.specs.Answers.{IsDrillAnswer, IsScenarioAnswer, IsFileAnswer, IsBitsAnswer, AreDone, lines_of_first, IsMigrateAnswer, IsKeyedAnswer, IsReplayOfFile, IsCheckOfFile, IsAuditOfFile, IsBulkAnswer}
+use Rattle.er_program.specs.Answers.{IsDrillAnswer, IsScenarioAnswer, IsFileAnswer, IsBitsAnswer, AreDone, lines_of_first, IsMigrateAnswer, IsKeyedAnswer}
+use Rattle.er_program.specs.Answers.{IsReplayOfFile, IsCheckOfFile, IsAuditOfFile, IsBulkAnswer}
 use Rattle.er_program.specs.AuditRuns.{FirstAuditText}
 use Rattle.er_program.specs.Runs.{SpellsScenario, FirstVerdictLines, FirstEventLines}
 use Rattle.er_statuses.specs.declared.status.Status.{Status}

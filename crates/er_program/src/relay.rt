@@ -1,6 +1,6 @@
 //! `relay SCRIPT LISTEN DIAL TURNS`: a relay between two devices.
 
-ghost use Rattle.std.specs.Prelude.{◌≡◌, ◌∷◌, [], codes, if◌then◌else◌, option_map, None};
+ghost use Rattle.std.specs.Prelude.{◌≡◌, ◌∷◌, [], true, false, codes, if◌then◌else◌, option_map, None};
 ghost use Rattle.std.specs.Str.{bytes_eq};
 ghost use Rattle.relay_script.specs.Files.{script_of};
 ghost use Rattle.relay_script.specs.ScriptRanges.{IsScriptInRange};
@@ -8,7 +8,7 @@ ghost use Rattle.outside.specs.Scripts.{OutOfMemory};
 ghost use Rattle.er_statuses.specs.ScriptEnds.{end_of_run};
 ghost use Rattle.er_program.specs.Commands.{octets_of_words, turns_number as turns_of};
 ghost use Rattle.er_program.specs.RelayCommands.{relay_of, relay_command_of, relay_view};
-ghost use Rattle.er_program.specs.RelayRuns.{IsRelayStatus, EndsLoop, EndsScript, EndsRelay, ExitsWith, RunsRelay};
+ghost use Rattle.er_program.specs.RelayRuns.{IsRelayStatus, IsAddressText, IsNoAddressText, EndsLoop, EndsScript, EndsRelay, ExitsWith, RunsRelay};
 
 use crate::command::turns_number;
 use er_base::TextFault;
@@ -84,8 +84,14 @@ pub fn relay_from(words: &[String]) -> Option<RelayCommand<'_>>
 }
 
 // Whether a text is an IP address and a port.
-fn is_address(text: &str) -> bool {
-    text.parse::<SocketAddr>().is_ok()
+fn is_address(text: &str) -> bool
+    ensures yes { result ≡ true → IsAddressText text.now }
+    ensures no { result ≡ false → IsNoAddressText text.now }
+{
+    match text.parse::<SocketAddr>() {
+        Ok(_) => true,
+        Err(_) => false,
+    }
 }
 
 // The relay with a script.
@@ -96,7 +102,7 @@ fn relayed<O: Outside>(
     outside: &mut O,
 ) -> Result<Status, Stop>
     requires range { IsScriptInRange script.now }
-    ensures ends { EndsLoop script.now command.now.dial.now (O.told outside.old) (O.told outside.new) (end_of_run result) }
+    ensures ends { EndsLoop script.now (relay_view command.now) (O.told outside.old) (O.told outside.new) (end_of_run result) }
 {
     if !is_address(command.dial) {
         return last(6, b"! wires\n", outside);
@@ -123,7 +129,7 @@ fn scripted<O: Outside>(
     command: &RelayCommand<'_>,
     outside: &mut O,
 ) -> Result<Status, Stop>
-    ensures ends { EndsScript (script_of octets.now) command.now.dial.now (O.told outside.old) (O.told outside.new) (end_of_run result) }
+    ensures ends { EndsScript (script_of octets.now) (relay_view command.now) (O.told outside.old) (O.told outside.new) (end_of_run result) }
 {
     match read(alloc, octets) {
         Ok(script) => relayed(alloc, &script, command, outside),
@@ -138,7 +144,7 @@ fn ran<O: Outside>(
     command: &RelayCommand<'_>,
     outside: &mut O,
 ) -> Result<Status, Stop>
-    ensures ends { EndsRelay command.now.script.now command.now.dial.now (O.told outside.old) (O.told outside.new) (end_of_run result) }
+    ensures ends { EndsRelay (relay_view command.now) (O.told outside.old) (O.told outside.new) (end_of_run result) }
 {
     match outside.fetch(alloc, command.script) {
         Ok(octets) => scripted(alloc, octets.as_slice(), command, outside),
@@ -170,7 +176,7 @@ fn exhausted<O: Outside>(outside: &mut O) -> Status
 pub fn relay_run<O: Outside>(alloc: Global, command: &RelayCommand<'_>, outside: &mut O) -> Status
     // The list of statuses is closed.
     ensures known { IsRelayStatus result.0 }
-    ensures runs { RunsRelay command.now.script.now command.now.dial.now (O.told outside.old) (O.told outside.new) result.0 }
+    ensures runs { RunsRelay (relay_view command.now) (O.told outside.old) (O.told outside.new) result.0 }
 {
     match ran(alloc, command, outside) {
         Ok(status) => status,

@@ -16,6 +16,7 @@ use er_serving::run_on_line;
 use er_statuses::Status;
 use er_statuses::acting::exits;
 use er_users::SafeUser;
+use journal::Journal;
 use outside::Outside;
 use std::alloc::Global;
 
@@ -39,7 +40,7 @@ pub fn run_off_line<O: Outside>(
 }
 
 // A command that needs no wires is run without them, and any other over them.
-fn dispatched<O: Outside>(
+fn dispatched<O: Journal>(
     alloc: Global,
     command: &Command<'_>,
     users: Vec<Box<dyn SafeUser>>,
@@ -92,7 +93,7 @@ fn dispatched<O: Outside>(
 ///   run alone, `! overfull LINK S MOST` is printed.
 /// - 9: a line of a checked trace isn't what the replay prints there, or isn't ended, or is missing: `! line LINE` is
 ///   printed with `differs`, `cut` or `missing`, alone.
-pub fn run<O: Outside>(
+pub fn run<O: Journal>(
     alloc: Global,
     words: &[String],
     users: Vec<Box<dyn SafeUser>>,

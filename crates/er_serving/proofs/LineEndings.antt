@@ -235,7 +235,7 @@ keeps_refused (keys.NoMemory want) before now r ends = keeps_only before now (on
 -- the clock was asked, and a line was said
 pub keeps_asked : (before mid now : Told) (moment : ℕ) → Did before mid (Asked moment ∷ []) → KeepsCabinet mid now → KeepsCabinet before now
 keeps_asked before mid now moment p q = record {
-  recorded = recorded_behind before mid now (record { acts = Asked moment ∷ []; did = p; none = refl }) q.recorded;
+  recorded = recorded_behind before mid now (record { acts = Asked moment ∷ []; did = p; none = refl; unwritten = refl }) q.recorded;
   cabinet = q.cabinet ∙ p.cabinet.rests refl;
 }
 
@@ -353,7 +353,7 @@ pub asks_read : (command : LineCommand) (before mid now : Told) (octets : List �
 asks_read command before mid now octets r p keeps =
     let asked = subst (λ (z : CabinetState). Grew before.cabinet.asked z.asked (key_file_of command ∷ [])) (sym keeps.cabinet) (name_asked_by before.cabinet.asked mid.cabinet.asked (key_file_of command) (Gave octets) [] (λ names q. q) refl p.cabinet.asked) in
     record {
-      recorded = recorded_behind before mid now (record { acts = Fetched (key_file_of command) (Gave octets) ∷ []; did = p; none = refl }) keeps.recorded;
+      recorded = recorded_behind before mid now (record { acts = Fetched (key_file_of command) (Gave octets) ∷ []; did = p; none = refl; unwritten = refl }) keeps.recorded;
       asked = if_ok r asked;
       part = part_whole before.cabinet.asked now.cabinet.asked (key_file_of command ∷ []) asked;
     }

@@ -1,5 +1,5 @@
 -- What a run of `serve` or `call` means by its status, from how it ended.
-use Rattle.std.proofs.Common.{◌≡◌, ◌≢◌, ◌⊎◌, inl, inr, ℕ, ◌≤◌, List, [], ◌∷◌, ◌++◌, Option, Result, Ok, Err, false, refl, sym, subst, arith, append-nil}
+use Rattle.std.proofs.Common.{◌≡◌, ◌≢◌, ◌⊎◌, inl, inr, ℕ, ◌≤◌, List, [], ◌∷◌, ◌++◌, Option, Result, Ok, Err, refl, sym, subst, arith, append-nil}
 use Rattle.safety_automaton.specs.Keys.{KmacEntry}
 use Rattle.key_store.specs.declared.key_file_fault.KeyFileFault.{KeyFileFault}
 use Rattle.key_store.specs.declared.key_file_fault.KeyFileFault.TheVariants as keys
@@ -16,7 +16,7 @@ use Rattle.er_serving.specs.LineWriting.{HasLooped, WiresFailed, KeyLacks, FileE
 use Rattle.er_serving.specs.LineStatuses.{LineBroke, IsLineRun}
 use Rattle.er_base.specs.declared.no_memory.NoMemory.{NoMemory}
 use Rattle.link_trait.specs.States.{CabinetState}
-use Rattle.outside.specs.Acts.{Act, Wrote}
+use Rattle.outside.specs.Acts.{Act}
 use Rattle.outside.specs.Doings.{Told, Did}
 use Rattle.outside.specs.Scripts.{printing}
 use Rattle.outside.specs.SinkTexts.{text_printed_by, text_begun_by}

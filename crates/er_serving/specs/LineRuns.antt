@@ -92,10 +92,12 @@ pub record HasLoopStopped (HasLooped : ℕ → Stop → Type 0) : Type 0 where
 
 abbrev pub Looped : LineCommand → List KmacEntry → GivenToLoop → Traffic → Traffic → Type 0
 Looped (Serve keys address rbc turns) entries g before now =
-    HasLoopStopped (λ count why. HasServed (of_loop before) (of_loop now) (serving entries (usual turns) rbc g.handed) address g.minds g.words count (halt_for why))
+    HasLoopStopped (λ count why. HasServed (of_loop before) (of_loop now) (serving entries (usual turns) rbc g.handed) address g.minds g.words count
+    (halt_for why))
 Looped (Call keys address engine rbc turns) entries g before now =
     IsKeyed entries engine rbc before (λ kmac began. HasLoopStopped (λ count why.
-    HasDialled (of_loop began) (of_loop now) (dialling kmac (usual turns) engine rbc g.handed) (record { engine = engine; kmac = kmac }) address g.minds g.words count (halt_for why)))
+    HasDialled (of_loop began) (of_loop now) (dialling kmac (usual turns) engine rbc g.handed) (record { engine = engine; kmac = kmac }) address g.minds
+    g.words count (halt_for why)))
 
 -- a listen, dial or turn of the wires failed in it
 abbrev pub LoopFails : LineCommand → List KmacEntry → GivenToLoop → Traffic → Traffic → Type 0
@@ -103,7 +105,8 @@ LoopFails (Serve keys address rbc turns) entries g before now =
     (left : Stream) × FailsToServe (of_loop before) (of_loop now) (serving entries (usual turns) rbc g.handed) address g.minds g.words left
 LoopFails (Call keys address engine rbc turns) entries g before now =
     IsKeyed entries engine rbc before (λ kmac began.
-    (left : Stream) × FailsToDial (of_loop began) (of_loop now) (dialling kmac (usual turns) engine rbc g.handed) (record { engine = engine; kmac = kmac }) address g.minds g.words left)
+    (left : Stream) × FailsToDial (of_loop began) (of_loop now) (dialling kmac (usual turns) engine rbc g.handed) (record { engine = engine; kmac = kmac })
+    address g.minds g.words left)
 
 -- a write of the sink failed or memory ran out in it: a beginning was printed and called
 abbrev pub LoopBreaks : LineCommand → List KmacEntry → GivenToLoop → Traffic → Traffic → Type 0
@@ -111,10 +114,12 @@ LoopBreaks (Serve keys address rbc turns) entries g before now =
     BreaksOffServing (of_loop before) (of_loop now) (serving entries (usual turns) rbc g.handed) address g.minds g.words
 LoopBreaks (Call keys address engine rbc turns) entries g before now =
     IsKeyed entries engine rbc before (λ kmac began.
-    BreaksOffDialling (of_loop began) (of_loop now) (dialling kmac (usual turns) engine rbc g.handed) (record { engine = engine; kmac = kmac }) address g.minds g.words)
+    BreaksOffDialling (of_loop began) (of_loop now) (dialling kmac (usual turns) engine rbc g.handed) (record { engine = engine; kmac = kmac }) address
+    g.minds g.words)
 
 -- the wires failed, and then a part of the last line was written
-pub record FailsWith (command : LineCommand) (entries : List KmacEntry) (g : GivenToLoop) (before now : Traffic) (Last : Option (List ℕ) → Option (List ℕ) → Type 0) : Type 0 where
+pub record FailsWith (command : LineCommand) (entries : List KmacEntry) (g : GivenToLoop) (before now : Traffic)
+    (Last : Option (List ℕ) → Option (List ℕ) → Type 0) : Type 0 where
   pub held : Option (List ℕ)
   pub sunk : ℕ
   pub fails : LoopFails command entries g before (with_sink now held sunk)

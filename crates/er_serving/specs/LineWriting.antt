@@ -18,7 +18,8 @@ use Rattle.er_statuses.specs.declared.stop.Stop.{Stop}
 use Rattle.er_statuses.specs.declared.stop.Stop.TheVariants as stop
 use Rattle.er_serving.specs.Outsides.{Outside, Traffic, traffic_of, IsLeftAlone}
 use Rattle.er_serving.specs.LineCommands.{LineCommand, key_file_of, AsksClock}
-use Rattle.er_serving.specs.LineRuns.{GivenToLoop, IsLineStatus, IsLineIdle, Looped, LoopBreaks, FailsWith, LacksKey, IsServed, IsPairKeyless, IsLoopFailed, IsMemoryTold, RunsOut, HasLineStatus, wires_line}
+use Rattle.er_serving.specs.LineRuns.{GivenToLoop, IsLineStatus, IsLineIdle, Looped, LoopBreaks, FailsWith, LacksKey, IsServed, IsPairKeyless, IsLoopFailed}
+use Rattle.er_serving.specs.LineRuns.{IsMemoryTold, RunsOut, HasLineStatus, wires_line}
 use Rattle.er_serving.specs.LineStatuses.{LineBroke}
 
 -- ---- how the loop ended

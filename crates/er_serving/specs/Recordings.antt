@@ -29,5 +29,8 @@ DialledReplays =
     (count : ℕ) (why : Option Halt) (finds : Finds)
     (dialled : HasDialled before now (dialling kmac plan engine rbc handed) (record { engine = engine; kmac = kmac }) address minds words count why)
     → plan.settings ≡ usual_settings → before.listening ≡ false → finds dialled.answers.first engine rbc ≡ Some kmac
-    → length (recording_of (dialling kmac plan engine rbc handed) (dials model_ends (dialling kmac plan engine rbc handed) (record { engine = engine; kmac = kmac }) (beginning minds words) address dialled.answers)) ≤ 16777216
-    → IsItsOwnReplay finds (recording_of (dialling kmac plan engine rbc handed) (dials model_ends (dialling kmac plan engine rbc handed) (record { engine = engine; kmac = kmac }) (beginning minds words) address dialled.answers))
+    → length (recording_of (dialling kmac plan engine rbc handed)
+    (dials model_ends (dialling kmac plan engine rbc handed) (record { engine = engine; kmac = kmac }) (beginning minds words) address dialled.answers))
+    ≤ 16777216
+    → IsItsOwnReplay finds (recording_of (dialling kmac plan engine rbc handed)
+    (dials model_ends (dialling kmac plan engine rbc handed) (record { engine = engine; kmac = kmac }) (beginning minds words) address dialled.answers))

@@ -20,6 +20,7 @@ use er_settings::Settings;
 use er_statuses::acting::{say, say_keys};
 use er_statuses::{Status, Stop};
 use er_users::SafeUser;
+use journal::Journal;
 use key_store::KeyStore;
 use link_trait::Failed;
 use outside::Outside;
@@ -51,7 +52,7 @@ fn ended<O: Outside>(served: Result<Served, LoopFault>, outside: &mut O) -> Resu
 }
 
 /// Listens at the address, and serves with the keys of a store.
-pub(crate) fn serve_with<O: Outside>(
+pub(crate) fn serve_with<O: Journal>(
     alloc: Global,
     store: &KeyStore,
     rbc: EtcsNumber,
@@ -86,7 +87,7 @@ fn no_key<O: Outside>(alloc: Global, pair: Pair, outside: &mut O) -> Result<Stat
 }
 
 // Dials the address, with the key of the pair. The clock was asked for the moment at which it holds, and answered so `before` that.
-fn dial_with<O: Outside>(
+fn dial_with<O: Journal>(
     alloc: Global,
     kmac: TripleKey,
     pair: Pair,
@@ -111,7 +112,7 @@ fn dial_with<O: Outside>(
 }
 
 /// Calls at the address, where a store has a key of the pair: the clock is asked once, for the moment at which it is to hold.
-pub(crate) fn call_with<O: Outside>(
+pub(crate) fn call_with<O: Journal>(
     alloc: Global,
     store: &KeyStore,
     pair: Pair,

@@ -17,13 +17,13 @@ use crate::pair::Pair;
 use er_statuses::acting::{exits, keys_refused, unfetched};
 use er_statuses::{Status, Stop};
 use er_users::SafeUser;
+use journal::Journal;
 use key_store::KeyStore;
 use link_trait::FetchFault;
-use outside::Outside;
 use std::alloc::Global;
 
 // The loop of a command, with the keys of a store.
-fn looped<O: Outside>(
+fn looped<O: Journal>(
     alloc: Global,
     store: &KeyStore,
     command: &LineCommand<'_>,
@@ -60,7 +60,7 @@ fn looped<O: Outside>(
 }
 
 // The same with the octets of the key file.
-fn keyed<O: Outside>(
+fn keyed<O: Journal>(
     alloc: Global,
     octets: &[u8],
     command: &LineCommand<'_>,
@@ -78,7 +78,7 @@ fn keyed<O: Outside>(
 }
 
 // The same with the name of the key file, which is fetched.
-fn answered<O: Outside>(
+fn answered<O: Journal>(
     alloc: Global,
     command: &LineCommand<'_>,
     users: Vec<Box<dyn SafeUser>>,
@@ -99,7 +99,7 @@ fn answered<O: Outside>(
 /// Does what `serve` or `call` asks for, with the usual settings, and answers with what status the program is to end: 0 where the loop stopped, 2
 /// where the key file can't be fetched, 4 where it is refused or has no key of the pair, 5 where a write failed, 6 where a listen, dial or turn
 /// of the wires failed, 7 for want of memory.
-pub fn run_on_line<O: Outside>(
+pub fn run_on_line<O: Journal>(
     alloc: Global,
     command: &LineCommand<'_>,
     users: Vec<Box<dyn SafeUser>>,

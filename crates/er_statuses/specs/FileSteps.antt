@@ -13,7 +13,8 @@ use Rattle.er_statuses.specs.ScriptEnds.{EndsRefused}
 
 module _ (behind : List KmacEntry → Script) where
   -- it is good
-  pub does_keyed : (read : Result (List KmacEntry) KeyFileFault) (entries : List KmacEntry) (before now : Told) (end : End) → read ≡ Ok entries → Does (behind entries) before now end
+  pub does_keyed : (read : Result (List KmacEntry) KeyFileFault) (entries : List KmacEntry) (before now : Told) (end : End) → read ≡ Ok entries
+      → Does (behind entries) before now end
       → Does (behind_keys read behind) before now end
   does_keyed read entries before now end is does = rw is does
 
@@ -31,7 +32,8 @@ module _ (behind : List KmacEntry → Script) where
   does_spent_keys spent (Err (keys.NoMemory want)) t = does_spent_unknowing ⊥ (Ends 7) t
 
   -- it is refused
-  pub does_keyless : ((entries : List KmacEntry) (t : Told) → Does (behind entries) t t OutOfMemory) → (fault : KeyFileFault) (read : Result (List KmacEntry) KeyFileFault)
+  pub does_keyless : ((entries : List KmacEntry) (t : Told) → Does (behind entries) t t OutOfMemory)
+      → (fault : KeyFileFault) (read : Result (List KmacEntry) KeyFileFault)
       (before now : Told) (end : End) → RefusesAsKeyFileSays fault read → EndsRefused fault before now end → Does (behind_keys read behind) before now end
   does_keyless spent keys.Document read before now end is does = rw is does
   does_keyless spent (keys.Field entry name) read before now end is does = rw is does

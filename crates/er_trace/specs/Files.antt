@@ -19,7 +19,8 @@ use Rattle.er_trace.specs.declared.said.Said.{Said}
 use Rattle.er_trace.specs.declared.said.Said.TheVariants.{Happens, Tells}
 use Rattle.er_trace.specs.declared.trace.Trace.{Trace}
 use Rattle.er_trace.specs.Headers.{header_settings}
-use Rattle.er_trace.specs.Table.{moment, any_number, Meaning, argument_of, event_named, event_kinds, event_made, outcome_named, outcome_kinds, refusal_named, refusal_kinds}
+use Rattle.er_trace.specs.Table.{moment, any_number, Meaning, argument_of, event_named, event_kinds, event_made, outcome_named, outcome_kinds, refusal_named}
+use Rattle.er_trace.specs.Table.{refusal_kinds}
 
 -- a table in which each line may stand anywhere
 abbrev table_of : {Name : Type 0} → (List ℕ → Option Name) → (Name → List ArgumentKind) → Table Name ArgumentKind Meaning

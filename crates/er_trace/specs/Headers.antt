@@ -10,7 +10,8 @@ use Rattle.er_settings.specs.Making.{settings_of}
 -- the settings of modulo 8 with these values, where each is in its range
 unfoldable pub settings_allowed : (window credit size t1 n2 setup : ℕ) → Option Settings
 settings_allowed window credit size t1 n2 setup =
-    if is_allowed 8 Window window && is_allowed 8 Credit credit && is_allowed 8 Size size && is_allowed 8 T1 t1 && is_allowed 8 N2 n2 && is_allowed 8 Setup setup
+    if is_allowed 8 Window window && is_allowed 8 Credit credit && is_allowed 8 Size size && is_allowed 8 T1 t1 && is_allowed 8 N2 n2 && is_allowed 8 Setup
+    setup
     then Some (settings_of 8 window credit size t1 n2 setup)
     else None
 

@@ -47,7 +47,8 @@ is_forged_by kept key text = not (list_any (is_sealing key text) kept.pairs)
 abbrev pub told_row : Ledger → Place → Told → ToldRow
 told_row kept place (told.Sealed key text) = record (of_line []) { sealed = record { key = key; text = text } ∷ [] }
 told_row kept place (told.Verified key text) = record (of_line []) { mark = is_forged_by kept key text }
-told_row kept place (told.Connected peer key text) = of_line (connected_line place.number place.side peer (is_forged_by kept key text || mistrusts_of kept place.side))
+told_row kept place (told.Connected peer key text) =
+    of_line (connected_line place.number place.side peer (is_forged_by kept key text || mistrusts_of kept place.side))
 told_row kept place (told.Accepted user key text) = of_line (accepted_line place.number place.side user (is_forged_by kept key text))
 told_row kept place told.Up = of_line (up_line place.number place.side)
 told_row kept place (told.Arrived payload) = of_line (accepted_line place.number place.side payload false)

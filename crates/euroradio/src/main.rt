@@ -17,6 +17,7 @@ use crate::relaying::relay;
 use crate::streams::stand_ins;
 use crate::system_words::SystemWords;
 use crate::telling_outside::TellingOutside;
+use counted::{Counted, Counts};
 use er_base::{NoMemory, decimal};
 use er_program::{
     Clock, Command, FileCabinet, FileCommand, LineCommand, MachineClock, Sink, Status, StdoutSink,
@@ -26,12 +27,11 @@ use er_users::{Echo, SafeUser};
 use mio_wires::MioWires;
 use outside::{Absent, Parts, off_line};
 use rand_chacha::ChaCha20Rng;
-use readiness_loop::MOST_LIVE;
 use recorded::Recorded;
 use std::alloc::Global;
 use std::process::ExitCode;
 use std::{env, io};
-use telling::{Ears, LastLine, Watch};
+use telling::{LastLine, Watch};
 
 // The connections that `serve` serves in its life, one user each.
 const MOST_SERVED: usize = 65_536;
@@ -61,12 +61,11 @@ fn radio_block_centre(words: &[String]) -> Option<u64> {
     }
 }
 
-// How a run over wires went, and what was heard of it.
+// How a run over wires went, and what was counted of it.
 #[derive(Drop)]
 struct Ran {
     ended: Ended,
-    watch: Watch,
-    ears: Ears,
+    counts: Counts,
 }
 
 // A run over these sockets, whose recording goes first. None where there is no memory for the objects.
@@ -79,32 +78,39 @@ fn run_over<K: Sink>(
     sockets: &mut MioWires<HostRuntime>,
 ) -> Option<Ran> {
     let watch = Watch::new(rt.alloc(), radio_block_centre(words)).ok()?;
-    let ears = Ears::new(rt.alloc(), MOST_LIVE).ok()?;
     let mut cabinet = FileCabinet::new(rt);
     let mut clock = MachineClock::new(rt);
     sockets.keep_time(clock.now());
     let parts = Parts::new(&mut cabinet, sink, sockets, &mut clock, randoms);
     let recorded = Recorded::new(rt.alloc(), parts).ok()?;
-    let mut outside = TellingOutside::new(recorded, watch, ears, rt);
+    let mut outside = TellingOutside::new(recorded, watch, rt);
     let status = run(rt.alloc(), words, users, &mut outside);
+    // Each part is let go by itself, since what is inside borrows the objects above.
+    let TellingOutside {
+        outside: counted,
+        watch,
+        ..
+    } = outside;
+    drop(watch);
+    let Counted {
+        outside: mut recorded,
+        counts,
+        recorded: history,
+        ..
+    } = counted;
+    drop(history);
     // What the last turn told waits still.
-    let status = match outside.outside.write_out() {
+    let status = match recorded.write_out() {
         Ok(()) => status,
         Err(_) => Status(5),
     };
-    let TellingOutside {
-        outside: recorded,
-        watch,
-        ears,
-        ..
-    } = outside;
     drop(recorded);
     let ended = Ended {
         status,
         file: cabinet.why(),
         wires: sockets.fault(),
     };
-    Some(Ran { ended, watch, ears })
+    Some(Ran { ended, counts })
 }
 
 // A command that runs over wires, with these random words and users. None where there is no memory for the objects.
@@ -118,9 +124,9 @@ fn on_line<K: Sink>(
     let mut sockets = MioWires::new(rt.alloc(), rt).ok()?;
     let ran = run_over(rt, words, randoms, users, sink, &mut sockets)?;
     sockets.finish(MOST_LINGER);
-    told::counted(rt, &ran.ended, &ran.watch, &ran.ears);
-    if ran.ended.status.0 == 0 && ran.watch.rbc.is_none() {
-        told::called(rt, words, &ran.watch.tally);
+    told::counted(rt, &ran.ended, &ran.counts);
+    if ran.ended.status.0 == 0 && radio_block_centre(words).is_none() {
+        told::called(rt, words, &ran.counts);
     }
     Some(ran.ended)
 }

@@ -1,8 +1,10 @@
-//! An outside that tells people where it listens and what isn't as usual, and counts what it hears.
+//! An outside that tells people where it listens and what isn't as usual, and counts what is recorded.
 
 ghost use Rattle.std.specs.Prelude.{◌≡◌};
 
 use crate::told;
+use counted::Counted;
+use journal::{EventTally, Journal};
 use link_trait::{
     Cabinet, Clock as LoopClock, Conn, Failed, FetchFault, Happening, ReadAnswer, Sink, WriteAnswer,
 };
@@ -14,7 +16,7 @@ use std::alloc::Global;
 use std::net::SocketAddr;
 use std::rt::Clock;
 use std::time::Duration;
-use telling::{Ears, Watch, keys_held};
+use telling::{Watch, counts_line, keys_held};
 
 /// What is known of sockets beside their calls.
 pub(crate) trait Peers {
@@ -37,23 +39,21 @@ impl<'f, 'k, 'w, 'c, 'r, F: Cabinet, K: Sink, C: LoopClock, R: Rng> Peers
 }
 
 /// Another outside, over sockets, of which people are told on the standard error: at which address and port it listens, which keys a server has, and
-/// before each wait at most a line of what wasn't as usual. All else is that outside's.
+/// before each wait at most a line of what wasn't as usual. What is recorded is counted. All else is that outside's.
 #[derive(Drop)]
-pub(crate) struct TellingOutside<O: Outside + Peers + Drop> {
-    pub(crate) outside: O,
+pub(crate) struct TellingOutside<O: Journal + Peers + Drop> {
+    pub(crate) outside: Counted<O>,
     pub(crate) watch: Watch,
-    pub(crate) ears: Ears,
     rt: HostRuntime,
 }
 
-impl<O: Outside + Peers + Drop> TellingOutside<O> {
-    pub(crate) fn new(outside: O, watch: Watch, ears: Ears, rt: HostRuntime) -> TellingOutside<O>
-        ensures { O.told result.outside ≡ O.told outside }
+impl<O: Journal + Peers + Drop> TellingOutside<O> {
+    pub(crate) fn new(outside: O, watch: Watch, rt: HostRuntime) -> TellingOutside<O>
+        ensures { result.outside.outside ≡ outside }
     {
         TellingOutside {
-            outside,
+            outside: Counted::new(outside),
             watch,
-            ears,
             rt,
         }
     }
@@ -62,20 +62,45 @@ impl<O: Outside + Peers + Drop> TellingOutside<O> {
     fn tell(&mut self)
         ensures { self.new.outside ≡ self.old.outside }
     {
-        let watch = &mut self.watch;
         let now = self.rt.monotonic().unwrap_or(Duration::ZERO);
-        if watch.has_line(now) {
-            if let Some(conn) = watch.unknown() {
-                watch.meet(conn, self.outside.peer(Conn(conn)));
-            }
-            if let Ok(line) = watch.line(self.rt.alloc(), now) {
-                let _told = self.rt.eprintln(line);
-            }
+        self.tell_news(now);
+        self.tell_counts(now);
+    }
+
+    // The address of the connection of which is told next, where it isn't known.
+    fn meet_next(&mut self)
+        ensures { self.new.outside ≡ self.old.outside }
+    {
+        let Some(conn) = self.watch.unknown() else {
+            return;
+        };
+        let peer = self.outside.outside.peer(Conn(conn));
+        self.watch.meet(conn, peer);
+    }
+
+    // What wasn't as usual.
+    fn tell_news(&mut self, now: Duration)
+        ensures { self.new.outside ≡ self.old.outside }
+    {
+        if !self.watch.has_line(now) {
+            return;
         }
-        if watch.has_counts(now) {
-            if let Ok(line) = watch.counts(self.rt.alloc(), &self.ears) {
-                let _told = self.rt.eprintln(line);
-            }
+        self.meet_next();
+        if let Ok(line) = self.watch.line(self.rt.alloc(), now) {
+            let _told = self.rt.eprintln(line);
+        }
+    }
+
+    // The counts, every ten minutes.
+    fn tell_counts(&mut self, now: Duration)
+        ensures { self.new.outside ≡ self.old.outside }
+    {
+        let counts = self.outside.counts();
+        if !self.watch.has_counts(now, counts) {
+            return;
+        }
+        if let Ok(line) = counts_line(self.rt.alloc(), counts) {
+            let _told = self.rt.eprintln(line);
         }
     }
 
@@ -95,7 +120,7 @@ impl<O: Outside + Peers + Drop> TellingOutside<O> {
 
     // Where it listens, and how many keys a server has.
     fn tell_address(&self) {
-        let Some(bound) = self.outside.address() else {
+        let Some(bound) = self.outside.outside.address() else {
             return;
         };
         let _ = eprintln!(self.rt; "euroradio: listening at {bound}");
@@ -109,15 +134,14 @@ impl<O: Outside + Peers + Drop> TellingOutside<O> {
         ensures { self.new.outside ≡ self.old.outside }
     {
         if self.watch.wants_address(conn.0) {
-            let peer = self.outside.peer(conn);
+            let peer = self.outside.outside.peer(conn);
             self.watch.meet(conn.0, peer);
         }
-        self.ears.close(conn.0);
     }
 }
 
-impl<O: Outside + Peers + Drop> Outside for TellingOutside<O> {
-    ghost told = { λ t. O.told t.outside };
+impl<O: Journal + Peers + Drop> Outside for TellingOutside<O> {
+    ghost told = { λ t. O.told t.outside.outside };
 
     fn fetch(&mut self, alloc: Global, name: &str) -> Result<Vec<u8>, FetchFault> {
         let answer = self.outside.fetch(alloc, name);
@@ -128,11 +152,7 @@ impl<O: Outside + Peers + Drop> Outside for TellingOutside<O> {
     }
 
     fn write(&mut self, piece: &[u8]) -> Result<(), Failed> {
-        let answer = self.outside.write(piece);
-        if answer.is_ok() {
-            self.watch.hear(piece);
-        }
-        answer
+        self.outside.write(piece)
     }
 
     fn listen(&mut self, address: &str) -> Result<(), Failed> {
@@ -142,28 +162,16 @@ impl<O: Outside + Peers + Drop> Outside for TellingOutside<O> {
     }
 
     fn dial(&mut self, address: &str) -> Result<Conn, Failed> {
-        let answer = self.outside.dial(address);
-        if let Ok(conn) = answer {
-            self.ears.open(conn.0);
-        }
-        answer
+        self.outside.dial(address)
     }
 
     fn turn(&mut self, until: Option<u64>) -> Happening {
         self.tell();
-        let happening = self.outside.turn(until);
-        if let Happening::Accepted(conn) = happening {
-            self.ears.open(conn.0);
-        }
-        happening
+        self.outside.turn(until)
     }
 
     fn read(&mut self, conn: Conn, into: &mut [u8]) -> ReadAnswer {
-        let answer = self.outside.read(conn, into);
-        if let ReadAnswer::Some(count) = answer {
-            self.ears.hear(conn.0, into.get(..count).unwrap_or(&[]));
-        }
-        answer
+        self.outside.read(conn, into)
     }
 
     fn send(&mut self, conn: Conn, piece: &[u8]) -> WriteAnswer {
@@ -181,5 +189,15 @@ impl<O: Outside + Peers + Drop> Outside for TellingOutside<O> {
 
     fn word(&mut self) -> u64 {
         self.outside.word()
+    }
+}
+
+impl<O: Journal + Peers + Drop> Journal for TellingOutside<O> {
+    fn record(&mut self, lines: &[u8], tally: &EventTally) -> Result<(), Failed> {
+        let answer = self.outside.record(lines, tally);
+        if answer.is_ok() {
+            self.watch.hear(tally);
+        }
+        answer
     }
 }

@@ -1,6 +1,7 @@
 //! What is written to the standard error, for people. Nothing there is a key, a text or a random number, and no clause speaks of it.
 
 use crate::ended::Ended;
+use counted::Counts;
 use er_base::{NoMemory, Release};
 use er_program::{
     Command, FileCommand, FileFault, LineCommand, MOST_FILE_OCTETS, PlainCommand, StdoutSink, Work,
@@ -13,8 +14,8 @@ use std::fs;
 use std::io::Read;
 use std::os::unix::fs::PermissionsExt;
 use telling::{
-    Ears, FileKind, KeysHeld, Tally, Watch, file_refused, key_hints, keys_refused, overfull,
-    put_octets, put_text, recording_differs, side,
+    FileKind, KeysHeld, counts_line, file_refused, key_hints, keys_refused, overfull, put_octets,
+    put_text, recording_differs, side,
 };
 
 /// The commands.
@@ -319,12 +320,11 @@ fn wires_failed(alloc: Global, words: &[String], ended: &Ended) -> Result<String
 }
 
 /// What was counted, but for a run that failed before any connection.
-pub(crate) fn counted(rt: HostRuntime, ended: &Ended, watch: &Watch, ears: &Ears) {
-    let tally = &watch.tally;
-    if ended.status.0 != 0 && tally.connections == 0 && tally.turned_away == 0 {
+pub(crate) fn counted(rt: HostRuntime, ended: &Ended, counts: &Counts) {
+    if ended.status.0 != 0 && counts.opened == 0 && counts.turned_away == 0 {
         return;
     }
-    if let Ok(line) = watch.counts(rt.alloc(), ears) {
+    if let Ok(line) = counts_line(rt.alloc(), counts) {
         let _ = rt.eprintln(line);
     }
 }
@@ -347,8 +347,8 @@ pub(crate) fn keys(rt: HostRuntime, rbc: u64, held: KeysHeld) {
 }
 
 /// What became of a call.
-pub(crate) fn called(rt: HostRuntime, words: &[String], tally: &Tally) {
-    let Some(release) = tally.newest else {
+pub(crate) fn called(rt: HostRuntime, words: &[String], counts: &Counts) {
+    let Some(release) = counts.newest else {
         let _ = eprintln!(rt; "euroradio: the call was not released");
         return;
     };

@@ -2,7 +2,8 @@
 -- behind each five ones of a content, a flag has six ones, an abort more. A definition on the whole line, a list
 -- of bits in the order in which they were sent. The greatest and the least length and the order of the verdicts
 -- are this profile's.
-use Rattle.std.specs.Prelude.{ℕ, zero, suc, ◌-◌, ◌*◌, ◌/◌, ◌%◌, Bool, true, false, nat_lt, not, ◌==◌, List, [], ◌∷◌, ◌++◌, length, take, drop, map, flat_map, replicate, Option, None, Some, option_map, if◌then◌else◌}
+use Rattle.std.specs.Prelude.{ℕ, zero, suc, ◌-◌, ◌*◌, ◌/◌, ◌%◌, Bool, true, false, nat_lt, not, ◌==◌, List, [], ◌∷◌, ◌++◌, length, take, drop, map, flat_map}
+use Rattle.std.specs.Prelude.{replicate, Option, None, Some, option_map, if◌then◌else◌}
 use Rattle.std.specs.List.{slice_split}
 use Rattle.std.specs.Option.{option_to_list}
 use Rattle.bit_lists.specs.LowestFirst.{low_number}

@@ -48,13 +48,15 @@ VerdictsAreFrames =
 
 -- from the first bit on they are the frames of the bits used
 abbrev pub VerdictsFromTheFirst : Type 0
-VerdictsFromTheFirst = (calls : List FeedCall) (behind : KeptBitDeframer) → AreFeedCalls (kept_of []) calls behind → verdicts_of calls ≡ frames_of_bits (bits_used_by_calls calls)
+VerdictsFromTheFirst = (calls : List FeedCall) (behind : KeptBitDeframer) → AreFeedCalls (kept_of []) calls behind
+    → verdicts_of calls ≡ frames_of_bits (bits_used_by_calls calls)
 
 -- whatever a deframer keeps, two lists of pieces of which the same bits were used give the same verdicts and leave
 -- the same
 abbrev pub SameBitsSameVerdicts : Type 0
 SameBitsSameVerdicts =
-    (before : KeptBitDeframer) → IsKeptOfLine before → (calls others : List FeedCall) (behind other : KeptBitDeframer) → AreFeedCalls before calls behind → AreFeedCalls before others other
+    (before : KeptBitDeframer) → IsKeptOfLine before → (calls others : List FeedCall) (behind other : KeptBitDeframer) → AreFeedCalls before calls behind
+    → AreFeedCalls before others other
     → bits_used_by_calls calls ≡ bits_used_by_calls others → (verdicts_of calls ≡ verdicts_of others) × (behind ≡ other)
 
 -- what is kept of a line and bits behind it

@@ -3,7 +3,8 @@ use Rattle.std.specs.Prelude.{◌≡◌, ℕ, Bool, true, false, List, [], ◌�
 use Rattle.bit_lists.specs.LowestFirst.{low_bits, low_number}
 use Rattle.hdlc_fcs.specs.FrameCheck.{fcs_of, fcs_bits, dividend, remainder, divided_once, add_front, sent_bits}
 use Rattle.hdlc_fcs.specs.Contents.{content_of, checked_part, check_number}
-use Rattle.hdlc_frames.specs.Framing.{Frame, BadFcs, TooShort, Aborted, unescaped, ends_in_escape, verdict_on_content, verdict_on, cut, all_but_last, between_flags, frames_of}
+use Rattle.hdlc_frames.specs.Framing.{Frame, BadFcs, TooShort, Aborted, unescaped, ends_in_escape, verdict_on_content, verdict_on, cut, all_but_last}
+use Rattle.hdlc_frames.specs.Framing.{between_flags, frames_of}
 use Rattle.hdlc_frames.specs.Spelling.{escaped_octet, escaped, spelling}
 use Rattle.hdlc_frames.specs.declared.controls.Control.{Control}
 use Rattle.hdlc_frames.specs.declared.controls.Control.TheVariants.{Info, Rr, Rnr, Rej, Srej, Sabm, Sabme, Disc, Ua, Dm, Frmr}
@@ -11,15 +12,18 @@ use Rattle.hdlc_frames.specs.Controls.{control_octets}
 use Rattle.hdlc_frames.specs.ControlOctets.{control_of}
 
 pub one_frame : frames_of (0x7e ∷ 0x01 ∷ 0x3f ∷ 0xeb ∷ 0xdf ∷ 0x7e ∷ []) ≡ Frame 0x01 (0x3f ∷ []) ∷ []
-unfolding frames_of between_flags all_but_last cut verdict_on verdict_on_content checked_part check_number unescaped ends_in_escape fcs_of fcs_bits dividend remainder divided_once add_front sent_bits low_bits low_number
+unfolding frames_of between_flags all_but_last cut verdict_on verdict_on_content checked_part check_number unescaped ends_in_escape fcs_of fcs_bits dividend
+    remainder divided_once add_front sent_bits low_bits low_number
 one_frame = refl
 
 pub another_octet : frames_of (0x7e ∷ 0x01 ∷ 0x3f ∷ 0xea ∷ 0xdf ∷ 0x7e ∷ []) ≡ BadFcs ∷ []
-unfolding frames_of between_flags all_but_last cut verdict_on verdict_on_content checked_part check_number unescaped ends_in_escape fcs_of fcs_bits dividend remainder divided_once add_front sent_bits low_bits low_number
+unfolding frames_of between_flags all_but_last cut verdict_on verdict_on_content checked_part check_number unescaped ends_in_escape fcs_of fcs_bits dividend
+    remainder divided_once add_front sent_bits low_bits low_number
 another_octet = refl
 
 pub an_escape_there : frames_of (0x7e ∷ 0x01 ∷ 0x3f ∷ 0x7d ∷ 0xdf ∷ 0x7e ∷ []) ≡ TooShort ∷ []
-unfolding frames_of between_flags all_but_last cut verdict_on verdict_on_content checked_part check_number unescaped ends_in_escape fcs_of fcs_bits dividend remainder divided_once add_front sent_bits low_bits low_number
+unfolding frames_of between_flags all_but_last cut verdict_on verdict_on_content checked_part check_number unescaped ends_in_escape fcs_of fcs_bits dividend
+    remainder divided_once add_front sent_bits low_bits low_number
 an_escape_there = refl
 
 pub one_octet : frames_of (0x7e ∷ 0x01 ∷ 0x7e ∷ []) ≡ TooShort ∷ []
@@ -35,8 +39,10 @@ unfolding frames_of between_flags all_but_last cut
 flags_alone = refl
 
 -- one flag closes a frame and begins the next; octets before the first flag and behind the last are left out
-pub shared_flag : frames_of (0x55 ∷ 0x7e ∷ 0x01 ∷ 0x3f ∷ 0xeb ∷ 0xdf ∷ 0x7e ∷ 0x01 ∷ 0x3f ∷ 0xeb ∷ 0xdf ∷ 0x7e ∷ 0x01 ∷ []) ≡ Frame 0x01 (0x3f ∷ []) ∷ Frame 0x01 (0x3f ∷ []) ∷ []
-unfolding frames_of between_flags all_but_last cut verdict_on verdict_on_content checked_part check_number unescaped ends_in_escape fcs_of fcs_bits dividend remainder divided_once add_front sent_bits low_bits low_number
+pub shared_flag : frames_of (0x55 ∷ 0x7e ∷ 0x01 ∷ 0x3f ∷ 0xeb ∷ 0xdf ∷ 0x7e ∷ 0x01 ∷ 0x3f ∷ 0xeb ∷ 0xdf ∷ 0x7e ∷ 0x01 ∷ [])
+    ≡ Frame 0x01 (0x3f ∷ []) ∷ Frame 0x01 (0x3f ∷ []) ∷ []
+unfolding frames_of between_flags all_but_last cut verdict_on verdict_on_content checked_part check_number unescaped ends_in_escape fcs_of fcs_bits dividend
+    remainder divided_once add_front sent_bits low_bits low_number
 shared_flag = refl
 
 pub spelled : spelling 0x01 (0x3f ∷ []) ≡ 0x7e ∷ 0x01 ∷ 0x3f ∷ 0xeb ∷ 0xdf ∷ 0x7e ∷ []
@@ -236,7 +242,8 @@ unfolding control_of
 frmr_final_128 = (refl, refl)
 
 -- SABM and UI with their P bits, RR whose first octet has another bit, RR without its second octet, and no octet at all
-pub unknown_128 : (control_of 128 (0x3f ∷ []) ≡ None) × (control_of 128 (0x13 ∷ []) ≡ None) × (control_of 128 (0x11 ∷ 0x9a ∷ []) ≡ None) × (control_of 128 (0x01 ∷ []) ≡ None) × (control_of 128 [] ≡ None)
+pub unknown_128 : (control_of 128 (0x3f ∷ []) ≡ None) × (control_of 128 (0x13 ∷ []) ≡ None) × (control_of 128 (0x11 ∷ 0x9a ∷ []) ≡ None)
+    × (control_of 128 (0x01 ∷ []) ≡ None) × (control_of 128 [] ≡ None)
 unfolding control_of
 unknown_128 = (refl, refl, refl, refl, refl)
 

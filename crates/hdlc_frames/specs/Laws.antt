@@ -60,7 +60,8 @@ FeedingGoesOn =
 abbrev pub StreamGoesOn : Type 0
 StreamGoesOn =
     (stream piece : List ℕ)
-    → (frames_of (stream ++ take (feeding_of (kept_of stream) piece).used piece) ≡ frames_of stream ++ option_to_list (feeding_of (kept_of stream) piece).verdict)
+    → (frames_of (stream ++ take (feeding_of (kept_of stream) piece).used piece)
+    ≡ frames_of stream ++ option_to_list (feeding_of (kept_of stream) piece).verdict)
     × (kept_of (stream ++ take (feeding_of (kept_of stream) piece).used piece) ≡ (feeding_of (kept_of stream) piece).kept)
 
 -- ---- a stream cut into pieces, each fed again from where the deframer stopped until it is used whole

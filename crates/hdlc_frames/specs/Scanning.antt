@@ -1,5 +1,6 @@
 -- Representation: how the code goes through a piece, octet by octet; no claim rests on it.
-use Rattle.std.specs.Prelude.{◌≡◌, ◌≢◌, ℕ, ◌+◌, ◌<◌, ◌≤◌, true, false, ◌==◌, List, [], ◌∷◌, ◌++◌, length, take, drop, slice_index, Option, None, Some, bit_xor, if◌then◌else◌}
+use Rattle.std.specs.Prelude.{◌≡◌, ◌≢◌, ℕ, ◌+◌, ◌<◌, ◌≤◌, true, false, ◌==◌, List, [], ◌∷◌, ◌++◌, length, take, drop, slice_index, Option, None, Some, bit_xor}
+use Rattle.std.specs.Prelude.{if◌then◌else◌}
 use Rattle.hdlc_frames.specs.Framing.{flag, escape, Verdict, Aborted, verdict_on_content, has_octets}
 use Rattle.hdlc_frames.specs.Deframing.{KeptDeframer, after_flag, Feeding}
 

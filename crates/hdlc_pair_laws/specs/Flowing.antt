@@ -72,7 +72,8 @@ pub record Rising (lx ly : List Frame) (ax rx : ℕ) (ox : Bool) (ay ry : ℕ) (
 
 abbrev pub Still : Bool → ℕ → List Frame → Station → List Frame → Station → Type 0
 Still c n lx x ly y =
-    IsStationFlow c (infos lx) (receive_numbers_in_frames ly) x y × IsStationFlow (not c) (infos ly) (receive_numbers_in_frames lx) y x × AllData lx × AllData ly × Count n lx x ly y
+    IsStationFlow c (infos lx) (receive_numbers_in_frames ly) x y × IsStationFlow (not c) (infos ly) (receive_numbers_in_frames lx) y x × AllData lx
+    × AllData ly × Count n lx x ly y
     × Rising lx ly x.acked (length x.taken) x.owed y.acked (length y.taken) y.owed
 
 -- no payload may be sent, or none is left

@@ -119,7 +119,8 @@ pub record Holding (k : ℕ) (handed : List (List ℕ)) (s next : ℕ) (held : L
   pub own : AllOwn handed held
 
 -- a station with go-back holds nothing
-abbrev pub HoldsOutOfOrderPayloads : (selective : Bool) → (k : ℕ) (handed : List (List ℕ)) (s next : ℕ) (held : List (ℕ × List ℕ)) (waits : List (ℕ × List ℕ)) → Type 0
+abbrev pub HoldsOutOfOrderPayloads : (selective : Bool) → (k : ℕ) (handed : List (List ℕ)) (s next : ℕ) (held : List (ℕ × List ℕ)) (waits : List (ℕ × List ℕ))
+    → Type 0
 HoldsOutOfOrderPayloads true k handed s next held waits = Holding k handed s next held waits
 HoldsOutOfOrderPayloads false k handed s next held waits = held ≡ []
 

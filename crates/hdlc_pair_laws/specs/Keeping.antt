@@ -24,20 +24,27 @@ IsAtFlag read = (read ≡ []) ⊎ ((before : List ℕ) × (read ≡ before ++ fl
 
 -- each call keeps the invariant
 pub record CallsKeep : Type 0 where
-  pub swapped : (selective : Bool) (k : ℕ) (lx : List Frame) (x : Station) (ly : List Frame) (y : Station) → IsStationPair selective k lx x ly y → IsStationPair selective k ly y lx x
+  pub swapped : (selective : Bool) (k : ℕ) (lx : List Frame) (x : Station) (ly : List Frame) (y : Station) → IsStationPair selective k lx x ly y
+      → IsStationPair selective k ly y lx x
   pub made_pair : (extended : Bool) (window n2 t1 : ℕ) → 1 ≤ window → window < modulo extended
       → IsStationPair false (modulo extended - 1) [] (made true extended window n2 t1) [] (made false extended window n2 t1)
-  pub started : (selective : Bool) (k : ℕ) (w : List Frame) (now : ℕ) (x : Station) (l : List Frame) (y : Station) → Both selective k w x l y → Both selective k w (starts now x) l y
+  pub started : (selective : Bool) (k : ℕ) (w : List Frame) (now : ℕ) (x : Station) (l : List Frame) (y : Station) → Both selective k w x l y
+      → Both selective k w (starts now x) l y
   pub received : (selective : Bool) (k : ℕ) (w : List Frame) (now : ℕ) (x : Station) (f : Frame) (fs : List Frame) (y : Station)
       → Both selective k w x (f ∷ fs) y → Both selective k w (receives_as selective now (found y f) x) fs y
   pub handed : (selective : Bool) (k : ℕ) (w : List Frame) (now : ℕ) (x : Station) (l : List Frame) (y : Station) (p : List ℕ) → length p ≤ 1026
       → Both selective k w x l y → Both selective k w (hands now p x) l y
-  pub finished : (selective : Bool) (k : ℕ) (w : List Frame) (x : Station) (l : List Frame) (y : Station) → Both selective k w x l y → Both selective k w (finishes x) l y
-  pub ticked : (selective : Bool) (k : ℕ) (w : List Frame) (now : ℕ) (x : Station) (l : List Frame) (y : Station) → Both selective k w x l y → Both selective k w (ticks now x) l y
-  pub closed : (selective : Bool) (k : ℕ) (w : List Frame) (x : Station) (l : List Frame) (y : Station) → Both selective k w x l y → Both selective k w (closes x) l y
+  pub finished : (selective : Bool) (k : ℕ) (w : List Frame) (x : Station) (l : List Frame) (y : Station) → Both selective k w x l y
+      → Both selective k w (finishes x) l y
+  pub ticked : (selective : Bool) (k : ℕ) (w : List Frame) (now : ℕ) (x : Station) (l : List Frame) (y : Station) → Both selective k w x l y
+      → Both selective k w (ticks now x) l y
+  pub closed : (selective : Bool) (k : ℕ) (w : List Frame) (x : Station) (l : List Frame) (y : Station) → Both selective k w x l y
+      → Both selective k w (closes x) l y
   -- the first frame of y is lost, or stands twice
-  pub lost : (selective : Bool) (k : ℕ) (lx : List Frame) (x : Station) (f : Frame) (fs : List Frame) (y : Station) → IsStationPair selective k lx x (f ∷ fs) y → IsStationPair selective k lx x fs y
-  pub repeated : (selective : Bool) (k : ℕ) (lx : List Frame) (x : Station) (f : Frame) (fs : List Frame) (y : Station) → IsStationPair selective k lx x (f ∷ fs) y → IsStationPair selective k lx x (f ∷ f ∷ fs) y
+  pub lost : (selective : Bool) (k : ℕ) (lx : List Frame) (x : Station) (f : Frame) (fs : List Frame) (y : Station)
+      → IsStationPair selective k lx x (f ∷ fs) y → IsStationPair selective k lx x fs y
+  pub repeated : (selective : Bool) (k : ℕ) (lx : List Frame) (x : Station) (f : Frame) (fs : List Frame) (y : Station)
+      → IsStationPair selective k lx x (f ∷ fs) y → IsStationPair selective k lx x (f ∷ f ∷ fs) y
   -- it is the one frame that its octets close
   pub one_frame : (selective : Bool) (k : ℕ) (lx : List Frame) (x : Station) (f : Frame) (fs : List Frame) (y : Station) (read : List ℕ) → IsAtFlag read
       → IsStationPair selective k lx x (f ∷ fs) y → drop (length (frames_of read)) (frames_of (read ++ frame_octets_of_station y f)) ≡ found y f ∷ []
@@ -58,7 +65,8 @@ pub record TellsStationPhaseAndRelease (s t : Station) : Type 0 where
   pub alone : (t.deed.released ≡ None) ⊎ ((t.deed.payload ≡ None) × (t.deed.up ≡ false))
 
 abbrev pub ReceivesTell : Type 0
-ReceivesTell = (selective : Bool) (now : ℕ) (verdict : Verdict) (s : Station) → s.deed ≡ no_deed → TellsStationPhaseAndRelease s (receives_as selective now verdict s)
+ReceivesTell = (selective : Bool) (now : ℕ) (verdict : Verdict) (s : Station) → s.deed ≡ no_deed
+    → TellsStationPhaseAndRelease s (receives_as selective now verdict s)
 
 -- what a frame that comes gives: what was handed down stays, what is told of payloads is what is taken, the release is told, and after a
 -- release nothing is done

@@ -1,4 +1,5 @@
--- What holds of two stations over two lines, with go-back or with selective reject, over every list of steps, at modulo 8 and at modulo 128. A list of steps stands for each
+-- What holds of two stations over two lines, with go-back or with selective reject, over every list of steps, at modulo 8 and at modulo 128. A list of steps
+-- stands for each
 -- moment of a longer run.
 use Rattle.std.specs.Prelude.{◌≡◌, ℕ, ◌*◌, ◌<◌, ◌≤◌, Bool, true, false, List, length, Option, Some, None}
 use Rattle.er_base.specs.declared.release.Release.{Release}

@@ -18,9 +18,11 @@ pub record FlowKeeps : Type 0 where
   pub started : (extended : Bool) (window n2 t1 now : ℕ) → 1 ≤ window
       → Midway true 0 [] (starts now (settled (made true extended window n2 t1))) [] (made false extended window n2 t1)
   -- a call of the calling station begins, or one of the called station
-  pub calling_begins : (selective : Bool) (k n : ℕ) (lx : List Frame) (x : Station) (ly : List Frame) (y : Station) → IsStationPair selective k lx x ly y → Shape n lx x ly y
+  pub calling_begins : (selective : Bool) (k n : ℕ) (lx : List Frame) (x : Station) (ly : List Frame) (y : Station) → IsStationPair selective k lx x ly y
+      → Shape n lx x ly y
       → Midway true n lx (settled x) ly y
-  pub called_begins : (selective : Bool) (k n : ℕ) (lx : List Frame) (x : Station) (ly : List Frame) (y : Station) → IsStationPair selective k lx x ly y → Shape n lx x ly y
+  pub called_begins : (selective : Bool) (k n : ℕ) (lx : List Frame) (x : Station) (ly : List Frame) (y : Station) → IsStationPair selective k lx x ly y
+      → Shape n lx x ly y
       → Midway false n ly (settled y) lx x
   pub received : (selective c : Bool) (k n : ℕ) (w : List Frame) (now : ℕ) (x : Station) (f : Frame) (fs : List Frame) (y : Station)
       → Both selective k w x (f ∷ fs) y → Midway c n w x (f ∷ fs) y → Midway c (n + 1) w (receives_as selective now (found y f) x) fs y
@@ -34,9 +36,11 @@ pub record FlowKeeps : Type 0 where
 
 -- what the shape says of the number of frames, and of two stations between which no frame waits; here x is the calling station
 pub record FlowBounds : Type 0 where
-  pub deliveries : (selective : Bool) (k n : ℕ) (lx : List Frame) (x : Station) (ly : List Frame) (y : Station) → IsStationPair selective k lx x ly y → Shape n lx x ly y
+  pub deliveries : (selective : Bool) (k n : ℕ) (lx : List Frame) (x : Station) (ly : List Frame) (y : Station) → IsStationPair selective k lx x ly y
+      → Shape n lx x ly y
       → n + (length lx + length ly) ≤ 2 + 2 * (length x.handed + length y.handed)
-  pub waiting : (selective : Bool) (k n : ℕ) (lx : List Frame) (x : Station) (ly : List Frame) (y : Station) → IsStationPair selective k lx x ly y → Shape n lx x ly y
+  pub waiting : (selective : Bool) (k n : ℕ) (lx : List Frame) (x : Station) (ly : List Frame) (y : Station) → IsStationPair selective k lx x ly y
+      → Shape n lx x ly y
       → (length lx ≤ 254) × (length ly ≤ 254)
   pub emptied : (selective : Bool) (k n : ℕ) (x : Station) (y : Station) → IsStationPair selective k [] x [] y → Shape n [] x [] y
       → (x.phase ≡ Up) × (y.phase ≡ Up) × (y.taken ≡ x.handed) × (1 ≤ length x.handed → x.taken ≡ y.handed)

@@ -54,5 +54,6 @@ PassesBound =
 -- so a drain of as many passes leaves no frame waiting; it stops before where too many wait in one direction
 abbrev pub DrainEmptiesLive : Type 0
 DrainEmptiesLive =
-    (s : StationLinkOpening) (steps : List PairStep) (most : ℕ) → (after s steps).order_kept ≡ true → AreLive (after s steps) → bound_of s (after s steps) ≤ most
+    (s : StationLinkOpening) (steps : List PairStep) (most : ℕ) → (after s steps).order_kept ≡ true → AreLive (after s steps)
+    → bound_of s (after s steps) ≤ most
     → NoFrameWaits (drained (station_kind s.selective) most (after s steps)) ⊎ (is_overfull (drained (station_kind s.selective) most (after s steps)) ≡ true)

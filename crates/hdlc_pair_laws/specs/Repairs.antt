@@ -21,7 +21,8 @@ pub record MendKeeps : Type 0 where
   -- two stations that were just made, of which the calling one starts
   pub started : (selective extended : Bool) (window n2 t1 now : ℕ)
       → Within Lossy selective true window [] (starts now (settled (made true extended window n2 t1))) [] (made false extended window n2 t1)
-  pub begins : (p : Progress) (selective c : Bool) (k window : ℕ) (lx : List Frame) (x : Station) (ly : List Frame) (y : Station) → IsStationPair selective k lx x ly y
+  pub begins : (p : Progress) (selective c : Bool) (k window : ℕ) (lx : List Frame) (x : Station) (ly : List Frame) (y : Station)
+      → IsStationPair selective k lx x ly y
       → Between p selective c window lx x ly y → Within p selective c window lx (settled x) ly y
   -- with selective reject the greatest window is the window
   pub received : (p : Progress) (selective c : Bool) (k window : ℕ) (w : List Frame) (now : ℕ) (x : Station) (f : Frame) (fs : List Frame) (y : Station)

@@ -36,12 +36,14 @@ pub record SelectiveStands (core : KeptStation) (places : List NumberPlace) (bef
   pub no_gap : s.gap ≡ false
 
 -- a part of a call that does what a step of the model does, over the core and the places
-abbrev pub Moves : (core : KeptStation) (places : List NumberPlace) → Stored → (core' : KeptStation) (places' : List NumberPlace) → Stored → (Station → Station) → Type 0
+abbrev pub Moves : (core : KeptStation) (places : List NumberPlace) → Stored → (core' : KeptStation) (places' : List NumberPlace) → Stored
+    → (Station → Station) → Type 0
 Moves core places out core' places' out' step =
     (s : Station) (before : List ℕ) (d : Deed) → SelectiveStands core places before out d s → SelectiveStands core' places' before out' d (step s)
 
 -- a part of a call that tells something, where nothing was told before
-abbrev pub TellsSelectiveDeed : (core : KeptStation) (places : List NumberPlace) → Stored → (core' : KeptStation) (places' : List NumberPlace) → Stored → Deed → (Station → Station) → Type 0
+abbrev pub TellsSelectiveDeed : (core : KeptStation) (places : List NumberPlace) → Stored → (core' : KeptStation) (places' : List NumberPlace) → Stored → Deed
+    → (Station → Station) → Type 0
 TellsSelectiveDeed core places out core' places' out' told step =
     (s : Station) (before : List ℕ) → SelectiveStands core places before out no_deed s → SelectiveStands core' places' before out' told (step s)
 

@@ -26,4 +26,5 @@ IsSendable k (AskBelow up) = up < k.window
 -- a rule does what a step of the model does to a frame, once its reply is written
 abbrev pub HearsSo : KeptStation → List NumberPlace → KeptStation → List NumberPlace → SelectiveHeard → (Station → Station) → Type 0
 HearsSo old places new places' heard step =
-    (out out' : Stored) (after : List NumberPlace) → IsReplyWritten new places' out heard.reply after out' → TellsSelectiveDeed old places out new after out' (deed_of after heard.deed) step
+    (out out' : Stored) (after : List NumberPlace) → IsReplyWritten new places' out heard.reply after out'
+    → TellsSelectiveDeed old places out new after out' (deed_of after heard.deed) step

@@ -10,10 +10,12 @@ use Rattle.hdlc_station_core.specs.Kept.{KeptStation, Stands}
 
 -- ---- a test of the model
 
-pub stands_yes : (k : KeptStation) (before : List ℕ) (out : Stored) (d : Deed) (b : Bool) (x y : Station) → b ≡ true → Stands k before out d x → Stands k before out d (if b then x else y)
+pub stands_yes : (k : KeptStation) (before : List ℕ) (out : Stored) (d : Deed) (b : Bool) (x y : Station) → b ≡ true → Stands k before out d x
+    → Stands k before out d (if b then x else y)
 stands_yes k before out d b x y e h = subst (λ (c : Bool). Stands k before out d (if c then x else y)) (sym e) h
 
-pub stands_no : (k : KeptStation) (before : List ℕ) (out : Stored) (d : Deed) (b : Bool) (x y : Station) → b ≡ false → Stands k before out d y → Stands k before out d (if b then x else y)
+pub stands_no : (k : KeptStation) (before : List ℕ) (out : Stored) (d : Deed) (b : Bool) (x y : Station) → b ≡ false → Stands k before out d y
+    → Stands k before out d (if b then x else y)
 stands_no k before out d b x y e h = subst (λ (c : Bool). Stands k before out d (if c then x else y)) (sym e) h
 
 -- a step by the phase
@@ -24,7 +26,8 @@ by_phase step k before out d s p e h = subst (λ (q : Phase). Stands k before ou
 -- ---- N(R)
 
 pub numbered : (k : KeptStation) (before : List ℕ) (out : Stored) (d : Deed) (s : Station) (r n : ℕ) (rest : Station → Station)
-    → number_shown_as s.extended s.acked (s.sent - s.acked) r ≡ Some n → Stands k before out d (rest (acknowledges n s)) → Stands k before out d (by_number r rest s)
+    → number_shown_as s.extended s.acked (s.sent - s.acked) r ≡ Some n → Stands k before out d (rest (acknowledges n s))
+    → Stands k before out d (by_number r rest s)
 numbered k before out d s r n rest e h = subst (λ (o : Option ℕ). Stands k before out d (acknowledging o rest s)) (sym e) h
 
 pub absent : (k : KeptStation) (before : List ℕ) (out : Stored) (d : Deed) (s : Station) (r : ℕ) (rest : Station → Station)

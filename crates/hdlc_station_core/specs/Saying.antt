@@ -54,7 +54,8 @@ again_said k s (suc n) is =
     ∙ flat_map_more (sent_octets k.calling k.extended) [] (frames_again n s) (info_at s (s.acked + n))
 
 -- every frame from V(A) to V(S) - 1
-pub says_again : (k : KeptStation) (before : List ℕ) (out out' : Stored) (d : Deed) (s : Station) → Stands k before out d s → out'.items ≡ out.items ++ info_texts k 0 k.ahead
+pub says_again : (k : KeptStation) (before : List ℕ) (out out' : Stored) (d : Deed) (s : Station) → Stands k before out d s
+    → out'.items ≡ out.items ++ info_texts k 0 k.ahead
     → Stands k before out' d (record s { said = s.said ++ frames_again (s.sent - s.acked) s })
 says_again k before out out' d s h e =
     let count : k.ahead ≡ s.sent - s.acked = ap (λ (q : KeptStation). q.ahead) h.is in
@@ -65,7 +66,8 @@ says_again k before out out' d s h e =
       deed = h.deed;
       text = e
           ∙ ap₂ (λ (xs ys : List ℕ). xs ++ ys) h.text (ap (λ (n : ℕ). info_texts k 0 n) count ∙ again_said k s (s.sent - s.acked) h.is)
-          ∙ append_assoc before (octets_of_sent_frames k.calling k.extended s.said) (octets_of_sent_frames k.calling k.extended (frames_again (s.sent - s.acked) s))
+          ∙ append_assoc before (octets_of_sent_frames k.calling k.extended s.said)
+          (octets_of_sent_frames k.calling k.extended (frames_again (s.sent - s.acked) s))
           ∙ ap (λ (os : List ℕ). before ++ os) (sym (flat_map-append (sent_octets k.calling k.extended) s.said (frames_again (s.sent - s.acked) s)));
     }
 
@@ -81,7 +83,8 @@ module _ (calling extended : Bool) (va vr : ℕ) (ring : List (List ℕ)) (first
       let place : (c + n) + first ≡ n + (first + c) = omega arith in
       ap (λ (m : ℕ). info_texts_of calling extended va vr ring first m) more
       ∙ ap₂ (λ (xs : List ℕ) (i : ℕ). xs ++ info_text_of calling extended va vr ring i) (infos_append c n) place
-      ∙ append_assoc (info_texts_of calling extended va vr ring first c) (info_texts_of calling extended va vr ring (first + c) n) (info_text_of calling extended va vr ring (n + (first + c)))
+      ∙ append_assoc (info_texts_of calling extended va vr ring first c) (info_texts_of calling extended va vr ring (first + c) n)
+      (info_text_of calling extended va vr ring (n + (first + c)))
 
   pub infos_more : (c : ℕ) → info_texts_of calling extended va vr ring first (c + 1)
       ≡ info_texts_of calling extended va vr ring first c ++ info_text_of calling extended va vr ring (first + c)

@@ -41,7 +41,8 @@ pub record MarksBusy : Type 0 where
       → (receives_as selective now verdict s).phase ≡ Up → (receives_as selective now verdict s).busy ≡ busy_behind h.control s.busy
   pub released : (selective : Bool) (now : ℕ) (s : Station) (verdict : Verdict) → IsOfOctets verdict → ((receives_as selective now verdict s).phase ≡ Up → ⊥)
       → (receives_as selective now verdict s).busy ≡ s.busy
-  pub asleep : (selective : Bool) (now : ℕ) (s : Station) (verdict : Verdict) → IsOfOctets verdict → (s.phase ≡ Up → ⊥) → (receives_as selective now verdict s).busy ≡ s.busy
+  pub asleep : (selective : Bool) (now : ℕ) (s : Station) (verdict : Verdict) → IsOfOctets verdict → (s.phase ≡ Up → ⊥)
+      → (receives_as selective now verdict s).busy ≡ s.busy
   pub unheard : (selective : Bool) (now : ℕ) (s : Station) (verdict : Verdict) → IsOfOctets verdict → (IsForStation s verdict → ⊥)
       → (receives_as selective now verdict s).busy ≡ s.busy
   pub starts : (now : ℕ) (s : Station) → (starts now s).busy ≡ s.busy

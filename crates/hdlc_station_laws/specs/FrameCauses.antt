@@ -13,7 +13,8 @@ use Rattle.hdlc_station_model.specs.declared.phase.Phase.TheVariants.{Setting, U
 use Rattle.hdlc_station_model.specs.Frames.{modulo}
 use Rattle.hdlc_station_model.specs.Stations.{Station}
 use Rattle.hdlc_station_model.specs.Selective.{receives_as}
-use Rattle.hdlc_station_model.specs.Causes.{Either, IsAddressOf, Comes, IsSetUp, IsBare, IsValidReceiveNumber, TakesErrors, IsPeersEnd, IsReleasedFor, IsOfOctets}
+use Rattle.hdlc_station_model.specs.Causes.{Either, IsAddressOf, Comes, IsSetUp, IsBare, IsValidReceiveNumber, TakesErrors, IsPeersEnd, IsReleasedFor}
+use Rattle.hdlc_station_model.specs.Causes.{IsOfOctets}
 
 -- the reject of the other kind: REJ to a station with selective reject, SREJ to one with go-back
 abbrev pub other_reject : (selective : Bool) → (nr : ℕ) → Control
@@ -38,7 +39,8 @@ acknowledgement_of Frmr = None
 pub data IsErrorOfKind (selective : Bool) (s : Station) (address : ℕ) (body : List ℕ) : Type 0 where
   -- its control is unknown; one of the two addresses it has
   HasUnknownControl : TakesErrors s → IsAddressOf Either s.calling address → HasNoControl (modulo s.extended) body → IsErrorOfKind selective s address body
-  IsOtherReject : (nr : ℕ) (information : List ℕ) → TakesErrors s → Comes s address body (other_reject selective nr) information → IsErrorOfKind selective s address body
+  IsOtherReject : (nr : ℕ) (information : List ℕ) → TakesErrors s → Comes s address body (other_reject selective nr) information
+      → IsErrorOfKind selective s address body
   -- information where none may stand
   HasInformation : (control : Control) (information : List ℕ) → TakesErrors s → Comes s address body control information → IsBare control
       → 1 ≤ length information → IsErrorOfKind selective s address body

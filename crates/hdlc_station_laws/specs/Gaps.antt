@@ -91,7 +91,8 @@ AreHeldFrom held n (payload ∷ payloads) = IsHeldWith held n payload × AreHeld
 pub data HearsInfo (s : Station) (ns : ℕ) (payload : List ℕ) (t : Station) : Type 0 where
   -- it is old: RR says again which is the next
   IsOld : ((n : ℕ) → MayCome s ns n → ⊥) → KeepsGaps s t → Answers s t (Rr (length s.taken) ∷ []) → HearsInfo s ns payload t
-  IsHeldAlready : (n : ℕ) → MayCome s ns n → length s.taken < n → is_held s n ≡ true → KeepsGaps s t → Answers s t (Rr (length s.taken) ∷ []) → HearsInfo s ns payload t
+  IsHeldAlready : (n : ℕ) → MayCome s ns n → length s.taken < n → is_held s n ≡ true → KeepsGaps s t → Answers s t (Rr (length s.taken) ∷ [])
+      → HearsInfo s ns payload t
   -- it is the next: it is taken with what is held for the numbers that follow, up to the first that isn't, and what is below the new V(R) is
   -- neither held nor asked for
   IsNext : (run : List (List ℕ)) → MayCome s ns (length s.taken) → t.taken ≡ s.taken ++ payload ∷ run → AreHeldFrom s.held (length s.taken + 1) run
@@ -117,15 +118,19 @@ pub record ForgetsGaps (selective : Bool) (t : Station) : Type 0 where
 pub record GapsOfCalls : Type 0 where
   pub goes_back : (now : ℕ) (s : Station) (address : ℕ) (body : List ℕ) (ns nr : ℕ) (payload : List ℕ) → ComesInfo false now s address body ns nr payload
       → GoesBack s ns payload (receives_as false now (Found address body) s)
-  pub files : (now : ℕ) (s : Station) (address : ℕ) (body : List ℕ) (ns nr : ℕ) (payload : List ℕ) → 1 ≤ s.window → ComesInfo true now s address body ns nr payload
+  pub files : (now : ℕ) (s : Station) (address : ℕ) (body : List ℕ) (ns nr : ℕ) (payload : List ℕ) → 1 ≤ s.window
+      → ComesInfo true now s address body ns nr payload
       → HearsInfo s ns payload (receives_as true now (Found address body) s)
-  pub set_up : (selective : Bool) (now : ℕ) (s : Station) (address : ℕ) (body : List ℕ) (control : Control) → AreOctets body → Comes s address body control [] → IsSetUp control
+  pub set_up : (selective : Bool) (now : ℕ) (s : Station) (address : ℕ) (body : List ℕ) (control : Control) → AreOctets body → Comes s address body control []
+      → IsSetUp control
       → s.phase ≡ Up → (receives_as selective now (Found address body) s).phase ≡ Up → ForgetsGaps selective (receives_as selective now (Found address body) s)
   -- any frame but I and the set-up frame
   pub others : (selective : Bool) (now : ℕ) (s : Station) (verdict : Verdict) → IsOfOctets verdict
-      → ((address : ℕ) (body : List ℕ) (ns nr : ℕ) (information : List ℕ) → verdict ≡ Found address body → Comes s address body (control.Info ns nr) information → ⊥)
+      → ((address : ℕ) (body : List ℕ) (ns nr : ℕ) (information : List ℕ) → verdict ≡ Found address body
+      → Comes s address body (control.Info ns nr) information → ⊥)
       → Answers s (receives_as selective now verdict s) []
-      × (((address : ℕ) (body : List ℕ) (control : Control) (information : List ℕ) → verdict ≡ Found address body → Comes s address body control information → IsSetUp control → ⊥)
+      × (((address : ℕ) (body : List ℕ) (control : Control) (information : List ℕ) → verdict ≡ Found address body → Comes s address body control information
+      → IsSetUp control → ⊥)
       → KeepsGaps s (receives_as selective now verdict s))
   pub asleep : (selective : Bool) (now : ℕ) (s : Station) (verdict : Verdict) → IsOfOctets verdict
       → (s.phase ≡ Up → ⊥) → KeepsGaps s (receives_as selective now verdict s) × Answers s (receives_as selective now verdict s) []

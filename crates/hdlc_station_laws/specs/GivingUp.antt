@@ -30,7 +30,8 @@ IsOnceMore selective k events now = (is_late now (behind_events selective k even
 
 -- at this phase a tick releases for this cause exactly so
 pub record GivesUpFor (phase : Phase) (why : Cause) : Type 0 where
-  pub each : (selective : Bool) (k : StationSettings) (events : List StationEvent) (now : ℕ) → (behind_events selective k events).phase ≡ phase → IsOnceMore selective k events now
+  pub each : (selective : Bool) (k : StationSettings) (events : List StationEvent) (now : ℕ) → (behind_events selective k events).phase ≡ phase
+      → IsOnceMore selective k events now
       → (station_step selective (Tick now) (behind_events selective k events)).deed.released ≡ Some (release_of why)
   pub only : (selective : Bool) (k : StationSettings) (events : List StationEvent) (now : ℕ) → (behind_events selective k events).phase ≡ phase
       → (station_step selective (Tick now) (behind_events selective k events)).deed.released ≡ Some (release_of why) → IsOnceMore selective k events now

@@ -86,7 +86,8 @@ unfolding control_of
 never_answered = (refl, refl, refl)
 
 -- the settings are those that it was made with
-pub settings_stayed : station_settings (calling true 4 (sent_one ++ no_selective_progress)) ≡ record { calling = true; extended = false; window = 4; n2 = 5; t1 = 1000 }
+pub settings_stayed : station_settings (calling true 4 (sent_one ++ no_selective_progress))
+    ≡ record { calling = true; extended = false; window = 4; n2 = 5; t1 = 1000 }
 unfolding control_of
 settings_stayed = refl
 
@@ -130,7 +131,8 @@ called selective window events = station_run selective (made false false window 
 -- 0 is taken; 2 comes: REJ for 1; RR and a tick leave the mark, so that 2 once more is answered by RR
 pub mark_stays :
     ((called false 7 (hears_command (0x00 ∷ 0x40 ∷ []) ∷ hears_command (0x04 ∷ 0x42 ∷ []) ∷ [])).said ≡ Rej 1 ∷ [])
-    × ((called false 7 (hears_command (0x00 ∷ 0x40 ∷ []) ∷ hears_command (0x04 ∷ 0x42 ∷ []) ∷ Receive 0 (Found 0x03 (0x01 ∷ [])) ∷ Tick 1000 ∷ hears_command (0x04 ∷ 0x42 ∷ []) ∷ [])).said ≡ Rr 1 ∷ [])
+    × ((called false 7 (hears_command (0x00 ∷ 0x40 ∷ []) ∷ hears_command (0x04 ∷ 0x42 ∷ []) ∷ Receive 0 (Found 0x03 (0x01 ∷ [])) ∷ Tick 1000
+    ∷ hears_command (0x04 ∷ 0x42 ∷ []) ∷ [])).said ≡ Rr 1 ∷ [])
 unfolding control_of
 mark_stays = (refl, refl)
 

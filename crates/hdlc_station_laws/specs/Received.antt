@@ -27,7 +27,8 @@ pub record TakesOfKind (selective : Bool) (s t : Station) : Type 0 where
   pub released : (t.deed.released ≡ None) ⊎ (t.deed.released ≡ Some (release_of FrameError)) ⊎ (t.deed.released ≡ Some (release_of PeerDisconnected))
 
 abbrev pub FramesGiveOfKind : Type 0
-FramesGiveOfKind = (selective : Bool) (now : ℕ) (verdict : Verdict) (s : Station) → s.deed ≡ no_deed → TakesOfKind selective s (receives_as selective now verdict s)
+FramesGiveOfKind = (selective : Bool) (now : ℕ) (verdict : Verdict) (s : Station) → s.deed ≡ no_deed
+    → TakesOfKind selective s (receives_as selective now verdict s)
 
 -- the release that is told is kept, and the station is Down exactly where it was or one is told
 abbrev pub FramesTellRelease : Type 0

@@ -51,14 +51,17 @@ pub record SentAgain : Type 0 where
       → SendsAgain s (receives_as false now (Found address body) s)
       (numbers_from (receives_as false now (Found address body) s).acked (s.sent - (receives_as false now (Found address body) s).acked))
   -- with selective reject, at SREJ the one that it asks for; it acknowledges nothing
-  pub asked : (now : ℕ) (s : Station) (address : ℕ) (body : List ℕ) (nr : ℕ) → AreOctets body → Comes s address body (control.Srej nr) [] → s.phase ≡ Up → s.said ≡ []
+  pub asked : (now : ℕ) (s : Station) (address : ℕ) (body : List ℕ) (nr : ℕ) → AreOctets body → Comes s address body (control.Srej nr) [] → s.phase ≡ Up
+      → s.said ≡ []
       → AnswersSelectiveReject s nr (sent_before s.sent (receives_as true now (Found address body) s).said)
       × ((receives_as true now (Found address body) s).acked ≡ s.acked)
   -- at anything else, and where the link isn't up before or behind the call, none
   pub others : (selective : Bool) (now : ℕ) (s : Station) (verdict : Verdict) → IsOfOctets verdict
-      → ((address : ℕ) (body : List ℕ) (nr : ℕ) (information : List ℕ) → verdict ≡ Found address body → Comes s address body (own_reject selective nr) information → ⊥)
+      → ((address : ℕ) (body : List ℕ) (nr : ℕ) (information : List ℕ) → verdict ≡ Found address body
+      → Comes s address body (own_reject selective nr) information → ⊥)
       → SendsAgain s (receives_as selective now verdict s) []
-  pub asleep : (selective : Bool) (now : ℕ) (s : Station) (verdict : Verdict) → IsOfOctets verdict → (s.phase ≡ Up → ⊥) → SendsAgain s (receives_as selective now verdict s) []
+  pub asleep : (selective : Bool) (now : ℕ) (s : Station) (verdict : Verdict) → IsOfOctets verdict → (s.phase ≡ Up → ⊥)
+      → SendsAgain s (receives_as selective now verdict s) []
   pub released : (selective : Bool) (now : ℕ) (s : Station) (verdict : Verdict) → IsOfOctets verdict → ((receives_as selective now verdict s).phase ≡ Up → ⊥)
       → SendsAgain s (receives_as selective now verdict s) []
   pub starts : (now : ℕ) (s : Station) → SendsAgain s (starts now s) []

@@ -37,7 +37,8 @@ unfolding control_of
 too_early = (refl, refl)
 
 -- at it: the frame is sent again, the expiry is counted, and T1 starts anew
-pub in_time : (is_late 1000 sent_one ≡ true) × ((ticks 1000 sent_one).said ≡ Info 0 0 (0x41 ∷ []) ∷ []) × (deadline (ticks 1000 sent_one) ≡ Some 2000) × ((ticks 1000 sent_one).expiries ≡ 1)
+pub in_time : (is_late 1000 sent_one ≡ true) × ((ticks 1000 sent_one).said ≡ Info 0 0 (0x41 ∷ []) ∷ []) × (deadline (ticks 1000 sent_one) ≡ Some 2000)
+    × ((ticks 1000 sent_one).expiries ≡ 1)
 unfolding control_of
 in_time = (refl, refl, refl, refl)
 
@@ -56,17 +57,21 @@ abbrev expired_five : Station
 expired_five = settled (ticks 5000 (settled (ticks 4000 (settled (ticks 3000 (settled (ticks 2000 (settled (ticks 1000 sent_one)))))))))
 
 -- the sixth is one too many: 1.2, DISC, and no timer runs; before it is due nothing is told
-pub gives_up : ((ticks 5999 expired_five).deed.released ≡ None) × ((ticks 6000 expired_five).deed.released ≡ Some (record { reason = 1; sub = 2; by_peer = false })) × ((ticks 6000 expired_five).said ≡ Disc ∷ []) × (deadline (ticks 6000 expired_five) ≡ None)
+pub gives_up : ((ticks 5999 expired_five).deed.released ≡ None)
+    × ((ticks 6000 expired_five).deed.released ≡ Some (record { reason = 1; sub = 2; by_peer = false })) × ((ticks 6000 expired_five).said ≡ Disc ∷ [])
+    × (deadline (ticks 6000 expired_five) ≡ None)
 unfolding control_of
 gives_up = (refl, refl, refl, refl)
 
 -- ---- the own user releases, with the sub-reason 7
 
-pub quits_up : ((quits 7 sent_one).deed.released ≡ Some (record { reason = 0; sub = 7; by_peer = false })) × ((quits 7 sent_one).said ≡ Disc ∷ []) × ((quits 7 sent_one).phase ≡ Down) × (deadline (quits 7 sent_one) ≡ None)
+pub quits_up : ((quits 7 sent_one).deed.released ≡ Some (record { reason = 0; sub = 7; by_peer = false })) × ((quits 7 sent_one).said ≡ Disc ∷ [])
+    × ((quits 7 sent_one).phase ≡ Down) × (deadline (quits 7 sent_one) ≡ None)
 unfolding control_of
 quits_up = (refl, refl, refl, refl)
 
-pub quits_called : ((quits 7 (made false false 7 5 1000)).deed.released ≡ Some (record { reason = 0; sub = 7; by_peer = false })) × ((quits 7 (made false false 7 5 1000)).said ≡ [])
+pub quits_called : ((quits 7 (made false false 7 5 1000)).deed.released ≡ Some (record { reason = 0; sub = 7; by_peer = false }))
+    × ((quits 7 (made false false 7 5 1000)).said ≡ [])
 quits_called = (refl, refl)
 
 -- ---- lines

@@ -1,7 +1,8 @@
 -- What a combined station with selective reject does at a frame that comes (ISO/IEC 13239, asynchronous balanced mode with the optional
 -- function of single-frame SREJ; what is stray, what is a frame error and the order of the tests are this profile's): frames behind a gap
 -- are held, and each number that is missing is asked for once. All else is what a station with go-back does.
-use Rattle.std.specs.Prelude.{ℕ, zero, suc, ◌+◌, ◌-◌, ◌==◌, nat_lt, nat_le, Bool, true, false, not, ◌||◌, if◌then◌else◌, List, [], ◌∷◌, ◌++◌, length, map, Option, None, Some}
+use Rattle.std.specs.Prelude.{ℕ, zero, suc, ◌+◌, ◌-◌, ◌==◌, nat_lt, nat_le, Bool, true, false, not, ◌||◌, if◌then◌else◌, List, [], ◌∷◌, ◌++◌, length, map}
+use Rattle.std.specs.Prelude.{Option, None, Some}
 use Rattle.std.specs.List.{filter}
 use Rattle.er_base.specs.declared.cause.Cause.TheVariants.{PeerDisconnected}
 use Rattle.hdlc_frames.specs.declared.controls.Control.{Control}
@@ -14,7 +15,8 @@ use Rattle.hdlc_station_model.specs.Frames.{Rr, Srej, modulo}
 use Rattle.hdlc_station_model.specs.Stations.{Station, is_down, sees, puts, one_more}
 use Rattle.hdlc_station_model.specs.Sending.{station_down_for_cause, refuses_frame, info_at, sends_waiting, starts_timer}
 use Rattle.hdlc_station_model.specs.Calls.{receives}
-use Rattle.hdlc_station_model.specs.Receiving.{strays, is_known_address, is_addressed, is_some_octets, errs, number_shown_as, by_number, marks_busy, comes_up, agrees, row_idle}
+use Rattle.hdlc_station_model.specs.Receiving.{strays, is_known_address, is_addressed, is_some_octets, errs, number_shown_as, by_number, marks_busy, comes_up}
+use Rattle.hdlc_station_model.specs.Receiving.{agrees, row_idle}
 
 -- ---- frames that are an error at any phase
 

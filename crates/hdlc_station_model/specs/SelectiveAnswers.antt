@@ -27,7 +27,8 @@ called = hears_body (0x3f ∷ []) (made false false 4 5 1000)
 abbrev held_one : Station
 held_one = hears_info 0x02 called
 
-pub first_gap : (held_one.said ≡ Srej 0 ∷ []) × (held_one.held ≡ (1, 0x02 ∷ []) ∷ []) × (held_one.asked ≡ 0 ∷ []) × (held_one.taken ≡ []) × (held_one.deed.payload ≡ None)
+pub first_gap : (held_one.said ≡ Srej 0 ∷ []) × (held_one.held ≡ (1, 0x02 ∷ []) ∷ []) × (held_one.asked ≡ 0 ∷ []) × (held_one.taken ≡ [])
+    × (held_one.deed.payload ≡ None)
 unfolding control_of
 first_gap = (refl, refl, refl, refl, refl)
 
@@ -65,7 +66,8 @@ filled = (refl, refl, refl, refl, refl, refl)
 abbrev first_filled : Station
 first_filled = hears_info 0x00 two_gaps
 
-pub filled_before : (first_filled.taken ≡ (0x00 ∷ []) ∷ (0x02 ∷ []) ∷ []) × (first_filled.held ≡ (3, 0x06 ∷ []) ∷ []) × (first_filled.asked ≡ 2 ∷ []) × (first_filled.said ≡ Rr 2 ∷ [])
+pub filled_before : (first_filled.taken ≡ (0x00 ∷ []) ∷ (0x02 ∷ []) ∷ []) × (first_filled.held ≡ (3, 0x06 ∷ []) ∷ []) × (first_filled.asked ≡ 2 ∷ [])
+    × (first_filled.said ≡ Rr 2 ∷ [])
 unfolding control_of
 filled_before = (refl, refl, refl, refl)
 
@@ -78,7 +80,8 @@ took_six = hears_info 0x0a (hears_info 0x08 (hears_info 0x06 (hears_info 0x04 (h
 abbrev wrapped : Station
 wrapped = hears_info 0x02 (hears_info 0x00 (hears_info 0x0e took_six))
 
-pub held_across : (wrapped.held ≡ (7, 0x0e ∷ []) ∷ (8, 0x00 ∷ []) ∷ (9, 0x02 ∷ []) ∷ []) × (wrapped.asked ≡ 6 ∷ []) × (wrapped.said ≡ []) × ((hears_info 0x0e took_six).said ≡ Srej 6 ∷ [])
+pub held_across : (wrapped.held ≡ (7, 0x0e ∷ []) ∷ (8, 0x00 ∷ []) ∷ (9, 0x02 ∷ []) ∷ []) × (wrapped.asked ≡ 6 ∷ []) × (wrapped.said ≡ [])
+    × ((hears_info 0x0e took_six).said ≡ Srej 6 ∷ [])
 unfolding control_of
 held_across = (refl, refl, refl, refl)
 
@@ -94,11 +97,13 @@ across = (refl, refl)
 
 -- ---- what it refuses: REJ, and SREJ with information
 
-pub rejects_rej : ((hears_body (0x09 ∷ []) called).said ≡ Dm ∷ []) × ((hears_body (0x09 ∷ []) called).deed.released ≡ Some (record { reason = 1; sub = 3; by_peer = false }))
+pub rejects_rej : ((hears_body (0x09 ∷ []) called).said ≡ Dm ∷ [])
+    × ((hears_body (0x09 ∷ []) called).deed.released ≡ Some (record { reason = 1; sub = 3; by_peer = false }))
 unfolding control_of
 rejects_rej = (refl, refl)
 
-pub rejects_information : ((hears_body (0x0d ∷ 0x00 ∷ []) called).deed.released ≡ Some (record { reason = 1; sub = 3; by_peer = false })) × ((hears_body (0x0d ∷ 0x00 ∷ []) called).phase ≡ Down)
+pub rejects_information : ((hears_body (0x0d ∷ 0x00 ∷ []) called).deed.released ≡ Some (record { reason = 1; sub = 3; by_peer = false }))
+    × ((hears_body (0x0d ∷ 0x00 ∷ []) called).phase ≡ Down)
 unfolding control_of
 rejects_information = (refl, refl)
 
@@ -109,15 +114,18 @@ hears_at now control s = finishes (selective_receives now (Found 0x01 (control �
 
 abbrev sent_three : Station
 sent_three =
-    settled (hands 0 (0x43 ∷ []) (hands 0 (0x42 ∷ []) (hands 0 (0x41 ∷ []) (settled (selective_receives 0 (Found 0x01 (0x73 ∷ [])) (settled (starts 0 (made true false 4 5 1000))))))))
+    settled (hands 0 (0x43 ∷ []) (hands 0 (0x42 ∷ [])
+    (hands 0 (0x41 ∷ []) (settled (selective_receives 0 (Found 0x01 (0x73 ∷ [])) (settled (starts 0 (made true false 4 5 1000))))))))
 
 -- SREJ asks for 1: this one frame is sent again and T1 starts anew, but nothing is acknowledged
-pub one_again : ((hears_at 300 0x2d sent_three).said ≡ Info 1 0 (0x42 ∷ []) ∷ []) × ((hears_at 300 0x2d sent_three).acked ≡ 0) × (deadline sent_three ≡ Some 1000) × (deadline (hears_at 300 0x2d sent_three) ≡ Some 1300)
+pub one_again : ((hears_at 300 0x2d sent_three).said ≡ Info 1 0 (0x42 ∷ []) ∷ []) × ((hears_at 300 0x2d sent_three).acked ≡ 0)
+    × (deadline sent_three ≡ Some 1000) × (deadline (hears_at 300 0x2d sent_three) ≡ Some 1300)
 unfolding control_of
 one_again = (refl, refl, refl, refl)
 
 -- SREJ asks for 3, which wasn't sent: it is stray
-pub none_again : ((hears_at 300 0x6d sent_three).said ≡ []) × ((hears_at 300 0x6d sent_three).counts.stray ≡ 1) × (deadline (hears_at 300 0x6d sent_three) ≡ Some 1000)
+pub none_again : ((hears_at 300 0x6d sent_three).said ≡ []) × ((hears_at 300 0x6d sent_three).counts.stray ≡ 1)
+    × (deadline (hears_at 300 0x6d sent_three) ≡ Some 1000)
 unfolding control_of
 none_again = (refl, refl, refl)
 

@@ -39,10 +39,12 @@ link_joined : (ends : Bool) (finds : Finds) (lines : List TapLine) (n : ℕ) (o 
     → lines_joined (lines_of_link ends finds lines n o) ≡ link_text_asked ends finds lines n o
 link_joined ends finds lines n None = refl
 link_joined ends finds lines n (Some o) =
-    lines_joined_then (lines_of_side n E (judged_at finds n o lines E) ++ lines_of_end ends lines n E) (lines_of_side n R (judged_at finds n o lines R) ++ lines_of_end ends lines n R)
+    lines_joined_then (lines_of_side n E (judged_at finds n o lines E) ++ lines_of_end ends lines n E)
+    (lines_of_side n R (judged_at finds n o lines R) ++ lines_of_end ends lines n R)
     ∙ ap₂ (λ (s t : List ℕ). s ++ t) (both_joined ends lines n E (judged_at finds n o lines E)) (both_joined ends lines n R (judged_at finds n o lines R))
 
-links_joined : (ends : Bool) (finds : Finds) (lines : List TapLine) (n count : ℕ) → lines_joined (lines_of_links ends finds lines n count) ≡ links_text_asked ends finds lines n count
+links_joined : (ends : Bool) (finds : Finds) (lines : List TapLine) (n count : ℕ)
+    → lines_joined (lines_of_links ends finds lines n count) ≡ links_text_asked ends finds lines n count
 unfolding lines_of_links links_text_asked
 links_joined ends finds lines n zero = refl
 links_joined ends finds lines n (suc count) =

@@ -3,7 +3,8 @@ use Rattle.std.specs.Prelude.{ℕ, zero, suc, ◌≡◌, ◌+◌, ◌-◌, ◌�
 use Rattle.er_tap.specs.declared.tap_line.TapLine.{TapLine}
 use Rattle.tap_model.specs.declared.audit_fault.AuditFault.{AuditFault}
 use Rattle.tap_model.specs.declared.audit_fault.AuditFault.TheVariants.{NoLink, LinkTwice, Sink, NoMemory}
-use Rattle.tap_model.specs.Lines.{TapOpening, NoLinkAt, TwiceAt, has, fault_at, links_opened_behind, fault_of_tap_lines, opens_link, first_opening, tap_opening_of_link}
+use Rattle.tap_model.specs.Lines.{TapOpening, NoLinkAt, TwiceAt, has, fault_at, links_opened_behind, fault_of_tap_lines, opens_link, first_opening}
+use Rattle.tap_model.specs.Lines.{tap_opening_of_link}
 use Rattle.er_end_model.specs.Steps.{Finds}
 use Rattle.tap_model.specs.EndTexts.{ends_of_link}
 use Rattle.link_audit.specs.AuditLines.{lines_of_link}
@@ -32,7 +33,8 @@ StandsForOpenedLinks opened o = (n : ℕ) → 1 ≤ n → n ≤ 64 → has n ope
 
 -- a line stands behind those that it needs
 pub record Passes (old new : Openings) (x : TapLine) : Type 0 where
-  pub stands : (opened : List ℕ) → StandsForOpenedLinks opened old → (fault_at opened x.line x.step ≡ None) × StandsForOpenedLinks (links_opened_behind x.step opened) new
+  pub stands : (opened : List ℕ) → StandsForOpenedLinks opened old
+      → (fault_at opened x.line x.step ≡ None) × StandsForOpenedLinks (links_opened_behind x.step opened) new
   pub openings : (n : ℕ) → 1 ≤ n → n ≤ 64 → opening_at new n ≡ first_opening (opening_at old n) (opens_link n x.step)
 
 -- whether it does

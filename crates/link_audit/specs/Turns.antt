@@ -4,12 +4,14 @@ use Rattle.er_base.specs.declared.side.Side.{Side}
 use Rattle.er_base.specs.Sides.{other}
 use Rattle.t70_header.specs.Joining as joining
 use Rattle.x224_tpdu.specs.declared.fault.TpFault.{TpFault}
-use Rattle.x224_tpdu.specs.Spelling.{TransportPdu, connection_request, connection_confirm, disconnect_request, disconnect_confirm, data_tpdu, acknowledgement, tpdu_error}
+use Rattle.x224_tpdu.specs.Spelling.{TransportPdu, connection_request, connection_confirm, disconnect_request, disconnect_confirm, data_tpdu, acknowledgement}
+use Rattle.x224_tpdu.specs.Spelling.{tpdu_error}
 use Rattle.x224_tpdu.specs.Function.{reading}
 use Rattle.sapdu.specs.Messages.{most_octets}
 use Rattle.tap_model.specs.declared.end_cause.EndCause.{EndCause}
 use Rattle.tap_model.specs.declared.end_cause.EndCause.TheVariants.{Disc, Dm, Block, Tpdu, Number, Long}
-use Rattle.tap_model.specs.Hearing.{ReadFrame, address_of_side, Sort, Carries, SetsUp, Agrees, Disconnects, Leaves, Passes, sort_of, is_link_opening, ends, has_number}
+use Rattle.tap_model.specs.Hearing.{ReadFrame, address_of_side, Sort, Carries, SetsUp, Agrees, Disconnects, Leaves, Passes, sort_of, is_link_opening, ends}
+use Rattle.tap_model.specs.Hearing.{has_number}
 use Rattle.tap_model.specs.Ears.{Ear, new_ear, open_ear}
 use Rattle.link_audit.specs.declared.frame_outcome.FrameOutcome.{FrameOutcome}
 use Rattle.link_audit.specs.declared.frame_outcome.FrameOutcome.TheVariants as it

@@ -1,5 +1,6 @@
 -- Representation: the record of wires in memory as they keep it, octets of addresses and pieces in one list.
-use Rattle.std.specs.Prelude.{◌≡◌, ◌≤◌, ◌<◌, ℕ, ◌+◌, ◌-◌, ◌^◌, true, false, List, [], ◌∷◌, ◌++◌, length, take, drop, slice_set, Option, None, Some, IfSome, is_some, option_map, if◌then◌else◌, Vec, vec_len, vec_capacity}
+use Rattle.std.specs.Prelude.{◌≡◌, ◌≤◌, ◌<◌, ℕ, ◌+◌, ◌-◌, ◌^◌, true, false, List, [], ◌∷◌, ◌++◌, length, take, drop, slice_set, Option, None, Some, IfSome}
+use Rattle.std.specs.Prelude.{is_some, option_map, if◌then◌else◌, Vec, vec_len, vec_capacity}
 use Rattle.link_trait.specs.Wires.{Call, Listens, Dials, Turns, Reads, Writes, Closes, given_of, taken_of}
 use Rattle.link_memory.specs.WiresMemory.{KeptWires, octets_to, between, gives, open_at, new_line, happening_of, comes}
 use Rattle.link_memory.specs.declared.act.Act.TheVariants as act

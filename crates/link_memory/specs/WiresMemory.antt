@@ -1,6 +1,7 @@
 -- Wires in memory (this profile): a script of acts, what became of each connection, the record of the calls and its capacity, which
 -- calls fail. Calls that can fail are counted from 1; a call fails where its number is listed.
-use Rattle.std.specs.Prelude.{ℕ, ◌+◌, ◌-◌, ◌==◌, ◌&&◌, ◌||◌, not, min, Bool, true, false, List, [], ◌∷◌, ◌++◌, length, take, drop, slice_get, slice_set, is_some, unwrap_or, Option, None, Some, nat_lt, if◌then◌else◌}
+use Rattle.std.specs.Prelude.{ℕ, ◌+◌, ◌-◌, ◌==◌, ◌&&◌, ◌||◌, not, min, Bool, true, false, List, [], ◌∷◌, ◌++◌, length, take, drop, slice_get, slice_set}
+use Rattle.std.specs.Prelude.{is_some, unwrap_or, Option, None, Some, nat_lt, if◌then◌else◌}
 use Rattle.link_trait.specs.Outside.{counted}
 use Rattle.link_memory.specs.OutsideMemory.{is_listed}
 use Rattle.link_trait.specs.Wires.{Call, Listens, Dials, Turns, Reads, Writes, Closes, Reading, Gave, NotNow, End, Failed, Line, Lines, taken_of, given_of}
@@ -187,7 +188,8 @@ after_dial s address =
     then turn_failed (wires_with_call_kept (wires_with_call_counted s) (Dials address None) 1 (length address))
     else turn_failed (spends (wires_with_call_counted s)))
     else if fits s 2 (length address)
-    then record (wires_with_call_kept (wires_with_call_counted s) (Dials address (Some (length s.lines + 1))) 2 (length address)) { lines = s.lines ++ new_line s.done s.room ∷ [] }
+    then record (wires_with_call_kept (wires_with_call_counted s) (Dials address (Some (length s.lines + 1))) 2 (length address))
+    { lines = s.lines ++ new_line s.done s.room ∷ [] }
     else turn_failed (spends (wires_with_call_counted s))
 
 -- ---- turn: what comes next
@@ -271,9 +273,11 @@ happening_in s =
 abbrev pub after_turn : KeptWires → Option ℕ → KeptWires
 after_turn s until =
     if is_to_fail s
-    then (if fits s 1 0 then turn_failed (wires_with_call_kept (wires_with_call_counted s) (Turns until happening.Failed) 1 0) else turn_failed (spends (wires_with_call_counted s)))
+    then (if fits s 1 0 then turn_failed (wires_with_call_kept (wires_with_call_counted s) (Turns until happening.Failed) 1 0)
+    else turn_failed (spends (wires_with_call_counted s)))
     else if fits s (places_of (comes (wires_with_call_counted s)).happening) 0
-    then wires_with_call_kept (comes (wires_with_call_counted s)).state (Turns until (comes (wires_with_call_counted s)).happening) (places_of (comes (wires_with_call_counted s)).happening) 0
+    then wires_with_call_kept (comes (wires_with_call_counted s)).state (Turns until (comes (wires_with_call_counted s)).happening)
+    (places_of (comes (wires_with_call_counted s)).happening) 0
     else turn_failed (spends (wires_with_call_counted s))
 
 -- ---- read, write and close
@@ -310,7 +314,8 @@ read_done s conn waiting read_answer.Failed = failed s
 abbrev pub after_read : KeptWires → ℕ → ℕ → KeptWires
 after_read s conn size =
     if fits s 1 0
-    then read_done (wires_with_call_kept (wires_with_call_counted s) (Reads conn size (length (waits_at s conn)) (gives (read_in s conn size) (waits_at s conn))) 1 0)
+    then read_done (wires_with_call_kept (wires_with_call_counted s)
+    (Reads conn size (length (waits_at s conn)) (gives (read_in s conn size) (waits_at s conn))) 1 0)
     conn (length (waits_at s conn)) (read_in s conn size)
     else failed (spends (wires_with_call_counted s))
 
@@ -333,7 +338,8 @@ write_done s conn write_answer.Failed = failed s
 abbrev pub after_write_to : KeptWires → ℕ → List ℕ → KeptWires
 after_write_to s conn piece =
     if fits s 1 (length piece)
-    then write_done (wires_with_call_kept (wires_with_call_counted s) (Writes conn piece (written_in s conn (length piece))) 1 (length piece)) conn (written_in s conn (length piece))
+    then write_done (wires_with_call_kept (wires_with_call_counted s) (Writes conn piece (written_in s conn (length piece))) 1 (length piece)) conn
+    (written_in s conn (length piece))
     else failed (spends (wires_with_call_counted s))
 
 -- the close of an open connection has its place; another close that finds none is a fault

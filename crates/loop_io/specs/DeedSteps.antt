@@ -20,7 +20,8 @@ use Rattle.loop_io.specs.Acting.{acts_of_deed, acts_of_deeds, is_of_deeds, DidDe
 
 pub deeds_parts : (xs ys : List LoopDeed) → acts_of_deeds (xs ++ ys) ≡ acts_of_deeds xs ++ acts_of_deeds ys
 deeds_parts [] ys = refl
-deeds_parts (x ∷ xs) ys = ap (λ (z : List Act). acts_of_deed x ++ z) (deeds_parts xs ys) ∙ sym (append_assoc (acts_of_deed x) (acts_of_deeds xs) (acts_of_deeds ys))
+deeds_parts (x ∷ xs) ys = ap (λ (z : List Act). acts_of_deed x ++ z) (deeds_parts xs ys) ∙ sym
+    (append_assoc (acts_of_deed x) (acts_of_deeds xs) (acts_of_deeds ys))
 
 pub deeds_none : (a : Told) → DidDeeds a a []
 deeds_none a = record { acts = []; did = did_nothing a; are = refl }
@@ -53,7 +54,8 @@ deeds_writes (x ∷ xs) = ap (λ (z : List Act). printing (entry_text x) ++ z) (
 -- each of them is an act of deeds
 writes_stay : (xs : List JournalEntry) → filter is_of_deeds (writes_of_entries xs) ≡ writes_of_entries xs
 writes_stay [] = refl
-writes_stay (x ∷ xs) = filter-append is_of_deeds (printing (entry_text x)) (writes_of_entries xs) ∙ ap (λ (z : List Act). z ++ filter is_of_deeds (writes_of_entries xs)) (one_stays (entry_text x))
+writes_stay (x ∷ xs) = filter-append is_of_deeds (printing (entry_text x)) (writes_of_entries xs) ∙ ap
+    (λ (z : List Act). z ++ filter is_of_deeds (writes_of_entries xs)) (one_stays (entry_text x))
     ∙ ap (λ (z : List Act). printing (entry_text x) ++ z) (writes_stay xs)
   where
     one_stays : (line : List ℕ) → filter is_of_deeds (printing line) ≡ printing line
@@ -69,7 +71,8 @@ pub began_more : (a b : Told) (xs ys : List LoopDeed) (fault : LoopFault) → Be
 began_more a b xs ys fault p = record {
   acts = p.acts;
   did = p.did;
-  begun = subst (λ (z : List Act). AreBegun fault z (filter is_of_deeds p.acts)) (sym (deeds_parts xs ys)) (begun_more fault (acts_of_deeds xs) (acts_of_deeds ys) (filter is_of_deeds p.acts) p.begun);
+  begun = subst (λ (z : List Act). AreBegun fault z (filter is_of_deeds p.acts)) (sym (deeds_parts xs ys))
+      (begun_more fault (acts_of_deeds xs) (acts_of_deeds ys) (filter is_of_deeds p.acts) p.begun);
 }
 
 pub began_behind : (a b c : Told) (xs ys : List LoopDeed) (fault : LoopFault) → DidDeeds a b xs → BeganDeeds b c ys fault → BeganDeeds a c (xs ++ ys) fault
@@ -89,7 +92,12 @@ began_none a xs want = record { acts = []; did = did_nothing a; begun = record {
 
 -- memory ran out behind all
 pub began_all : (a b : Told) (xs : List LoopDeed) (want : Want) → DidDeeds a b xs → BeganDeeds a b xs (NoMemory want)
-began_all a b xs want p = record { acts = p.acts; did = p.did; begun = record { done = acts_of_deeds xs; left = []; is = append-nil (acts_of_deeds xs); breaks = p.are } }
+began_all a b xs want p = record {
+  acts = p.acts;
+  did = p.did;
+  begun =
+      record { done = acts_of_deeds xs; left = []; is = append-nil (acts_of_deeds xs); breaks = p.are };
+}
 
 -- no act that isn't of deeds is left
 shorter : (xs : List Act) → length (filter is_of_deeds xs) ≤ length xs
@@ -101,7 +109,8 @@ shorter (Asked moment ∷ xs) = (let p = shorter xs in omega (arith, p))
 shorter (Drew word ∷ xs) = (let p = shorter xs in omega (arith, p))
 
 too_short : (act : Act) (xs : List Act) → filter is_of_deeds xs ≡ act ∷ xs → ⊥
-too_short act xs p = (let q : length (filter is_of_deeds xs) ≡ length (act ∷ xs) = ap (λ (z : List Act). length z) p in let r = shorter xs in omega (arith, q, r))
+too_short act xs p = (let q : length (filter is_of_deeds xs) ≡ length (act ∷ xs) = ap (λ (z : List Act). length z) p in let r =
+    shorter xs in omega (arith, q, r))
 
 -- a beginning of acts of deeds has no other
 first_stays : (xs ys : List Act) → filter is_of_deeds (xs ++ ys) ≡ xs ++ ys → filter is_of_deeds xs ≡ xs

@@ -1,5 +1,6 @@
 -- Lemmas: one part of the loop behind another; how parts end, for the proofs of the crates above.
-use Rattle.std.proofs.Common.{◌≡◌, ◌≤◌, ℕ, ◌+◌, ◌-◌, ◌^◌, min, true, false, Bool, ◌||◌, IsTrue, IsFalse, List, [], ◌∷◌, ◌++◌, filter, refl, sym, ◌∙◌, ap, subst, append-nil, append_assoc, true≢false, arith}
+use Rattle.std.proofs.Common.{◌≡◌, ◌≤◌, ℕ, ◌+◌, ◌-◌, ◌^◌, min, true, false, Bool, ◌||◌, IsTrue, IsFalse, List, [], ◌∷◌, ◌++◌, filter, refl, sym, ◌∙◌, ap, subst}
+use Rattle.std.proofs.Common.{append-nil, append_assoc, true≢false, arith}
 use Rattle.std.specs.List.{list_any}
 use Rattle.er_base.specs.declared.no_memory.NoMemory.{NoMemory as Want}
 use Rattle.link_trait.specs.Outside.{Grew, Rose}
@@ -11,7 +12,8 @@ use Rattle.loop_model.specs.Grammar.{AreInGrammar}
 use Rattle.loop_model.specs.Journals.{JournalEntry, entry_text, text}
 use Rattle.loop_model.specs.Deeds.{LoopDeed, printings, Sign, octet_signs, signs, text_of, calls_of}
 use Rattle.loop_model.specs.Outs.{Out, HasOrder, still, next, changed, prints, makes}
-use Rattle.loop_model.specs.Signs.{octets_parts, text_parts as text_of_parts, calls_of_parts, octets_text, octets_calls, signs_parts, printings_signs, order_still, order_next, order_changed, order_prints, order_makes, order_text, order_calls}
+use Rattle.loop_model.specs.Signs.{octets_parts, text_parts as text_of_parts, calls_of_parts, octets_text, octets_calls, signs_parts, printings_signs}
+use Rattle.loop_model.specs.Signs.{order_still, order_next, order_changed, order_prints, order_makes, order_text, order_calls}
 use Rattle.loop_model.specs.Laws.{is_failed, failures}
 use Rattle.outside.specs.Acts.{Act, Fetched, Wrote, Called, Asked, Drew, is_write, is_call, failed_call}
 use Rattle.outside.specs.Doings.{Told, Did}
@@ -76,7 +78,8 @@ counts_call f g (Writes conn piece write.Failed) p q = counts_failed f g (Writes
 counts_call f g (Closes conn) p q = counts_other f g (Closes conn) refl p
 
 pub counts_did : (a b : Told) (call : Call) → Did a b (Called (seen_of_call call) ∷ []) → Counts a.wires.faults b.wires.faults (call ∷ [])
-counts_did a b call p = counts_call a.wires.faults b.wires.faults call p.wires.faults.later (λ h. p.wires.faults.rose (alone (failed_call (seen_of_call call)) h))
+counts_did a b call p = counts_call a.wires.faults b.wires.faults call p.wires.faults.later
+    (λ h. p.wires.faults.rose (alone (failed_call (seen_of_call call)) h))
   where
     alone : (f : Bool) → IsTrue f → (f || false) ≡ true
     alone true h = refl
@@ -97,13 +100,15 @@ acted_still a s = record {
   did = deeds_none a.told;
 }
 
-pub acted_next : {S T : Type 0} (a b c : Seen) (mid : S) (new : T) (o : Out S) (f : S → Out T) → Acted a b mid o → Acted b c new (f mid) → Acted a c new (next o f)
+pub acted_next : {S T : Type 0} (a b c : Seen) (mid : S) (new : T) (o : Out S) (f : S → Out T) → Acted a b mid o → Acted b c new (f mid)
+    → Acted a c new (next o f)
 acted_next a b c mid new o f p q = behind (subst (λ z. Acted b c new (f z)) p.state q)
   where
     behind : Acted b c new (f o.state) → Acted a c new (next o f)
     behind q = record {
       state = q.state;
-      printed = subst (λ z. Grew a.held c.held z) (sym (entries_text_parts o.entries (f o.state).entries)) (grew_then a.held b.held c.held (text o.entries) (text (f o.state).entries) p.printed q.printed);
+      printed = subst (λ z. Grew a.held c.held z) (sym (entries_text_parts o.entries (f o.state).entries))
+          (grew_then a.held b.held c.held (text o.entries) (text (f o.state).entries) p.printed q.printed);
       later = (let x : a.sunk ≤ b.sunk = p.later in let y : b.sunk ≤ c.sunk = q.later in omega (arith, x, y));
       told = grew_then a.calls b.calls c.calls o.calls (f o.state).calls p.told q.told;
       answered = answered_parts o.calls (f o.state).calls p.answered q.answered;
@@ -144,13 +149,15 @@ acted_prints a b new x p =
       later = p.did.sink.faults.later;
       told = subst (λ (z : WiresState). Grew a.wires.calls z.calls []) (sym same) (grew_nothing a.wires.calls);
       answered = tt;
-      counted = subst (λ (z : WiresState). Counts a.wires.faults z.faults []) (sym same) (counts_none a.wires.faults a.wires.faults (let z : a.wires.faults ≤ a.wires.faults = omega arith in z));
+      counted = subst (λ (z : WiresState). Counts a.wires.faults z.faults []) (sym same)
+          (counts_none a.wires.faults a.wires.faults (let z : a.wires.faults ≤ a.wires.faults = omega arith in z));
       in_grammar = p.in_grammar;
       has_order = order_prints x;
       did = deeds_printed a b x.1 p.did;
     }
 
-pub acted_makes : {S : Type 0} (a b : Told) (s : S) (call : Call) → Did a b (Called (seen_of_call call) ∷ []) → Grew a.wires.calls b.wires.calls (call ∷ []) → IsAnsweredSo call
+pub acted_makes : {S : Type 0} (a b : Told) (s : S) (call : Call) → Did a b (Called (seen_of_call call) ∷ []) → Grew a.wires.calls b.wires.calls (call ∷ [])
+    → IsAnsweredSo call
     → Acted (seen a) (seen b) s (makes call s)
 acted_makes a b s call p told answered =
     let same = p.sink.rests refl in
@@ -178,7 +185,8 @@ acted_quietly a b s acts p no_write no_call are =
       later = p.sink.faults.later;
       told = subst (λ (z : WiresState). Grew a.wires.calls z.calls []) (sym wires) (grew_nothing a.wires.calls);
       answered = tt;
-      counted = subst (λ (z : WiresState). Counts a.wires.faults z.faults []) (sym wires) (counts_none a.wires.faults a.wires.faults (let z : a.wires.faults ≤ a.wires.faults = omega arith in z));
+      counted = subst (λ (z : WiresState). Counts a.wires.faults z.faults []) (sym wires)
+          (counts_none a.wires.faults a.wires.faults (let z : a.wires.faults ≤ a.wires.faults = omega arith in z));
       in_grammar = tt;
       has_order = order_still s;
       did = record { acts = acts; did = p; are = are };
@@ -209,7 +217,8 @@ breaks_first a b o f fault p = record {
 }
 
 -- behind a part that was done, so much more came out
-pub text_grows_behind_part : {S : Type 0} (a b c : Seen) (s : S) (o : Out S) (more : List Sign) → Acted a b s o → Grew b.held c.held (text_of more) → Grew a.held c.held (text_of (signs o.order ++ more))
+pub text_grows_behind_part : {S : Type 0} (a b c : Seen) (s : S) (o : Out S) (more : List Sign) → Acted a b s o → Grew b.held c.held (text_of more)
+    → Grew a.held c.held (text_of (signs o.order ++ more))
 text_grows_behind_part a b c s o more p q =
     subst (λ z. Grew a.held c.held z) (sym (text_of_parts (signs o.order) more ∙ ap (λ z. z ++ text_of more) (order_text o p.has_order)))
     (grew_then a.held b.held c.held (text o.entries) (text_of more) p.printed q)
@@ -218,7 +227,8 @@ pub calls_are : {S : Type 0} (o : Out S) (more : List Sign) → HasOrder o → o
 calls_are o more p = sym (calls_of_parts (signs o.order) more ∙ ap (λ z. z ++ calls_of more) (order_calls o p))
 
 -- the second of two parts broke off
-pub breaks_next : {S T : Type 0} (a b c : Seen) (mid : S) (o : Out S) (f : S → Out T) (fault : LoopFault) → Acted a b mid o → BreaksAt b c (f mid) fault → BreaksAt a c (next o f) fault
+pub breaks_next : {S T : Type 0} (a b c : Seen) (mid : S) (o : Out S) (f : S → Out T) (fault : LoopFault) → Acted a b mid o → BreaksAt b c (f mid) fault
+    → BreaksAt a c (next o f) fault
 breaks_next a b c mid o f fault p q = behind (subst (λ z. BreaksAt b c (f z) fault) p.state q)
   where
     behind : BreaksAt b c (f o.state) fault → BreaksAt a c (next o f) fault
@@ -229,13 +239,25 @@ breaks_next a b c mid o f fault p q = behind (subst (λ z. BreaksAt b c (f z) fa
       printed = text_grows_behind_part a b c mid o q.part p q.printed;
       told = subst (λ z. Grew a.calls c.calls z) (calls_are o q.part p.has_order) (grew_then a.calls b.calls c.calls o.calls (calls_of q.part) p.told q.told);
       answered = subst AreAnsweredSo (calls_are o q.part p.has_order) (answered_parts o.calls (calls_of q.part) p.answered q.answered);
-      counted = subst (λ z. Counts a.failed c.failed z) (calls_are o q.part p.has_order) (counts_then a.failed b.failed c.failed o.calls (calls_of q.part) p.counted q.counted);
+      counted = subst (λ z. Counts a.failed c.failed z) (calls_are o q.part p.has_order)
+          (counts_then a.failed b.failed c.failed o.calls (calls_of q.part) p.counted q.counted);
       failed = failed_behind a.sunk b.sunk c.sunk fault p.later q.failed;
       began = began_behind a.told b.told c.told o.order (f o.state).order fault p.did q.began;
     }
 
 pub breaks_changed : {S T : Type 0} (a b : Seen) (g : S → T) (o : Out S) (fault : LoopFault) → BreaksAt a b o fault → BreaksAt a b (changed g o) fault
-breaks_changed a b g o fault p = record { part = p.part; rest = p.rest; is = p.is; printed = p.printed; told = p.told; answered = p.answered; counted = p.counted; failed = p.failed; began = p.began }
+breaks_changed a b g o fault p = record {
+  part = p.part;
+  rest = p.rest;
+  is = p.is;
+  printed = p.printed;
+  told = p.told;
+  answered = p.answered;
+  counted =
+      p.counted;
+  failed = p.failed;
+  began = p.began;
+}
 
 -- no call is among a beginning of writes
 first_calls : (xs ys : List Act) → IsFalse (list_any is_call (xs ++ ys)) → IsFalse (list_any is_call xs)
@@ -287,7 +309,8 @@ breaks_lines a b o xs more fault same p =
       began = subst (λ (z : List LoopDeed). BeganDeeds a b z fault) (sym same) (began_more a b (printings xs) more fault (began_printing a b xs fault p));
     }
 
-pub breaks_prints : {S : Type 0} (a b : Told) (x : S × List JournalEntry) (fault : LoopFault) → Breaks a b (writes_of_entries x.1) fault → BreaksAt (seen a) (seen b) (prints x) fault
+pub breaks_prints : {S : Type 0} (a b : Told) (x : S × List JournalEntry) (fault : LoopFault) → Breaks a b (writes_of_entries x.1) fault
+    → BreaksAt (seen a) (seen b) (prints x) fault
 breaks_prints a b x fault p = breaks_lines a b (prints x) x.1 [] fault (sym (append-nil (printings x.1))) p
 
 -- memory ran out before anything was printed and called

@@ -10,9 +10,9 @@ ghost use Rattle.loop_io.specs.Visiting.{read_by, VisitsOn, Keep};
 use crate::workspace::Workspace;
 use crate::writing::rest;
 use er_users::SafeUser;
+use journal::Journal;
 use link_trait::{Conn, ReadAnswer};
 use loop_session::{LoopFault, Scratch, Session, When};
-use outside::Outside;
 use safety_automaton::KeyFinder;
 
 // The first octets of a slice.
@@ -32,7 +32,7 @@ fn gave_nothing(answer: ReadAnswer) -> bool
 }
 
 // What comes of a read, by its answer: octets are given to the end, an end of the line and a fault are events.
-fn take_in<U: SafeUser, K: KeyFinder, O: Outside>(
+fn take_in<U: SafeUser, K: KeyFinder, O: Journal>(
     session: &mut Session<U>,
     answer: ReadAnswer,
     octets: &[u8],
@@ -57,7 +57,7 @@ fn take_in<U: SafeUser, K: KeyFinder, O: Outside>(
 }
 
 /// One read, and what follows it. Whether the session stays.
-pub(crate) fn read<U: SafeUser, K: KeyFinder, O: Outside>(
+pub(crate) fn read<U: SafeUser, K: KeyFinder, O: Journal>(
     session: &mut Session<U>,
     keys: &K,
     when: &When,

@@ -12,6 +12,7 @@ use crate::workspace::Workspace;
 use crate::writing::rest;
 use er_base::Moment;
 use er_users::SafeUser;
+use journal::Journal;
 use link_trait::Conn;
 use loop_session::{Called, LoopFault, Scratch, Session, When};
 use outside::Outside;
@@ -41,7 +42,7 @@ fn is_due(moment: Moment, at: Option<u64>) -> bool
 }
 
 // A session is ticked, where the deadline of its end has come.
-fn tick<U: SafeUser, O: Outside>(
+fn tick<U: SafeUser, O: Journal>(
     session: &mut Session<U>,
     when: &When,
     scratch: &mut Scratch,
@@ -71,7 +72,7 @@ fn expire<U: SafeUser, O: Outside>(session: &Session<U>, when: &When, outside: &
 }
 
 /// A session is visited, with all that follows. Whether it stays: else its connection was closed.
-pub fn visit_session<U: SafeUser, K: KeyFinder, O: Outside>(
+pub fn visit_session<U: SafeUser, K: KeyFinder, O: Journal>(
     session: &mut Session<U>,
     visit: Visit,
     keys: &K,
@@ -97,7 +98,7 @@ pub fn visit_session<U: SafeUser, K: KeyFinder, O: Outside>(
 }
 
 /// The end of an engine that calls begins in its session, with all that follows. Whether it stays: else its connection was closed.
-pub fn begin_call<U: SafeUser, K: KeyFinder, O: Outside>(
+pub fn begin_call<U: SafeUser, K: KeyFinder, O: Journal>(
     session: &mut Session<U>,
     call: &Called,
     keys: &K,

@@ -8,6 +8,7 @@ ghost use Rattle.loop_io.specs.Visiting.{writing_by, rest_by, DoesOn, VisitsOn, 
 ghost use Rattle.loop_io.specs.Writing.{HasSessionWritten, Settles};
 
 use er_users::SafeUser;
+use journal::Journal;
 use link_trait::{Conn, WriteAnswer};
 use loop_session::{LoopFault, Scratch, Session, When};
 use outside::Outside;
@@ -40,7 +41,7 @@ fn write_all<U: SafeUser, O: Outside>(session: &mut Session<U>, outside: &mut O)
 }
 
 // The output is written, where the session didn't break off. A write that fails is the event `fault`, but for a session that is released.
-fn write_out<U: SafeUser, O: Outside>(
+fn write_out<U: SafeUser, O: Journal>(
     session: &mut Session<U>,
     when: &When,
     scratch: &mut Scratch,
@@ -92,7 +93,7 @@ fn is_done<U: SafeUser>(session: &Session<U>) -> bool
 }
 
 /// What follows the events of a happening: the output is written, and the session is closed where it is to be. Whether it stays.
-pub(crate) fn rest<U: SafeUser, O: Outside>(
+pub(crate) fn rest<U: SafeUser, O: Journal>(
     session: &mut Session<U>,
     when: &When,
     scratch: &mut Scratch,

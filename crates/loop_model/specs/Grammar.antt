@@ -4,7 +4,8 @@ use Rattle.std.specs.Prelude.{◌<◌, ◌^◌, List, [], ◌∷◌}
 use Rattle.er_base.specs.Octets.{AreOctets}
 use Rattle.er_trace.specs.Ranges.{IsOctet}
 use Rattle.er_trace.specs.Texts.{IsReadableEntry}
-use Rattle.er_end_model.specs.Outcomes.{SendRefusal, RefusedReleased, RefusedNotConnected, RefusedLength, RefusedFull, Outcome, ConnectedTo, Accepted, Taken, NothingToTake, Refused, WasReleased, Octets}
+use Rattle.er_end_model.specs.Outcomes.{SendRefusal, RefusedReleased, RefusedNotConnected, RefusedLength, RefusedFull, Outcome, ConnectedTo, Accepted, Taken}
+use Rattle.er_end_model.specs.Outcomes.{NothingToTake, Refused, WasReleased, Octets}
 use Rattle.loop_model.specs.Journals.{JournalEntry, trace_line_of}
 
 -- a reason and a sub-reason in octets, a number in eight of them

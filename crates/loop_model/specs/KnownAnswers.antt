@@ -23,9 +23,12 @@ use Rattle.loop_model.specs.Ends.{ModelEnd, model_ends, used_behind}
 use Rattle.loop_model.specs.Journals.{JournalEntry}
 use Rattle.loop_model.specs.Deeds.{Printing, Calling}
 use Rattle.loop_model.specs.Outs.{Out, part_for_each_answer, acts, exactly}
-use Rattle.loop_model.specs.Sessions.{Sends, Leaves, replies, most_output, octets_in, heard_by_user, refused_in, refusal_heard, noted, nothing_said, end_after, outcomes_of_given_event, joined, fed, dealt, takes_all, handled, poured, pours}
-use Rattle.loop_model.specs.Visits.{most_read, is_due, Met, nothing_met, writes_once, writes, session_behind_writing, session_kept_or_closed, rests, read_once, served, visited}
-use Rattle.loop_model.specs.Loops.{Plan, next_user, other_users, begun, visit_at, swept, Course, Turn, beginning, before, until, accepted, happened, readied, went, run}
+use Rattle.loop_model.specs.Sessions.{Sends, Leaves, replies, most_output, octets_in, heard_by_user, refused_in, refusal_heard, noted, nothing_said, end_after}
+use Rattle.loop_model.specs.Sessions.{outcomes_of_given_event, joined, fed, dealt, takes_all, handled, poured, pours}
+use Rattle.loop_model.specs.Visits.{most_read, is_due, Met, nothing_met, writes_once, writes, session_behind_writing, session_kept_or_closed, rests, read_once}
+use Rattle.loop_model.specs.Visits.{served, visited}
+use Rattle.loop_model.specs.Loops.{Plan, next_user, other_users, begun, visit_at, swept, Course, Turn, beginning, before, until, accepted, happened, readied}
+use Rattle.loop_model.specs.Loops.{went, run}
 use Rattle.loop_model.specs.Parts.{session_of_connection, of, calls_at, opened_in}
 use Rattle.loop_model.specs.Points.{user_of}
 use Rattle.loop_model.specs.Alone.{own_happening, own_ticks, own_turns, own_users, own_words, deeds_on}
@@ -195,7 +198,10 @@ pub of_loop : (words : Stream)
     ∷ Turns (Some 40000) (happening.Readable (record { 0 = 2 })) ∷ Reads 2 4096 0 End ∷ Closes 2
     ∷ Writes 1 disc (write.Some 6) ∷ Closes 1 ∷ Turns None happening.Quiet ∷ [])
     × ((served_so words).state.loop.sessions ≡ [])
-unfolding run went readied happened accepted before until swept visit_at visited served read_once rests session_kept_or_closed session_behind_writing writes writes_once acts exactly pours poured handled takes_all dealt fed joined end_after outcomes_of_given_event part_for_each_answer used_behind said hand_waiting_tpdus eight frames_of between_flags all_but_last cut verdict_on verdict_on_content checked_part check_number unescaped ends_in_escape spelling escaped escaped_octet content_of control_of fcs_of fcs_bits dividend remainder divided_once add_front sent_bits low_bits low_number
+unfolding run went readied happened accepted before until swept visit_at visited served read_once rests session_kept_or_closed session_behind_writing writes
+    writes_once acts exactly pours poured handled takes_all dealt fed joined end_after outcomes_of_given_event part_for_each_answer used_behind said
+    hand_waiting_tpdus eight frames_of between_flags all_but_last cut verdict_on verdict_on_content checked_part check_number unescaped ends_in_escape
+    spelling escaped escaped_octet content_of control_of fcs_of fcs_bits dividend remainder divided_once add_front sent_bits low_bits low_number
 of_loop words = (refl, refl, refl)
 
 -- what of it comes to a loop with the first connection alone, and with the second
@@ -208,5 +214,9 @@ pub of_own_turns : (words : Stream)
     × (own_turns 2 plan c turns
     ≡ turn_at 0 happening.Quiet nothing_met ∷ turn_at 1 (happening.Accepted (record { 0 = 2 })) nothing_met ∷ turn_at 2 happening.Quiet nothing_met
     ∷ turn_at 3 (happening.Readable (record { 0 = 2 })) (record nothing_met { reading = End }) ∷ turn_at 40000 happening.Quiet nothing_met ∷ [])
-unfolding run went readied happened accepted before until swept visit_at visited served read_once rests session_kept_or_closed session_behind_writing writes writes_once acts exactly pours poured handled takes_all dealt fed joined end_after outcomes_of_given_event part_for_each_answer used_behind said hand_waiting_tpdus eight frames_of between_flags all_but_last cut verdict_on verdict_on_content checked_part check_number unescaped ends_in_escape spelling escaped escaped_octet content_of control_of fcs_of fcs_bits dividend remainder divided_once add_front sent_bits low_bits low_number own_turns own_ticks
+unfolding run went readied happened accepted before until swept visit_at visited served read_once rests session_kept_or_closed session_behind_writing writes
+    writes_once acts exactly pours poured handled takes_all dealt fed joined end_after outcomes_of_given_event part_for_each_answer used_behind said
+    hand_waiting_tpdus eight frames_of between_flags all_but_last cut verdict_on verdict_on_content checked_part check_number unescaped ends_in_escape
+    spelling escaped escaped_octet content_of control_of fcs_of fcs_bits dividend remainder divided_once add_front sent_bits low_bits low_number own_turns
+    own_ticks
 of_own_turns words = (refl, refl)

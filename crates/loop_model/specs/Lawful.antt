@@ -28,9 +28,11 @@ pub record HasOrderlySessions (c : Course ModelEnd) : Type 0 where
 -- one turn of a loop that has come so far
 pub record IsLawfulTurn (plan : Plan) (c : Course ModelEnd) (a : Turn) : Type 0 where
   -- each connection that is accepted has one event that opens it, or says why it isn't opened, and no other has one
-  pub openings : openings (went model_ends plan c a).entries ≡ openings_unless (readied model_ends plan c a).state.halt a.happening (event_of_accepted_connection plan (readied model_ends plan c a).state.loop)
+  pub openings : openings (went model_ends plan c a).entries
+      ≡ openings_unless (readied model_ends plan c a).state.halt a.happening (event_of_accepted_connection plan (readied model_ends plan c a).state.loop)
   -- a connection is read from once exactly where it is readable, live and not released, and no other is
-  pub reads : reads_of (went model_ends plan c a).calls ≡ to_be_read_unless (readied model_ends plan c a).state.halt a.happening (readied model_ends plan c a).state.loop.sessions
+  pub reads : reads_of (went model_ends plan c a).calls
+      ≡ to_be_read_unless (readied model_ends plan c a).state.halt a.happening (readied model_ends plan c a).state.loop.sessions
   -- of the octets that are read only the last may close no frame, or come to a released end
   pub cut : (conn : ℕ)
       → LeftOverIsLast plan.settings (key_at plan.keys) (end_of (session_of_connection conn c.loop.sessions)) (of conn (went model_ends plan c a).entries)

@@ -202,7 +202,8 @@ to_be_read_unless None happening ss = to_be_read happening ss
 abbrev pub OneReadATurn : Type 0
 OneReadATurn =
     (plan : Plan) (c : Course ModelEnd) (a : Turn) → c.halt ≡ None
-    → reads_of (went model_ends plan c a).calls ≡ to_be_read_unless (readied model_ends plan c a).state.halt a.happening (readied model_ends plan c a).state.loop.sessions
+    → reads_of (went model_ends plan c a).calls
+    ≡ to_be_read_unless (readied model_ends plan c a).state.halt a.happening (readied model_ends plan c a).state.loop.sessions
 
 -- ---- turns and the clock
 
@@ -279,4 +280,5 @@ FewAreLive = (plan : Plan) (c : Course ModelEnd) (turns : List Turn) → IsFew c
 
 -- their sessions are in rising number, so they are ticked, and closed, in rising number
 abbrev pub SessionsRise : Type 0
-SessionsRise = (plan : Plan) (c : Course ModelEnd) (turns : List Turn) → IsServing plan c turns → Rises 0 (numbers (run model_ends plan c turns).state.loop.sessions)
+SessionsRise = (plan : Plan) (c : Course ModelEnd) (turns : List Turn) → IsServing plan c turns
+    → Rises 0 (numbers (run model_ends plan c turns).state.loop.sessions)

@@ -1,6 +1,7 @@
 -- The loop over the sessions of many connections (this profile): before each turn ticks and closings, then the turn, then what happened.
 use Rattle.trace_model.specs.Checks.{most_live}
-use Rattle.std.specs.Prelude.{ℕ, ◌+◌, ◌-◌, ◌==◌, nat_lt, max, Bool, true, false, ◌&&◌, if◌then◌else◌, List, [], ◌∷◌, ◌++◌, length, take, drop, slice_get, Option, Some, None}
+use Rattle.std.specs.Prelude.{ℕ, ◌+◌, ◌-◌, ◌==◌, nat_lt, max, Bool, true, false, ◌&&◌, if◌then◌else◌, List, [], ◌∷◌, ◌++◌, length, take, drop, slice_get}
+use Rattle.std.specs.Prelude.{Option, Some, None}
 use Rattle.rand_core.specs.Stream.{Stream, next_u64}
 use Rattle.er_settings.specs.Values.{Settings}
 use Rattle.des_block.specs.declared.triple_key.TripleKey.{TripleKey}
@@ -194,7 +195,10 @@ module _ {E : Type 0} (o : EndOps E) where
   abbrev pub answered_by : Option Mind → Plan → Loop E → ℕ → Out (Loop E)
   answered_by None plan l conn = turned_away l conn (event.Unserved plan.handed)
   answered_by (Some mind) plan l conn =
-      prints (with_sessions (one_less l) (l.sessions ++ begun conn (answering plan l) mind ∷ []), plain_event l conn (event.Answer plan.rbc (next_u64 l.words).0) ∷ [])
+      prints (
+        with_sessions (one_less l) (l.sessions ++ begun conn (answering plan l) mind ∷ []),
+        plain_event l conn (event.Answer plan.rbc (next_u64 l.words).0) ∷ [],
+      )
 
   -- a connection was accepted
   unfoldable pub accepted : Plan → Loop E → ℕ → Out (Loop E)

@@ -34,7 +34,8 @@ answer_or_unserved (Some mind) plan word = Answer plan.rbc word
 
 -- `full` where 256 connections are live; else that, with the user and the random word that come next
 abbrev pub event_of_accepted_connection : Plan → Loop ModelEnd → Event
-event_of_accepted_connection plan l = if nat_lt (length l.sessions) most_live then answer_or_unserved (next_user l.users) plan (next_u64 l.words).0 else Full most_live
+event_of_accepted_connection plan l = if nat_lt (length l.sessions) most_live then answer_or_unserved (next_user l.users) plan (next_u64 l.words).0
+    else Full most_live
 
 -- what is due behind a happening
 abbrev pub openings_due : Happening → Event → List (ℕ × Event)
@@ -53,11 +54,13 @@ openings_unless None happening event = openings_due happening event
 -- and else no call follows the turn
 pub record OpeningsAreTold : Type 0 where
   pub events : (plan : Plan) (c : Course ModelEnd) (a : Turn) → c.halt ≡ None
-      → openings (went model_ends plan c a).entries ≡ openings_unless (readied model_ends plan c a).state.halt a.happening (event_of_accepted_connection plan (readied model_ends plan c a).state.loop)
+      → openings (went model_ends plan c a).entries
+      ≡ openings_unless (readied model_ends plan c a).state.halt a.happening (event_of_accepted_connection plan (readied model_ends plan c a).state.loop)
   pub closed : (plan : Plan) (c : Course ModelEnd) (a : Turn) (conn : Conn) → c.halt ≡ None → (readied model_ends plan c a).state.halt ≡ None
       → a.happening ≡ happening.Accepted conn
       → (went model_ends plan c a).calls
-      ≡ (readied model_ends plan c a).calls ++ Turns (until model_ends (readied model_ends plan c a).state.loop.sessions) a.happening ∷ closed_by (role_of (event_of_accepted_connection plan (readied model_ends plan c a).state.loop)) conn.0
+      ≡ (readied model_ends plan c a).calls ++ Turns (until model_ends (readied model_ends plan c a).state.loop.sessions) a.happening
+      ∷ closed_by (role_of (event_of_accepted_connection plan (readied model_ends plan c a).state.loop)) conn.0
 
 -- ---- the one that was dialled
 

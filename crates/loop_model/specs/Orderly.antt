@@ -15,8 +15,13 @@ use Rattle.loop_model.specs.Ends.{EndOps}
 use Rattle.loop_model.specs.Outs.{Out, HasOrder, still, next, changed, prints, makes, acts, exactly, first_answer_of}
 use Rattle.loop_model.specs.Signs.{order_still, order_next, order_changed, order_prints, order_makes}
 use Rattle.loop_model.specs.Sessions.{Rules, Session, is_released, GivenToSession, Begins, Ticks, Says, nothing_said, handled}
-use Rattle.loop_model.specs.Visits.{most_read, WritingState, Going, PutOff, Failing, after_write, writes_if, writes_once, writes, Wrote, closed, stays, Visit, Tick, Read, Write, Expire, Met, nothing_met, is_due, fault_unless, flowed, written_unless, session_behind_writing, session_kept_or_closed, rests, came, read_once, rests_behind, served, visited}
-use Rattle.loop_model.specs.Loops.{Plan, rules_of, Loop, plain_event, turned_away, visit_at, numbers, swept, Sweeps, next_user, begun, one_less, with_sessions, Caller, Halt, Course, asks, halts, OnFailed, Turn, nothing_comes, Dialled, before, until, answered_by, accepted, calling, called_by, called, visited_at, happened, readied, turn, follows, turned_unless, went_unless, went, run, opens, dials_to, dials}
+use Rattle.loop_model.specs.Visits.{most_read, WritingState, Going, PutOff, Failing, after_write, writes_if, writes_once, writes, Wrote, closed, stays, Visit}
+use Rattle.loop_model.specs.Visits.{Tick, Read, Write, Expire, Met, nothing_met, is_due, fault_unless, flowed, written_unless, session_behind_writing}
+use Rattle.loop_model.specs.Visits.{session_kept_or_closed, rests, came, read_once, rests_behind, served, visited}
+use Rattle.loop_model.specs.Loops.{Plan, rules_of, Loop, plain_event, turned_away, visit_at, numbers, swept, Sweeps, next_user, begun, one_less, with_sessions}
+use Rattle.loop_model.specs.Loops.{Caller, Halt, Course, asks, halts, OnFailed, Turn, nothing_comes, Dialled, before, until, answered_by, accepted, calling}
+use Rattle.loop_model.specs.Loops.{called_by, called, visited_at, happened, readied, turn, follows, turned_unless, went_unless, went, run, opens, dials_to}
+use Rattle.loop_model.specs.Loops.{dials}
 
 order_if : {S : Type 0} (b : Bool) (x y : Out S) → HasOrder x → HasOrder y → HasOrder (if b then x else y)
 order_if true x y p q = p
@@ -39,21 +44,26 @@ unfolding writes writes_once
 order_writes s answers = order_acts writes_once (λ x answer. order_writes_if x.1 x.0 answer) (s, Going) (exactly (length s.output) write.NotNow answers)
 
 pub order_away : {E : Type 0} (l : Loop E) (conn : ℕ) (why : Event) → HasOrder (turned_away l conn why)
-order_away l conn why = order_next (prints (l, plain_event l conn why ∷ [])) (makes (Closes conn)) (order_prints (l, plain_event l conn why ∷ [])) (order_makes (Closes conn) l)
+order_away l conn why = order_next (prints (l, plain_event l conn why ∷ [])) (makes (Closes conn)) (order_prints (l, plain_event l conn why ∷ []))
+    (order_makes (Closes conn) l)
 
-pub order_visit_at : {E : Type 0} (f : Session E → Met → Out (List (Session E))) → ((s : Session E) (a : Met) → HasOrder (f s a)) → (n : ℕ) (ss : List (Session E)) (a : Met) → HasOrder (visit_at f n ss a)
+pub order_visit_at : {E : Type 0} (f : Session E → Met → Out (List (Session E))) → ((s : Session E) (a : Met) → HasOrder (f s a))
+    → (n : ℕ) (ss : List (Session E)) (a : Met) → HasOrder (visit_at f n ss a)
 unfolding visit_at
 order_visit_at f p n [] a = order_still []
 order_visit_at f p n (s ∷ ss) a =
-    order_if (s.number == n) (changed (λ now. now ++ ss) (f s a)) (changed (λ now. s ∷ now) (visit_at f n ss a)) (order_changed (λ now. now ++ ss) (f s a) (p s a))
+    order_if (s.number == n) (changed (λ now. now ++ ss) (f s a)) (changed (λ now. s ∷ now) (visit_at f n ss a))
+    (order_changed (λ now. now ++ ss) (f s a) (p s a))
     (order_changed (λ now. s ∷ now) (visit_at f n ss a) (order_visit_at f p n ss a))
 
-pub order_swept : {E : Type 0} (f : Session E → Met → Out (List (Session E))) → ((s : Session E) (a : Met) → HasOrder (f s a)) → (ns : List ℕ) (ss : List (Session E)) (answers : List Met) → HasOrder (swept f ns ss answers)
+pub order_swept : {E : Type 0} (f : Session E → Met → Out (List (Session E))) → ((s : Session E) (a : Met) → HasOrder (f s a))
+    → (ns : List ℕ) (ss : List (Session E)) (answers : List Met) → HasOrder (swept f ns ss answers)
 unfolding swept
 order_swept f p [] ss answers = order_still ss
 order_swept f p (n ∷ ns) ss answers =
     let o = visit_at f n ss (first_answer_of nothing_met answers) in
-    order_next o (λ now. swept f ns now (drop 1 answers)) (order_visit_at f p n ss (first_answer_of nothing_met answers)) (order_swept f p ns o.state (drop 1 answers))
+    order_next o (λ now. swept f ns now (drop 1 answers)) (order_visit_at f p n ss (first_answer_of nothing_met answers))
+    (order_swept f p ns o.state (drop 1 answers))
 
 module _ {E : Type 0} (o : EndOps E) where
   -- ---- visits
@@ -65,7 +75,8 @@ module _ {E : Type 0} (o : EndOps E) where
 
   order_unless : (b : Bool) (r : Rules) (m : ℕ) (s : Session E) (a : Wrote) → HasOrder (written_unless o b r m s a)
   order_unless true r m s a = order_still s
-  order_unless false r m s a = order_next (writes s a.answers) (λ x. flowed o r m x a.says) (order_writes s a.answers) (order_flowed r m (writes s a.answers).state a.says)
+  order_unless false r m s a = order_next (writes s a.answers) (λ x. flowed o r m x a.says) (order_writes s a.answers)
+      (order_flowed r m (writes s a.answers).state a.says)
 
   order_written : (r : Rules) (m : ℕ) (s : Session E) (a : Wrote) → HasOrder (session_behind_writing o r m s a)
   unfolding session_behind_writing
@@ -73,11 +84,13 @@ module _ {E : Type 0} (o : EndOps E) where
 
   order_settled : (s : Session E) → HasOrder (session_kept_or_closed o s)
   unfolding session_kept_or_closed
-  order_settled s = order_if (s.broken || (is_released o s && (length s.output == 0))) (closed s) (stays s) (order_makes (Closes s.number) []) (order_still (s ∷ []))
+  order_settled s = order_if (s.broken || (is_released o s && (length s.output == 0))) (closed s) (stays s) (order_makes (Closes s.number) [])
+      (order_still (s ∷ []))
 
   order_rests : (r : Rules) (m : ℕ) (s : Session E) (a : Wrote) → HasOrder (rests o r m s a)
   unfolding rests
-  order_rests r m s a = order_next (session_behind_writing o r m s a) (session_kept_or_closed o) (order_written r m s a) (order_settled (session_behind_writing o r m s a).state)
+  order_rests r m s a = order_next (session_behind_writing o r m s a) (session_kept_or_closed o) (order_written r m s a)
+      (order_settled (session_behind_writing o r m s a).state)
 
   order_behind : (reading : Reading) (r : Rules) (m : ℕ) (s : Session E) (a : Wrote) → HasOrder (rests_behind o reading r m s a)
   order_behind (Gave octets) r m s a = order_rests r m s a
@@ -88,7 +101,8 @@ module _ {E : Type 0} (o : EndOps E) where
   order_read : (r : Rules) (m : ℕ) (s : Session E) (a : Met) → HasOrder (read_once o r m s a)
   unfolding read_once
   order_read r m s a =
-      order_next (makes (Reads s.number most_read a.waits a.reading) s) (λ t. prints (came o a.reading r m t a.says)) (order_makes (Reads s.number most_read a.waits a.reading) s)
+      order_next (makes (Reads s.number most_read a.waits a.reading) s) (λ t. prints (came o a.reading r m t a.says))
+      (order_makes (Reads s.number most_read a.waits a.reading) s)
       (order_prints (came o a.reading r m s a.says))
 
   pub order_served : (r : Rules) (m : ℕ) (s : Session E) (g : GivenToSession) (a : Met) → HasOrder (served o r m s g a)
@@ -113,7 +127,8 @@ module _ {E : Type 0} (o : EndOps E) where
   unfolding before
   order_before r m ss a =
       let t = swept (visited o r m Tick) (numbers ss) ss a.ticks in
-      order_next t (λ now. swept (visited o r m Expire) (numbers now) now a.closings) (order_swept (visited o r m Tick) (order_visited r m Tick) (numbers ss) ss a.ticks)
+      order_next t (λ now. swept (visited o r m Expire) (numbers now) now a.closings)
+      (order_swept (visited o r m Tick) (order_visited r m Tick) (numbers ss) ss a.ticks)
       (order_swept (visited o r m Expire) (order_visited r m Expire) (numbers t.state) t.state a.closings)
 
   order_answered : (user : Option Mind) (plan : Plan) (l : Loop E) (conn : ℕ) → HasOrder (answered_by o user plan l conn)
@@ -156,7 +171,8 @@ module _ {E : Type 0} (o : EndOps E) where
 
   order_readied : (plan : Plan) (c : Course E) (a : Turn) → HasOrder (readied o plan c a)
   unfolding readied
-  order_readied plan c a = let d = asks a.first c in let p = order_before (rules_of plan) d.loop.moment d.loop.sessions a.sweeps in record { entries = p.entries; calls = p.calls }
+  order_readied plan c a = let d = asks a.first c in let p =
+      order_before (rules_of plan) d.loop.moment d.loop.sessions a.sweeps in record { entries = p.entries; calls = p.calls }
 
   order_turn : (c : Course E) (a : Turn) → HasOrder (turn o c a)
   order_turn c a = order_makes (Turns (until o c.loop.sessions) a.happening) (turn o c a).state
@@ -183,12 +199,14 @@ module _ {E : Type 0} (o : EndOps E) where
 
   -- ---- the two calls
 
-  order_dials_to : (at : Option ℕ) (plan : Plan) (caller : Caller) (c : Course E) (address : List ℕ) (a : Dialled) → HasOrder (dials_to o at plan caller c address a)
+  order_dials_to : (at : Option ℕ) (plan : Plan) (caller : Caller) (c : Course E) (address : List ℕ) (a : Dialled)
+      → HasOrder (dials_to o at plan caller c address a)
   order_dials_to None plan caller c address a = order_makes (Dials address None) (halts OnFailed c)
   order_dials_to (Some conn) plan caller c address a =
       let d = asks a.first c in
       let e = opens o plan caller d conn a.met in
-      order_next (makes (Dials address (Some conn)) d) (λ d. next (opens o plan caller d conn a.met) (λ e. run o plan e a.turns)) (order_makes (Dials address (Some conn)) d)
+      order_next (makes (Dials address (Some conn)) d) (λ d. next (opens o plan caller d conn a.met) (λ e. run o plan e a.turns))
+      (order_makes (Dials address (Some conn)) d)
       (order_next e (λ e. run o plan e a.turns) (order_opens plan caller d conn a.met) (order_run plan e.state a.turns))
 
   pub order_dials : (plan : Plan) (caller : Caller) (c : Course E) (address : List ℕ) (a : Dialled) → HasOrder (dials o plan caller c address a)

@@ -158,4 +158,5 @@ pub record UsersReply : Type 0 where
   pub serving : (plan : Plan) (c : Course ModelEnd) (turns : List Turn) → IsServing plan c turns
       → (conn : ℕ) → IsSpoken (user_of conn (run model_ends plan c turns).entries c.loop.users) (of conn (run model_ends plan c turns).entries)
   pub dialling : (plan : Plan) (caller : Caller) (c : Course ModelEnd) (address : List ℕ) (a : Dialled) → IsDialling plan caller c address a
-      → (conn : ℕ) → IsSpoken (user_of conn (dials model_ends plan caller c address a).entries c.loop.users) (of conn (dials model_ends plan caller c address a).entries)
+      → (conn : ℕ) → IsSpoken (user_of conn (dials model_ends plan caller c address a).entries c.loop.users)
+      (of conn (dials model_ends plan caller c address a).entries)

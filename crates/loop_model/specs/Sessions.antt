@@ -1,7 +1,8 @@
 -- The session of one connection: its end, its user, and the octets that wait to be written (this profile). Each event is given to the
 -- end, its octets join those that wait, the user hears of it, and what the user says are events in their turn. All of it is said of any
 -- kind of end.
-use Rattle.std.specs.Prelude.{ℕ, ◌+◌, ◌==◌, nat_lt, Bool, true, false, ◌||◌, if◌then◌else◌, List, [], ◌∷◌, ◌++◌, length, take, drop, Option, Some, None, is_some}
+use Rattle.std.specs.Prelude.{ℕ, ◌+◌, ◌==◌, nat_lt, Bool, true, false, ◌||◌, if◌then◌else◌, List, [], ◌∷◌, ◌++◌, length, take, drop, Option, Some, None}
+use Rattle.std.specs.Prelude.{is_some}
 use Rattle.er_base.specs.declared.release.Release.{Release}
 use Rattle.safety_automaton.specs.Keys.{key_at}
 use Rattle.safety_automaton.specs.Keys as keys

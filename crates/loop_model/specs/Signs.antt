@@ -60,7 +60,8 @@ octets_calls (o ∷ os) = octets_calls os
 pub signs_parts : (ds es : List LoopDeed) → signs (ds ++ es) ≡ signs ds ++ signs es
 unfolding signs
 signs_parts [] es = refl
-signs_parts (Printing x ∷ ds) es = ap (λ z. octet_signs (entry_text x) ++ z) (signs_parts ds es) ∙ sym (append_assoc (octet_signs (entry_text x)) (signs ds) (signs es))
+signs_parts (Printing x ∷ ds) es = ap (λ z. octet_signs (entry_text x) ++ z) (signs_parts ds es) ∙ sym
+    (append_assoc (octet_signs (entry_text x)) (signs ds) (signs es))
 signs_parts (Calling call ∷ ds) es = ap (λ z. OnWires call ∷ z) (signs_parts ds es)
 
 pub printings_signs : (xs : List JournalEntry) → signs (printings xs) ≡ octet_signs (text xs)
@@ -77,7 +78,8 @@ signs_text (Calling call ∷ ds) = signs_text ds
 pub signs_calls : (ds : List LoopDeed) → calls_of (signs ds) ≡ calls_in ds
 unfolding signs calls_of calls_in
 signs_calls [] = refl
-signs_calls (Printing x ∷ ds) = calls_of_parts (octet_signs (entry_text x)) (signs ds) ∙ ap₂ (λ (y z : List Call). y ++ z) (octets_calls (entry_text x)) (signs_calls ds)
+signs_calls (Printing x ∷ ds) = calls_of_parts (octet_signs (entry_text x)) (signs ds) ∙ ap₂ (λ (y z : List Call). y ++ z) (octets_calls (entry_text x))
+    (signs_calls ds)
 signs_calls (Calling call ∷ ds) = ap (λ z. call ∷ z) (signs_calls ds)
 
 -- ---- the order of a part

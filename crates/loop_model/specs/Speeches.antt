@@ -10,7 +10,10 @@ use Rattle.er_users.specs.Users.{UserKind, Echo, Tally, Lister, Silent, Callers,
 use Rattle.loop_model.specs.Ends.{EndOps}
 use Rattle.loop_model.specs.Journals.{JournalEntry}
 use Rattle.loop_model.specs.Outs.{part_for_each_answer, exactly}
-use Rattle.loop_model.specs.Sessions.{Rules, Session, GivenToSession, Begins, Hears, Sends, Takes, Leaves, Ticks, Ends, Faults, Stalls, journal_event_of_given, outcomes_of_given_event, most_output, octets_in, joined, fed, replied, refused_in, refusal_heard, noted, notes, heard_by_user, leave_of, sends_of, replies, user_after_hearing, silent_answer, dealt, count_waiting_in_session, takes_all, parts, Says, handled}
+use Rattle.loop_model.specs.Sessions.{Rules, Session, GivenToSession, Begins, Hears, Sends, Takes, Leaves, Ticks, Ends, Faults, Stalls, journal_event_of_given}
+use Rattle.loop_model.specs.Sessions.{outcomes_of_given_event, most_output, octets_in, joined, fed, replied, refused_in, refusal_heard, noted, notes}
+use Rattle.loop_model.specs.Sessions.{heard_by_user, leave_of, sends_of, replies, user_after_hearing, silent_answer, dealt, count_waiting_in_session, takes_all}
+use Rattle.loop_model.specs.Sessions.{parts, Says, handled}
 use Rattle.loop_model.specs.Points.{Speech, speech_of, texts_said, leave_said, speech_by, IsUserAnswer, hears_at, Step, LeadsToSpeech}
 use Rattle.loop_model.specs.Told.{IsLoops as IsOwn, heard_if_any, hearing, parting, tells_all, heard_told_by_user, HasTold, SpeechIsHeard}
 
@@ -19,7 +22,8 @@ leads-append a b c [] ys p q = subst (λ z. LeadsToSpeech z ys c) p q
 leads-append a b c (x ∷ xs) ys p q = (p.0, p.1, leads-append p.0 b c xs ys p.2 q)
 
 -- what the user hears of such an event stands among its outcomes
-heard_own : {E : Type 0} (o : EndOps E) (k : E) (g : GivenToSession) (outcomes : List Outcome) → IsOwn g → hears_at (journal_event_of_given o k g) outcomes ≡ heard_by_user outcomes
+heard_own : {E : Type 0} (o : EndOps E) (k : E) (g : GivenToSession) (outcomes : List Outcome) → IsOwn g
+    → hears_at (journal_event_of_given o k g) outcomes ≡ heard_by_user outcomes
 heard_own o k (Begins engine rbc rb) outcomes p = refl
 heard_own o k (Hears octets) outcomes p = refl
 heard_own o k (Sends text) outcomes p = absurd p
@@ -30,7 +34,8 @@ heard_own o k Ends outcomes p = refl
 heard_own o k Faults outcomes p = refl
 heard_own o k Stalls outcomes p = absurd p
 
-step_own : {E : Type 0} (o : EndOps E) (k : E) (g : GivenToSession) (heard : Option Heard) (a b : Speech) → IsOwn g → a.due ≡ [] → IsUserAnswer heard a b → Step (journal_event_of_given o k g) heard a b
+step_own : {E : Type 0} (o : EndOps E) (k : E) (g : GivenToSession) (heard : Option Heard) (a b : Speech) → IsOwn g → a.due ≡ [] → IsUserAnswer heard a b
+    → Step (journal_event_of_given o k g) heard a b
 step_own o k (Begins engine rbc rb) heard a b p q h = (q, h)
 step_own o k (Hears octets) heard a b p q h = (q, h)
 step_own o k (Sends text) heard a b p q h = absurd p
@@ -66,7 +71,8 @@ said_told Callers mind heard free = refl
 answer_told : (heard : Option Heard) (a b : Speech) → IsUserAnswer heard a b → b.mind.told ≡ tells_all a.mind.told (heard_if_any heard)
 answer_told None a b p = ap (λ (z : Speech). z.mind.told) p ∙ sym (tells_none a.mind.told)
 answer_told (Some heard) a b (free, p) =
-    ap (λ (z : Speech). z.mind.told) p ∙ said_told a.mind.kind a.mind heard free ∙ sym (tells_none (tells_more a.mind.told heard)) ∙ tells_first a.mind.told heard []
+    ap (λ (z : Speech). z.mind.told) p ∙ said_told a.mind.kind a.mind heard free ∙ sym (tells_none (tells_more a.mind.told heard)) ∙ tells_first a.mind.told
+    heard []
 
 noted_told : (heard : Option Heard) (mind : Mind) → (noted heard mind).told ≡ tells_all mind.told (heard_if_any heard)
 noted_told None mind = sym (tells_none mind.told)
@@ -104,7 +110,9 @@ speech_heard a c (x ∷ xs) (b, p, q) =
 
 module _ {E : Type 0} (o : EndOps E) (r : Rules) where
   -- an event, and a stall where one follows
-  pub leads_fed : (m : ℕ) (s : Session E) (g : GivenToSession) (a b : Speech) → Step (journal_event_of_given o s.end g) (hears_at (journal_event_of_given o s.end g) (outcomes_of_given_event o r m s.end g)) a b → LeadsToSpeech a (fed o r m s g).1 b
+  pub leads_fed : (m : ℕ) (s : Session E) (g : GivenToSession) (a b : Speech)
+      → Step (journal_event_of_given o s.end g) (hears_at (journal_event_of_given o s.end g) (outcomes_of_given_event o r m s.end g)) a b
+      → LeadsToSpeech a (fed o r m s g).1 b
   unfolding fed joined
   leads_fed m s g a b p =
       elim (cases_Bool (nat_lt most_output (length s.output + length (octets_in (outcomes_of_given_event o r m s.end g))))) [
@@ -115,12 +123,14 @@ module _ {E : Type 0} (o : EndOps E) (r : Rules) where
   pub mind_fed : (m : ℕ) (s : Session E) (g : GivenToSession) → (fed o r m s g).0.mind ≡ s.mind
   unfolding fed joined
   mind_fed m s g =
-      elim (cases_Bool (nat_lt most_output (length s.output + length (octets_in (outcomes_of_given_event o r m s.end g))))) [ inl q ↦ rw q refl | inr q ↦ rw q refl ]
+      elim (cases_Bool (nat_lt most_output (length s.output + length (octets_in (outcomes_of_given_event o r m s.end g)))))
+      [ inl q ↦ rw q refl | inr q ↦ rw q refl ]
 
   pub told_fed : (m : ℕ) (s : Session E) (g : GivenToSession) → (fed o r m s g).0.told ≡ s.told
   unfolding fed joined
   told_fed m s g =
-      elim (cases_Bool (nat_lt most_output (length s.output + length (octets_in (outcomes_of_given_event o r m s.end g))))) [ inl q ↦ rw q refl | inr q ↦ rw q refl ]
+      elim (cases_Bool (nat_lt most_output (length s.output + length (octets_in (outcomes_of_given_event o r m s.end g)))))
+      [ inl q ↦ rw q refl | inr q ↦ rw q refl ]
 
   -- from what is due to nothing due
   record Replies_so (from : Speech) (now : Option Mind) (xs : List JournalEntry) : Type 0 where
@@ -129,7 +139,8 @@ module _ {E : Type 0} (o : EndOps E) (r : Rules) where
     leads : LeadsToSpeech from xs (speech_of last)
 
   says_sends : (m : ℕ) (s : Session E) (mind : Mind) (texts : List (List ℕ)) (leave : Option ℕ) → s.mind ≡ Some mind
-      → Replies_so (record { mind = mind; due = texts_said texts ++ leave_said leave }) (part_for_each_answer (replied o r m) s (sends_of texts ++ leave_of leave)).0.mind
+      → Replies_so (record { mind = mind; due = texts_said texts ++ leave_said leave })
+      (part_for_each_answer (replied o r m) s (sends_of texts ++ leave_of leave)).0.mind
       (part_for_each_answer (replied o r m) s (sends_of texts ++ leave_of leave)).1
   unfolding part_for_each_answer
   says_sends m s mind [] None e = record { last = mind; is = e; leads = refl }
@@ -160,7 +171,8 @@ module _ {E : Type 0} (o : EndOps E) (r : Rules) where
     pub is : now ≡ Some last
     pub leads : LeadsToSpeech (speech_of mind) xs (speech_of last)
 
-  says_then : (mind : Mind) (now : Option Mind) (xs ys : List JournalEntry) (a : Says_so mind now xs) (later : Option Mind) → Says_so a.last later ys → Says_so mind later (xs ++ ys)
+  says_then : (mind : Mind) (now : Option Mind) (xs ys : List JournalEntry) (a : Says_so mind now xs) (later : Option Mind) → Says_so a.last later ys
+      → Says_so mind later (xs ++ ys)
   says_then mind now xs ys a later b = record {
     last = b.last;
     is = b.is;
@@ -168,16 +180,19 @@ module _ {E : Type 0} (o : EndOps E) (r : Rules) where
   }
 
   -- what the user hears of an event, and its replies
-  says_heard : (m : ℕ) (s t : Session E) (g : GivenToSession) (mind : Mind) (heard : Option Heard) (free : Said) → IsOwn g → heard_by_user (outcomes_of_given_event o r m s.end g) ≡ heard
+  says_heard : (m : ℕ) (s t : Session E) (g : GivenToSession) (mind : Mind) (heard : Option Heard) (free : Said) → IsOwn g
+      → heard_by_user (outcomes_of_given_event o r m s.end g) ≡ heard
       → t.mind ≡ (user_after_hearing (Some mind) heard free).0
-      → Says_so mind (part_for_each_answer (replied o r m) t (user_after_hearing (Some mind) heard free).1).0.mind ((fed o r m s g).1 ++ (part_for_each_answer (replied o r m) t (user_after_hearing (Some mind) heard free).1).1)
+      → Says_so mind (part_for_each_answer (replied o r m) t (user_after_hearing (Some mind) heard free).1).0.mind
+      ((fed o r m s g).1 ++ (part_for_each_answer (replied o r m) t (user_after_hearing (Some mind) heard free).1).1)
   unfolding part_for_each_answer
   says_heard m s t g mind None free own is e = record {
     last = mind;
     is = e;
     leads = subst (λ z. LeadsToSpeech (speech_of mind) z (speech_of mind)) (sym (append-nil (fed o r m s g).1))
         (leads_fed m s g (speech_of mind) (speech_of mind)
-        (subst (λ z. Step (journal_event_of_given o s.end g) z (speech_of mind) (speech_of mind)) (sym (heard_own o s.end g (outcomes_of_given_event o r m s.end g) own ∙ is))
+        (subst (λ z. Step (journal_event_of_given o s.end g) z (speech_of mind) (speech_of mind))
+        (sym (heard_own o s.end g (outcomes_of_given_event o r m s.end g) own ∙ is))
         (step_own o s.end g None (speech_of mind) (speech_of mind) own refl refl)));
   }
   says_heard m s t g mind (Some heard) free own is e =
@@ -189,22 +204,26 @@ module _ {E : Type 0} (o : EndOps E) (r : Rules) where
         leads =
             leads-append (speech_of mind) (speech_by c) (speech_of more.last) (fed o r m s g).1 (part_for_each_answer (replied o r m) t (replies c)).1
             (leads_fed m s g (speech_of mind) (speech_by c)
-            (subst (λ z. Step (journal_event_of_given o s.end g) z (speech_of mind) (speech_by c)) (sym (heard_own o s.end g (outcomes_of_given_event o r m s.end g) own ∙ is))
+            (subst (λ z. Step (journal_event_of_given o s.end g) z (speech_of mind) (speech_by c))
+            (sym (heard_own o s.end g (outcomes_of_given_event o r m s.end g) own ∙ is))
             (step_own o s.end g (Some heard) (speech_of mind) (speech_by c) own refl (free, refl))))
             more.leads;
       }
 
-  pub says_dealt : (m : ℕ) (s : Session E) (g : GivenToSession) (free : Said) (mind : Mind) → IsOwn g → s.mind ≡ Some mind → Says_so mind (dealt o r m s g free).0.mind (dealt o r m s g free).1
+  pub says_dealt : (m : ℕ) (s : Session E) (g : GivenToSession) (free : Said) (mind : Mind) → IsOwn g → s.mind ≡ Some mind
+      → Says_so mind (dealt o r m s g free).0.mind (dealt o r m s g free).1
   unfolding dealt
   says_dealt m s g free mind own e =
       let a = fed o r m s g in
       let heard = heard_by_user (outcomes_of_given_event o r m s.end g) in
       let t : Option Mind → Session E = λ now. record a.0 { mind = (user_after_hearing now heard free).0 } in
-      subst (λ z. Says_so mind (part_for_each_answer (replied o r m) (t z) (user_after_hearing z heard free).1).0.mind (a.1 ++ (part_for_each_answer (replied o r m) (t z) (user_after_hearing z heard free).1).1)) (sym e)
+      subst (λ z. Says_so mind (part_for_each_answer (replied o r m) (t z) (user_after_hearing z heard free).1).0.mind
+      (a.1 ++ (part_for_each_answer (replied o r m) (t z) (user_after_hearing z heard free).1).1)) (sym e)
       (says_heard m s (t (Some mind)) g mind heard free own refl refl)
 
   pub says_takes : (m : ℕ) (frees : List Said) (s : Session E) (mind : Mind) → s.mind ≡ Some mind
-      → Says_so mind (part_for_each_answer (λ t free. dealt o r m t Takes free) s frees).0.mind (part_for_each_answer (λ t free. dealt o r m t Takes free) s frees).1
+      → Says_so mind (part_for_each_answer (λ t free. dealt o r m t Takes free) s frees).0.mind
+      (part_for_each_answer (λ t free. dealt o r m t Takes free) s frees).1
   unfolding part_for_each_answer
   says_takes m [] s mind e = record { last = mind; is = e; leads = refl }
   says_takes m (free ∷ frees) s mind e =
@@ -248,7 +267,8 @@ module _ {E : Type 0} (o : EndOps E) (r : Rules) where
     pub is : IsOr t.mind t last
     pub leads : LeadsToSpeech (speech_of mind) xs (speech_of last)
 
-  pub spoke_handled : (m : ℕ) (s : Session E) (g : GivenToSession) (says : Says) (mind : Mind) → IsOwn g → s.mind ≡ Some mind → Spoke mind (handled o r m s g says).0 (handled o r m s g says).1
+  pub spoke_handled : (m : ℕ) (s : Session E) (g : GivenToSession) (says : Says) (mind : Mind) → IsOwn g → s.mind ≡ Some mind
+      → Spoke mind (handled o r m s g says).0 (handled o r m s g says).1
   unfolding handled takes_all
   spoke_handled m s g says mind own e =
       let a = dealt o r m s g says.first in
@@ -265,7 +285,8 @@ module _ {E : Type 0} (o : EndOps E) (r : Rules) where
   some_no_more mind e = cc
 
   -- a user is there as long as the end isn't released
-  pub there_parts : (release : Option Release) (now : Option Mind) (at : ℕ) (s : Session E) (mind last : Mind) → o.released s.end ≡ release → s.mind ≡ now → now ≡ Some last
+  pub there_parts : (release : Option Release) (now : Option Mind) (at : ℕ) (s : Session E) (mind last : Mind) → o.released s.end ≡ release → s.mind ≡ now
+      → now ≡ Some last
       → (parts release now at s).mind ≡ Some mind → o.released (parts release now at s).end ≡ None
   there_parts None now at s mind last is e f p = is
   there_parts (Some release) None at s mind last is e f p = absurd (some_no_more last (sym f))

@@ -45,5 +45,7 @@ AreSessionsBounded (s ∷ ss) = IsBounded s × AreSessionsBounded ss
 -- of each visit of a session, and of the opening of a dial; and no more than 262,144 octets wait at a live connection
 pub record StallsAreTold : Type 0 where
   pub at_visit : (r : Rules) (m : ℕ) (visit : Visit) (s : Session ModelEnd) (a : Met) → IsBounded s → IsStalledSo s (visited model_ends r m visit s a).entries
-  pub at_opening : (r : Rules) (m : ℕ) (s : Session ModelEnd) (engine rbc rb : ℕ) (a : Met) → IsBounded s → IsStalledSo s (served model_ends r m s (Begins engine rbc rb) a).entries
-  pub bounded : (plan : Plan) (c : Course ModelEnd) (turns : List Turn) → AreSessionsBounded c.loop.sessions → AreSessionsBounded (run model_ends plan c turns).state.loop.sessions
+  pub at_opening : (r : Rules) (m : ℕ) (s : Session ModelEnd) (engine rbc rb : ℕ) (a : Met) → IsBounded s
+      → IsStalledSo s (served model_ends r m s (Begins engine rbc rb) a).entries
+  pub bounded : (plan : Plan) (c : Course ModelEnd) (turns : List Turn) → AreSessionsBounded c.loop.sessions
+      → AreSessionsBounded (run model_ends plan c turns).state.loop.sessions

@@ -85,7 +85,8 @@ ends_of (call ∷ calls) = ended_by call ++ ends_of calls
 
 -- `ended` comes exactly where a read answered that the line ended
 pub record EndsAreTold : Type 0 where
-  pub serving : (plan : Plan) (c : Course ModelEnd) (turns : List Turn) → ended (run model_ends plan c turns).entries ≡ ends_of (run model_ends plan c turns).calls
+  pub serving : (plan : Plan) (c : Course ModelEnd) (turns : List Turn)
+      → ended (run model_ends plan c turns).entries ≡ ends_of (run model_ends plan c turns).calls
   pub dialling : (plan : Plan) (caller : Caller) (c : Course ModelEnd) (address : List ℕ) (a : Dialled)
       → ended (dials model_ends plan caller c address a).entries ≡ ends_of (dials model_ends plan caller c address a).calls
 
@@ -176,5 +177,6 @@ pub record HasReadProgress (conn : ℕ) (calls : List wires.Call) : Type 0 where
 abbrev pub ReadableProgress : Type 0
 ReadableProgress =
     (plan : Plan) (c : Course ModelEnd) (a : Turn) (conn : Conn) (s : Session ModelEnd) → c.halt ≡ None → (readied model_ends plan c a).state.halt ≡ None
-    → a.happening ≡ happening.Readable conn → session_of_connection conn.0 (readied model_ends plan c a).state.loop.sessions ≡ Some s → is_released model_ends s ≡ false
+    → a.happening ≡ happening.Readable conn → session_of_connection conn.0 (readied model_ends plan c a).state.loop.sessions ≡ Some s
+    → is_released model_ends s ≡ false
     → AreRead (went model_ends plan c a).calls → HasReadProgress conn.0 (went model_ends plan c a).calls

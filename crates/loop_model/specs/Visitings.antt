@@ -47,8 +47,10 @@ visit_behind_turn plan c a visit s = visited model_ends (rules_of plan) (max (re
 pub record IsVisited (plan : Plan) (c : Course ModelEnd) (a : Turn) (visit : Visit) (conn : ℕ) (s : Session ModelEnd) : Type 0 where
   pub entries : (went model_ends plan c a).entries ≡ (readied model_ends plan c a).entries ++ (visit_behind_turn plan c a visit s).entries
   pub calls : (went model_ends plan c a).calls
-      ≡ (readied model_ends plan c a).calls ++ Turns (until model_ends (readied model_ends plan c a).state.loop.sessions) a.happening ∷ (visit_behind_turn plan c a visit s).calls
-  pub sessions : (went model_ends plan c a).state.loop.sessions ≡ replaced conn (visit_behind_turn plan c a visit s).state (readied model_ends plan c a).state.loop.sessions
+      ≡ (readied model_ends plan c a).calls ++ Turns (until model_ends (readied model_ends plan c a).state.loop.sessions) a.happening
+      ∷ (visit_behind_turn plan c a visit s).calls
+  pub sessions : (went model_ends plan c a).state.loop.sessions
+      ≡ replaced conn (visit_behind_turn plan c a visit s).state (readied model_ends plan c a).state.loop.sessions
 
 -- behind the turn comes nothing
 pub record IsUnvisited (plan : Plan) (c : Course ModelEnd) (a : Turn) : Type 0 where

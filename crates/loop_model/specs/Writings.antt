@@ -70,7 +70,8 @@ pub record IsClosedInOrder (conn : ℕ) (xs : List JournalEntry) (calls : List w
 
 -- then the octets given to it are all the joined octets of its outcomes
 abbrev pub IsAllGiven : Plan → Out (Course ModelEnd) → Type 0
-IsAllGiven plan o = (conn : ℕ) → IsClosedInOrder conn (of conn o.entries) (calls_at conn o.calls) → given_of conn o.calls ≡ octets_of_entries (of conn o.entries)
+IsAllGiven plan o = (conn : ℕ) → IsClosedInOrder conn (of conn o.entries) (calls_at conn o.calls)
+    → given_of conn o.calls ≡ octets_of_entries (of conn o.entries)
 
 abbrev pub AllAreGiven : Type 0
 AllAreGiven = HoldsOfEachLoop IsAllGiven

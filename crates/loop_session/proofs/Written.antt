@@ -1,6 +1,6 @@
 -- How the lines of events that were written are the text of what a part of the loop prints.
 use Rattle.loop_session.specs.Keeping.{kept_ends}
-use Rattle.std.proofs.Common.{if◌then◌else◌, ◌≡◌, ℕ, ◌≤◌, Bool, true, false, true≢false, not, ◌||◌, List, [], ◌∷◌, ◌++◌, length, Option, option_map, is_some, Result, Ok, Err, OnOk, IfOk, refl, sym, ◌∙◌, ap, subst, append-nil, inl, inr, arith, eqb-true}
+use Rattle.std.proofs.Common.{if◌then◌else◌, ◌≡◌, ℕ, ◌≤◌, ◌<◌, Bool, true, false, true≢false, not, ◌||◌, List, [], ◌∷◌, ◌++◌, length, Option, option_map, is_some, Result, Ok, Err, OnOk, IfOk, refl, sym, ◌∙◌, ap, subst, append-nil, inl, inr, arith, eqb-true}
 use Rattle.std.proofs.lemmas.Bool.{cases_Bool}
 use Rattle.std.specs.Prelude.{◌==◌}
 use Rattle.er_base.specs.LineTexts.{line_text}
@@ -17,6 +17,7 @@ use Rattle.er_users.specs.Users.{Mind}
 use Rattle.loop_model.specs.Grammar.{IsInGrammar, AreInGrammar}
 use Rattle.loop_model.specs.Journals.{JournalEntry, entry_text}
 use Rattle.loop_model.specs.Sessions.{Rules, Session, GivenToSession, Sends, Stalls, event_of, journal_event_of_given, breaks, end_after, outcomes_of_given_event, octets_in, heard_by_user, refused_in, refusal_heard, notes, entry_of, stalled, joined, fed, replied}
+use Rattle.journal.specs.Tallies.{IsTallyOf, IsTallyOfEntry}
 use Rattle.outside.specs.Acts.{Act, Wrote}
 use Rattle.outside.specs.Chains.{did_nothing, did_then}
 use Rattle.outside.specs.Doings.{Told, Did}
@@ -32,6 +33,11 @@ use Rattle.loop_session.specs.Writes.{writes_parts, begun_more, begun_behind}
 pub nothing_put : (a : Told) (line : List ℕ) → (length line == 0) ≡ true → Did a a (printing line)
 nothing_put a [] p = did_nothing a
 nothing_put a (x ∷ xs) p = absurd (let q : ⊥ = omega (arith, eqb-true (length (x ∷ xs)) 0 p) in q)
+
+-- lines that there are
+pub some_lines : (line : List ℕ) → (length line == 0) ≡ false → 0 < length line
+some_lines [] p = absurd (true≢false p)
+some_lines (x ∷ xs) p = omega arith
 
 pub all_put : (a b : Told) (line : List ℕ) → (length line == 0) ≡ false → Did a b (Wrote line true ∷ []) → Did a b (printing line)
 all_put a b [] p q = absurd (true≢false p)
@@ -298,3 +304,9 @@ pub event_line : (m conn : ℕ) (event : Line) (line before : List ℕ) → befo
 unfolding entry_text outcomes_text
 event_line m conn event line before p q =
     q ∙ ap (λ z. z ++ line_text (entry_words m conn event)) p ∙ sym (append-nil (line_text (entry_words m conn event)))
+
+-- the lines of an event that was given to the end count what they tell
+pub counted_lines : (x : JournalEntry) (lines : List ℕ) (res : Result Came Want) → OnOk res (Tells x lines) → IfOk res (λ came. IsTallyOfEntry x came.counts)
+    → IfOk res (λ came. IsTallyOf lines came.counts)
+counted_lines x lines (Ok came) tells counts = record { entry = x; text = tells.text; counts = counts }
+counted_lines x lines (Err want) tells counts = tt

@@ -11,7 +11,8 @@ use Rattle.er_end_model.specs.Outcomes.{Outcome}
 use Rattle.er_trace.specs.declared.event.Event.{Event}
 use Rattle.loop_model.specs.Grammar.{IsInGrammar}
 use Rattle.loop_model.specs.Journals.{JournalEntry, entry_text}
-use Rattle.loop_model.specs.Sessions.{Rules, Session, GivenToSession, Begins, Hears, Sends, Takes, Leaves, Ticks, Ends, Faults, Stalls, event_of, most_output, breaks, end_after, outcomes_of_given_event, octets_in, refused_in, entry_of, user_after_hearing, sends_of, leave_of}
+use Rattle.loop_model.specs.Sessions.{Rules, Session, GivenToSession, Begins, Hears, Sends, Takes, Leaves, Ticks, Ends, Faults, Stalls, event_of, most_output}
+use Rattle.loop_model.specs.Sessions.{breaks, end_after, outcomes_of_given_event, octets_in, refused_in, entry_of, user_after_hearing, sends_of, leave_of}
 use Rattle.loop_session.specs.declared.gives.Came.{Came}
 use Rattle.loop_session.specs.declared.session_event.SessionEvent.{SessionEvent}
 use Rattle.loop_session.specs.declared.session_event.SessionEvent.TheVariants as code

@@ -17,7 +17,8 @@ use Rattle.loop_session.specs.Parts.{writes_of_entries, FailedFor, AreBegun, Bre
 pub writes_parts : (xs ys : List JournalEntry) → writes_of_entries (xs ++ ys) ≡ writes_of_entries xs ++ writes_of_entries ys
 writes_parts [] ys = refl
 writes_parts (x ∷ xs) ys =
-    ap (λ (z : List Act). printing (entry_text x) ++ z) (writes_parts xs ys) ∙ sym (append_assoc (printing (entry_text x)) (writes_of_entries xs) (writes_of_entries ys))
+    ap (λ (z : List Act). printing (entry_text x) ++ z) (writes_parts xs ys) ∙ sym
+    (append_assoc (printing (entry_text x)) (writes_of_entries xs) (writes_of_entries ys))
 
 -- ---- beginnings of acts
 
@@ -74,7 +75,8 @@ text_written a b xs p = subst (λ (z : List ℕ). Grew a.sink.held b.sink.held z
 -- a piece of which a beginning was put there, with all that would have come behind it
 put_together : (first rest cut more piece octets : List ℕ) → rest ++ cut ≡ piece → octets ≡ first ++ rest → first ++ (piece ++ more) ≡ octets ++ (cut ++ more)
 put_together first rest cut more piece octets whole is =
-    ap (λ (z : List ℕ). first ++ (z ++ more)) (sym whole) ∙ ap (λ (z : List ℕ). first ++ z) (append_assoc rest cut more) ∙ sym (append_assoc first rest (cut ++ more))
+    ap (λ (z : List ℕ). first ++ (z ++ more)) (sym whole) ∙ ap (λ (z : List ℕ). first ++ z) (append_assoc rest cut more) ∙ sym
+    (append_assoc first rest (cut ++ more))
     ∙ ap (λ (z : List ℕ). z ++ (cut ++ more)) (sym is)
 
 -- a write that failed put a beginning of its piece there
@@ -101,15 +103,18 @@ record LeftPart (all : List Act) (octets : List ℕ) : Type 0 where
 begun_leave : (fault : LoopFault) (all acts : List Act) (octets : List ℕ) → AreBegun fault all acts → IsLeft PutsInSink acts octets → LeftPart all octets
 begun_leave Wires all acts octets p left = absurd p.breaks
 begun_leave Sink all acts octets p left =
-    let both = left_by_both PutsInSink p.done (Wrote p.breaks.piece false ∷ []) octets (subst (λ (z : List Act). IsLeft PutsInSink z octets) p.breaks.are left) in
+    let both = left_by_both PutsInSink p.done (Wrote p.breaks.piece false ∷ []) octets
+    (subst (λ (z : List Act). IsLeft PutsInSink z octets) p.breaks.are left) in
     let part = failed_put p.breaks.piece both.rest both.by_rest in
     let more = leaves_some p.breaks.rest in
     record {
       rest = part.cut ++ more.all;
       left =
           subst (λ (z : List Act). IsLeft PutsInSink z (octets ++ (part.cut ++ more.all))) (ap (λ (z : List Act). p.done ++ z) (sym p.breaks.next) ∙ p.is)
-          (subst (λ (z : List ℕ). IsLeft PutsInSink (p.done ++ Wrote p.breaks.piece true ∷ p.breaks.rest) z) (put_together both.first both.rest part.cut more.all p.breaks.piece octets part.whole both.is)
-          (left_then PutsInSink p.done (Wrote p.breaks.piece true ∷ p.breaks.rest) both.first (p.breaks.piece ++ more.all) both.by_first (done_put p.breaks.piece p.breaks.rest more.all more.left)));
+          (subst (λ (z : List ℕ). IsLeft PutsInSink (p.done ++ Wrote p.breaks.piece true ∷ p.breaks.rest) z)
+          (put_together both.first both.rest part.cut more.all p.breaks.piece octets part.whole both.is)
+          (left_then PutsInSink p.done (Wrote p.breaks.piece true ∷ p.breaks.rest) both.first (p.breaks.piece ++ more.all) both.by_first
+          (done_put p.breaks.piece p.breaks.rest more.all more.left)));
     }
 begun_leave (NoMemory want) all acts octets p left =
     let more = leaves_some p.left in
@@ -121,7 +126,8 @@ begun_leave (NoMemory want) all acts octets p left =
     }
 
 -- a beginning of the text of the events was written
-pub text_begun : (a b : Told) (xs : List JournalEntry) (fault : LoopFault) → Breaks a b (writes_of_entries xs) fault → GrewPart a.sink.held b.sink.held (text xs)
+pub text_begun : (a b : Told) (xs : List JournalEntry) (fault : LoopFault) → Breaks a b (writes_of_entries xs) fault
+    → GrewPart a.sink.held b.sink.held (text xs)
 text_begun a b xs fault p =
     let rest = begun_leave fault (writes_of_entries xs) p.acts p.did.sink.held.more p.begun p.did.sink.held.left in
     record { part = p.did.sink.held.more; rest = rest.rest; is = writes_leave xs (p.did.sink.held.more ++ rest.rest) rest.left; grew = p.did.sink.held.grew }

@@ -1,18 +1,20 @@
-//! Lines of events, written to the sink.
+//! Lines of events, written to the journal with what they count.
 
 ghost use Rattle.std.specs.Prelude.{◌≡◌, ◌≤◌, [], ◌∷◌, ◌++◌, OnOk};
 ghost use Rattle.er_base.specs.LineTexts.{line_text};
 ghost use Rattle.er_trace.specs.Texts.{entry_words};
 ghost use Rattle.outside.specs.Scripts.{printing};
+ghost use Rattle.journal.specs.Tallies.{IsTallyOf};
 ghost use Rattle.loop_session.specs.Parts.{writes_of_entries, OnlyPrints, Puts};
 
 use crate::loop_fault::LoopFault;
 use crate::scratch::Scratch;
 use er_base::{Moment, NoMemory};
 use er_trace::{Entry, Event, print_entry};
+use journal::{EventTally, Journal};
 use outside::Outside;
 
-/// Writes the lines of events, where there are any.
+/// Writes lines that are of no event, where there are any.
 #[tactic(auto, using(crate::proofs::Written::all_put, crate::proofs::Written::put_broke))]
 pub fn write_lines<O: Outside>(lines: &[u8], outside: &mut O) -> Result<(), LoopFault>
     ensures puts { Puts (O.told outside.old) (O.told outside.new) (printing lines.now) result }
@@ -22,6 +24,26 @@ pub fn write_lines<O: Outside>(lines: &[u8], outside: &mut O) -> Result<(), Loop
         return Ok(());
     }
     match outside.write(lines) {
+        Ok(()) => Ok(()),
+        Err(_failed) => Err(LoopFault::Sink),
+    }
+}
+
+// Writes the lines of an event, which counts this.
+#[tactic(auto, using(crate::proofs::Written::some_lines, crate::proofs::Written::all_put, crate::proofs::Written::put_broke))]
+pub(crate) fn record_lines<O: Journal>(
+    lines: &[u8],
+    tally: &EventTally,
+    outside: &mut O,
+) -> Result<(), LoopFault>
+    requires { IsTallyOf lines.now tally.now }
+    ensures puts { Puts (O.told outside.old) (O.told outside.new) (printing lines.now) result }
+    ensures only { OnlyPrints (O.told outside.old) (O.told outside.new) }
+{
+    if lines.is_empty() {
+        return Ok(());
+    }
+    match outside.record(lines, tally) {
         Ok(()) => Ok(()),
         Err(_failed) => Err(LoopFault::Sink),
     }
@@ -47,7 +69,7 @@ pub(crate) fn put(
 }
 
 /// Writes the line of an event that has no outcome; its moment is in its range by its type.
-pub fn write_event<O: Outside>(
+pub fn write_event<O: Journal>(
     moment: Moment,
     conn: u64,
     event: Event,
@@ -59,7 +81,8 @@ pub fn write_event<O: Outside>(
     ensures within { moment ≤ 1000000000000000 }
     ensures only { OnlyPrints (O.told outside.old) (O.told outside.new) }
 {
+    let tally = EventTally::of_event(conn, &event);
     scratch.line.clear();
     put(moment, conn, event, &mut scratch.line)?;
-    write_lines(scratch.line.as_slice(), outside)
+    record_lines(scratch.line.as_slice(), &tally, outside)
 }

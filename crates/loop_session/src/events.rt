@@ -14,7 +14,7 @@ use crate::session::Session;
 use crate::session_event::{Called, SessionEvent};
 use crate::when::When;
 use er_users::SafeUser;
-use outside::Outside;
+use journal::Journal;
 use safety_automaton::{KeyFinder, PairKey};
 
 // What of a slice stands behind so many octets.
@@ -29,7 +29,7 @@ fn behind(octets: &[u8], at: usize) -> &[u8]
 impl<U: SafeUser> Session<U> {
     // An event with all that follows it: the user hears of it and replies, the messages that wait are taken, and a released session parts
     // from its user. How many octets the end used.
-    fn handle<K: KeyFinder, O: Outside>(
+    fn handle<K: KeyFinder, O: Journal>(
         &mut self,
         event: &SessionEvent<'_>,
         keys: &K,
@@ -52,7 +52,7 @@ impl<U: SafeUser> Session<U> {
     }
 
     // An event at which no key is looked up, with all that follows it.
-    fn happen<O: Outside>(
+    fn happen<O: Journal>(
         &mut self,
         event: &SessionEvent<'_>,
         when: &When,
@@ -71,7 +71,7 @@ impl<U: SafeUser> Session<U> {
     }
 
     /// A moment has come.
-    pub fn tick<O: Outside>(
+    pub fn tick<O: Journal>(
         &mut self,
         when: &When,
         scratch: &mut Scratch,
@@ -86,7 +86,7 @@ impl<U: SafeUser> Session<U> {
     }
 
     /// The end of an engine begins: its station sends the set-up frame.
-    pub fn call<O: Outside>(
+    pub fn call<O: Journal>(
         &mut self,
         call: &Called,
         when: &When,
@@ -102,7 +102,7 @@ impl<U: SafeUser> Session<U> {
     }
 
     /// The line ended: the connection is to be closed.
-    pub fn ended<O: Outside>(
+    pub fn ended<O: Journal>(
         &mut self,
         when: &When,
         scratch: &mut Scratch,
@@ -117,7 +117,7 @@ impl<U: SafeUser> Session<U> {
     }
 
     /// The line failed: the connection is to be closed.
-    pub fn fault<O: Outside>(
+    pub fn fault<O: Journal>(
         &mut self,
         when: &When,
         scratch: &mut Scratch,
@@ -132,7 +132,7 @@ impl<U: SafeUser> Session<U> {
     }
 
     /// The octets of a read come: they are given to the end frame by frame, until the session breaks off.
-    pub fn pour<K: KeyFinder, O: Outside>(
+    pub fn pour<K: KeyFinder, O: Journal>(
         &mut self,
         octets: &[u8],
         keys: &K,

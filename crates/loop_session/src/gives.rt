@@ -1,10 +1,11 @@
-//! An event given to the end of a session: its lines, the octets that the end gives, and what the user hears.
+//! An event given to the end of a session: its lines and what they count, the octets that the end gives, and what the user hears.
 
-ghost use Rattle.std.specs.Prelude.{◌≡◌, [], not, OnOk, IfOk, option_map};
+ghost use Rattle.std.specs.Prelude.{◌≡◌, ℕ, List, [], not, OnOk, IfOk, option_map};
 ghost use Rattle.er_end.specs.Given.{outcomes_in};
 ghost use Rattle.er_end.specs.KeptEnds.{KEnd};
 ghost use Rattle.er_end.specs.Shown.{refusal_view};
 ghost use Rattle.loop_model.specs.Sessions.{Rules, journal_event_of_given, outcomes_of_given_event, octets_in, heard_by_user, refused_in};
+ghost use Rattle.journal.specs.Tallies.{IsTallyOf, IsTallyOfEntry};
 ghost use Rattle.loop_session.specs.Giving.{event_given_to_session, HasFewOctets, used_in, IsSameWith, journal_entry_of_event, Tells, too_many, joined_to, Gave, HeardSo};
 ghost use Rattle.loop_session.specs.Keeping.{kept_ends};
 
@@ -16,8 +17,9 @@ use crate::session::Session;
 use crate::session_event::SessionEvent;
 use bytes::BytesMut;
 use er_base::{Moment, NoMemory};
-use er_end::{Effects, SendRefused};
+use er_end::{Effects, End, SendRefused};
 use er_users::SafeUser;
+use journal::EventTally;
 use safety_automaton::{KeyFinder, PairKey};
 use trace_lines::tell_effects;
 
@@ -30,6 +32,31 @@ pub(crate) struct Came {
     pub(crate) refused: Option<SendRefused>,
     // Whether the octets that the end gave joined those that wait.
     pub(crate) fits: bool,
+    // What its lines count.
+    counts: EventTally,
+    // How many frames the station had ignored before it.
+    ignored_before: u64,
+}
+
+// How many frames its station ignored so far, of any kind.
+fn ignored_by(end: &End) -> u64 {
+    let counts = end.counts();
+    counts
+        .bad_fcs
+        .saturating_add(counts.short)
+        .saturating_add(counts.long)
+        .saturating_add(counts.aborted)
+        .saturating_add(counts.stray)
+}
+
+impl Came {
+    // What its lines count, with the frames that the station ignored in it: the end stands behind it.
+    pub(crate) fn tally(&self, end: &End) -> EventTally
+        ensures { (lines : List ℕ) → IsTallyOf lines self.now.counts → IsTallyOf lines result }
+    {
+        self.counts
+            .ignoring(ignored_by(end).saturating_sub(self.ignored_before))
+    }
 }
 
 // The lines of an event are printed, and the octets that the end gave join those that wait.
@@ -37,6 +64,7 @@ pub(crate) struct Came {
 fn conclude(
     event: &SessionEvent<'_>,
     effects: &Effects<'_>,
+    ignored_before: u64,
     moment: Moment,
     conn: u64,
     line: &mut Vec<u8>,
@@ -45,6 +73,8 @@ fn conclude(
     requires { HasFewOctets (event_given_to_session event.now) }
     ensures tells { (k : KEnd) → effects.now.used ≡ used_in k (event_given_to_session event.now)
         → OnOk result (Tells (journal_entry_of_event moment conn (journal_event_of_given kept_ends k (event_given_to_session event.now)) (outcomes_in effects.now)) line.new.items) }
+    ensures counts { (k : KEnd) → IfOk result (λ came.
+        IsTallyOfEntry (journal_entry_of_event moment conn (journal_event_of_given kept_ends k (event_given_to_session event.now)) (outcomes_in effects.now)) came.counts) }
     ensures joins { IfOk result (λ came. (came.fits ≡ not (too_many output.old.items (octets_in (outcomes_in effects.now))))
         × (output.new.items ≡ joined_to output.old.items (octets_in (outcomes_in effects.now)))) }
     ensures refused { IfOk result (λ came. option_map refusal_view came.refused ≡ refused_in (outcomes_in effects.now)) }
@@ -59,6 +89,8 @@ fn conclude(
         used: effects.used,
         refused: effects.refused,
         fits,
+        counts: event.tally(conn, effects),
+        ignored_before,
     })
 }
 
@@ -73,14 +105,24 @@ impl<U: SafeUser> Session<U> {
         requires { HasFewOctets (event_given_to_session event.now) }
         ensures gave { (r : Rules) → IsSameWith [] r (event_given_to_session event.now)
             → IfOk result (λ came. Gave r moment self.old (event_given_to_session event.now) self.new line.new.items came) }
+        ensures counts { IfOk result (λ came. IsTallyOf line.new.items came.counts) }
         ensures mind { self.new.mind ≡ self.old.mind }
         ensures number { self.new.number ≡ self.old.number }
     {
         self.broken |= event.breaks();
+        let ignored_before = ignored_by(&self.end);
         let effects = self
             .end
             .apply(&None::<PairKey>, moment.get(), &event.at_end());
-        conclude(event, &effects, moment, self.number, line, &mut self.output)
+        conclude(
+            event,
+            &effects,
+            ignored_before,
+            moment,
+            self.number,
+            line,
+            &mut self.output,
+        )
     }
 
     // An event is given to the end, and the user hears of it, where there is one.
@@ -94,17 +136,20 @@ impl<U: SafeUser> Session<U> {
         requires { HasFewOctets (event_given_to_session event.now) }
         ensures gave { (r : Rules) → IsSameWith (K.entries keys.now) r (event_given_to_session event.now)
             → IfOk result (λ came. Gave r moment self.old (event_given_to_session event.now) self.new scratch.new.line.items came) }
+        ensures counts { IfOk result (λ came. IsTallyOf scratch.new.line.items came.counts) }
         ensures heard { (r : Rules) → IsSameWith (K.entries keys.now) r (event_given_to_session event.now)
             → HeardSo self.old.mind (heard_by_user (outcomes_of_given_event kept_ends r moment self.old.end (event_given_to_session event.now))) self.new.mind scratch.new.replies }
         ensures used { IfOk result (λ came. came.used ≡ used_in self.old.end (event_given_to_session event.now)) }
         ensures number { self.new.number ≡ self.old.number }
     {
         self.broken |= event.breaks();
+        let ignored_before = ignored_by(&self.end);
         let effects = self.end.apply(keys, moment.get(), &event.at_end());
         hear(&mut self.user, &effects, &mut scratch.replies);
         conclude(
             event,
             &effects,
+            ignored_before,
             moment,
             self.number,
             &mut scratch.line,

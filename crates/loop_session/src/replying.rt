@@ -6,9 +6,10 @@ ghost use Rattle.loop_model.specs.Sessions.{Rules, Session as LoopSession, Given
 ghost use Rattle.loop_session.specs.Giving.{event_given_to_session, HasFewOctets, used_in, IsSameWith, Gave, events_said_by_user};
 ghost use Rattle.loop_session.specs.Parts.{OnlyPrints, Prints, Chooses, with_mind};
 ghost use Rattle.er_end.specs.KeptEnds.{KEnd};
+ghost use Rattle.journal.specs.Tallies.{IsTallyOf};
 ghost use Rattle.loop_session.specs.Keeping.{kept_ends};
 
-use crate::event_lines::write_lines;
+use crate::event_lines::record_lines;
 use crate::gives::Came;
 use crate::hearing::hear_refused;
 use crate::loop_fault::LoopFault;
@@ -17,12 +18,12 @@ use crate::session::Session;
 use crate::session_event::SessionEvent;
 use er_base::Moment;
 use er_users::SafeUser;
-use outside::Outside;
+use journal::Journal;
 use safety_automaton::{KeyFinder, PairKey};
 
 impl<U: SafeUser> Session<U> {
     // The session stalls.
-    fn stall<O: Outside>(
+    fn stall<O: Journal>(
         &mut self,
         moment: Moment,
         line: &mut Vec<u8>,
@@ -32,24 +33,25 @@ impl<U: SafeUser> Session<U> {
         ensures number { self.new.number ≡ self.old.number }
         ensures only { OnlyPrints (O.told outside.old) (O.told outside.new) }
     {
-        self.give(&SessionEvent::Stalled, moment, line)?;
-        write_lines(line.as_slice(), outside)
+        let came = self.give(&SessionEvent::Stalled, moment, line)?;
+        record_lines(line.as_slice(), &came.tally(&self.end), outside)
     }
 
     // The lines of an event are written, and the session stalls where octets didn't fit.
-    fn tell<O: Outside>(
+    fn tell<O: Journal>(
         &mut self,
         came: Came,
         moment: Moment,
         line: &mut Vec<u8>,
         outside: &mut O,
     ) -> Result<(), LoopFault>
+        requires { IsTallyOf line.old.items came.counts }
         ensures prints { (r : Rules) (s : LoopSession KEnd) (g : GivenToSession) → Gave r moment s g self.old line.old.items came
             → Prints (O.told outside.old) (O.told outside.new) self.new (with_mind self.old.mind (fed kept_ends r moment s g)) result }
         ensures number { self.new.number ≡ self.old.number }
         ensures only { OnlyPrints (O.told outside.old) (O.told outside.new) }
     {
-        write_lines(line.as_slice(), outside)?;
+        record_lines(line.as_slice(), &came.tally(&self.end), outside)?;
         if came.fits {
             return Ok(());
         }
@@ -57,7 +59,7 @@ impl<U: SafeUser> Session<U> {
     }
 
     // The user sends a message, and hears where it is refused.
-    fn send<O: Outside>(
+    fn send<O: Journal>(
         &mut self,
         text: &[u8],
         moment: Moment,
@@ -75,7 +77,7 @@ impl<U: SafeUser> Session<U> {
     }
 
     // The user leaves, with this sub-reason.
-    fn leave<O: Outside>(
+    fn leave<O: Journal>(
         &mut self,
         sub: u8,
         moment: Moment,
@@ -91,7 +93,7 @@ impl<U: SafeUser> Session<U> {
     }
 
     // What the user said follows as events: its texts, then its release.
-    fn reply<O: Outside>(
+    fn reply<O: Journal>(
         &mut self,
         moment: Moment,
         scratch: &mut Scratch,
@@ -112,7 +114,7 @@ impl<U: SafeUser> Session<U> {
     }
 
     // An event, what the user hears of it, and the replies: how many octets the end used.
-    pub(crate) fn deal<K: KeyFinder, O: Outside>(
+    pub(crate) fn deal<K: KeyFinder, O: Journal>(
         &mut self,
         event: &SessionEvent<'_>,
         keys: &K,
@@ -134,7 +136,7 @@ impl<U: SafeUser> Session<U> {
     }
 
     // The messages that wait are taken.
-    pub(crate) fn take_all<O: Outside>(
+    pub(crate) fn take_all<O: Journal>(
         &mut self,
         moment: Moment,
         scratch: &mut Scratch,

@@ -1,20 +1,22 @@
 //! Events of a session.
 
-ghost use Rattle.std.specs.Prelude.{◌≡◌, ◌++◌, OnOk};
+ghost use Rattle.std.specs.Prelude.{◌≡◌, ◌++◌, ℕ, OnOk};
 ghost use Rattle.er_base.specs.LineTexts.{line_text};
 ghost use Rattle.er_trace.specs.Texts.{entry_words, IsReadableEntry};
 ghost use Rattle.safety_automaton.specs.Keys.{key_at};
-ghost use Rattle.er_end.specs.Given.{model_event_of, used_by};
+ghost use Rattle.er_end.specs.Given.{model_event_of, used_by, outcomes_in};
 ghost use Rattle.er_end.specs.KeptEnds.{KEnd};
 ghost use Rattle.loop_model.specs.Sessions.{Rules, event_of, breaks, journal_event_of_given};
-ghost use Rattle.loop_session.specs.Giving.{event_given_to_session, HasFewOctets, used_in};
+ghost use Rattle.journal.specs.Tallies.{what_event_begins, messages_said_by_event, IsTallyOfEntry};
+ghost use Rattle.loop_session.specs.Giving.{event_given_to_session, HasFewOctets, used_in, journal_entry_of_event};
 ghost use Rattle.loop_session.specs.Keeping.{kept_ends};
 
 use crate::event_lines::put;
 use crate::ranges::{front, see_octet, see_octets, see_word};
 use er_base::{EtcsNumber, Moment, NoMemory};
-use er_end::Event;
+use er_end::{Effects, Event};
 use er_trace::{Event as LineEvent, print_octets, print_send};
+use journal::{Began, EventTally};
 
 /// What an engine calls with.
 #[derive(Clone, Copy)]
@@ -77,6 +79,48 @@ impl<'a> SessionEvent<'a> {
             self,
             SessionEvent::Ended | SessionEvent::Fault | SessionEvent::Stalled
         )
+    }
+
+    // What it begins.
+    fn begins(&self) -> Began
+        ensures { (k : KEnd) → what_event_begins (journal_event_of_given kept_ends k (event_given_to_session self.now)) ≡ result }
+    {
+        match *self {
+            SessionEvent::Call(_) => Began::End,
+            SessionEvent::Octets(_) => Began::Nothing,
+            SessionEvent::Send(_) => Began::Nothing,
+            SessionEvent::Take => Began::Nothing,
+            SessionEvent::Release(_) => Began::Nothing,
+            SessionEvent::Tick => Began::Nothing,
+            SessionEvent::Ended => Began::Nothing,
+            SessionEvent::Fault => Began::Nothing,
+            SessionEvent::Stalled => Began::Nothing,
+        }
+    }
+
+    // How many messages the user says by it.
+    fn says(&self) -> u64
+        ensures { (k : KEnd) → messages_said_by_event (journal_event_of_given kept_ends k (event_given_to_session self.now)) ≡ result }
+    {
+        match *self {
+            SessionEvent::Call(_) => 0,
+            SessionEvent::Octets(_) => 0,
+            SessionEvent::Send(_) => 1,
+            SessionEvent::Take => 0,
+            SessionEvent::Release(_) => 0,
+            SessionEvent::Tick => 0,
+            SessionEvent::Ended => 0,
+            SessionEvent::Fault => 0,
+            SessionEvent::Stalled => 0,
+        }
+    }
+
+    // What it counts with all that came of it.
+    pub(crate) fn tally(&self, conn: u64, effects: &Effects<'_>) -> EventTally
+        ensures { (k : KEnd) (moment : ℕ)
+            → IsTallyOfEntry (journal_entry_of_event moment conn (journal_event_of_given kept_ends k (event_given_to_session self.now)) (outcomes_in effects.now)) result }
+    {
+        EventTally::of_effects(conn, self.begins(), self.says(), effects)
     }
 
     // Appends its line; of octets those that the end used.

@@ -49,7 +49,8 @@ pub record LeavesSome (acts : List Act) : Type 0 where
 pub leaves_some : (acts : List Act) → LeavesSome acts
 unfolding IsLeft
 leaves_some [] = record { all = []; left = refl }
-leaves_some (act ∷ acts) = let rest = leaves_some acts in let first = one act in record { all = first.0 ++ rest.all; left = (first.0, rest.all, first.1, rest.left, refl) }
+leaves_some (act ∷ acts) = let rest = leaves_some acts in let first =
+    one act in record { all = first.0 ++ rest.all; left = (first.0, rest.all, first.1, rest.left, refl) }
   where
     one : (act : Act) → (all : List ℕ) × PutsInSink act all
     one (Fetched name answer) = ([], refl)
@@ -87,5 +88,6 @@ only_call (x ∷ []) seen call p q = ap (λ (z : Call). z ∷ []) (is_seen_so x 
 only_call (x ∷ y ∷ more) seen call p q = absurd cc
 
 -- one call that isn't a read is told as it is seen
-pub told_call : (before now : Option (List Call)) (seen : SeenCall) (call : Call) → call_seen_so seen ≡ Some call → GrewSeen before now (seen ∷ []) → Grew before now (call ∷ [])
+pub told_call : (before now : Option (List Call)) (seen : SeenCall) (call : Call) → call_seen_so seen ≡ Some call → GrewSeen before now (seen ∷ [])
+    → Grew before now (call ∷ [])
 told_call before now seen call is p = subst (λ (calls : List Call). Grew before now calls) (only_call p.more seen call is p.are) p.grew

@@ -4,7 +4,8 @@ use Rattle.std.proofs.lemmas.List.Elements.{filter_map-append}
 use Rattle.outside.specs.Acts.{Act, word_of_act}
 use Rattle.outside.specs.Ties.{AreDrawn}
 use Rattle.outside.specs.Doings.{Told, Did}
-use Rattle.outside.specs.TieSteps.{cabinet_nothing, cabinet_then, sink_nothing, sink_then, wires_nothing, wires_then, clock_nothing, clock_then, drawn_nothing, drawn_then}
+use Rattle.outside.specs.TieSteps.{cabinet_nothing, cabinet_then, sink_nothing, sink_then, wires_nothing, wires_then, clock_nothing, clock_then, drawn_nothing}
+use Rattle.outside.specs.TieSteps.{drawn_then}
 
 pub did_nothing : (t : Told) → Did t t []
 did_nothing t = record {

@@ -3,11 +3,13 @@ use Rattle.std.proofs.Common.{ℕ, inl, inr, false, List, [], ◌∷◌, ◌++�
 use Rattle.outside.specs.Acts.{Gave, Failed, Spent, Act, Fetched, Wrote}
 use Rattle.outside.specs.Doings.{Told, Did}
 use Rattle.outside.specs.Chains.{did_nothing, did_then}
-use Rattle.outside.specs.Scripts.{End, With, Sunk, OutOfMemory, Script, Ends, Fetches, Prints, Knowing, printing, IsFetchThen, IsPrinted, IsUnprinted, RunsScript, Does}
+use Rattle.outside.specs.Scripts.{End, With, Sunk, OutOfMemory, Script, Ends, Fetches, Prints, Knowing, printing, IsFetchThen, IsPrinted, IsUnprinted}
+use Rattle.outside.specs.Scripts.{RunsScript, Does}
 
 -- ---- acts alone
 
-runs_printed : (Is : List ℕ → Type 0) (next : Script) (text : List ℕ) (rest : List Act) (end : End) → Is text → RunsScript next rest end → RunsScript (Prints Is next) (printing text ++ rest) end
+runs_printed : (Is : List ℕ → Type 0) (next : Script) (text : List ℕ) (rest : List Act) (end : End) → Is text → RunsScript next rest end
+    → RunsScript (Prints Is next) (printing text ++ rest) end
 unfolding RunsScript
 runs_printed Is next text rest end is runs = inl (record { text = text; is = is; rest = rest; acts_are = refl; follows = runs })
 

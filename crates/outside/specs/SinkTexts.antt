@@ -1,5 +1,6 @@
 -- Lemmas: the octets and the names that a script's acts leave in the sink and the cabinet; for the proofs of the crates above.
-use Rattle.std.proofs.Common.{◌≡◌, ◌⊎◌, ℕ, inl, inr, Bool, true, false, ◌||◌, List, [], ◌∷◌, ◌++◌, Option, IsFalse, refl, sym, ap, subst, ◌∙◌, append-nil, true≢false}
+use Rattle.std.proofs.Common.{◌≡◌, ◌⊎◌, ℕ, inl, inr, Bool, true, false, ◌||◌, List, [], ◌∷◌, ◌++◌, Option, IsFalse, refl, sym, ap, subst, ◌∙◌, append-nil}
+use Rattle.std.proofs.Common.{true≢false}
 use Rattle.std.specs.List.{list_any}
 use Rattle.link_trait.specs.Outside.{Grew, GrewPart}
 use Rattle.outside.specs.Acts.{Fetch, Spent, Act, Fetched, Wrote, Called, Asked, Drew, is_fetch}
@@ -36,7 +37,8 @@ text_begun_by a b text p =
     }
 
 -- a fetch leaves nothing there
-pub behind_fetched : (a b : Option (List ℕ)) (name : List ℕ) (answer : Fetch) (acts : List Act) → GrewBy PutsInSink a b (Fetched name answer ∷ acts) → GrewBy PutsInSink a b acts
+pub behind_fetched : (a b : Option (List ℕ)) (name : List ℕ) (answer : Fetch) (acts : List Act) → GrewBy PutsInSink a b (Fetched name answer ∷ acts)
+    → GrewBy PutsInSink a b acts
 unfolding IsLeft
 behind_fetched a b name answer acts p =
     let left : IsLeft PutsInSink (Fetched name answer ∷ acts) p.more = p.left in
@@ -87,7 +89,8 @@ pub name_noted_by : (a b : Option (List (List ℕ))) (name : List ℕ) → GrewB
 unfolding IsLeft
 name_noted_by a b name p =
     let left : IsLeft AsksFor (Fetched name Spent ∷ []) p.more = p.left in
-    noted left.0 left.2 (subst (λ (names : List (List ℕ)). Grew a b names) (left.4 ∙ ap (λ (rest : List (List ℕ)). left.0 ++ rest) left.3 ∙ append-nil left.0) p.grew)
+    noted left.0 left.2 (subst (λ (names : List (List ℕ)). Grew a b names) (left.4 ∙ ap (λ (rest : List (List ℕ)). left.0 ++ rest) left.3 ∙ append-nil left.0)
+    p.grew)
   where
     noted : (names : List (List ℕ)) → (names ≡ name ∷ []) ⊎ (names ≡ []) → Grew a b names → GrewPart a b (name ∷ [])
     noted names (inl is) grew = record { part = name ∷ []; rest = []; is = refl; grew = subst (λ (xs : List (List ℕ)). Grew a b xs) is grew }
@@ -96,7 +99,8 @@ name_noted_by a b name p =
 -- ---- a script of one text
 
 -- it asks for no file
-pub fetches_none : (Is : List ℕ → Type 0) (status : ℕ) (acts : List Act) (end : End) → RunsScript (Prints Is (Ends status)) acts end → IsFalse (list_any is_fetch acts)
+pub fetches_none : (Is : List ℕ → Type 0) (status : ℕ) (acts : List Act) (end : End) → RunsScript (Prints Is (Ends status)) acts end
+    → IsFalse (list_any is_fetch acts)
 unfolding RunsScript
 fetches_none Is status acts end (inl p) = subst (λ (xs : List Act). IsFalse (list_any is_fetch xs)) (sym p.acts_are) (printed p.text p.rest p.follows.0)
   where

@@ -1,6 +1,7 @@
 -- Lemmas: what a part of the outside tells behind no act, behind an act of another part, and behind one run of acts and then another; for the
 -- proofs of the crates above.
-use Rattle.std.proofs.Common.{◌≡◌, ◌≤◌, ◌⊎◌, ℕ, Bool, true, false, ◌||◌, inl, inr, ⊎_elim, List, [], ◌∷◌, ◌++◌, map, Option, None, Some, IsTrue, IsFalse, fold, filter_map, refl, sym, ap, subst, ◌∙◌, append_assoc, append-nil, true≢false, arith}
+use Rattle.std.proofs.Common.{◌≡◌, ◌≤◌, ◌⊎◌, ℕ, Bool, true, false, ◌||◌, inl, inr, ⊎_elim, List, [], ◌∷◌, ◌++◌, map, Option, None, Some, IsTrue, IsFalse, fold}
+use Rattle.std.proofs.Common.{filter_map, refl, sym, ap, subst, ◌∙◌, append_assoc, append-nil, true≢false, arith}
 use Rattle.std.specs.List.{list_any}
 use Rattle.std.proofs.lemmas.List.Folds.{list_any-append}
 use Rattle.std.proofs.lemmas.List.Elements.{filter_map-append}
@@ -45,7 +46,8 @@ pub left_one : {A : Type 0} (Leaves : Act → List A → Type 0) (act : Act) (al
 unfolding IsLeft
 left_one Leaves act all p = (all, [], p, refl, sym (append-nil all))
 
-pub left_then : {A : Type 0} (Leaves : Act → List A → Type 0) (xs ys : List Act) (a b : List A) → IsLeft Leaves xs a → IsLeft Leaves ys b → IsLeft Leaves (xs ++ ys) (a ++ b)
+pub left_then : {A : Type 0} (Leaves : Act → List A → Type 0) (xs ys : List Act) (a b : List A) → IsLeft Leaves xs a → IsLeft Leaves ys b
+    → IsLeft Leaves (xs ++ ys) (a ++ b)
 unfolding IsLeft
 left_then {A} Leaves [] ys a b p q = subst (λ (zs : List A). IsLeft Leaves ys (zs ++ b)) (sym p) q
 left_then {A} Leaves (x ∷ xs) ys a b p q =
@@ -55,14 +57,16 @@ pub grew_by_nothing : {A : Type 0} (Leaves : Act → List A → Type 0) (a : Opt
 grew_by_nothing Leaves a = record { more = []; left = left_nothing Leaves; grew = grew_nothing a }
 
 -- one act
-pub grew_by_one : {A : Type 0} (Leaves : Act → List A → Type 0) (a b : Option (List A)) (act : Act) (all : List A) → Leaves act all → Grew a b all → GrewBy Leaves a b (act ∷ [])
+pub grew_by_one : {A : Type 0} (Leaves : Act → List A → Type 0) (a b : Option (List A)) (act : Act) (all : List A) → Leaves act all → Grew a b all
+    → GrewBy Leaves a b (act ∷ [])
 grew_by_one Leaves a b act all p q = record { more = all; left = left_one Leaves act all p; grew = q }
 
 -- one act that leaves nothing
 grew_by_none : {A : Type 0} (Leaves : Act → List A → Type 0) (a : Option (List A)) (act : Act) → Leaves act [] → GrewBy Leaves a a (act ∷ [])
 grew_by_none Leaves a act p = grew_by_one Leaves a a act [] p (grew_nothing a)
 
-grew_by_then : {A : Type 0} (Leaves : Act → List A → Type 0) (a b c : Option (List A)) (xs ys : List Act) → GrewBy Leaves a b xs → GrewBy Leaves b c ys → GrewBy Leaves a c (xs ++ ys)
+grew_by_then : {A : Type 0} (Leaves : Act → List A → Type 0) (a b c : Option (List A)) (xs ys : List Act) → GrewBy Leaves a b xs → GrewBy Leaves b c ys
+    → GrewBy Leaves a c (xs ++ ys)
 grew_by_then Leaves a b c xs ys p q = record {
   more = p.more ++ q.more;
   left = left_then Leaves xs ys p.more q.more p.left q.left;
@@ -91,7 +95,8 @@ counts_then : (is_fault : Act → Bool) (x y z : ℕ) (xs ys : List Act) → Cou
 counts_then is_fault x y z xs ys p q = record {
   later = later x y z p.later q.later;
   rose = λ h.
-      ⊎_elim (λ (a : IsTrue (list_any is_fault xs)). rose_behind x y z (p.rose a) q.later) (λ (b : IsTrue (list_any is_fault ys)). rose_before x y z p.later (q.rose b))
+      ⊎_elim (λ (a : IsTrue (list_any is_fault xs)). rose_behind x y z (p.rose a) q.later)
+      (λ (b : IsTrue (list_any is_fault ys)). rose_before x y z p.later (q.rose b))
       (one_of_both is_fault xs ys h);
 }
 
@@ -137,7 +142,8 @@ cabinet_nothing c = record {
 }
 
 -- one act of another part
-cabinet_still : (c : CabinetState) (act : Act) → AreFiled c.files (act ∷ []) → AsksFor act [] → IsFalse (list_any is_cabinet_fault (act ∷ [])) → CabinetDid c c (act ∷ [])
+cabinet_still : (c : CabinetState) (act : Act) → AreFiled c.files (act ∷ []) → AsksFor act [] → IsFalse (list_any is_cabinet_fault (act ∷ []))
+    → CabinetDid c c (act ∷ [])
 cabinet_still c act filed asks none = record {
   rests = λ h. refl;
   files = kept_same c.files;
@@ -215,7 +221,8 @@ wires_nothing w = record {
   turns_rest = λ h. refl;
 }
 
-wires_still : (w : WiresState) (act : Act) → filter_map call_of_act (act ∷ []) ≡ [] → IsFalse (list_any is_wires_fault (act ∷ [])) → IsFalse (list_any is_opening_fault (act ∷ [])) → WiresDid w w (act ∷ [])
+wires_still : (w : WiresState) (act : Act) → filter_map call_of_act (act ∷ []) ≡ [] → IsFalse (list_any is_wires_fault (act ∷ []))
+    → IsFalse (list_any is_opening_fault (act ∷ [])) → WiresDid w w (act ∷ [])
 wires_still w act no_call no_fault no_turn = record {
   rests = λ h. refl;
   calls = subst (λ (cs : List SeenCall). GrewSeen w.calls w.calls cs) (sym no_call) (grew_seen_nothing w.calls);
@@ -241,8 +248,10 @@ wires_then a b c xs ys p q =
     record {
       rests = λ h. let none = none_of_both is_call xs ys h in q.rests none.1 ∙ p.rests none.0;
       calls = subst (λ (cs : List SeenCall). GrewSeen a.calls c.calls cs) (sym both) (grew_seen_then a.calls b.calls c.calls xcs ycs p.calls q.calls);
-      opened = subst (λ (cs : List SeenCall). c.opened ≡ fold opened_by_call a.opened cs) (sym both) (fold_then opened_by_call a.opened b.opened c.opened xcs ycs p.opened q.opened);
-      listening = subst (λ (cs : List SeenCall). c.listening ≡ fold listening_by_call a.listening cs) (sym both) (fold_then listening_by_call a.listening b.listening c.listening xcs ycs p.listening q.listening);
+      opened = subst (λ (cs : List SeenCall). c.opened ≡ fold opened_by_call a.opened cs) (sym both)
+          (fold_then opened_by_call a.opened b.opened c.opened xcs ycs p.opened q.opened);
+      listening = subst (λ (cs : List SeenCall). c.listening ≡ fold listening_by_call a.listening cs) (sym both)
+          (fold_then listening_by_call a.listening b.listening c.listening xcs ycs p.listening q.listening);
       faults = counts_then is_wires_fault a.faults b.faults c.faults xs ys p.faults q.faults;
       turn_faults = counts_then is_opening_fault a.turn_faults b.turn_faults c.turn_faults xs ys p.turn_faults q.turn_faults;
       turns_rest = λ h. let none = none_of_both is_opening_act xs ys h in q.turns_rest none.1 ∙ p.turns_rest none.0;

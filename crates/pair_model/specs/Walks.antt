@@ -1,13 +1,15 @@
 -- Lemmas, proved here and not as laws, since they speak of every kind of end, which no clause of a call can (a clause is of Type 0): what each
 -- event at a link keeps holds behind every list of steps. No claim rests on them.
-use Rattle.std.proofs.Common.{if◌then◌else◌, ◌≡◌, ℕ, zero, suc, max, Bool, true, false, not, ◌&&◌, ◌||◌, List, [], ◌∷◌, ◌++◌, length, Option, Some, None, refl, sym, ◌∙◌, true≢false}
+use Rattle.std.proofs.Common.{if◌then◌else◌, ◌≡◌, ℕ, zero, suc, max, Bool, true, false, not, ◌&&◌, ◌||◌, List, [], ◌∷◌, ◌++◌, length, Option, Some, None, refl}
+use Rattle.std.proofs.Common.{sym, ◌∙◌, true≢false}
 use Rattle.std.specs.Prelude.{nat_lt, ◌==◌}
 use Rattle.std.proofs.lemmas.Bool.{cond_both}
 use Rattle.er_base.specs.declared.side.Side.{Side}
 use Rattle.er_base.specs.declared.side.Side.TheVariants.{E, R}
 use Rattle.hdlc_station_model.specs.Lines.{altered, next_of}
 use Rattle.pair_model.specs.Links.{EndKind, PairLink, frames_from, with_frames_from, end_did}
-use Rattle.pair_model.specs.Steps.{PairStep, Send, Pass, Lose, Repeat, Alter, Put, Take, UserRelease, Drain, Tick, send, take, release, pass, lose, repeat, alter, tick, is_overfull, pass_next, drained, pair_step, pair_run, ArePassesAndTakes, SendsOnly, AllSend}
+use Rattle.pair_model.specs.Steps.{PairStep, Send, Pass, Lose, Repeat, Alter, Put, Take, UserRelease, Drain, Tick, send, take, release, pass, lose, repeat}
+use Rattle.pair_model.specs.Steps.{alter, tick, is_overfull, pass_next, drained, pair_step, pair_run, ArePassesAndTakes, SendsOnly, AllSend}
 
 -- ---- any claim
 
@@ -17,7 +19,8 @@ pub record KeepsEach {A : Type 0} (kind : EndKind A) (Fits : List ℕ → Type 0
   pub lost : (side : Side) (l : PairLink A) → P l → P (lose side (frames_from l side) l)
   pub repeated : (side : Side) (l : PairLink A) → P l → P (repeat side (frames_from l side) l)
   -- altered, or put in
-  pub changed : (side : Side) (frames : List (List ℕ)) (l : PairLink A) → P l → P (with_frames_from side frames (record l { order_kept = false; loss_free = false }))
+  pub changed : (side : Side) (frames : List (List ℕ)) (l : PairLink A) → P l
+      → P (with_frames_from side frames (record l { order_kept = false; loss_free = false }))
   pub took : (side : Side) (l : PairLink A) → P l → P (take kind side l)
   pub released : (side : Side) (sub : ℕ) (l : PairLink A) → P l → P (release kind side sub l)
   pub ticked : (now : ℕ) (l : PairLink A) → P l → P (tick kind now l)
@@ -112,7 +115,8 @@ repeated_kept side [] l = refl
 repeated_kept E (frame ∷ frames) l = refl
 repeated_kept R (frame ∷ frames) l = refl
 
-changed_broken : {A : Type 0} (side : Side) (frames : List (List ℕ)) (l : PairLink A) → (with_frames_from side frames (record l { order_kept = false; loss_free = false })).order_kept ≡ true → ⊥
+changed_broken : {A : Type 0} (side : Side) (frames : List (List ℕ)) (l : PairLink A)
+    → (with_frames_from side frames (record l { order_kept = false; loss_free = false })).order_kept ≡ true → ⊥
 changed_broken E frames l e = absurd cc
 changed_broken R frames l e = absurd cc
 
@@ -126,7 +130,8 @@ pub record KeepsEachInOrder {A : Type 0} (kind : EndKind A) (Fits : List ℕ →
   pub released : (side : Side) (sub : ℕ) (l : PairLink A) → Q l → Q (release kind side sub l)
   pub ticked : (now : ℕ) (l : PairLink A) → Q l → Q (tick kind now l)
 
-pub runs_keep_in_order : {A : Type 0} (kind : EndKind A) (Fits : List ℕ → Type 0) (Q : PairLink A → Type 0) → KeepsEachInOrder kind Fits Q → (list : List PairStep) (l : PairLink A)
+pub runs_keep_in_order : {A : Type 0} (kind : EndKind A) (Fits : List ℕ → Type 0) (Q : PairLink A → Type 0) → KeepsEachInOrder kind Fits Q
+    → (list : List PairStep) (l : PairLink A)
     → AllSend Fits list → Q l → (pair_run kind l list).order_kept ≡ true → Q (pair_run kind l list)
 runs_keep_in_order {A} kind Fits Q keeps list l fits h =
     runs_keep kind Fits (λ (l : PairLink A). l.order_kept ≡ true → Q l) (record {
@@ -162,7 +167,8 @@ pub record KeepsEachFree {A : Type 0} (kind : EndKind A) (Fits : List ℕ → Ty
   pub sent : (side : Side) (user : List ℕ) (l : PairLink A) → Fits user → Q l → Q (send kind side user l)
   pub passed : (side : Side) (l : PairLink A) → Q l → Q (pass kind side (frames_from l side) l)
   pub took : (side : Side) (l : PairLink A) → Q l → Q (take kind side l)
-  pub ticked : (now : ℕ) (l : PairLink A) → kind.is_late (max l.moment now) l.e ≡ false → kind.is_late (max l.moment now) l.r ≡ false → Q l → Q (tick kind now l)
+  pub ticked : (now : ℕ) (l : PairLink A) → kind.is_late (max l.moment now) l.e ≡ false → kind.is_late (max l.moment now) l.r ≡ false → Q l
+      → Q (tick kind now l)
 
 -- the claim on a loss-free line
 abbrev IfFree : {A : Type 0} (Q : PairLink A → Type 0) → PairLink A → Type 0
@@ -178,11 +184,13 @@ repeated_free Q side [] l h = h
 repeated_free Q E (frame ∷ frames) l h = λ e. absurd cc
 repeated_free Q R (frame ∷ frames) l h = λ e. absurd cc
 
-changed_free : {A : Type 0} (side : Side) (frames : List (List ℕ)) (l : PairLink A) → (with_frames_from side frames (record l { order_kept = false; loss_free = false })).loss_free ≡ true → ⊥
+changed_free : {A : Type 0} (side : Side) (frames : List (List ℕ)) (l : PairLink A)
+    → (with_frames_from side frames (record l { order_kept = false; loss_free = false })).loss_free ≡ true → ⊥
 changed_free E frames l e = absurd cc
 changed_free R frames l e = absurd cc
 
-pub runs_keep_free : {A : Type 0} (kind : EndKind A) (Fits : List ℕ → Type 0) (Q : PairLink A → Type 0) → KeepsEachFree kind Fits Q → (list : List PairStep) (l : PairLink A)
+pub runs_keep_free : {A : Type 0} (kind : EndKind A) (Fits : List ℕ → Type 0) (Q : PairLink A → Type 0) → KeepsEachFree kind Fits Q
+    → (list : List PairStep) (l : PairLink A)
     → AllSend Fits list → Q l → (pair_run kind l list).loss_free ≡ true → Q (pair_run kind l list)
 runs_keep_free kind Fits Q keeps list l fits h =
     runs_keep kind Fits (IfFree Q) (record {
@@ -200,7 +208,8 @@ runs_keep_free kind Fits Q keeps list l fits h =
 
 -- ---- one list of steps behind another
 
-pub pair_run_append : {A : Type 0} (kind : EndKind A) (xs ys : List PairStep) (l : PairLink A) → pair_run kind l (xs ++ ys) ≡ pair_run kind (pair_run kind l xs) ys
+pub pair_run_append : {A : Type 0} (kind : EndKind A) (xs ys : List PairStep) (l : PairLink A)
+    → pair_run kind l (xs ++ ys) ≡ pair_run kind (pair_run kind l xs) ys
 pair_run_append kind [] ys l = refl
 pair_run_append kind (s ∷ xs) ys l = pair_run_append kind xs ys (pair_step kind s l)
 

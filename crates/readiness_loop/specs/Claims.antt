@@ -135,16 +135,17 @@ loop_outside told = record {
 }
 
 -- a loop that serves, for some answers of the outside: what it printed and called, and how it stopped
-pub record HasServed (before now : LoopOutside) (plan : Plan) (address : List ℕ) (minds : List Mind) (words : Stream) (count : ℕ) (why : Option Halt) : Type 0 where
-  pub answers : List Turn
-  -- what the laws of the loop ask for: it begins with no session, the numbers of accepted connections rise, the settings are in their ranges
-  pub is_serving : IsServing plan (beginning minds words) answers
-  pub done : IsPrintedAndCalled before now true plan (serves model_ends plan (beginning minds words) address true answers)
-  pub lawful : IsLawfulLoop plan (serves model_ends plan (beginning minds words) address true answers)
-  pub replies : AreSpoken minds (serves model_ends plan (beginning minds words) address true answers)
-  pub users : UsersHeard minds (serves model_ends plan (beginning minds words) address true answers)
-  pub turns : HasTurns plan (serves model_ends plan (beginning minds words) address true answers) count why
-  pub halted : why ≡ (serves model_ends plan (beginning minds words) address true answers).state.halt
+pub record HasServed (before now : LoopOutside) (plan : Plan) (address : List ℕ) (minds : List Mind) (words : Stream) (count : ℕ) (why : Option Halt) : Type 0
+  where
+    pub answers : List Turn
+    -- what the laws of the loop ask for: it begins with no session, the numbers of accepted connections rise, the settings are in their ranges
+    pub is_serving : IsServing plan (beginning minds words) answers
+    pub done : IsPrintedAndCalled before now true plan (serves model_ends plan (beginning minds words) address true answers)
+    pub lawful : IsLawfulLoop plan (serves model_ends plan (beginning minds words) address true answers)
+    pub replies : AreSpoken minds (serves model_ends plan (beginning minds words) address true answers)
+    pub users : UsersHeard minds (serves model_ends plan (beginning minds words) address true answers)
+    pub turns : HasTurns plan (serves model_ends plan (beginning minds words) address true answers) count why
+    pub halted : why ≡ (serves model_ends plan (beginning minds words) address true answers).state.halt
 
 -- the wires never listened; nothing was printed, and the clock wasn't asked
 pub record NeverListened (before now : LoopOutside) (address : List ℕ) : Type 0 where
@@ -178,7 +179,8 @@ pub data BreaksOffServing (before now : LoopOutside) (plan : Plan) (address : Li
       → BreaksOffServing before now plan address minds words
 
 -- the same of a loop that dials
-pub record HasDialled (before now : LoopOutside) (plan : Plan) (caller : Caller) (address : List ℕ) (minds : List Mind) (words : Stream) (count : ℕ) (why : Option Halt) : Type 0 where
+pub record HasDialled (before now : LoopOutside) (plan : Plan) (caller : Caller) (address : List ℕ) (minds : List Mind) (words : Stream) (count : ℕ)
+    (why : Option Halt) : Type 0 where
   pub answers : Dialled
   pub conn : ℕ
   pub opened : answers.conn ≡ Some conn

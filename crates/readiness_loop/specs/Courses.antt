@@ -18,7 +18,8 @@ use Rattle.loop_model.specs.Deeds.{text_of, calls_of}
 use Rattle.loop_model.specs.Outs.{Out}
 use Rattle.loop_model.specs.Sessions.{Session}
 use Rattle.loop_model.specs.Visits.{Met}
-use Rattle.loop_model.specs.Loops.{Plan, Loop, Halt, OnEnded, OnClosed, OnFailed, Course, Turn, turn, follows, went, turned_unless, run, asks, opens, begun, Caller}
+use Rattle.loop_model.specs.Loops.{Plan, Loop, Halt, OnEnded, OnClosed, OnFailed, Course, Turn, turn, follows, went, turned_unless, run, asks, opens, begun}
+use Rattle.loop_model.specs.Loops.{Caller}
 use Rattle.loop_model.specs.Parts.{opened_in, opened_by, Rises, newest}
 use Rattle.loop_session.specs.declared.loop_fault.LoopFault.{LoopFault}
 use Rattle.loop_session.specs.declared.loop_fault.LoopFault.TheVariants.{Wires, Sink, NoMemory}
@@ -196,10 +197,14 @@ loop_outside_of a = record { held = a.seen.held; sunk = a.seen.sunk; calls = a.s
 
 -- how a loop that serves ends
 abbrev pub Serves : Plan → Around → Around → List Mind → (words left : Stream) → List ℕ → Result Served LoopFault → Type 0
-Serves plan a b minds words left address (Ok served) = HasServed (loop_outside_of a) (loop_outside_of b) plan address minds words served.turns (halt_for served.why)
-Serves plan a b minds words left address (Err Wires) = FailsToServe (loop_outside_of a) (loop_outside_of b) plan address minds words left × Rose a.turns_failed b.turns_failed
-Serves plan a b minds words left address (Err Sink) = BreaksOffServing (loop_outside_of a) (loop_outside_of b) plan address minds words × Rose a.seen.sunk b.seen.sunk
-Serves plan a b minds words left address (Err (NoMemory want)) = BreaksOffServing (loop_outside_of a) (loop_outside_of b) plan address minds words × (a.seen.sunk ≤ b.seen.sunk)
+Serves plan a b minds words left address (Ok served) =
+    HasServed (loop_outside_of a) (loop_outside_of b) plan address minds words served.turns (halt_for served.why)
+Serves plan a b minds words left address (Err Wires) =
+    FailsToServe (loop_outside_of a) (loop_outside_of b) plan address minds words left × Rose a.turns_failed b.turns_failed
+Serves plan a b minds words left address (Err Sink) =
+    BreaksOffServing (loop_outside_of a) (loop_outside_of b) plan address minds words × Rose a.seen.sunk b.seen.sunk
+Serves plan a b minds words left address (Err (NoMemory want)) =
+    BreaksOffServing (loop_outside_of a) (loop_outside_of b) plan address minds words × (a.seen.sunk ≤ b.seen.sunk)
 
 -- the opening of a dial: the clock's answer before it, and what it meets
 abbrev pub opening_over_kept_ends : Plan → Caller → Course KEnd → ℕ → ℕ × Met → Out (Course KEnd)
@@ -217,8 +222,10 @@ pub record Opened (plan : Plan) (caller : Caller) (a b : Around) (c : Course KEn
 abbrev pub Opens : Plan → Caller → Around → Around → Course KEnd → ℕ → Loop KEnd → ℕ → Result Bool LoopFault → Type 0
 Opens plan caller a b c conn l n (Ok stays) = Opened plan caller a b c conn l n (halt_if stays)
 Opens plan caller a b c conn l n (Err Wires) = ⊥
-Opens plan caller a b c conn l n (Err Sink) = WentOff (opening_over_kept_ends plan caller c conn) (λ x cut. LiesIn (opening_over_kept_ends plan caller c conn x) cut) a b Sink
-Opens plan caller a b c conn l n (Err (NoMemory want)) = WentOff (opening_over_kept_ends plan caller c conn) (λ x cut. LiesIn (opening_over_kept_ends plan caller c conn x) cut) a b (NoMemory want)
+Opens plan caller a b c conn l n (Err Sink) =
+    WentOff (opening_over_kept_ends plan caller c conn) (λ x cut. LiesIn (opening_over_kept_ends plan caller c conn x) cut) a b Sink
+Opens plan caller a b c conn l n (Err (NoMemory want)) =
+    WentOff (opening_over_kept_ends plan caller c conn) (λ x cut. LiesIn (opening_over_kept_ends plan caller c conn x) cut) a b (NoMemory want)
 
 -- how a loop that dials ends
 abbrev pub Dials : Plan → Caller → Around → Around → List Mind → (words left : Stream) → List ℕ → Result Served LoopFault → Type 0

@@ -25,4 +25,5 @@ numbers_until moment pairs = map (λ p. p.1) (filter (λ p. nat_le p.0 moment) p
 -- the first moment is none where no pair is there; it is that of a pair, and no pair's is before it
 abbrev pub IsFirstWakeTime : BTreeSet (ℕ × ℕ) → Option ℕ → Type 0
 IsFirstWakeTime pairs None = (moment number : ℕ) → has_wake_time pairs moment number ≡ false
-IsFirstWakeTime pairs (Some first) = ((number : ℕ) × (has_wake_time pairs first number ≡ true)) × ((moment number : ℕ) → has_wake_time pairs moment number ≡ true → first ≤ moment)
+IsFirstWakeTime pairs (Some first) = ((number : ℕ) × (has_wake_time pairs first number ≡ true))
+    × ((moment number : ℕ) → has_wake_time pairs moment number ≡ true → first ≤ moment)

@@ -10,9 +10,9 @@ ghost use Rattle.readiness_loop.specs.Lives.{sessions_in, IsSeated, HasAllWakeTi
 use crate::wake_times::WakeTimes;
 use er_base::NoMemory;
 use er_users::SafeUser;
+use journal::Journal;
 use loop_io::{Visit, Workspace, visit_session};
 use loop_session::{LoopFault, Session, When};
-use outside::Outside;
 use safety_automaton::KeyFinder;
 use slab::Slab;
 use std::alloc::Global;
@@ -77,7 +77,7 @@ impl<U: SafeUser> Book<U> {
 
     // The session of this number is visited, where there is one.
     #[tactic(auto, using(crate::proofs::Quiets::keeps_all))]
-    pub(crate) fn visit<K: KeyFinder, O: Outside>(
+    pub(crate) fn visit<K: KeyFinder, O: Journal>(
         &mut self,
         number: u64,
         reason: Visit,
@@ -118,7 +118,7 @@ impl<U: SafeUser> Book<U> {
 
     // The sessions are visited whose moment has come, one after the other in rising number.
     #[tactic(auto, using(crate::proofs::Sweeps::want_stopped, crate::proofs::Quiets::keeps_all))]
-    pub(crate) fn sweep<K: KeyFinder, O: Outside>(
+    pub(crate) fn sweep<K: KeyFinder, O: Journal>(
         &mut self,
         reason: Visit,
         sequence: &mut Vec<u64>,
@@ -140,7 +140,7 @@ impl<U: SafeUser> Book<U> {
     }
 
     // The sessions of these numbers are visited, one after the other.
-    fn visit_all<K: KeyFinder, O: Outside>(
+    fn visit_all<K: KeyFinder, O: Journal>(
         &mut self,
         sequence: &[u64],
         reason: Visit,

@@ -12,14 +12,14 @@ use crate::live_loop::LiveLoop;
 use crate::loop_plan::{LoopPlan, see_settings};
 use crate::serving::write_header;
 use er_users::SafeUser;
+use journal::Journal;
 use loop_model::laws;
 use loop_session::LoopFault;
-use outside::Outside;
 use safety_automaton::PairKey;
 use std::alloc::Global;
 
 // A loop that dials, over users of any one type.
-fn dial_users<U: SafeUser, O: Outside>(
+fn dial_users<U: SafeUser, O: Journal>(
     alloc: Global,
     pair: &PairKey,
     plan: &LoopPlan,
@@ -61,7 +61,7 @@ fn dial_users<U: SafeUser, O: Outside>(
 }
 
 /// Begins a connection to the peer at this address, and calls with the key of this pair and the last of the users.
-pub fn dial<O: Outside>(
+pub fn dial<O: Journal>(
     alloc: Global,
     pair: &PairKey,
     plan: &LinePlan,

@@ -23,6 +23,7 @@ use er_base::{Moment, NoMemory};
 use er_end::End;
 use er_trace::Event;
 use er_users::SafeUser;
+use journal::Journal;
 use link_trait::{Conn, Happening};
 use loop_io::{Visit, Workspace};
 use loop_session::{LoopFault, Session, When, write_event};
@@ -138,7 +139,7 @@ impl<U: SafeUser> LiveLoop<U> {
     // Before a turn: the sessions whose deadline has come are ticked, then those whose closing moment has come are closed. The first moment
     // at which one of those that are left is to be visited.
     #[tactic(auto, using(crate::proofs::Befores::before_did, crate::proofs::Befores::before_breaks_first, crate::proofs::Befores::before_breaks_then, crate::proofs::Befores::nobody_due, crate::proofs::Quiets::keeps_all, crate::proofs::Quiets::keeps_then))]
-    fn before<K: KeyFinder, O: Outside>(
+    fn before<K: KeyFinder, O: Journal>(
         &mut self,
         keys: &K,
         plan: &LoopPlan,
@@ -181,7 +182,7 @@ impl<U: SafeUser> LiveLoop<U> {
 
     // A connection gets no session: its event, and it is closed.
     #[tactic(auto, using(crate::proofs::Acceptings::away_breaks, crate::proofs::Acceptings::away_acted, crate::proofs::Quiets::keeps_printed, crate::proofs::Quiets::keeps_away))]
-    pub(crate) fn turn_away<O: Outside>(
+    pub(crate) fn turn_away<O: Journal>(
         &mut self,
         conn: Conn,
         why: Event,
@@ -207,7 +208,7 @@ impl<U: SafeUser> LiveLoop<U> {
 
     // A connection gets a session, with this user and this random word.
     #[tactic(auto, using(crate::proofs::Quiets::keeps_all, crate::proofs::Quiets::keeps_printed))]
-    fn answer<O: Outside>(
+    fn answer<O: Journal>(
         &mut self,
         alloc: Global,
         conn: Conn,
@@ -247,7 +248,7 @@ impl<U: SafeUser> LiveLoop<U> {
 
     // A connection was accepted.
     #[tactic(auto, using(crate::proofs::Quiets::leaves_kept, crate::proofs::Quiets::leaves_drawn))]
-    fn accept<O: Outside>(
+    fn accept<O: Journal>(
         &mut self,
         alloc: Global,
         conn: Conn,
@@ -280,7 +281,7 @@ impl<U: SafeUser> LiveLoop<U> {
 
     // What happened is handled whole.
     #[tactic(auto, using(crate::proofs::Turning::react_accept, crate::proofs::Turning::react_read, crate::proofs::Turning::react_write, crate::proofs::Turning::react_quiet, crate::proofs::Turning::react_ended, crate::proofs::Turning::react_failed, crate::proofs::Quiets::leaves_kept, crate::proofs::Quiets::leaves_all))]
-    fn react<K: KeyFinder, O: Outside>(
+    fn react<K: KeyFinder, O: Journal>(
         &mut self,
         alloc: Global,
         happening: Happening,
@@ -336,7 +337,7 @@ impl<U: SafeUser> LiveLoop<U> {
     }
 
     // The turn, and what follows it.
-    fn turn<K: KeyFinder, O: Outside>(
+    fn turn<K: KeyFinder, O: Journal>(
         &mut self,
         alloc: Global,
         until: Option<u64>,
@@ -359,7 +360,7 @@ impl<U: SafeUser> LiveLoop<U> {
     }
 
     // One turn, with what comes before and behind it.
-    fn go<K: KeyFinder, O: Outside>(
+    fn go<K: KeyFinder, O: Journal>(
         &mut self,
         alloc: Global,
         keys: &K,
@@ -381,7 +382,7 @@ impl<U: SafeUser> LiveLoop<U> {
     }
 
     // All turns of the plan, unless the loop stops before.
-    pub(crate) fn run<K: KeyFinder, O: Outside>(
+    pub(crate) fn run<K: KeyFinder, O: Journal>(
         &mut self,
         alloc: Global,
         keys: &K,

@@ -12,10 +12,10 @@ use er_base::NoMemory;
 use er_end::End;
 use er_trace::Event;
 use er_users::SafeUser;
+use journal::Journal;
 use link_trait::Conn;
 use loop_io::begin_call;
 use loop_session::{Called, LoopFault, Session, When};
-use outside::Outside;
 use safety_automaton::PairKey;
 use std::alloc::Global;
 
@@ -35,7 +35,7 @@ fn begun_session<U: SafeUser>(
 impl<U: SafeUser> LiveLoop<U> {
     // The connection gets a session, whose end calls, with this user and the next random word. Whether it stays.
     #[tactic(auto, using(crate::proofs::Quiets::leaves_word, crate::proofs::Quiets::leaves_drawn))]
-    fn call<O: Outside>(
+    fn call<O: Journal>(
         &mut self,
         alloc: Global,
         conn: Conn,
@@ -87,7 +87,7 @@ impl<U: SafeUser> LiveLoop<U> {
     }
 
     // The one connection of a dial was opened: its session begins, or it is closed. Whether it stays.
-    pub(crate) fn open<O: Outside>(
+    pub(crate) fn open<O: Journal>(
         &mut self,
         alloc: Global,
         conn: Conn,

@@ -15,6 +15,7 @@ use er_base::EtcsNumber;
 use er_settings::Settings;
 use er_trace::print_header;
 use er_users::SafeUser;
+use journal::Journal;
 use key_store::KeyStore;
 use loop_model::laws;
 use loop_session::{LoopFault, write_lines};
@@ -37,7 +38,7 @@ pub(crate) fn write_header<O: Outside>(
 }
 
 // A loop that serves, over users of any one type.
-fn serve_users<U: SafeUser, K: KeyFinder, O: Outside>(
+fn serve_users<U: SafeUser, K: KeyFinder, O: Journal>(
     alloc: Global,
     keys: &K,
     plan: &LoopPlan,
@@ -72,7 +73,7 @@ fn serve_users<U: SafeUser, K: KeyFinder, O: Outside>(
 
 /// Listens at this address, and serves each connection that is accepted with a session of its own, whose user is the last of those
 /// that are left.
-pub fn serve<O: Outside>(
+pub fn serve<O: Journal>(
     alloc: Global,
     keys: &KeyStore,
     plan: &LinePlan,

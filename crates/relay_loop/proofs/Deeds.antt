@@ -1,6 +1,5 @@
 -- Lists of deeds: the acts and the lines that they are.
-use Rattle.std.proofs.Common.{◌≡◌, ◌≢◌, ◌⊎◌, ℕ, ◌==◌, if◌then◌else◌, Bool, ◌||◌, true, false, List, [], ◌∷◌, ◌++◌, refl, sym, ap, ◌∙◌, subst, append_assoc, append-nil, inl, inr, fold, flat_map}
-use Rattle.std.specs.List.{list_any}
+use Rattle.std.proofs.Common.{◌≡◌, ℕ, Bool, ◌||◌, true, false, List, [], ◌∷◌, ◌++◌, refl, sym, ap, ◌∙◌, subst, append_assoc, append-nil}
 use Rattle.std.proofs.lemmas.List.Concat.{flat_map-append}
 use Rattle.std.proofs.lemmas.List.Folds.{list_any-append}
 use Rattle.er_base.specs.declared.side.Side.{Side}
@@ -10,9 +9,9 @@ use Rattle.outside.specs.Doings.{Told, Did}
 use Rattle.outside.specs.Chains.{did_nothing, did_then}
 use Rattle.outside.specs.Scripts.{printing}
 use Rattle.relay_loop.specs.declared.fault.RelayFault.{RelayFault}
-use Rattle.relay_loop.specs.RelayLines.{RelayLine, text_of_line, text_of_lines, told_by_line, told_in_lines, opens_in_line, opens_in_lines, closes_in_line, closes_in_lines}
+use Rattle.relay_loop.specs.RelayLines.{RelayLine, text_of_line, text_of_lines, told_by_line, told_in_lines, opens_in_line, opens_in_lines, closes_in_line, closes_in_lines, ends_in_line, ends_in_lines}
 use Rattle.relay_loop.specs.Octets.{given_by_call, given_in_acts, read_by_call, read_in_acts}
-use Rattle.relay_loop.specs.RelayDeeds.{RelayDeed, Puts, Flushes, Calls, Asks, acts_from, text_left, Performs, BreaksBehind, IsLastDone, deeds_of_acts, deeds_of_lines, line_of_deed, lines_in, written_from, waiting_from, lines_written, given_by_deed, read_by_deed, closes_by_deed, given_in, octets_read_at, closes_in, octets_told_of, octets_written_of, Steadily}
+use Rattle.relay_loop.specs.RelayDeeds.{RelayDeed, Puts, Flushes, Calls, Asks, acts_from, text_left, Performs, BreaksBehind, IsLastDone, deeds_of_acts, deeds_of_lines, line_of_deed, lines_in, written_from, waiting_from, lines_written, given_by_deed, read_by_deed, closes_by_deed, loop_call_by_deed, loop_calls_in, given_in, octets_read_at, closes_in, octets_told_of, octets_written_of, Steadily}
 
 -- ---- beginnings
 
@@ -198,6 +197,13 @@ opening_more number xs ys h =
     ∙ list_any-append (opens_in_line number) (lines_written xs) (written_from (waiting_from [] xs) ys)
     ∙ or_first (opens_in_lines number (lines_written xs)) (opens_in_lines number (written_from (waiting_from [] xs) ys)) h
 
+pub ending_more : (number : ℕ) (side : Side) (xs ys : List RelayDeed) → ends_in_lines number side (lines_written xs) ≡ true
+    → ends_in_lines number side (lines_written (xs ++ ys)) ≡ true
+ending_more number side xs ys h =
+    ap (λ (o : List RelayLine). ends_in_lines number side o) (written_append [] xs ys)
+    ∙ list_any-append (ends_in_line number side) (lines_written xs) (written_from (waiting_from [] xs) ys)
+    ∙ or_first (ends_in_lines number side (lines_written xs)) (ends_in_lines number side (written_from (waiting_from [] xs) ys)) h
+
 -- ---- what was read and given
 
 pub given_append : (conn : ℕ) (xs ys : List RelayDeed) → given_in conn (xs ++ ys) ≡ given_in conn xs ++ given_in conn ys
@@ -205,6 +211,10 @@ given_append conn xs ys = flat_map-append (given_by_deed conn) xs ys
 
 pub read_append : (conn : ℕ) (xs ys : List RelayDeed) → octets_read_at conn (xs ++ ys) ≡ octets_read_at conn xs ++ octets_read_at conn ys
 read_append conn xs ys = flat_map-append (read_by_deed conn) xs ys
+
+-- of listens and turns
+pub loop_calls_append : (xs ys : List RelayDeed) (a b : List SeenCall) → loop_calls_in xs ≡ a → loop_calls_in ys ≡ b → loop_calls_in (xs ++ ys) ≡ a ++ b
+loop_calls_append xs ys a b p q = flat_map-append loop_call_by_deed xs ys ∙ rw (p, q) refl
 
 pub closes_append : (conn : ℕ) (xs ys : List RelayDeed) → closes_in conn (xs ++ ys) ≡ (closes_in conn xs || closes_in conn ys)
 closes_append conn xs ys = list_any-append (closes_by_deed conn) xs ys

@@ -6,10 +6,13 @@ pub mod WayTakes
 pub mod Results
 pub mod Deeds
 pub mod LinkSafety
+pub mod Tellings
 pub mod WayGoes
 pub mod LinkCalls
 pub mod LinkReads
 pub mod LinkGives
+pub mod Rounds
+pub mod Finishing
 pub mod Elsewhere
 pub mod RelayRings
 pub mod RelayIdles
@@ -18,4 +21,5 @@ pub mod RelayDials
 pub mod RelayTurns
 pub mod RelayRuns
 pub mod RelayMoments
+pub mod RelayCauses
 pub mod RelayLaws

@@ -1,5 +1,5 @@
 -- What is read of a connection, and the lines of what came.
-use Rattle.std.proofs.Common.{◌≡◌, ◌≢◌, ◌⊎◌, ℕ, true, false, List, [], ◌∷◌, ◌++◌, refl, sym, ap, ◌∙◌, subst, append-nil, inl, inr, Result, Ok, Err, OnOk}
+use Rattle.std.proofs.Common.{◌≡◌, ℕ, false, List, [], ◌∷◌, ◌++◌, refl, sym, ap, ◌∙◌, subst, append-nil, inl, inr, fold, Result, Ok, Err, OnOk}
 use Rattle.std.specs.Result.{MatchResult}
 use Rattle.er_base.specs.declared.side.Side.{Side}
 use Rattle.er_base.specs.declared.side.Side.TheVariants.{E, R}
@@ -11,17 +11,19 @@ use Rattle.relay_model.specs.Carried.{carried}
 use Rattle.relay_loop.specs.declared.fault.RelayFault.{RelayFault}
 use Rattle.relay_loop.specs.declared.way.Way.{Way}
 use Rattle.relay_loop.specs.declared.link.Link.{Link}
-use Rattle.relay_loop.specs.RelayLines.{RelayLine, Heading, Opening, Received, Given, SideEnd, Closing, told_by_line, told_in_lines}
+use Rattle.relay_loop.specs.RelayLines.{RelayLine, Heading, Opening, Received, Given, SideEnd, Closing, told_in_lines}
 use Rattle.relay_loop.specs.Octets.{read_in_acts}
-use Rattle.relay_loop.specs.Reading.{AreReadsOf, Hears, HearsOnly, IsNews, AreNews, PutsNews}
-use Rattle.relay_loop.specs.WaySteps.{WayMoves}
-use Rattle.relay_loop.specs.RelayDeeds.{RelayDeed, Performs, deeds_of_acts, deeds_of_lines, given_in, octets_read_at, closes_in, octets_told_of, octets_written_of, AreOfVisit, IsLastDone, Steadily}
-use Rattle.relay_loop.specs.Links.{IsSafe, HoldsLink, Visits, BreaksVisit, EndsVisit}
+use Rattle.relay_loop.specs.Reading.{AreReadsOf, EndsAsTold, Hears, HearsOnly, AreNews, PutsNews}
+use Rattle.relay_loop.specs.WaySteps.{WayMoves, StaysOpen}
+use Rattle.relay_loop.specs.RelayDeeds.{RelayDeed, Performs, deeds_of_acts, deeds_of_lines, given_in, octets_read_at, closes_in, octets_told_of, AreOfVisit, IsLastDone, Steadily, socket_behind, socket_in}
+use Rattle.relay_loop.specs.Links.{IsSafe, HoldsLink, Visits, BreaksVisit, VisitsOn, EndsVisit}
+use Rattle.relay_loop.specs.Settled.{SocketTold, told_by_act}
 use Rattle.relay_loop.proofs.WayCalls.{moves_none}
 use Rattle.relay_loop.proofs.Deeds.{begins_then, performs_lines, breaks_here, written_more, closing_more, given_acts, read_acts, read_append, told_acts, told_lines, given_lines_nothing, closes_lines_nothing, steadily_last}
 use Rattle.relay_loop.proofs.LinkSafety.{NoReads, no_reads_e, no_reads_r, given_still, told_still, closes_still, IsPlain, steady_segment, still_behind}
 use Rattle.relay_loop.proofs.WayGoes.{moves_go, rests_go, performs_acts, reads_are, reads_give_nothing, reads_elsewhere, reads_close_nothing, reads_of_visit, reads_steady}
-use Rattle.relay_loop.proofs.LinkCalls.{visits_then, link_goes}
+use Rattle.relay_loop.proofs.LinkCalls.{on_then, link_goes}
+use Rattle.relay_loop.proofs.Tellings.{AreSilent, acts_tell, lines_silent, reads_silent, stays_none, flags_on, flags_read_e, flags_read_r, knows_silent, knows_read_e, knows_read_r}
 
 -- ---- safe behind what was read
 
@@ -78,6 +80,12 @@ safe_read_r script link done acts only of_r l =
     (read_none script E link.e.0 link.number done acts (reads_elsewhere link.r.0 link.e.0 acts (λ same. l.parted (sym same)) only) l.safe.carried_of_e)
     (read_more script R link.r.0 link.number done acts of_r) l.safe
 
+as_told : (conn : ℕ) (done : List RelayDeed) (acts : List Act) (old new : Way)
+    → EndsAsTold old new (socket_in conn done) (fold (told_by_act conn) (socket_in conn done) acts)
+    → EndsAsTold old new (socket_in conn done) (socket_behind conn (socket_in conn done) (deeds_of_acts acts))
+as_told conn done acts old new h =
+    subst (λ (t : SocketTold). EndsAsTold old new (socket_in conn done) t) (sym (acts_tell conn acts (socket_in conn done))) h
+
 reads_e : (script : Script) (link : Link) (way : Way) (waiting : List ℕ) (before now : Told) → Hears script link.e.0 link.from_e way before now
     → Visits script link (record link { from_e = way }) waiting waiting before now
 reads_e script link way waiting before now h =
@@ -95,7 +103,8 @@ reads_e script link way waiting before now h =
           link_goes script done (deeds_of_acts h.acts) link (record link { from_e = way }) (read_in_acts link.e.0 h.acts) [] [] [] [] [] refl refl refl
           (read_acts link.e.0 h.acts) (told_acts link.number E h.acts) (gives link.r.0)
           (read_acts link.r.0 h.acts ∙ reads_elsewhere link.e.0 link.r.0 h.acts l.parted h.only) (told_acts link.number R h.acts) (gives link.e.0)
-          (moves_go script (read_in_acts link.e.0 h.acts) [] link.from_e way h.moves) (rests_go script link.from_r) (safe done l) l;
+          (moves_go script (read_in_acts link.e.0 h.acts) [] link.from_e way h.moves) (rests_go script link.from_r) (safe done l)
+          (flags_read_e done (deeds_of_acts h.acts) link way (as_told link.e.0 done h.acts link.from_e way (h.ends (socket_in link.e.0 done))) l.flags) l;
       steady = λ done l. reads_steady (IsSafe script link.number link.e.0 link.r.0) link.e.0 done h.acts h.only l.safe (safe done l);
     }
 
@@ -116,9 +125,30 @@ reads_r script link way waiting before now h =
           link_goes script done (deeds_of_acts h.acts) link (record link { from_r = way }) [] [] [] (read_in_acts link.r.0 h.acts) [] [] refl refl refl
           (read_acts link.e.0 h.acts ∙ reads_elsewhere link.r.0 link.e.0 h.acts (λ same. l.parted (sym same)) h.only) (told_acts link.number E h.acts) (gives link.r.0)
           (read_acts link.r.0 h.acts) (told_acts link.number R h.acts) (gives link.e.0)
-          (rests_go script link.from_e) (moves_go script (read_in_acts link.r.0 h.acts) [] link.from_r way h.moves) (safe done l) l;
+          (rests_go script link.from_e) (moves_go script (read_in_acts link.r.0 h.acts) [] link.from_r way h.moves) (safe done l)
+          (flags_read_r done (deeds_of_acts h.acts) link way (as_told link.r.0 done h.acts link.from_r way (h.ends (socket_in link.r.0 done))) l.flags) l;
       steady = λ done l. reads_steady (IsSafe script link.number link.e.0 link.r.0) link.r.0 done h.acts h.only l.safe (safe done l);
     }
+
+reads_on_e : (script : Script) (link : Link) (way : Way) (waiting : List ℕ) (before now : Told) → Hears script link.e.0 link.from_e way before now
+    → VisitsOn script link (record link { from_e = way }) waiting waiting before now
+unfolding reads_e
+reads_on_e script link way waiting before now h = record {
+  visits = reads_e script link way waiting before now h;
+  knows = λ done l k.
+      knows_read_e done (deeds_of_acts h.acts) link way (reads_silent link.e.0 link.r.0 h.acts l.parted h.only)
+      (as_told link.e.0 done h.acts link.from_e way (h.ends (socket_in link.e.0 done))) k;
+}
+
+reads_on_r : (script : Script) (link : Link) (way : Way) (waiting : List ℕ) (before now : Told) → Hears script link.r.0 link.from_r way before now
+    → VisitsOn script link (record link { from_r = way }) waiting waiting before now
+unfolding reads_r
+reads_on_r script link way waiting before now h = record {
+  visits = reads_r script link way waiting before now h;
+  knows = λ done l k.
+      knows_read_r done (deeds_of_acts h.acts) link way (reads_silent link.r.0 link.e.0 h.acts (λ same. l.parted (sym same)) h.only)
+      (as_told link.r.0 done h.acts link.from_r way (h.ends (socket_in link.r.0 done))) k;
+}
 
 -- ---- lines of what came
 
@@ -162,52 +192,69 @@ plain_steady script link xs plain open_e open_r done l =
 -- while what is kept of the ways moves
 pub plain_holds : (script : Script) (old new : Link) (xs : List RelayDeed) → IsPlain old.number old.e.0 old.r.0 xs → closes_in old.e.0 xs ≡ false
     → closes_in old.r.0 xs ≡ false → new.number ≡ old.number → new.e ≡ old.e → new.r ≡ old.r → WayMoves script [] [] old.from_e new.from_e
-    → WayMoves script [] [] old.from_r new.from_r → (done : List RelayDeed) → HoldsLink script done old → HoldsLink script (done ++ xs) new
-plain_holds script old new xs plain open_e open_r number e r moves_e moves_r done l =
+    → WayMoves script [] [] old.from_r new.from_r → StaysOpen old.from_e new.from_e → StaysOpen old.from_r new.from_r → (done : List RelayDeed)
+    → HoldsLink script done old → HoldsLink script (done ++ xs) new
+plain_holds script old new xs plain open_e open_r number e r moves_e moves_r stays_e stays_r done l =
     link_goes script done xs old new [] [] [] [] [] [] number e r (no_reads_e old.e.0 old.r.0 xs plain.unread) plain.told_e plain.given_r
     (no_reads_r old.e.0 old.r.0 xs plain.unread) plain.told_r plain.given_e (moves_go script [] [] old.from_e new.from_e moves_e)
     (moves_go script [] [] old.from_r new.from_r moves_r)
-    (steadily_last (IsSafe script old.number old.e.0 old.r.0) done xs (plain_steady script old xs plain open_e open_r done l)) l
+    (steadily_last (IsSafe script old.number old.e.0 old.r.0) done xs (plain_steady script old xs plain open_e open_r done l))
+    (flags_on done xs old new e r stays_e stays_r l.flags) l
 
 pub plain_visit : (script : Script) (old new : Link) (waiting left : List ℕ) (before now : Told) (xs : List RelayDeed) → Performs waiting left before now xs
     → AreOfVisit old.number old.e.0 old.r.0 xs → IsPlain old.number old.e.0 old.r.0 xs → closes_in old.e.0 xs ≡ false → closes_in old.r.0 xs ≡ false
     → new.number ≡ old.number → new.e ≡ old.e → new.r ≡ old.r → WayMoves script [] [] old.from_e new.from_e → WayMoves script [] [] old.from_r new.from_r
-    → Visits script old new waiting left before now
-plain_visit script old new waiting left before now xs performs only plain open_e open_r number e r moves_e moves_r = record {
+    → StaysOpen old.from_e new.from_e → StaysOpen old.from_r new.from_r → Visits script old new waiting left before now
+plain_visit script old new waiting left before now xs performs only plain open_e open_r number e r moves_e moves_r stays_e stays_r = record {
   deeds = xs;
   performs = performs;
   only = only;
   number = number;
   e = e;
   r = r;
-  holds = plain_holds script old new xs plain open_e open_r number e r moves_e moves_r;
+  holds = plain_holds script old new xs plain open_e open_r number e r moves_e moves_r stays_e stays_r;
   steady = plain_steady script old xs plain open_e open_r;
 }
 
-pub news_visit : (script : Script) (number : ℕ) (old new : Link) (waiting left : List ℕ) (t : Told) → number ≡ old.number → PutsNews number waiting left → new.number ≡ old.number
-    → new.e ≡ old.e → new.r ≡ old.r → WayMoves script [] [] old.from_e new.from_e → WayMoves script [] [] old.from_r new.from_r
-    → Visits script old new waiting left t t
-news_visit script number old new waiting left t own p same e r moves_e moves_r =
-    let are : AreNews old.number p.news = subst (λ (n : ℕ). AreNews n p.news) own p.are in
-    plain_visit script old new waiting left t t (deeds_of_lines p.news) (performs_lines waiting left p.news t p.is)
-    (news_of_visit old.number old.e.0 old.r.0 p.news are) (news_plain old.number old.e.0 old.r.0 p.news are)
-    (closes_lines_nothing old.e.0 p.news) (closes_lines_nothing old.r.0 p.news) same e r moves_e moves_r
+-- of which neither socket tells anything
+plain_on : (script : Script) (old new : Link) (waiting left : List ℕ) (before now : Told) (xs : List RelayDeed) → Performs waiting left before now xs
+    → AreOfVisit old.number old.e.0 old.r.0 xs → IsPlain old.number old.e.0 old.r.0 xs → closes_in old.e.0 xs ≡ false → closes_in old.r.0 xs ≡ false
+    → new.number ≡ old.number → new.e ≡ old.e → new.r ≡ old.r → WayMoves script [] [] old.from_e new.from_e → WayMoves script [] [] old.from_r new.from_r
+    → StaysOpen old.from_e new.from_e → StaysOpen old.from_r new.from_r → AreSilent old.e.0 xs → AreSilent old.r.0 xs
+    → VisitsOn script old new waiting left before now
+unfolding plain_visit
+plain_on script old new waiting left before now xs performs only plain open_e open_r number e r moves_e moves_r stays_e stays_r silent_e silent_r = record {
+  visits = plain_visit script old new waiting left before now xs performs only plain open_e open_r number e r moves_e moves_r stays_e stays_r;
+  knows = λ done l k. knows_silent done xs old new e r silent_e silent_r stays_e stays_r k;
+}
+
+pub news_of : (number e r : ℕ) (at : ℕ) (lines : List RelayLine) → at ≡ number → AreNews at lines → AreOfVisit number e r (deeds_of_lines lines)
+news_of number e r at lines own are = news_of_visit number e r lines (subst (λ (n : ℕ). AreNews n lines) own are)
+
+pub news_on : (script : Script) (number : ℕ) (link : Link) (waiting left : List ℕ) (t : Told) → number ≡ link.number → PutsNews number waiting left
+    → VisitsOn script link link waiting left t t
+news_on script number link waiting left t own p =
+    let are : AreNews link.number p.news = subst (λ (n : ℕ). AreNews n p.news) own p.are in
+    plain_on script link link waiting left t t (deeds_of_lines p.news) (performs_lines waiting left p.news t p.is)
+    (news_of_visit link.number link.e.0 link.r.0 p.news are) (news_plain link.number link.e.0 link.r.0 p.news are)
+    (closes_lines_nothing link.e.0 p.news) (closes_lines_nothing link.r.0 p.news) refl refl refl (moves_none script link.from_e) (moves_none script link.from_r)
+    (stays_none link.from_e) (stays_none link.from_r) (lines_silent link.e.0 p.news) (lines_silent link.r.0 p.news)
 
 -- ---- a read with its lines
 
 pub hears_e : (script : Script) (number : ℕ) (link : Link) (way : Way) (waiting left : List ℕ) (before now : Told) → number ≡ link.number
-    → Hears script link.e.0 link.from_e way before now → PutsNews number waiting left → Visits script link (record link { from_e = way }) waiting left before now
+    → Hears script link.e.0 link.from_e way before now → PutsNews number waiting left → VisitsOn script link (record link { from_e = way }) waiting left before now
 hears_e script number link way waiting left before now own h p =
     let new : Link = record link { from_e = way } in
-    visits_then script link new new waiting waiting left before now now (reads_e script link way waiting before now h)
-    (news_visit script number new new waiting left now own p refl refl refl (moves_none script way) (moves_none script link.from_r))
+    on_then script link new new waiting waiting left before now now (reads_on_e script link way waiting before now h)
+    (news_on script number new waiting left now own p)
 
 pub hears_r : (script : Script) (number : ℕ) (link : Link) (way : Way) (waiting left : List ℕ) (before now : Told) → number ≡ link.number
-    → Hears script link.r.0 link.from_r way before now → PutsNews number waiting left → Visits script link (record link { from_r = way }) waiting left before now
+    → Hears script link.r.0 link.from_r way before now → PutsNews number waiting left → VisitsOn script link (record link { from_r = way }) waiting left before now
 hears_r script number link way waiting left before now own h p =
     let new : Link = record link { from_r = way } in
-    visits_then script link new new waiting waiting left before now now (reads_r script link way waiting before now h)
-    (news_visit script number new new waiting left now own p refl refl refl (moves_none script link.from_e) (moves_none script way))
+    on_then script link new new waiting waiting left before now now (reads_on_r script link way waiting before now h)
+    (news_on script number new waiting left now own p)
 
 -- memory ran out behind a read
 pub hears_only_e : (fault : RelayFault) (script : Script) (link : Link) (waiting : List ℕ) (before now : Told) → IsLastDone fault []

@@ -1,5 +1,5 @@
 -- One way of a connection whose other side didn't fail, call by call.
-use Rattle.std.proofs.Common.{◌≡◌, ◌⊎◌, ℕ, Bool, true, false, List, [], ◌∷◌, ◌++◌, refl, sym, ap, ◌∙◌, subst, append_assoc, append-nil, take, drop, true≢false, flat_map, inl, inr}
+use Rattle.std.proofs.Common.{◌≡◌, ◌⊎◌, ◌≤◌, arith, ℕ, Bool, true, false, List, [], ◌∷◌, ◌++◌, refl, sym, ap, ◌∙◌, subst, append_assoc, append-nil, take, drop, true≢false, flat_map, inl, inr}
 use Rattle.std.proofs.lemmas.List.{take-append-drop}
 use Rattle.std.proofs.lemmas.List.Concat.{flat_map-append}
 use Rattle.er_base.specs.declared.side.Side.{Side}
@@ -9,10 +9,12 @@ use Rattle.relay_model.specs.Units.{parts_from}
 use Rattle.relay_model.specs.Loads.{loads_from}
 use Rattle.relay_model.specs.Carried.{loads_of_sent, octets_of_loads, given_of_sent, is_closed_by, carried}
 use Rattle.relay_model.specs.Laws.{ClosedStays}
+use Rattle.relay_carrier.specs.Prompt.{NoneDelays}
 use Rattle.relay_carrier.specs.Standing.{KCarrier, StandsBehind, TakesBehind, Ends}
 use Rattle.relay_loop.specs.declared.piece.Piece.{Piece}
 use Rattle.relay_loop.specs.declared.way.Way.{Way}
-use Rattle.relay_loop.specs.Ways.{octets_of_pieces, given_so_far, HoldsLive}
+use Rattle.relay_loop.specs.Settled.{given_so_far}
+use Rattle.relay_loop.specs.Ways.{octets_of_pieces, AreDueBy, HoldsLive}
 use Rattle.relay_loop.specs.WaySteps.{Keeps}
 
 -- ---- pieces
@@ -83,11 +85,30 @@ pub closed_by_line : (script : Script) (came told gave : List ℕ) (way : Way) �
 closed_by_line script came told gave way l unended closed =
     ap (λ (s : Side). is_closed_by script s came) (sym (l.side unended)) ∙ sym (l.stands unended).closed ∙ closed
 
+-- ---- moments
+
+pub due_by_more : (moment later : ℕ) (pieces : List Piece) → moment ≤ later → AreDueBy moment pieces → AreDueBy later pieces
+due_by_more moment later [] less due = tt
+due_by_more moment later (piece ∷ pieces) less due = (omega (arith, less, due.0), due_by_more moment later pieces less due.1)
+
+pub due_last : (most : ℕ) (pieces : List Piece) (piece : Piece) → AreDueBy most pieces → piece.due ≤ most → AreDueBy most (pieces ++ piece ∷ [])
+due_last most [] piece due by = (by, tt)
+due_last most (first ∷ pieces) piece due by = (due.0, due_last most pieces piece due.1 by)
+
+at_most_more : (n moment later : ℕ) → n ≤ moment → moment ≤ later → n ≤ later
+at_most_more n moment later first second = omega (arith, first, second)
+
+none_of_side : (script : Script) (a b : Side) → a ≡ b → NoneDelays a script.lines → NoneDelays b script.lines
+none_of_side script a b same none = subst (λ (s : Side). NoneDelays s script.lines) same none
+
 -- ---- calls
 
 pub new_live : (script : Script) (way : Way) → way.ended ≡ false → way.carrier.side ≡ way.side → StandsBehind script [] way.carrier
-    → way.printed.items ≡ [] → way.waits.items ≡ [] → HoldsLive script [] [] [] way
-new_live script way unended side stands printed waits = record {
+    → way.printed.items ≡ [] → way.waits.items ≡ [] → way.closing ≡ false → way.carrier.newest ≡ 0 → HoldsLive script [] [] [] way
+new_live script way unended side stands printed waits closing newest = record {
+  closed = λ c. ap (λ (s : Side). is_closed_by script s []) (sym side) ∙ (sym stands.closed ∙ c);
+  last = λ c. absurd (true≢false (sym c ∙ closing));
+  prompt = λ none. record { newest = λ _. omega (arith, newest); waits = rw waits tt };
   side = λ _. side;
   stands = λ _. stands;
   told_is = sym printed;
@@ -99,16 +120,39 @@ pub given_unended : (script : Script) (came told gave : List ℕ) (way : Way) �
 given_unended script came told gave way l unended =
     subst (λ (b : Bool). told ++ octets_of_pieces way.waits.items ≡ given_so_far script way.side b came) unended l.given_is
 
-pub takes_live : (script : Script) (old new : Way) (carrier : KCarrier) (moment due : ℕ) (octets given : List ℕ) → old.ended ≡ false
-    → TakesBehind script old.carrier carrier moment octets given due → carrier.side ≡ old.carrier.side → Keeps (record old { carrier = carrier }) new given
+-- a carrier whose side no line delays
+abbrev pub IsPromptTake : Script → (old : KCarrier) → (moment due : ℕ) → Type 0
+IsPromptTake script old moment due =
+    (came : List ℕ) → StandsBehind script came old → NoneDelays old.side script.lines → (most : ℕ) → old.newest ≤ most → moment ≤ most → due ≤ most
+
+pub takes_live : (script : Script) (old new : Way) (carrier : KCarrier) (moment due latest : ℕ) (octets given : List ℕ) → old.ended ≡ false
+    → old.carrier.closed ≡ false → moment ≤ latest → old.latest ≤ latest → TakesBehind script old.carrier carrier moment octets given due
+    → IsPromptTake script old.carrier moment due → carrier.newest ≡ due → carrier.side ≡ old.carrier.side
+    → Keeps (record old { carrier = carrier; latest = latest }) new given due
     → (came told gave : List ℕ) → HoldsLive script came told gave old → HoldsLive script (came ++ octets) told gave new
-takes_live script old new carrier moment due octets given unended takes sided k came told gave l =
+takes_live script old new carrier moment due latest octets given unended unclosed at later takes prompt newest sided k came told gave l =
     let t = takes came (l.stands unended) in
     let same : old.carrier.side ≡ old.side = l.side unended in
     let before = given_unended script came told gave old l unended in
     let gives : given_of_sent script old.side (came ++ octets) ≡ given_of_sent script old.side came ++ given =
     subst (λ (s : Side). given_of_sent script s (came ++ octets) ≡ given_of_sent script s came ++ given) same t.gives in
+    let by : (none : NoneDelays new.side script.lines) → due ≤ latest =
+    λ none.
+    let own = none_of_side script new.side old.side k.side none in
+    prompt came (l.stands unended) (none_of_side script old.side old.carrier.side (sym same) own) latest
+    (at_most_more old.carrier.newest old.latest latest ((l.prompt own).newest unended) later) at in
     record {
+      closed = λ c.
+          ap (λ (s : Side). is_closed_by script s (came ++ octets)) (sym (sided ∙ same ∙ sym k.side))
+          ∙ (sym t.stands.closed ∙ (ap (λ (c : KCarrier). c.closed) (sym k.carrier) ∙ c));
+      last = λ c. absurd (true≢false (sym (l.last (sym k.closing ∙ c)).0 ∙ unclosed));
+      prompt = λ none. record {
+        newest = λ _.
+            subst (λ (n : ℕ). new.carrier.newest ≤ n) (sym k.latest)
+            (subst (λ (n : ℕ). n ≤ latest) (sym (ap (λ (c : KCarrier). c.newest) k.carrier ∙ newest)) (by none));
+        waits = subst (λ (n : ℕ). AreDueBy n new.waits.items) (sym k.latest)
+            (k.dues latest (by none) (due_by_more old.latest latest old.waits.items later (l.prompt (none_of_side script new.side old.side k.side none)).waits));
+      };
       side = λ _. ap (λ (c : KCarrier). c.side) k.carrier ∙ sided ∙ same ∙ sym k.side;
       stands = λ _. subst (λ (c : KCarrier). StandsBehind script (came ++ octets) c) (sym k.carrier) t.stands;
       told_is = l.told_is ∙ ap (λ (o : List ℕ). gave ++ o) (sym k.printed);
@@ -119,14 +163,26 @@ takes_live script old new carrier moment due octets given unended takes sided k 
     }
 
 -- the side ends: what was held of it waits too
-pub ends_live : (script : Script) (old mid : Way) (carrier : KCarrier) (given : List ℕ) → old.ended ≡ false → Ends script old.carrier given
-    → Keeps (record old { carrier = carrier }) mid given
+pub ends_live : (script : Script) (old mid : Way) (carrier : KCarrier) (moment due latest : ℕ) (given : List ℕ) → old.ended ≡ false → old.carrier.closed ≡ false
+    → moment ≤ latest → old.latest ≤ latest → Ends script old.carrier given
+    → ((most : ℕ) → old.carrier.newest ≤ most → moment ≤ most → due ≤ most) → carrier.closed ≡ old.carrier.closed
+    → Keeps (record old { carrier = carrier; latest = latest }) mid given due
     → (came told gave : List ℕ) → HoldsLive script came told gave old → HoldsLive script came told gave (record mid { ended = true })
-ends_live script old mid carrier given unended ends k came told gave l =
+ends_live script old mid carrier moment due latest given unended unclosed at later ends prompt shut k came told gave l =
     let before = given_unended script came told gave old l unended in
     let all : given_of_sent script old.side came ++ given ≡ carried script old.side came =
     subst (λ (s : Side). given_of_sent script s came ++ given ≡ carried script s came) (l.side unended) (ends came (l.stands unended)) in
     record {
+      closed = λ c. absurd (true≢false (sym c ∙ (ap (λ (c : KCarrier). c.closed) k.carrier ∙ (shut ∙ unclosed))));
+      last = λ c. absurd (true≢false (sym (l.last (sym k.closing ∙ c)).0 ∙ unclosed));
+      prompt = λ none.
+          let p = l.prompt (none_of_side script mid.side old.side k.side none) in
+          record {
+            newest = λ f. absurd (true≢false f);
+            waits = subst (λ (n : ℕ). AreDueBy n mid.waits.items) (sym k.latest)
+                (k.dues latest (prompt latest (at_most_more old.carrier.newest old.latest latest (p.newest unended) later) at)
+                (due_by_more old.latest latest old.waits.items later p.waits));
+          };
       side = λ f. absurd (true≢false f);
       stands = λ f. absurd (true≢false f);
       told_is = l.told_is ∙ ap (λ (o : List ℕ). gave ++ o) (sym k.printed);
@@ -139,6 +195,9 @@ ends_live script old mid carrier given unended ends k came told gave l =
 pub closed_ends_live : (script : Script) (old : Way) → old.ended ≡ false → old.carrier.closed ≡ true
     → (came told gave : List ℕ) → HoldsLive script came told gave old → HoldsLive script came told gave (record old { ended = true })
 closed_ends_live script old unended closed came told gave l = record {
+  closed = l.closed;
+  last = l.last;
+  prompt = λ none. record { newest = λ f. absurd (true≢false f); waits = (l.prompt none).waits };
   side = λ f. absurd (true≢false f);
   stands = λ f. absurd (true≢false f);
   told_is = l.told_is;
@@ -147,11 +206,33 @@ closed_ends_live script old unended closed came told gave l = record {
       ∙ sym (closed_carried script old.side came (closed_by_line script came told gave old l unended closed));
 }
 
+none_is_more : (piece : Piece) (pieces : List Piece) → piece ∷ pieces ≡ [] → ⊥
+none_is_more piece pieces is = let q : ⊥ = cc is in q
+
+-- what waits behind the first is none, where a line closes the connection now
+last_by : (before now : Bool) (closed : Bool) (piece : Piece) (pieces waits : List Piece) → waits ≡ piece ∷ pieces
+    → (before ≡ true → (closed ≡ true) × (waits ≡ [])) → (before ≡ false → now ≡ true → (closed ≡ true) × (pieces ≡ [])) → now ≡ true
+    → (closed ≡ true) × (pieces ≡ [])
+last_by true now closed piece pieces waits is was closes c = absurd (none_is_more piece pieces (sym is ∙ (was refl).1))
+last_by false now closed piece pieces waits is was closes c = closes refl c
+
 -- the first that waits is printed
 pub prints_live : (script : Script) (old new : Way) (piece : Piece) (octets : List ℕ) → octets ≡ piece.octets.items → new.ended ≡ old.ended
     → new.side ≡ old.side → new.carrier ≡ old.carrier → old.waits.items ≡ piece ∷ new.waits.items → new.printed.items ≡ old.printed.items ++ octets
+    → new.latest ≡ old.latest → (old.closing ≡ false → new.closing ≡ true → (old.carrier.closed ≡ true) × (new.waits.items ≡ []))
     → (came told gave : List ℕ) → HoldsLive script came told gave old → HoldsLive script came (told ++ octets) gave new
-prints_live script old new piece octets is ended side carrier waits printed came told gave l = record {
+prints_live script old new piece octets is ended side carrier waits printed latest closes came told gave l = record {
+  closed = λ c. ap (λ (s : Side). is_closed_by script s came) side ∙ l.closed (ap (λ (c : KCarrier). c.closed) (sym carrier) ∙ c);
+  last = λ c.
+      let both = last_by old.closing new.closing old.carrier.closed piece new.waits.items old.waits.items waits l.last closes c in
+      (ap (λ (c : KCarrier). c.closed) carrier ∙ both.0, both.1);
+  prompt = λ none.
+      let p = l.prompt (none_of_side script new.side old.side side none) in
+      record {
+        newest = λ f. subst (λ (n : ℕ). new.carrier.newest ≤ n) (sym latest)
+            (subst (λ (c : KCarrier). c.newest ≤ old.latest) (sym carrier) (p.newest (sym ended ∙ f)));
+        waits = subst (λ (n : ℕ). AreDueBy n new.waits.items) (sym latest) (subst (λ (w : List Piece). AreDueBy old.latest w) waits p.waits).1;
+      };
   side = λ f. ap (λ (c : KCarrier). c.side) carrier ∙ l.side (sym ended ∙ f) ∙ sym side;
   stands = λ f. subst (λ (c : KCarrier). StandsBehind script came c) (sym carrier) (l.stands (sym ended ∙ f));
   told_is = ap (λ (o : List ℕ). o ++ octets) l.told_is ∙ append_assoc gave old.printed.items octets ∙ ap (λ (o : List ℕ). gave ++ o) (sym printed);
@@ -165,9 +246,18 @@ prints_live script old new piece octets is ended side carrier waits printed came
 
 -- octets that were printed are written
 pub writes_live : (script : Script) (old new : Way) (count : ℕ) → new.ended ≡ old.ended → new.side ≡ old.side → new.carrier ≡ old.carrier
-    → new.waits.items ≡ old.waits.items → new.printed.items ≡ drop count old.printed.items
+    → new.waits.items ≡ old.waits.items → new.printed.items ≡ drop count old.printed.items → new.closing ≡ old.closing → old.latest ≤ new.latest
     → (came told gave : List ℕ) → HoldsLive script came told gave old → HoldsLive script came told (gave ++ take count old.printed.items) new
-writes_live script old new count ended side carrier waits printed came told gave l = record {
+writes_live script old new count ended side carrier waits printed closing later came told gave l = record {
+  closed = λ c. ap (λ (s : Side). is_closed_by script s came) side ∙ l.closed (ap (λ (c : KCarrier). c.closed) (sym carrier) ∙ c);
+  last = λ c. let both = l.last (sym closing ∙ c) in (ap (λ (c : KCarrier). c.closed) carrier ∙ both.0, waits ∙ both.1);
+  prompt = λ none.
+      let p = l.prompt (none_of_side script new.side old.side side none) in
+      record {
+        newest = λ f. subst (λ (c : KCarrier). c.newest ≤ new.latest) (sym carrier)
+            (at_most_more old.carrier.newest old.latest new.latest (p.newest (sym ended ∙ f)) later);
+        waits = subst (λ (w : List Piece). AreDueBy new.latest w) (sym waits) (due_by_more old.latest new.latest old.waits.items later p.waits);
+      };
   side = λ f. ap (λ (c : KCarrier). c.side) carrier ∙ l.side (sym ended ∙ f) ∙ sym side;
   stands = λ f. subst (λ (c : KCarrier). StandsBehind script came c) (sym carrier) (l.stands (sym ended ∙ f));
   told_is =

@@ -1,7 +1,9 @@
 -- A connection that was accepted is turned away, or another was dialled for it.
-use Rattle.std.proofs.Common.{◌≡◌, ◌≢◌, ◌⊎◌, ℕ, ◌+◌, ◌<◌, ◌≤◌, Bool, true, false, List, [], ◌∷◌, ◌++◌, length, Some, refl, sym, ap, ◌∙◌, subst, append_assoc, append-nil, inl, inr, arith}
+use Rattle.std.proofs.lemmas.Bool.{eq-eqb}
+use Rattle.std.proofs.Common.{◌≡◌, ◌≢◌, ℕ, ◌+◌, ◌<◌, ◌≤◌, true, List, [], ◌∷◌, ◌++◌, length, Some, refl, sym, ap, ◌∙◌, subst, append_assoc, inl, inr, arith, ◌==◌}
 use Rattle.std.proofs.lemmas.List.Sums.{fold-append}
 use Rattle.er_base.specs.declared.side.Side.{Side}
+use Rattle.er_base.specs.declared.side.Side.TheVariants.{R}
 use Rattle.link_trait.specs.declared.wires.Conn.{Conn}
 use Rattle.outside.specs.Acts.{Dialled, Closed, Called}
 use Rattle.outside.specs.Doings.{Told, Did}
@@ -9,19 +11,19 @@ use Rattle.outside.specs.Scripts.{printing}
 use Rattle.relay_script.specs.declared.script.Script.{Script}
 use Rattle.relay_loop.specs.declared.fault.RelayFault.{RelayFault}
 use Rattle.relay_loop.specs.declared.link.Link.{Link}
-use Rattle.relay_loop.specs.RelayLines.{RelayLine, Opening, SideEnd, Closing, open_line, side_end_line, closed_line, text_of_line, opens_in_lines, closes_in_lines}
-use Rattle.relay_loop.specs.Connections.{Far, Nobody, Unreached, Reached, RelayedConnection}
-use Rattle.relay_loop.specs.RelayDeeds.{RelayDeed, Puts, Flushes, Calls, Performs, BreaksBehind, IsLastDone, Steadily, lines_in, lines_written, closes_in}
-use Rattle.relay_loop.specs.Links.{HoldsLink, IsUntouched, IsUntold}
-use Rattle.relay_loop.specs.Rings.{behind_deed, connections_in, far_conn, AreOlder, AreInOrder, IsQuiet, IsSafeConnection, AllSafe, AreSafe, Differs, AllDiffer, AllHold, AllBelow, Parted, IsPaired, ArePaired, HoldsRelay, StandsRelay, IsAloneFar, IsNewest, Readies, Accepts, BreaksAccept}
-use Rattle.relay_loop.proofs.Deeds.{performs_then, performs_call, performs_flush, performs_lines, breaks_then, breaks_here, flushed, closing_more, opening_more, steadily_then}
+use Rattle.relay_loop.specs.RelayLines.{RelayLine, Opening, SideEnd, Closing, open_line, side_end_line, closed_line, text_of_line, opens_in_lines, closes_in_lines, ends_in_lines}
+use Rattle.relay_loop.specs.Connections.{Far, Nobody, Unreached, Reached, RelayedConnection, count_of_reached, AreDialledFor, IsDialledFor}
+use Rattle.relay_loop.specs.RelayDeeds.{loop_calls_in, RelayDeed, Puts, Flushes, Calls, Performs, IsLastDone, Steadily, lines_in, lines_written, closes_in}
+use Rattle.relay_loop.specs.Links.{KeepsLink, IsUntouched, IsUntold}
+use Rattle.relay_loop.specs.Rings.{behind_deed, connections_in, far_conn, AreOlder, AreInOrder, IsQuiet, IsForsaken, IsSafeConnection, AllSafe, IsOwnDeed, AreSafe, IsServed, AllServed, AllKnown, AllDiffer, AllHold, AllBelow, Parted, ArePaired, HoldsRelay, IsAloneFar, Stage, Fresh, Opened, Unanswered, Ended, StandsAt, IsToClose, IsNewest, Accepts, BreaksAccept, IsLeftClosed, AllLeft}
+use Rattle.relay_loop.proofs.Deeds.{performs_then, performs_call, breaks_here, flushed, closing_more, opening_more, ending_more, steadily_then, closes_append}
 use Rattle.relay_loop.proofs.LinkSafety.{given_still, read_still}
 use Rattle.relay_loop.proofs.LinkCalls.{safe_new}
-use Rattle.relay_loop.proofs.LinkGives.{closing_text, closing_written}
-use Rattle.relay_loop.proofs.Elsewhere.{visit_untouched, untouched_append, untold_append, connection_on, connections_on}
-use Rattle.relay_loop.proofs.RelayRings.{all_last, below_last, parted_last, above, link_on}
-use Rattle.relay_loop.proofs.RelayIdles.{mute_untouched, mute_untold, all_mute, safe_mute, mute_relay, mute_flush, mute_dial, mute_line}
-use Rattle.relay_loop.proofs.RelayAccepts.{Newest, newest_of, alone_quiet, opening_on, readies_mute, readies_flush, readies_line, readies_then}
+use Rattle.relay_loop.proofs.LinkGives.{closing_written, or_second}
+use Rattle.relay_loop.proofs.Elsewhere.{visit_untouched, untouched_append, untold_append, connection_on, own_more, settle_more, connections_on, left_on}
+use Rattle.relay_loop.proofs.RelayRings.{all_last, below_last, parted_last, above, kept_on, served_one, served_last, open_end, are_safe, known_behind, known_last, length_last}
+use Rattle.relay_loop.proofs.RelayIdles.{mute_untouched, mute_untold, all_mute, safe_mute, mute_dial, served_mute}
+use Rattle.relay_loop.proofs.RelayAccepts.{newest_of, alone_quiet, stands_on, readies_mute, readies_flush, readies_line, readies_then}
 
 -- ---- the socket is closed
 
@@ -35,7 +37,7 @@ all_close : (script : Script) (number e : ℕ) (done : List RelayDeed) (links : 
     → AllHold script (done ++ Calls (Closed e) ∷ []) links
 all_close script number e done [] differ hold = tt
 all_close script number e done (link ∷ links) differ hold = (
-  link_on script done (Calls (Closed e) ∷ []) link (closed_elsewhere number e link.e.0 (λ same. differ.0.e_e (sym same)))
+  kept_on script done (Calls (Closed e) ∷ []) link (closed_elsewhere number e link.e.0 (λ same. differ.0.e_e (sym same)))
       (closed_elsewhere number e link.r.0 (λ same. differ.0.e_r (sym same))) (nothing_told e link.number) hold.0,
   (hold.1.0, all_close script number e done links differ.1 hold.1.1),
 )
@@ -61,17 +63,45 @@ quiet_close number e done written q = record {
   untold = untold_append number done (Calls (Closed e) ∷ []) q.untold (nothing_told e number);
 }
 
-alone_safe : (script : Script) (dial : List ℕ) (done deeds : List RelayDeed) (number e : ℕ) (far : Far) → IsAloneFar far → IsSafeConnection script dial done number e far
-    → IsQuiet number e (done ++ deeds) → IsSafeConnection script dial (done ++ deeds) number e far
-alone_safe script dial done deeds number e Nobody alone before q = q
-alone_safe script dial done deeds number e (Unreached address) alone before q = (before.0, q)
-alone_safe script dial done deeds number e (Reached address r) alone before q = absurd alone
+-- nobody answered, and that was told before
+forsaken_close : (number e : ℕ) (done : List RelayDeed) → ends_in_lines number R (lines_written done) ≡ true → IsQuiet number e (done ++ Calls (Closed e) ∷ [])
+    → IsForsaken number e (done ++ Calls (Closed e) ∷ [])
+forsaken_close number e done ended q = record { quiet = q; ended = λ _. ending_more number R done (Calls (Closed e) ∷ []) ended }
 
-close_relay : (script : Script) (dial : List ℕ) (told : Bool) (number e : ℕ) (done : List RelayDeed) (now : Told) (links : List Link)
-    → closes_in_lines number (lines_written done) ≡ true → IsNewest told number e done now → HoldsRelay script dial done e links
+alone_safe : (script : Script) (dial : List ℕ) (done : List RelayDeed) (number e : ℕ) (far : Far) → IsAloneFar far
+    → ((address : List ℕ) → far ≡ Unreached address → ends_in_lines number R (lines_written done) ≡ true) → IsSafeConnection script dial done number e far
+    → IsQuiet number e (done ++ Calls (Closed e) ∷ []) → IsSafeConnection script dial (done ++ Calls (Closed e) ∷ []) number e far
+alone_safe script dial done number e Nobody alone ended before q = q
+alone_safe script dial done number e (Unreached address) alone ended before q = (before.0, forsaken_close number e done (ended address refl) q)
+alone_safe script dial done number e (Reached address r) alone ended before q = absurd alone
+
+lone_served : (script : Script) (done : List RelayDeed) (links : List Link) (number e : ℕ) (far : Far) → IsAloneFar far → IsServed script done links number e far
+lone_served script done links number e Nobody alone = tt
+lone_served script done links number e (Unreached address) alone = tt
+lone_served script done links number e (Reached address r) alone = absurd alone
+
+older_served : (script : Script) (number e : ℕ) (done : List RelayDeed) (links : List Link) (others : List RelayedConnection) → AreOlder number e others
+    → AllServed script done links others → AllServed script (done ++ Calls (Closed e) ∷ []) links others
+older_served script number e done links [] older served = tt
+older_served script number e done links (one ∷ others) older served = (
+  served_one script links done (Calls (Closed e) ∷ []) one.number one.e one.r (closed_elsewhere number e one.e (below_differs one.e e older.0.1.0))
+      (closed_elsewhere number e (far_conn one.e one.r) (below_differs (far_conn one.e one.r) e older.0.1.1)) served.0,
+  older_served script number e done links others older.1 served.1,
+)
+
+close_own : (dial : List ℕ) (number e : ℕ) (far : Far) (others connections : List RelayedConnection) → IsAloneFar far
+    → connections ≡ record { number = number; e = e; r = far } ∷ others → IsOwnDeed dial connections (Calls (Closed e))
+close_own dial number e Nobody others connections alone is = subst (λ (c : List RelayedConnection). IsOwnDeed dial c (Calls (Closed e))) (sym is) (inl refl)
+close_own dial number e (Unreached address) others connections alone is =
+    subst (λ (c : List RelayedConnection). IsOwnDeed dial c (Calls (Closed e))) (sym is) (inl refl)
+close_own dial number e (Reached address r) others connections alone is = absurd alone
+
+close_relay : (script : Script) (dial : List ℕ) (stage : Stage) (number e : ℕ) (done : List RelayDeed) (now : Told) (links : List Link)
+    → closes_in_lines number (lines_written done) ≡ true → (n : IsNewest stage number e done now)
+    → ((address : List ℕ) → n.far ≡ Unreached address → ends_in_lines number R (lines_written done) ≡ true) → HoldsRelay script dial done e links
     → HoldsRelay script dial (done ++ Calls (Closed e) ∷ []) e links
-close_relay script dial told number e done now links written n h =
-    let g = newest_of script dial told number e done now links n h in
+close_relay script dial stage number e done now links written n ended h =
+    let g = newest_of script dial stage number e done now links n h in
     let deeds : List RelayDeed = Calls (Closed e) ∷ [] in
     let same : connections_in (done ++ deeds) ≡ connections_in done = connections_on done deeds (λ before. refl) in
     record {
@@ -81,21 +111,42 @@ close_relay script dial told number e done now links written n h =
       untold = rw same (λ other more. untold_append other done deeds (h.untold other more) (nothing_told e other));
       in_order = rw same h.in_order;
       paired = rw same h.paired;
-      safe = rw (same ∙ n.newest) (
-        alone_safe script dial done deeds number e n.far n.alone g.safe.0
+      known = rw same h.known;
+      safe = are_safe script dial (done ++ deeds) _ (same ∙ n.newest) (
+        alone_safe script dial done number e n.far n.alone ended g.safe.0
             (quiet_close number e done written (alone_quiet script dial done number e n.far n.alone g.safe.0)),
         older_close script dial number e done n.others g.order.1.0 g.safe.1,
+      )
+          (own_more dial done (Calls (Closed e)) h.safe.own (close_own dial number e n.far n.others (connections_in done) n.alone n.newest))
+          (settle_more script done (Calls (Closed e)) h.safe.waits tt);
+      left = rw (same ∙ n.newest) (left_on done deeds n.others g.left);
+      dialled = rw (same ∙ n.newest) g.dialled;
+      crowd = rw same h.crowd;
+      served = rw (same ∙ n.newest) (
+        lone_served script (done ++ deeds) links number e n.far n.alone,
+        older_served script number e done links n.others g.order.1.0 g.served,
       );
     }
+
+nobody_unreached : (far : Far) (address : List ℕ) → far ≡ Nobody → far ≡ Unreached address → ⊥
+nobody_unreached far address one other = let same : Nobody ≡ Unreached address = sym one ∙ other in let q : ⊥ = cc same in q
+
+-- where all lines were written
+to_close : (stage : Stage) (number : ℕ) (far : Far) (done : List RelayDeed) (links : List Link) → IsToClose stage links → StandsAt stage number far done
+    → lines_in done ≡ lines_written done → (address : List ℕ) → far ≡ Unreached address → ends_in_lines number R (lines_written done) ≡ true
+to_close Fresh number far done links close stands all address is = absurd close
+to_close Opened number far done links close stands all address is = let is_nobody = stands.0 in absurd (nobody_unreached far address is_nobody is)
+to_close Unanswered number far done links close stands all address is = absurd close
+to_close Ended number far done links close stands all address is = subst (λ (l : List RelayLine). ends_in_lines number R l ≡ true) all stands.1
 
 length_first : (others : List RelayedConnection) (number e : ℕ) (dial : List ℕ) (r : ℕ)
     → length others + 1 ≡ length (record { number = number; e = e; r = Reached dial r } ∷ others)
 length_first others number e dial r = omega arith
 
-count_is : (script : Script) (dial : List ℕ) (told : Bool) (number e : ℕ) (done : List RelayDeed) (now : Told) (links : List Link)
-    (n : IsNewest told number e done now) → HoldsRelay script dial done e links → number ≡ length (connections_in done)
-count_is script dial told number e done now links n h =
-    let g = newest_of script dial told number e done now links n h in
+count_is : (script : Script) (dial : List ℕ) (stage : Stage) (number e : ℕ) (done : List RelayDeed) (now : Told) (links : List Link)
+    (n : IsNewest stage number e done now) → HoldsRelay script dial done e links → number ≡ length (connections_in done)
+count_is script dial stage number e done now links n h =
+    let g = newest_of script dial stage number e done now links n h in
     let order : number ≡ length n.others + 1 = g.order.0 in
     let count : length (connections_in done) ≡ length n.others + 1 = ap (λ (c : List RelayedConnection). length c) n.newest ∙ omega arith in
     order ∙ sym count
@@ -104,33 +155,72 @@ closing_line_text : (waiting : List ℕ) (moment number : ℕ) → waiting ++ cl
 unfolding text_of_line
 closing_line_text waiting moment number = refl
 
+closes_own : (e : ℕ) (done : List RelayDeed) → closes_in e (done ++ Calls (Closed e) ∷ []) ≡ true
+closes_own e done =
+    let same : (e == e) ≡ true = eq-eqb e e refl in closes_append e done (Calls (Closed e) ∷ []) ∙ or_second (closes_in e done) _ (rw same refl)
+
+newest_left : (done : List RelayDeed) (e : ℕ) (far : Far) → IsAloneFar far → closes_in e done ≡ true → IsLeftClosed done e far
+newest_left done e Nobody alone closed = closed
+newest_left done e (Unreached address) alone closed = closed
+newest_left done e (Reached address r) alone closed = absurd alone
+
+-- nobody was dialled where as many as may be are open
+closed_dialled : (stage : Stage) (number : ℕ) (far : Far) (others : List RelayedConnection) (done : List RelayDeed) (links : List Link) → IsToClose stage links
+    → StandsAt stage number far done → length links ≤ count_of_reached others → IsDialledFor far others
+closed_dialled Fresh number far others done links close stands crowd = absurd close
+closed_dialled Opened number far others done links close stands crowd =
+    subst (λ (f : Far). IsDialledFor f others) (sym stands.0) (omega (arith, close, crowd))
+closed_dialled Unanswered number far others done links close stands crowd = absurd close
+closed_dialled Ended number Nobody others done links close stands crowd = absurd stands.0
+closed_dialled Ended number (Unreached address) others done links close stands crowd = tt
+closed_dialled Ended number (Reached address r) others done links close stands crowd = absurd stands.0
+
+-- none is left open
+closed_left : (script : Script) (dial : List ℕ) (stage : Stage) (number e : ℕ) (done : List RelayDeed) (now : Told) (links : List Link)
+    (n : IsNewest stage number e done now) → HoldsRelay script dial done e links
+    → AllLeft (done ++ Calls (Closed e) ∷ []) (connections_in (done ++ Calls (Closed e) ∷ []))
+closed_left script dial stage number e done now links n h =
+    let g = newest_of script dial stage number e done now links n h in
+    let deeds : List RelayDeed = Calls (Closed e) ∷ [] in
+    rw (connections_on done deeds (λ before. refl) ∙ n.newest)
+    (newest_left (done ++ deeds) e n.far n.alone (closes_own e done), left_on done deeds n.others g.left)
+
 -- the line that tells it is written first
-pub turned_away : (script : Script) (dial : List ℕ) (moment number e : ℕ) (links : List Link) (waiting lines left : List ℕ) (s t u : Told)
-    → lines ≡ waiting ++ closed_line moment number → Did s t (printing lines) → left ≡ [] → Did t u (Called (Closed e) ∷ [])
-    → Accepts script dial true number e links links waiting left s u
+pub turned_away : (script : Script) (dial : List ℕ) (stage : Stage) (moment number e : ℕ) (links : List Link) (waiting lines left : List ℕ) (s t u : Told)
+    → IsToClose stage links → lines ≡ waiting ++ closed_line moment number → Did s t (printing lines) → left ≡ [] → Did t u (Called (Closed e) ∷ [])
+    → Accepts script dial stage number e links links waiting left s u
 unfolding readies_mute readies_flush readies_line readies_then
-turned_away script dial moment number e links waiting lines left s t u is wrote none closed =
+turned_away script dial stage moment number e links waiting lines left s t u close is wrote none closed =
     let put : RelayDeed = Puts (Closing moment number) in
     let told : List RelayDeed = put ∷ Flushes ∷ [] in
     let last : List RelayDeed = Calls (Closed e) ∷ [] in
-    let readies = readies_then script dial true true true number e links waiting lines left s s t
-    (readies_line script dial number e links waiting lines s (Closing moment number) (λ other side. refl) (is ∙ closing_line_text waiting moment number))
-    (readies_flush script dial number e links lines left s t wrote none) in
-    let holds : (done : List RelayDeed) → IsNewest true number e done s → HoldsRelay script dial done e links → HoldsRelay script dial (done ++ told ++ last) e links =
+    let readies = readies_then script dial stage stage stage number e links waiting lines left s s t
+    (readies_line script dial stage stage number e links waiting lines s (Closing moment number) (λ other side. refl) (is ∙ closing_line_text waiting moment number)
+    (λ far done stands. stands_on stage number far done (put ∷ []) stands))
+    (readies_flush script dial stage number e links lines left s t wrote none) in
+    let holds : (done : List RelayDeed) → IsNewest stage number e done s → HoldsRelay script dial done e links → HoldsRelay script dial (done ++ told ++ last) e links =
     λ done n h.
-    close_relay script dial true number e (done ++ told) t links (closing_written moment number done) (readies.newest done n) (readies.holds done n h) in
+    let all : lines_in (done ++ told) ≡ lines_written (done ++ told) =
+    subst (λ (d : List RelayDeed). lines_in d ≡ lines_written d) (append_assoc done (put ∷ []) (Flushes ∷ [])) (flushed (done ++ put ∷ [])) in
+    close_relay script dial stage number e (done ++ told) t links (closing_written moment number done) (readies.newest done n)
+    (to_close stage number _ (done ++ told) links close (readies.newest done n).stands all) (readies.holds done n h) in
     let same : (done : List RelayDeed) → done ++ told ++ last ≡ done ++ (told ++ last) = λ done. append_assoc done told last in
     record {
       deeds = told ++ last;
       performs = performs_then waiting left left s t u told last readies.performs (performs_call left t u (Closed e) closed);
+      calls_are = refl;
       holds = λ done n h.
           let opened : u.wires.opened ≡ t.wires.opened = closed.wires.opened in
           let before = (readies.newest done n).is in
+          let g = newest_of script dial stage number e done s links n h in
           record {
             bound = e;
             within = omega (arith, opened, before);
-            count = count_is script dial true number e done s links n h
+            count = count_is script dial stage number e done s links n h
                 ∙ sym (ap (λ (c : List RelayedConnection). length c) (connections_on done (told ++ last) (λ b. refl)));
+            dialled = rw (connections_on done (told ++ last) (λ b. refl) ∙ n.newest)
+                (closed_dialled stage number n.far n.others done links close n.stands g.crowd, g.dialled);
+            left = subst (λ (d : List RelayDeed). AllLeft d (connections_in d)) (same done) (closed_left script dial stage number e (done ++ told) t links (readies.newest done n) (readies.holds done n h));
             holds = subst (λ (d : List RelayDeed). HoldsRelay script dial d e links) (same done) (holds done n h);
           };
       steady = λ done n h.
@@ -194,21 +284,26 @@ pub record Reaches (script : Script) (dial : List ℕ) (number e r : ℕ) (done 
   untold : (other : ℕ) → number < other → IsUntold other done
   order : AreInOrder (record { number = number; e = e; r = Reached dial r } ∷ others)
   paired : ArePaired e links others
+  known : AllKnown others links
+  served : AllServed script done links others
+  left : AllLeft done others
+  dialled : AreDialledFor others
+  crowd : length links ≤ count_of_reached others
   safe : AreSafe script dial done
 
 reaches : (script : Script) (dial : List ℕ) (number e r : ℕ) (done : List RelayDeed) (now : Told) (links : List Link) → e < r
-    → opens_in_lines number (lines_written done) ≡ true → IsNewest true number e done now → HoldsRelay script dial done e links
+    → opens_in_lines number (lines_written done) ≡ true → IsNewest Opened number e done now → HoldsRelay script dial done e links
     → Reaches script dial number e r (done ++ Calls (Dialled dial (Some r)) ∷ []) links
 reaches script dial number e r done now links more written n h =
-    let g = newest_of script dial true number e done now links n h in
+    let g = newest_of script dial Opened number e done now links n h in
     let deed : RelayDeed = Calls (Dialled dial (Some r)) in
     let m = mute_dial dial (Some r) in
-    let count = count_is script dial true number e done now links n h in
+    let count = count_is script dial Opened number e done now links n h in
     let is : connections_in (done ++ deed ∷ []) ≡ record { number = number; e = e; r = Reached dial r } ∷ n.others =
     fold-append behind_deed [] done (deed ∷ []) ∙ ap (λ (c : List RelayedConnection). behind_deed c deed) n.newest in
     let q = alone_quiet script dial done number e n.far n.alone g.safe.0 in
     let at_e : IsUntouched e (done ++ deed ∷ []) =
-    untouched_append e done (deed ∷ []) (record { unread = q.unread; ungiven = q.ungiven; unclosed = n.unclosed }) (mute_untouched deed e m) in
+    untouched_append e done (deed ∷ []) (record { unread = q.unread; ungiven = q.ungiven; unclosed = n.unclosed; silent = n.silent }) (mute_untouched deed e m) in
     let at_r : IsUntouched r (done ++ deed ∷ []) = untouched_append r done (deed ∷ []) (h.fresh r more) (mute_untouched deed r m) in
     let own : IsUntold number (done ++ deed ∷ []) = untold_append number done (deed ∷ []) q.untold (mute_untold deed number m) in
     record {
@@ -224,14 +319,21 @@ reaches script dial number e r done now links more written n h =
       untold = λ other less. untold_append other done (deed ∷ []) (h.untold other (omega (arith, less, count))) (mute_untold deed other m);
       order = (g.order.0, g.order.1);
       paired = g.paired.1;
-      safe = rw is (
+      known = g.known;
+      safe = are_safe script dial (done ++ deed ∷ []) _ is (
         (refl, (opening_more number done (deed ∷ []) written, safe_new script number e r (done ++ deed ∷ []) own at_e at_r)),
         safe_mute script dial done deed n.others m g.safe.1,
-      );
+      )
+          (own_more dial done deed h.safe.own (subst (λ (c : List RelayedConnection). IsOwnDeed dial c deed) (sym n.newest) (refl, n.stands.0)))
+          (settle_more script done deed h.safe.waits tt);
+      served = served_mute script done deed links n.others m g.served;
+      left = left_on done (deed ∷ []) n.others g.left;
+      dialled = g.dialled;
+      crowd = g.crowd;
     }
 
 reached : (script : Script) (dial : List ℕ) (number e r : ℕ) (done : List RelayDeed) (link : Link) (links : List Link) → link.number ≡ number → link.e.0 ≡ e → link.r.0 ≡ r
-    → e < r → HoldsLink script done link → Reaches script dial number e r done links → HoldsRelay script dial done r (links ++ link ∷ [])
+    → e < r → KeepsLink script done link → Reaches script dial number e r done links → HoldsRelay script dial done r (links ++ link ∷ [])
 reached script dial number e r done link links is_n is_e is_r more holds h =
     let count : length (connections_in done) ≡ number =
     ap (λ (c : List RelayedConnection). length c) h.is ∙ sym (h.order.0 ∙ length_first h.others number e dial r) in
@@ -250,6 +352,16 @@ reached script dial number e r done link links is_n is_e is_r more holds h =
         },
         pairs_new number e r link links h.others is_n is_e is_r more h.order.1.0 h.paired,
       );
+      known = rw h.is
+          (known_last (record { number = number; e = e; r = Reached dial r } ∷ h.others) link links (inl (sym is_e, sym is_r))
+          (known_behind (record { number = number; e = e; r = Reached dial r }) h.others links h.known));
+      served = rw h.is (
+        inl (open_end number e (Reached dial r) links link (is_n, (is_e, is_r))),
+        served_last script links link done h.others h.served,
+      );
+      left = rw h.is h.left;
+      dialled = rw h.is h.dialled;
+      crowd = rw h.is (let few = length_last links link in let crowd = h.crowd in omega (arith, few, crowd));
       safe = h.safe;
     }
 
@@ -262,26 +374,28 @@ opened_written number done h = subst (λ (o : List RelayLine). opens_in_lines nu
 pub record DialsTo (script : Script) (dial : List ℕ) (number e r : ℕ) (links : List Link) (waiting : List ℕ) (before now : Told) : Type 0 where
   deeds : List RelayDeed
   performs : Performs waiting [] before now deeds
-  more : (done : List RelayDeed) → IsNewest true number e done before → e < r
-  reaches : (done : List RelayDeed) → IsNewest true number e done before → HoldsRelay script dial done e links → Reaches script dial number e r (done ++ deeds) links
-  steady : (done : List RelayDeed) → IsNewest true number e done before → HoldsRelay script dial done e links → Steadily (AreSafe script dial) done deeds
+  calls_are : loop_calls_in deeds ≡ []
+  more : (done : List RelayDeed) → IsNewest Opened number e done before → e < r
+  reaches : (done : List RelayDeed) → IsNewest Opened number e done before → HoldsRelay script dial done e links → Reaches script dial number e r (done ++ deeds) links
+  steady : (done : List RelayDeed) → IsNewest Opened number e done before → HoldsRelay script dial done e links → Steadily (AreSafe script dial) done deeds
 
 pub dials_to : (script : Script) (dial : List ℕ) (number e r : ℕ) (links : List Link) (waiting left : List ℕ) (s t u : Told) → Did s t (printing waiting) → left ≡ []
     → Did t u (Called (Dialled dial (Some r)) ∷ []) → r ≡ t.wires.opened + 1 → DialsTo script dial number e r links waiting s u
 unfolding readies_mute readies_flush
 dials_to script dial number e r links waiting left s t u wrote none did next =
-    let flush = readies_flush script dial number e links waiting [] s t wrote refl in
+    let flush = readies_flush script dial Opened number e links waiting [] s t wrote refl in
     let deed : RelayDeed = Calls (Dialled dial (Some r)) in
-    let more : (done : List RelayDeed) → IsNewest true number e done s → e < r =
+    let more : (done : List RelayDeed) → IsNewest Opened number e done s → e < r =
     λ done n. let is = (flush.newest done n).is in omega (arith, is, next) in
-    let behind : (done : List RelayDeed) → IsNewest true number e done s → HoldsRelay script dial done e links
+    let behind : (done : List RelayDeed) → IsNewest Opened number e done s → HoldsRelay script dial done e links
     → Reaches script dial number e r (done ++ Flushes ∷ [] ++ deed ∷ []) links =
     λ done n h.
-    reaches script dial number e r (done ++ Flushes ∷ []) t links (more done n) (opened_written number done ((flush.newest done n).opening refl)) (flush.newest done n)
+    reaches script dial number e r (done ++ Flushes ∷ []) t links (more done n) (opened_written number done (flush.newest done n).stands.1) (flush.newest done n)
     (flush.holds done n h) in
     record {
       deeds = Flushes ∷ deed ∷ [];
       performs = performs_then waiting [] [] s t u (Flushes ∷ []) (deed ∷ []) flush.performs (performs_call [] t u (Dialled dial (Some r)) did);
+      calls_are = refl;
       more = more;
       reaches = λ done n h.
           subst (λ (d : List RelayDeed). Reaches script dial number e r d links) (append_assoc done (Flushes ∷ []) (deed ∷ [])) (behind done n h);
@@ -291,29 +405,32 @@ dials_to script dial number e r links waiting left s t u wrote none did next =
 
 -- memory ran out behind it
 pub dial_broke : (fault : RelayFault) (script : Script) (dial : List ℕ) (number e r : ℕ) (links : List Link) (waiting : List ℕ) (s u : Told) → IsLastDone fault []
-    → DialsTo script dial number e r links waiting s u → BreaksAccept fault script dial true number e links waiting s u
+    → DialsTo script dial number e r links waiting s u → BreaksAccept fault script dial Opened number e links waiting s u
 dial_broke fault script dial number e r links waiting s u none d =
-    record { deeds = d.deeds; breaks = breaks_here fault waiting [] s u d.deeds none d.performs; steady = d.steady }
+    record { deeds = d.deeds; breaks = breaks_here fault waiting [] s u d.deeds none d.performs; calls_are = d.calls_are; steady = d.steady }
 
 pub dial_accepts : (script : Script) (dial : List ℕ) (number : ℕ) (conn dialled : Conn) (link : Link) (links all : List Link) (waiting left : List ℕ) (s t u : Told)
     → Did s t (printing waiting) → left ≡ [] → Did t u (Called (Dialled dial (Some dialled.0)) ∷ []) → dialled.0 ≡ t.wires.opened + 1 → link.number ≡ number → link.e ≡ conn
     → link.r ≡ dialled → all ≡ links ++ link ∷ []
-    → ((done : List RelayDeed) → conn.0 ≢ dialled.0 → IsUntold number done → IsUntouched conn.0 done → IsUntouched dialled.0 done → HoldsLink script done link)
-    → Accepts script dial true number conn.0 links all waiting left s u
+    → ((done : List RelayDeed) → conn.0 ≢ dialled.0 → IsUntold number done → IsUntouched conn.0 done → IsUntouched dialled.0 done → KeepsLink script done link)
+    → Accepts script dial Opened number conn.0 links all waiting left s u
 dial_accepts script dial number conn dialled link links all waiting left s t u wrote none did next is_n is_e is_r is_all makes =
     let d = dials_to script dial number conn.0 dialled.0 links waiting left s t u wrote none did next in
     let opened : u.wires.opened ≡ t.wires.opened + 1 = did.wires.opened in
     record {
       deeds = d.deeds;
       performs = subst (λ (o : List ℕ). Performs waiting o s u d.deeds) (sym none) d.performs;
+      calls_are = d.calls_are;
       holds = λ done n h.
           let more = d.more done n in
           let reach = d.reaches done n h in
           let parted : conn.0 ≢ dialled.0 = λ same. let q : ⊥ = omega (arith, more, same) in q in
-          let holds : HoldsLink script (done ++ d.deeds) link = makes (done ++ d.deeds) parted reach.own reach.at_e reach.at_r in
+          let holds : KeepsLink script (done ++ d.deeds) link = makes (done ++ d.deeds) parted reach.own reach.at_e reach.at_r in
           record {
             bound = dialled.0;
             within = omega (arith, opened, next);
+            left = rw reach.is (tt, reach.left);
+            dialled = rw reach.is (tt, reach.dialled);
             count = reach.order.0 ∙ length_first reach.others number conn.0 dial dialled.0 ∙ sym (ap (λ (c : List RelayedConnection). length c) reach.is);
             holds = rw is_all
                 (reached script dial number conn.0 dialled.0 (done ++ d.deeds) link links is_n (ap (λ (c : Conn). c.0) is_e) (ap (λ (c : Conn). c.0) is_r) more holds reach);

@@ -1,10 +1,14 @@
 -- The laws of what a relay did.
-use Rattle.std.proofs.Common.{◌≡◌, ℕ, ◌==◌, ◌+◌, if◌then◌else◌, true, List, [], ◌∷◌, ◌++◌, take, refl, sym, ap, ◌∙◌, subst, append_assoc, append-nil, replicate, fold, zero, suc}
+use Rattle.er_base.specs.declared.side.Side.{Side}
+use Rattle.relay_loop.proofs.LiveWays.{closed_carried}
+use Rattle.relay_script.specs.declared.script_line.ScriptLine.{ScriptLine}
+use Rattle.relay_carrier.specs.Prompt.{NoneDelays}
+use Rattle.relay_model.specs.Units.{standing_behind, held_in_standing}
+use Rattle.relay_loop.specs.Settled.{told_in_acts, given_so_far}
+use Rattle.std.proofs.Common.{◌≡◌, ℕ, ◌==◌, true, List, [], ◌∷◌, ◌++◌, take, refl, sym, ap, ◌∙◌, subst, append_assoc, append-nil, replicate, fold, zero, suc, Bool, false, true≢false, inl}
 use Rattle.std.proofs.lemmas.Bool.{eq-eqb}
 use Rattle.std.proofs.lemmas.List.Concat.{flat_map-append}
 use Rattle.std.proofs.lemmas.List.Sums.{fold-append}
-use Rattle.std.specs.List.{flat_map}
-use Rattle.er_base.specs.declared.side.Side.{Side}
 use Rattle.er_base.specs.declared.side.Side.TheVariants.{E, R}
 use Rattle.er_base.specs.Printing.{Begins}
 use Rattle.hdlc_frames.specs.Framing.{Verdict, frames_of}
@@ -12,14 +16,14 @@ use Rattle.hdlc_frames.specs.Laws.{CutGoesOn}
 use Rattle.link_trait.specs.declared.wires.WriteAnswer.TheVariants as write_answer
 use Rattle.outside.specs.Acts.{Act, Called, Sent}
 use Rattle.relay_script.specs.declared.script.Script.{Script}
-use Rattle.relay_model.specs.Carried.{carried}
-use Rattle.relay_model.specs.Losing.{LosesAndRepeats, LoseOnly, NoneFor}
-use Rattle.relay_model.specs.Laws.{PassedIsSent, LosingLine}
+use Rattle.relay_model.specs.Carried.{carried, given_of_sent, is_closed_by}
+use Rattle.relay_model.specs.Losing.{LosesAndRepeats, NoneFor}
+use Rattle.relay_model.specs.Laws.{PassedIsSent, LosingLine, ClosedStays}
 use Rattle.relay_loop.specs.RelayLines.{RelayLine, told_in_lines}
 use Rattle.relay_loop.specs.Octets.{given_by_act, given_in_acts, read_in_acts}
-use Rattle.relay_loop.specs.Connections.{Far, Nobody, Unreached, Reached, RelayedConnection, behind_act, connections_in_acts}
-use Rattle.relay_loop.specs.Relays.{text_by_act, text_in_acts, IsPassedOn, IsRelayed, AreRelayed, RelaysSoFar}
-use Rattle.relay_loop.specs.Laws.{IsToldBefore, AreToldBefore, GivesTold, ToldFirst, GivenIsRead, FoundAreSent}
+use Rattle.relay_loop.specs.Connections.{Far, Nobody, Unreached, Reached, RelayedConnection, behind_act, connections_in_acts, IsOwnAct, AreOwnActs}
+use Rattle.relay_loop.specs.Relays.{text_by_act, text_in_acts, IsRelayed, AreRelayed, RelaysSoFar}
+use Rattle.relay_loop.specs.Laws.{IsToldBefore, AreToldBefore, GivesTold, ToldFirst, GivenIsRead, FoundAreSent, GivesAll, AllIsGiven}
 use Rattle.relay_loop.proofs.Deeds.{begins_then}
 
 -- ---- told first
@@ -37,11 +41,23 @@ to_socket conn at count piece whole before is h =
     subst (λ (o : List ℕ). Begins o whole) (sent_gives at count piece before)
     (subst (λ (c : ℕ). Begins (given_in_acts at (before ++ Called (Sent c piece (write_answer.Some count)) ∷ [])) whole) is h)
 
+second_none : (xs ys : List ℕ) → xs ++ ys ≡ [] → ys ≡ []
+second_none [] ys is = is
+second_none (x ∷ xs) ys is = absurd cc is
+
+-- where nothing was given
+to_nobody : (conn at count : ℕ) (piece : List ℕ) (before : List Act) → conn ≡ at
+    → given_in_acts at (before ++ Called (Sent conn piece (write_answer.Some count)) ∷ []) ≡ [] → take count piece ≡ []
+to_nobody conn at count piece before is none =
+    second_none (given_in_acts at before) (take count piece)
+    (sym (sent_gives at count piece before)
+    ∙ subst (λ (c : ℕ). given_in_acts at (before ++ Called (Sent c piece (write_answer.Some count)) ∷ []) ≡ []) is none)
+
 one_told : (script : Script) (dial : List ℕ) (conn count : ℕ) (piece : List ℕ) (before : List Act) (lines : List RelayLine) (number e : ℕ) (far : Far)
     → IsRelayed script dial (before ++ Called (Sent conn piece (write_answer.Some count)) ∷ []) lines number e far
     → IsToldBefore before lines conn (take count piece) number e far
-one_told script dial conn count piece before lines number e Nobody h = tt
-one_told script dial conn count piece before lines number e (Unreached address) h = tt
+one_told script dial conn count piece before lines number e Nobody h = λ is. to_nobody conn e count piece before is h.ungiven
+one_told script dial conn count piece before lines number e (Unreached address) h = λ is. to_nobody conn e count piece before is h.1.alone.ungiven
 one_told script dial conn count piece before lines number e (Reached address r) h = (
   λ is. to_socket conn r count piece (told_in_lines number E lines) before is h.1.told_to_r,
   λ is. to_socket conn e count piece (told_in_lines number R lines) before is h.1.told_to_e,
@@ -54,6 +70,12 @@ all_told script dial conn count piece before lines [] h = tt
 all_told script dial conn count piece before lines (one ∷ others) h =
     (one_told script dial conn count piece before lines one.number one.e one.r h.0, all_told script dial conn count piece before lines others h.1)
 
+-- the last of acts, by the connections before it
+own_last : (dial : List ℕ) (acts : List Act) (act : Act) (before : List RelayedConnection) → AreOwnActs dial before (acts ++ act ∷ [])
+    → IsOwnAct dial (fold behind_act before acts) act
+own_last dial [] act before own = own.0
+own_last dial (first ∷ acts) act before own = own_last dial acts act (behind_act before first) own.1
+
 gives_told : (script : Script) (dial : List ℕ) (conn count : ℕ) (piece : List ℕ) (before : List Act)
     → RelaysSoFar script dial (before ++ Called (Sent conn piece (write_answer.Some count)) ∷ []) → GivesTold before conn (take count piece)
 gives_told script dial conn count piece before h =
@@ -61,6 +83,7 @@ gives_told script dial conn count piece before h =
     let text : text_in_acts (before ++ act ∷ []) ≡ text_in_acts before = flat_map-append text_by_act before (act ∷ []) ∙ append-nil (text_in_acts before) in
     let same : connections_in_acts (before ++ act ∷ []) ≡ connections_in_acts before = fold-append behind_act [] before (act ∷ []) in
     record {
+      side = own_last dial before act [] h.own;
       lines = h.lines;
       written = sym text ∙ h.written;
       told = subst (λ (c : List RelayedConnection). AreToldBefore before h.lines conn (take count piece) c) same
@@ -122,4 +145,54 @@ found_are_sent losing cut script acts lines number e r p = (
       (begins_then _ _ _ p.told_to_r p.carried_of_e) (losing script E (read_in_acts e acts) only),
   λ only. found_are cut (frames_of (read_in_acts r acts)) (given_in_acts e acts) (carried script R (read_in_acts r acts))
       (begins_then _ _ _ p.told_to_e p.carried_of_r) (losing script R (read_in_acts r acts) only),
+)
+
+-- ---- all of it
+
+none_delays : (side : Side) (lines : List ScriptLine) → NoneFor side lines → NoneDelays side lines
+none_delays side [] none = tt
+none_delays side (line ∷ lines) none = (λ own. absurd (none.0 own), none_delays side lines none.1)
+
+one_more_not : (xs : List ℕ) (x : ℕ) → xs ++ x ∷ [] ≡ xs → ⊥
+one_more_not [] x is = let q : ⊥ = cc is in q
+one_more_not (y ∷ xs) x is = let same : xs ++ x ∷ [] ≡ xs = cc is in one_more_not xs x same
+
+-- behind a close nothing would be given
+line_not : ClosedStays → PassedIsSent → (script : Script) (side : Side) (came : List ℕ) → NoneFor side script.lines → is_closed_by script side came ≡ true → ⊥
+line_not stays passed script side came none closed =
+    one_more_not came 0
+    (sym (passed script side (came ++ 0 ∷ []) none)
+    ∙ ((stays script side came (0 ∷ []) closed).1 ∙ (sym (closed_carried script side came closed) ∙ passed script side came none)))
+
+never_true : (b : Bool) → (b ≡ true → ⊥) → b ≡ false
+never_true false not = refl
+never_true true not = absurd (not refl)
+
+none_closes : ClosedStays → PassedIsSent → (script : Script) (side : Side) (came : List ℕ) → NoneFor side script.lines → is_closed_by script side came ≡ false
+none_closes stays passed script side came none = never_true (is_closed_by script side came) (line_not stays passed script side came none)
+
+open_carried : (script : Script) (side : Side) (came : List ℕ) → is_closed_by script side came ≡ false
+    → carried script side came ≡ given_of_sent script side came ++ held_in_standing (standing_behind came)
+unfolding carried
+open_carried script side came going = rw going refl
+
+so_far_all : ClosedStays → PassedIsSent → (script : Script) (side : Side) (ended : Bool) (read gave : List ℕ) → NoneFor side script.lines
+    → gave ≡ given_so_far script side ended read → GivesAll ended read gave
+so_far_all stays passed script side true read gave none is =
+    record { whole = λ _. is ∙ passed script side read none; held = λ f. absurd (true≢false f) }
+so_far_all stays passed script side false read gave none is = record {
+  whole = λ f. absurd (true≢false (sym f));
+  held = λ _.
+      ap (λ (o : List ℕ). o ++ held_in_standing (standing_behind read)) is
+      ∙ (sym (open_carried script side read (none_closes stays passed script side read none)) ∙ passed script side read none);
+}
+
+pub all_is_given : ClosedStays → PassedIsSent → AllIsGiven
+all_is_given stays passed script until acts e r address none_e none_r settled = (
+  λ unfailed room.
+      so_far_all stays passed script E (told_in_acts e acts).ended (read_in_acts e acts) (given_in_acts r acts) none_e
+      (settled.0 unfailed room (none_closes stays passed script R (read_in_acts r acts) none_r) (inl (none_delays E script.lines none_e))),
+  λ unfailed room.
+      so_far_all stays passed script R (told_in_acts r acts).ended (read_in_acts r acts) (given_in_acts e acts) none_r
+      (settled.1 unfailed room (none_closes stays passed script E (read_in_acts e acts) none_e) (inl (none_delays R script.lines none_r))),
 )

@@ -1,26 +1,25 @@
 -- What a relay did is safe at each moment: from its deeds to its acts.
-use Rattle.std.proofs.Common.{◌≡◌, ℕ, ◌==◌, Bool, ◌||◌, true, false, List, [], ◌∷◌, ◌++◌, refl, sym, ap, ◌∙◌, subst, append_assoc, append-nil, flat_map, fold, Result, Ok, Err}
+use Rattle.link_trait.specs.declared.wires.Happening.{Happening}
+use Rattle.std.proofs.Common.{◌≡◌, ℕ, Bool, ◌||◌, true, false, List, [], ◌∷◌, ◌++◌, refl, sym, ap, ◌∙◌, subst, append_assoc, append-nil, fold, Result, Ok, Err, Option}
 use Rattle.std.proofs.lemmas.List.Concat.{flat_map-append}
 use Rattle.std.proofs.lemmas.List.Folds.{list_any-append}
 use Rattle.std.proofs.lemmas.List.Sums.{fold-append}
 use Rattle.er_base.specs.declared.side.Side.TheVariants.{E, R}
-use Rattle.er_base.specs.Printing.{Begins}
-use Rattle.outside.specs.Acts.{Act, Wrote, Called, Asked}
-use Rattle.outside.specs.Doings.{Told, Did}
+use Rattle.outside.specs.Acts.{Act, Wrote, SeenCall, Listened, Dialled, Turned, Read, Sent, Closed, Fetched, Called, Asked, Drew}
+use Rattle.outside.specs.Doings.{Told}
 use Rattle.outside.specs.Scripts.{printing}
 use Rattle.relay_script.specs.declared.script.Script.{Script}
-use Rattle.relay_model.specs.Carried.{carried}
 use Rattle.relay_loop.specs.declared.fault.RelayFault.{RelayFault}
 use Rattle.relay_loop.specs.declared.fault.RelayFault.TheVariants as fault
-use Rattle.relay_loop.specs.declared.link.Link.{Link}
 use Rattle.relay_loop.specs.RelayLines.{RelayLine, text_of_line, text_of_lines, opens_in_lines}
 use Rattle.relay_loop.specs.Octets.{given_by_call, given_by_act, given_in_acts, read_by_call, read_by_act, read_in_acts}
-use Rattle.relay_loop.specs.Connections.{Far, Nobody, Unreached, Reached, RelayedConnection, behind_act, connections_in_acts, closes_by_act, closes_by_call, closes_in_acts}
-use Rattle.relay_loop.specs.RelayDeeds.{RelayDeed, Puts, Flushes, Calls, Asks, acts_from, text_left, IsLastDone, written_from, waiting_from, lines_written, given_in, octets_read_at, closes_in, Steadily}
+use Rattle.relay_loop.specs.Connections.{Far, Nobody, Unreached, Reached, RelayedConnection, behind_act, connections_in_acts, closes_by_act, closes_by_call, closes_in_acts, AreOwnActs, AreDialledFor}
+use Rattle.relay_loop.specs.RelayDeeds.{RelayDeed, Puts, Flushes, Calls, Asks, acts_from, text_left, IsLastDone, written_from, lines_written, given_in, octets_read_at, closes_in, Steadily, socket_behind}
+use Rattle.relay_loop.specs.Settled.{SocketTold, told_nothing, told_by_act, IsSettled, AllSettled, SettlesBy}
 use Rattle.relay_loop.specs.Links.{IsSafe}
-use Rattle.relay_loop.specs.Rings.{behind_deed, connections_in, IsQuiet, IsSafeConnection, AllSafe, AreSafe, RanSoFar, BrokeRun, EndsRun}
+use Rattle.relay_loop.specs.Rings.{behind_deed, connections_in, IsQuiet, IsSafeConnection, AllSafe, AreOwnDeeds, IsSettledAt, AllSettledAt, SettlesAt, SettleAll, AreSafe, IsLastOf, EndsRun}
 use Rattle.relay_loop.specs.Relays.{text_by_act, text_in_acts, IsPassedOn, IsLeftAlone, IsRelayed, AreRelayed, RelaysSoFar, Relays}
-use Rattle.relay_loop.proofs.Deeds.{begins_then, acts_append, left_append, written_told}
+use Rattle.relay_loop.proofs.Deeds.{begins_then, acts_append, left_append, written_told, steadily_last}
 
 -- ---- the acts of deeds
 
@@ -97,6 +96,20 @@ acts_text lines (Flushes ∷ deeds) =
 acts_text lines (Calls call ∷ deeds) = acts_text lines deeds
 acts_text lines (Asks moment ∷ deeds) = acts_text lines deeds
 
+-- each belongs to a connection
+own_printing : (dial text : List ℕ) (before : List RelayedConnection) (rest : List Act) → AreOwnActs dial before rest → AreOwnActs dial before (printing text ++ rest)
+own_printing dial [] before rest own = own
+own_printing dial (octet ∷ octets) before rest own = (tt, own)
+
+acts_own : (dial waiting : List ℕ) (deeds : List RelayDeed) (before : List RelayedConnection) → AreOwnDeeds dial before deeds
+    → AreOwnActs dial before (acts_from waiting deeds)
+unfolding acts_from
+acts_own dial waiting [] before own = tt
+acts_own dial waiting (Puts line ∷ deeds) before own = acts_own dial (waiting ++ text_of_line line) deeds before own.1
+acts_own dial waiting (Flushes ∷ deeds) before own = own_printing dial waiting before (acts_from [] deeds) (acts_own dial [] deeds before own.1)
+acts_own dial waiting (Calls call ∷ deeds) before own = (own.0, acts_own dial waiting deeds (behind_deed before (Calls call)) own.1)
+acts_own dial waiting (Asks moment ∷ deeds) before own = (tt, acts_own dial waiting deeds before own.1)
+
 -- ---- one moment
 
 passed_on : (script : Script) (number e r : ℕ) (deeds : List RelayDeed) → opens_in_lines number (lines_written deeds) ≡ true → IsSafe script number e r deeds
@@ -121,7 +134,8 @@ left_alone number e deeds q = record {
 one_relayed : (script : Script) (dial : List ℕ) (number e : ℕ) (far : Far) (deeds : List RelayDeed) → IsSafeConnection script dial deeds number e far
     → IsRelayed script dial (acts_from [] deeds) (lines_written deeds) number e far
 one_relayed script dial number e Nobody deeds s = left_alone number e deeds s
-one_relayed script dial number e (Unreached address) deeds s = (s.0, left_alone number e deeds s.1)
+one_relayed script dial number e (Unreached address) deeds s =
+    (s.0, record { alone = left_alone number e deeds s.1.quiet; ended = rw (acts_close e [] deeds) s.1.ended })
 one_relayed script dial number e (Reached address r) deeds s = (s.0, passed_on script number e r deeds s.1.0 s.1.1)
 
 all_relayed : (script : Script) (dial : List ℕ) (connections : List RelayedConnection) (deeds : List RelayDeed) → AllSafe script dial deeds connections
@@ -133,7 +147,8 @@ relays_so_far : (script : Script) (dial : List ℕ) (deeds : List RelayDeed) →
 relays_so_far script dial deeds safe = record {
   lines = lines_written deeds;
   written = acts_text [] deeds;
-  relayed = rw (acts_connect [] deeds []) (all_relayed script dial (connections_in deeds) deeds safe);
+  relayed = rw (acts_connect [] deeds []) (all_relayed script dial (connections_in deeds) deeds safe.all);
+  own = acts_own dial [] deeds [] safe.own;
 }
 
 -- ---- each moment
@@ -204,6 +219,125 @@ steady_acts script dial done (Asks moment ∷ deeds) safe =
           (steady_acts script dial (done ++ Asks moment ∷ []) deeds safe.1)),
     )
 
+-- ---- what is settled at each wait
+
+printing_tells : (conn : ℕ) (text : List ℕ) (t : SocketTold) → fold (told_by_act conn) t (printing text) ≡ t
+printing_tells conn [] t = refl
+printing_tells conn (octet ∷ octets) t = refl
+
+acts_told : (conn : ℕ) (waiting : List ℕ) (deeds : List RelayDeed) (t : SocketTold) → fold (told_by_act conn) t (acts_from waiting deeds) ≡ socket_behind conn t deeds
+unfolding acts_from
+acts_told conn waiting [] t = refl
+acts_told conn waiting (Puts line ∷ deeds) t = acts_told conn (waiting ++ text_of_line line) deeds t
+acts_told conn waiting (Flushes ∷ deeds) t =
+    fold-append (told_by_act conn) t (printing waiting) (acts_from [] deeds)
+    ∙ (ap (λ (s : SocketTold). fold (told_by_act conn) s (acts_from [] deeds)) (printing_tells conn waiting t) ∙ acts_told conn [] deeds t)
+acts_told conn waiting (Calls call ∷ deeds) t = acts_told conn waiting deeds (told_by_act conn t (Called call))
+acts_told conn waiting (Asks moment ∷ deeds) t = acts_told conn waiting deeds t
+
+one_settled : (script : Script) (until : Option ℕ) (deeds : List RelayDeed) (e : ℕ) (far : Far) → IsSettledAt script until deeds e far
+    → IsSettled script until (acts_from [] deeds) e far
+one_settled script until deeds e Nobody h = acts_close e [] deeds ∙ h
+one_settled script until deeds e (Unreached address) h = acts_close e [] deeds ∙ h
+one_settled script until deeds e (Reached address r) h =
+    rw (acts_told e [] deeds told_nothing, acts_told r [] deeds told_nothing, acts_read e [] deeds, acts_read r [] deeds, acts_give e [] deeds, acts_give r [] deeds) h
+
+all_settled : (script : Script) (until : Option ℕ) (deeds : List RelayDeed) (connections : List RelayedConnection) → AllSettledAt script until deeds connections
+    → AllSettled script until (acts_from [] deeds) connections
+all_settled script until deeds [] h = tt
+all_settled script until deeds (one ∷ others) h = (one_settled script until deeds one.e one.r h.0, all_settled script until deeds others h.1)
+
+settles_by : (script : Script) (until : Option ℕ) (deeds : List RelayDeed) → AllSettledAt script until deeds (connections_in deeds)
+    → AreDialledFor (connections_in deeds) → SettlesBy script until (acts_from [] deeds)
+settles_by script until deeds h dialled = record {
+  settled = rw (acts_connect [] deeds []) (all_settled script until deeds (connections_in deeds) h);
+  dialled = rw (acts_connect [] deeds []) dialled;
+}
+
+abbrev CallSettles : Script → (before : List Act) → SeenCall → Type 0
+CallSettles script before (Listened address listens) = Unit {0}
+CallSettles script before (Dialled address to) = Unit {0}
+CallSettles script before (Turned until what) = SettlesBy script until before
+CallSettles script before (Read conn size reading) = Unit {0}
+CallSettles script before (Sent conn piece answer) = Unit {0}
+CallSettles script before (Closed conn) = Unit {0}
+
+abbrev ActSettles : Script → (before : List Act) → Act → Type 0
+ActSettles script before (Fetched name answer) = Unit {0}
+ActSettles script before (Wrote piece done) = Unit {0}
+ActSettles script before (Called call) = CallSettles script before call
+ActSettles script before (Asked moment) = Unit {0}
+ActSettles script before (Drew word) = Unit {0}
+
+abbrev ActsSettle : Script → (before acts : List Act) → Type 0
+ActsSettle script before [] = Unit {0}
+ActsSettle script before (act ∷ acts) = ActSettles script before act × ActsSettle script (before ++ act ∷ []) acts
+
+settles_then : (script : Script) (before xs ys : List Act) → ActsSettle script before xs → ActsSettle script (before ++ xs) ys → ActsSettle script before (xs ++ ys)
+settles_then script before [] ys p q = subst (λ (d : List Act). ActsSettle script d ys) (append-nil before) q
+settles_then script before (x ∷ xs) ys p q =
+    (p.0, settles_then script (before ++ x ∷ []) xs ys p.1 (subst (λ (d : List Act). ActsSettle script d ys) (sym (append_assoc before (x ∷ []) xs)) q))
+
+printing_settles : (script : Script) (before : List Act) (text : List ℕ) → ActsSettle script before (printing text)
+printing_settles script before [] = tt
+printing_settles script before (octet ∷ octets) = (tt, tt)
+
+call_settles : (script : Script) (done : List RelayDeed) (call : SeenCall) → SettlesAt script done call → CallSettles script (acts_from [] done) call
+call_settles script done (Listened address listens) h = tt
+call_settles script done (Dialled address to) h = tt
+call_settles script done (Turned until what) h = settles_by script until done h.0 h.1
+call_settles script done (Read conn size reading) h = tt
+call_settles script done (Sent conn piece answer) h = tt
+call_settles script done (Closed conn) h = tt
+
+acts_settle : (script : Script) (done deeds : List RelayDeed) → SettleAll script done deeds
+    → ActsSettle script (acts_from [] done) (acts_from (text_left [] done) deeds)
+unfolding acts_from text_left
+acts_settle script done [] h = tt
+acts_settle script done (Puts line ∷ deeds) h =
+    let same : acts_from [] (done ++ Puts line ∷ []) ≡ acts_from [] done = acts_behind done (Puts line) ∙ append-nil (acts_from [] done) in
+    let left : text_left [] (done ++ Puts line ∷ []) ≡ text_left [] done ++ text_of_line line = left_append [] done (Puts line ∷ []) in
+    subst (λ (a : List Act). ActsSettle script a (acts_from (text_left [] done ++ text_of_line line) deeds)) same
+    (subst (λ (w : List ℕ). ActsSettle script (acts_from [] (done ++ Puts line ∷ [])) (acts_from w deeds)) left
+    (acts_settle script (done ++ Puts line ∷ []) deeds h.1))
+acts_settle script done (Flushes ∷ deeds) h =
+    let same : acts_from [] (done ++ Flushes ∷ []) ≡ acts_from [] done ++ printing (text_left [] done) =
+    acts_behind done Flushes ∙ ap (λ (o : List Act). acts_from [] done ++ o) (append-nil (printing (text_left [] done))) in
+    let left : text_left [] (done ++ Flushes ∷ []) ≡ [] = left_append [] done (Flushes ∷ []) in
+    settles_then script (acts_from [] done) (printing (text_left [] done)) (acts_from [] deeds) (printing_settles script (acts_from [] done) (text_left [] done))
+    (subst (λ (a : List Act). ActsSettle script a (acts_from [] deeds)) same
+    (subst (λ (w : List ℕ). ActsSettle script (acts_from [] (done ++ Flushes ∷ [])) (acts_from w deeds)) left
+    (acts_settle script (done ++ Flushes ∷ []) deeds h.1)))
+acts_settle script done (Calls call ∷ deeds) h =
+    let left : text_left [] (done ++ Calls call ∷ []) ≡ text_left [] done = left_append [] done (Calls call ∷ []) in (
+      call_settles script done call h.0,
+      subst (λ (a : List Act). ActsSettle script a (acts_from (text_left [] done) deeds)) (acts_behind done (Calls call))
+          (subst (λ (w : List ℕ). ActsSettle script (acts_from [] (done ++ Calls call ∷ [])) (acts_from w deeds)) left
+          (acts_settle script (done ++ Calls call ∷ []) deeds h.1)),
+    )
+acts_settle script done (Asks moment ∷ deeds) h =
+    let left : text_left [] (done ++ Asks moment ∷ []) ≡ text_left [] done = left_append [] done (Asks moment ∷ []) in (
+      tt,
+      subst (λ (a : List Act). ActsSettle script a (acts_from (text_left [] done) deeds)) (acts_behind done (Asks moment))
+          (subst (λ (w : List ℕ). ActsSettle script (acts_from [] (done ++ Asks moment ∷ [])) (acts_from w deeds)) left
+          (acts_settle script (done ++ Asks moment ∷ []) deeds h.1)),
+    )
+
+none_is_some : (xs ys : List Act) (y : Act) → [] ≡ xs ++ y ∷ ys → ⊥
+none_is_some [] ys y is = nil_is_cons y ys is
+none_is_some (x ∷ xs) ys y is = nil_is_cons x (xs ++ y ∷ ys) is
+
+settled_at : (script : Script) (done acts front rest : List Act) (until : Option ℕ) (what : Happening) → acts ≡ front ++ Called (Turned until what) ∷ rest
+    → ActsSettle script done acts → SettlesBy script until (done ++ front)
+settled_at script done [] front rest until what is h = absurd (none_is_some front rest (Called (Turned until what)) is)
+settled_at script done (act ∷ acts) [] rest until what is h =
+    subst (λ (d : List Act). SettlesBy script until d) (sym (append-nil done))
+    (subst (λ (a : Act). ActSettles script done a) (cons_is act (Called (Turned until what)) acts rest is).0 h.0)
+settled_at script done (act ∷ acts) (x ∷ front) rest until what is h =
+    let same = cons_is act x acts (front ++ Called (Turned until what) ∷ rest) is in
+    subst (λ (d : List Act). SettlesBy script until d) (append_assoc done (x ∷ []) front)
+    (settled_at script (done ++ x ∷ []) acts front rest until what same.1 (subst (λ (a : Act). ActsSettle script (done ++ a ∷ []) acts) same.0 h.1))
+
 -- ---- behind a write that failed
 
 sunk_append : (acts : List Act) (text : List ℕ) → text_in_acts (acts ++ Wrote text false ∷ []) ≡ text_in_acts acts
@@ -233,7 +367,8 @@ sunk_alone acts text lines number e h = record {
 sunk_relayed : (script : Script) (dial : List ℕ) (acts : List Act) (text : List ℕ) (lines : List RelayLine) (number e : ℕ) (far : Far)
     → IsRelayed script dial acts lines number e far → IsRelayed script dial (acts ++ Wrote text false ∷ []) lines number e far
 sunk_relayed script dial acts text lines number e Nobody h = sunk_alone acts text lines number e h
-sunk_relayed script dial acts text lines number e (Unreached address) h = (h.0, sunk_alone acts text lines number e h.1)
+sunk_relayed script dial acts text lines number e (Unreached address) h =
+    (h.0, record { alone = sunk_alone acts text lines number e h.1.alone; ended = rw (sunk_closes e acts text) h.1.ended })
 sunk_relayed script dial acts text lines number e (Reached address r) h = (
   h.0,
   record {
@@ -253,21 +388,32 @@ sunk_all script dial acts text lines [] h = tt
 sunk_all script dial acts text lines (one ∷ others) h =
     (sunk_relayed script dial acts text lines one.number one.e one.r h.0, sunk_all script dial acts text lines others h.1)
 
+sunk_own : (dial text : List ℕ) (acts : List Act) (before : List RelayedConnection) → AreOwnActs dial before acts
+    → AreOwnActs dial before (acts ++ Wrote text false ∷ [])
+sunk_own dial text [] before own = (tt, tt)
+sunk_own dial text (act ∷ acts) before own = (own.0, sunk_own dial text acts (behind_act before act) own.1)
+
 sunk_so_far : (script : Script) (dial : List ℕ) (acts : List Act) (text : List ℕ) → RelaysSoFar script dial acts → RelaysSoFar script dial (acts ++ Wrote text false ∷ [])
 sunk_so_far script dial acts text h = record {
   lines = h.lines;
   written = sunk_append acts text ∙ h.written;
   relayed = rw (fold-append behind_act [] acts (Wrote text false ∷ [])) (sunk_all script dial acts text h.lines (connections_in_acts acts) h.relayed);
+  own = sunk_own dial text acts [] h.own;
 }
 
 -- whatever was done last
-last_lasts : (script : Script) (dial : List ℕ) (broke : RelayFault) (acts last : List Act) → IsLastDone broke last → Lasts (RelaysSoFar script dial) [] acts
+sunk_lasts : (script : Script) (dial : List ℕ) (acts last : List Act) → IsLastDone fault.Sink last → Lasts (RelaysSoFar script dial) [] acts
     → Lasts (RelaysSoFar script dial) [] (acts ++ last)
-last_lasts script dial fault.Wires acts last is h = rw (is, append-nil acts) h
-last_lasts script dial (fault.NoMemory want) acts last is h = rw (is, append-nil acts) h
-last_lasts script dial fault.Sink acts last is h =
+sunk_lasts script dial acts last is h =
     let end : RelaysSoFar script dial acts = lasts_at (RelaysSoFar script dial) [] acts acts [] (sym (append-nil acts)) h in
     rw is.1 (lasts_then (RelaysSoFar script dial) [] acts (Wrote is.0 false ∷ []) h (end, sunk_so_far script dial acts is.0 end))
+
+last_lasts : {T : Type 0} (result : Result T RelayFault) (script : Script) (dial : List ℕ) (acts last : List Act) → IsLastOf result last
+    → Lasts (RelaysSoFar script dial) [] acts → Lasts (RelaysSoFar script dial) [] (acts ++ last)
+last_lasts (Ok value) script dial acts last is h = rw (is, append-nil acts) h
+last_lasts (Err fault.Wires) script dial acts last is h = rw (is, append-nil acts) h
+last_lasts (Err fault.Sink) script dial acts last is h = sunk_lasts script dial acts last is h
+last_lasts (Err (fault.NoMemory want)) script dial acts last is h = rw (is, append-nil acts) h
 
 nothing_left : acts_from [] [] ≡ []
 unfolding acts_from
@@ -282,24 +428,29 @@ from_begin script dial deeds steady =
     subst (λ (w : List ℕ). Lasts (RelaysSoFar script dial) [] (acts_from w deeds)) none_left
     (subst (λ (a : List Act). Lasts (RelaysSoFar script dial) a (acts_from (text_left [] []) deeds)) nothing_left (steady_acts script dial [] deeds steady))
 
-pub relays : (script : Script) (dial : List ℕ) (first now : Told) (accepted : ℕ) (waiting : List ℕ) (links : List Link) → RanSoFar script dial first now accepted waiting links
-    → Relays script dial first now
-relays script dial first now accepted waiting links r = record {
-  acts = acts_from [] r.deeds;
-  did = r.performs.did;
-  always = λ front rest is. lasts_at (RelaysSoFar script dial) [] (acts_from [] r.deeds) front rest is (from_begin script dial r.deeds r.steady);
-}
+-- nothing that is done last is a wait
+last_settles : {T : Type 0} (result : Result T RelayFault) (script : Script) (acts last : List Act) → IsLastOf result last → ActsSettle script [] acts
+    → ActsSettle script [] (acts ++ last)
+last_settles (Ok value) script acts last is h = rw (is, append-nil acts) h
+last_settles (Err fault.Wires) script acts last is h = rw (is, append-nil acts) h
+last_settles (Err fault.Sink) script acts last is h = rw is.1 (settles_then script [] acts (Wrote is.0 false ∷ []) h (tt, tt))
+last_settles (Err (fault.NoMemory want)) script acts last is h = rw (is, append-nil acts) h
 
-pub relays_broken : (broke : RelayFault) (script : Script) (dial : List ℕ) (first now : Told) → BrokeRun broke script dial first now → Relays script dial first now
-relays_broken broke script dial first now r = record {
-  acts = acts_from [] r.deeds ++ r.breaks.last;
-  did = r.breaks.did;
+all_waits : (script : Script) (dial : List ℕ) (deeds : List RelayDeed) → Steadily (AreSafe script dial) [] deeds → ActsSettle script [] (acts_from [] deeds)
+all_waits script dial deeds steady =
+    subst (λ (w : List ℕ). ActsSettle script [] (acts_from w deeds)) none_left
+    (subst (λ (a : List Act). ActsSettle script a (acts_from (text_left [] []) deeds)) nothing_left
+    (acts_settle script [] deeds (steadily_last (AreSafe script dial) [] deeds steady).waits))
+
+pub relays_end : {T : Type 0} (result : Result T RelayFault) (listen : List ℕ) (turns : ℕ) (script : Script) (dial : List ℕ) (first now : Told)
+    → EndsRun result listen turns script dial first now → Relays script dial first now
+relays_end result listen turns script dial first now r = record {
+  acts = acts_from [] r.deeds ++ r.last;
+  did = r.did;
   always = λ front rest is.
-      lasts_at (RelaysSoFar script dial) [] (acts_from [] r.deeds ++ r.breaks.last) front rest is
-      (last_lasts script dial broke (acts_from [] r.deeds) r.breaks.last r.breaks.is_last (from_begin script dial r.deeds r.steady));
+      lasts_at (RelaysSoFar script dial) [] (acts_from [] r.deeds ++ r.last) front rest is
+      (last_lasts result script dial (acts_from [] r.deeds) r.last r.is_last (from_begin script dial r.deeds r.steady));
+  settles = λ front rest until what is.
+      settled_at script [] (acts_from [] r.deeds ++ r.last) front rest until what is
+      (last_settles result script (acts_from [] r.deeds) r.last r.is_last (all_waits script dial r.deeds r.steady));
 }
-
-pub relays_end : {T : Type 0} (result : Result T RelayFault) (script : Script) (dial : List ℕ) (first now : Told) (accepted : ℕ) (waiting : List ℕ) (links : List Link)
-    → EndsRun result script dial first now accepted waiting links → Relays script dial first now
-relays_end (Ok value) script dial first now accepted waiting links r = relays script dial first now accepted waiting links r
-relays_end (Err broke) script dial first now accepted waiting links r = relays_broken broke script dial first now r

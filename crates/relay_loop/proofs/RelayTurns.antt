@@ -1,5 +1,5 @@
 -- A relay's turns: what is due and what comes is given.
-use Rattle.std.proofs.Common.{◌≡◌, ◌≢◌, ◌⊎◌, ℕ, ◌+◌, ◌<◌, ◌≤◌, Bool, true, false, List, [], ◌∷◌, ◌++◌, length, Option, refl, sym, ap, ◌∙◌, subst, append_assoc, append-nil, inl, inr, true≢false, arith, fold, Result, Ok, Err, IfErr}
+use Rattle.std.proofs.Common.{◌≡◌, ℕ, ◌+◌, ◌<◌, ◌≤◌, Bool, List, [], ◌∷◌, ◌++◌, length, Option, None, refl, sym, ap, ◌∙◌, subst, append_assoc, inr, true≢false, arith, Result, Ok, Err}
 use Rattle.std.proofs.lemmas.List.Sums.{fold-append}
 use Rattle.link_trait.specs.declared.wires.Conn.{Conn}
 use Rattle.link_trait.specs.declared.wires.Happening.{Happening}
@@ -10,62 +10,83 @@ use Rattle.relay_script.specs.declared.script.Script.{Script}
 use Rattle.relay_loop.specs.declared.fault.RelayFault.{RelayFault}
 use Rattle.relay_loop.specs.declared.fault.RelayFault.TheVariants as fault
 use Rattle.relay_loop.specs.declared.link.Link.{Link}
-use Rattle.relay_loop.specs.Connections.{Nobody, RelayedConnection}
-use Rattle.relay_loop.specs.RelayDeeds.{RelayDeed, Calls, Asks, Performs, IsLastDone, Steadily, closes_in}
-use Rattle.relay_loop.specs.Links.{IsUntouched, IsUntold}
-use Rattle.relay_loop.specs.Rings.{behind_deed, connections_in, AreOlder, AreInOrder, IsQuiet, AllSafe, AreSafe, Differs, AllBelow, Parted, IsPaired, ArePaired, HoldsRelay, Goes, BreaksGoing, EndsGoing, StandsRelay, IsNewest, Accepts, BreaksAccept, EndsAccept, Reacts, accepted_behind, TurnsOnce, BreaksTurn, EndsTurn}
-use Rattle.relay_loop.proofs.Deeds.{performs_then, performs_call, performs_ask, breaks_then, breaks_here, steadily_then}
-use Rattle.relay_loop.proofs.Elsewhere.{untouched_append, untold_append, connections_on, open_still}
-use Rattle.relay_loop.proofs.RelayRings.{above, goes_then, goes_breaks}
-use Rattle.relay_loop.proofs.RelayIdles.{IsMute, mute_untouched, mute_untold, all_mute, safe_mute, mute_relay, mute_ask, mute_turn}
-use Rattle.relay_loop.proofs.RelayAccepts.{newest_apart, opening_on}
+use Rattle.relay_loop.specs.Connections.{Nobody, RelayedConnection, AreDialledFor}
+use Rattle.relay_loop.specs.RelayDeeds.{RelayDeed, Calls, Asks, Performs, loop_calls_in, Steadily}
+use Rattle.relay_loop.specs.Rings.{behind_deed, connections_in, AreOlder, AreInOrder, AreSafe, AllBelow, Parted, ArePaired, HoldsRelay, GoesWithin, BreaksGoing, EndsGoing, StandsRelay, Stage, Fresh, IsNewest, Accepts, BreaksAccept, EndsAccept, Reacts, accepted_behind, TurnsOnce, BreaksTurn, HandlesTurn, AnswersTurn, EndsTurn, AllIdle, AllLeft}
+use Rattle.relay_loop.proofs.Deeds.{performs_then, performs_call, performs_ask, breaks_then, loop_calls_append, steadily_then}
+use Rattle.relay_loop.proofs.Elsewhere.{untouched_append, untold_append, own_more, settle_more, connections_on, open_still, left_on}
+use Rattle.relay_loop.proofs.Tellings.{silent_append}
+use Rattle.relay_model.specs.Laws.{ClosedStays}
+use Rattle.relay_loop.proofs.RelayRings.{above, are_safe, relay_settled, known_behind}
+use Rattle.relay_loop.proofs.RelayIdles.{mute_untouched, mute_untold, all_mute, safe_mute, served_mute, mute_relay, mute_ask, mute_turn}
+use Rattle.relay_loop.proofs.RelayAccepts.{newest_apart, stands_on}
 
--- ---- a deed at no socket
-
-goes_mute : (script : Script) (dial : List ℕ) (links : List Link) (waiting left : List ℕ) (before now : Told) (deed : RelayDeed) → IsMute deed
-    → ((connections : List RelayedConnection) → behind_deed connections deed ≡ connections) → Performs waiting left before now (deed ∷ [])
-    → now.wires.opened ≡ before.wires.opened → Goes script dial links links waiting left before now
-goes_mute script dial links waiting left before now deed m still performs opened = record {
-  deeds = deed ∷ [];
-  performs = performs;
-  opened = opened;
-  same = still;
-  apart = λ conn apart. (mute_untouched deed conn m, apart);
-  holds = λ done bound h. mute_relay script dial done deed bound links m still h;
-  steady = λ done bound h. (h.safe, (mute_relay script dial done deed bound links m still h).safe);
-}
+-- ---- the clock is asked
 
 pub goes_ask : (script : Script) (dial : List ℕ) (links : List Link) (waiting : List ℕ) (before now : Told) (moment : ℕ) → Did before now (Asked moment ∷ [])
-    → Goes script dial links links waiting waiting before now
+    → GoesWithin script dial links links waiting waiting before now
 goes_ask script dial links waiting before now moment did =
-    goes_mute script dial links waiting waiting before now (Asks moment) (mute_ask moment) (λ connections. refl) (performs_ask waiting before now moment did)
-    did.wires.opened
+    let deed : RelayDeed = Asks moment in
+    let m = mute_ask moment in
+    let holds : (done : List RelayDeed) (bound : ℕ) → HoldsRelay script dial done bound links → HoldsRelay script dial (done ++ deed ∷ []) bound links =
+    λ done bound h. mute_relay script dial done deed bound links m (λ connections. refl) tt tt h in
+    record {
+      deeds = deed ∷ [];
+      performs = performs_ask waiting before now moment did;
+      calls_are = refl;
+      opened = did.wires.opened;
+      same = λ connections. refl;
+      apart = λ conn apart. (mute_untouched deed conn m, apart);
+      holds = holds;
+      steady = λ done bound h. (h.safe, (holds done bound h).safe);
+    }
 
--- ---- turns by which nothing is accepted
+-- ---- what follows a turn goes on within it
 
-pub turn_goes : (script : Script) (dial : List ℕ) (accepted : ℕ) (old new : List Link) (waiting left : List ℕ) (before now : Told)
-    → Goes script dial old new waiting left before now → TurnsOnce script dial accepted accepted old new waiting left before now
-turn_goes script dial accepted old new waiting left before now g = record {
-  deeds = g.deeds;
-  performs = g.performs;
-  holds = λ done s. record {
-    bound = s.bound;
-    within = let opened = g.opened in let within = s.within in omega (arith, opened, within);
-    count = s.count ∙ sym (ap (λ (c : List RelayedConnection). length c) (connections_on done g.deeds g.same));
-    holds = g.holds done s.bound s.holds;
-  };
-  steady = λ done s. g.steady done s.bound s.holds;
+stands_goes : (script : Script) (dial : List ℕ) (accepted : ℕ) (old new : List Link) (waiting left : List ℕ) (before now : Told)
+    (g : GoesWithin script dial old new waiting left before now) (done : List RelayDeed) → StandsRelay script dial done before accepted old
+    → StandsRelay script dial (done ++ g.deeds) now accepted new
+stands_goes script dial accepted old new waiting left before now g done s = record {
+  bound = s.bound;
+  within = let opened = g.opened in let within = s.within in omega (arith, opened, within);
+  count = s.count ∙ sym (ap (λ (c : List RelayedConnection). length c) (connections_on done g.deeds g.same));
+  left = rw (connections_on done g.deeds g.same) (left_on done g.deeds (connections_in done) s.left);
+  dialled = rw (connections_on done g.deeds g.same) s.dialled;
+  holds = g.holds done s.bound s.holds;
 }
 
-pub turn_broken : (fault : RelayFault) (script : Script) (dial : List ℕ) (accepted : ℕ) (old : List Link) (waiting : List ℕ) (before now : Told)
-    → BreaksGoing fault script dial old waiting before now → BreaksTurn fault script dial accepted old waiting before now
-turn_broken fault script dial accepted old waiting before now g =
-    record { deeds = g.deeds; breaks = g.breaks; steady = λ done s. g.steady done s.bound s.holds }
+turns_goes : (what : Happening) (script : Script) (dial : List ℕ) (accepted newest : ℕ) (a b c : List Link) (u v w : List ℕ) (s t x : Told)
+    → TurnsOnce what script dial accepted newest a b u v s t → GoesWithin script dial b c v w t x → TurnsOnce what script dial accepted newest a c u w s x
+turns_goes what script dial accepted newest a b c u v w s t x p g = record {
+  deeds = p.deeds ++ g.deeds;
+  performs = performs_then u v w s t x p.deeds g.deeds p.performs g.performs;
+  until = p.until;
+  calls_are = loop_calls_append p.deeds g.deeds (Turned p.until what ∷ []) [] p.calls_are g.calls_are;
+  holds = λ done stands.
+      subst (λ (d : List RelayDeed). StandsRelay script dial d x newest c) (append_assoc done p.deeds g.deeds)
+      (stands_goes script dial newest b c v w t x g (done ++ p.deeds) (p.holds done stands));
+  steady = λ done stands.
+      let mid = p.holds done stands in
+      steadily_then (AreSafe script dial) done p.deeds g.deeds (p.steady done stands) (g.steady (done ++ p.deeds) mid.bound mid.holds);
+}
 
-pub turn_ends : {T : Type 0} (result : Result T RelayFault) (script : Script) (dial : List ℕ) (accepted : ℕ) (a b c : List Link) (u v w : List ℕ) (s t x : Told)
-    → Goes script dial a b u v s t → EndsGoing result script dial b c v w t x → EndsTurn result script dial accepted accepted a c u w s x
-turn_ends (Ok value) script dial accepted a b c u v w s t x p q = turn_goes script dial accepted a c u w s x (goes_then script dial a b c u v w s t x p q)
-turn_ends (Err fault) script dial accepted a b c u v w s t x p q = turn_broken fault script dial accepted a u s x (goes_breaks fault script dial a b u v s t x p q)
+turns_broken : (what : Happening) (fault : RelayFault) (script : Script) (dial : List ℕ) (accepted newest : ℕ) (a b : List Link) (u v : List ℕ) (s t x : Told)
+    → TurnsOnce what script dial accepted newest a b u v s t → BreaksGoing fault script dial b v t x → BreaksTurn what fault script dial accepted a u s x
+turns_broken what fault script dial accepted newest a b u v s t x p g = record {
+  deeds = p.deeds ++ g.deeds;
+  breaks = breaks_then fault u v s t x p.deeds g.deeds p.performs g.breaks;
+  until = p.until;
+  calls_are = loop_calls_append p.deeds g.deeds (Turned p.until what ∷ []) [] p.calls_are g.calls_are;
+  steady = λ done stands.
+      let mid = p.holds done stands in
+      steadily_then (AreSafe script dial) done p.deeds g.deeds (p.steady done stands) (g.steady (done ++ p.deeds) mid.bound mid.holds);
+}
+
+turn_ends : {T : Type 0} (result : Result T RelayFault) (what : Happening) (script : Script) (dial : List ℕ) (accepted newest : ℕ) (a b c : List Link)
+    (u v w : List ℕ) (s t x : Told) → TurnsOnce what script dial accepted newest a b u v s t → EndsGoing result script dial b c v w t x
+    → HandlesTurn result what script dial accepted newest a c u w s x
+turn_ends (Ok value) what script dial accepted newest a b c u v w s t x p q = turns_goes what script dial accepted newest a b c u v w s t x p q
+turn_ends (Err fault) what script dial accepted newest a b c u v w s t x p q = turns_broken what fault script dial accepted newest a b u v s t x p q
 
 -- ---- a turn by which one is accepted
 
@@ -111,16 +132,19 @@ pairs_more bound more links (one ∷ others) less paired = (
 )
 
 -- what was taken in, and the clock was asked
-pub record TakesIn (script : Script) (dial : List ℕ) (accepted e : ℕ) (links : List Link) (waiting : List ℕ) (before now : Told) : Type 0 where
+pub record TakesIn (what : Happening) (script : Script) (dial : List ℕ) (accepted e : ℕ) (links : List Link) (waiting : List ℕ) (before now : Told) : Type 0 where
   deeds : List RelayDeed
   performs : Performs waiting waiting before now deeds
-  newest : (done : List RelayDeed) → StandsRelay script dial done before accepted links → IsNewest false (accepted + 1) e (done ++ deeds) now
+  until : Option ℕ
+  calls_are : loop_calls_in deeds ≡ Turned until what ∷ []
+  newest : (done : List RelayDeed) → StandsRelay script dial done before accepted links → IsNewest Fresh (accepted + 1) e (done ++ deeds) now
   holds : (done : List RelayDeed) → StandsRelay script dial done before accepted links → HoldsRelay script dial (done ++ deeds) e links
   steady : (done : List RelayDeed) → StandsRelay script dial done before accepted links → Steadily (AreSafe script dial) done deeds
 
-accepted_relay : (script : Script) (dial : List ℕ) (until : Option ℕ) (conn : Conn) (done : List RelayDeed) (bound : ℕ) (links : List Link) → bound < conn.0
+accepted_relay : ClosedStays → (script : Script) (dial : List ℕ) (until : Option ℕ) (conn : Conn) (done : List RelayDeed) (bound : ℕ) (links : List Link)
+    → (until ≡ None → AllIdle links) → AllLeft done (connections_in done) → AreDialledFor (connections_in done) → bound < conn.0
     → HoldsRelay script dial done bound links → HoldsRelay script dial (done ++ Calls (Turned until (happening.Accepted conn)) ∷ []) conn.0 links
-accepted_relay script dial until conn done bound links less h =
+accepted_relay stays script dial until conn done bound links idle left dialled less h =
     let deed : RelayDeed = Calls (Turned until (happening.Accepted conn)) in
     let m = mute_turn until (happening.Accepted conn) in
     let before : List RelayedConnection = connections_in done in
@@ -142,22 +166,29 @@ accepted_relay script dial until conn done bound links less h =
         },
         pairs_more bound conn.0 links before (omega (arith, less)) h.paired,
       );
-      safe = rw is (
+      known = rw is (known_behind newest before links h.known);
+      safe = are_safe script dial (done ++ deed ∷ []) _ is (
         record {
           unread = at_e.unread;
           ungiven = at_e.ungiven;
           closed = λ c. absurd (true≢false (sym c ∙ at_e.unclosed));
           untold = untold_append (length before + 1) done (deed ∷ []) (h.untold (length before + 1) (omega arith)) (mute_untold deed (length before + 1) m);
         },
-        safe_mute script dial done deed before m h.safe,
-      );
+        safe_mute script dial done deed before m h.safe.all,
+      )
+          (own_more dial done deed h.safe.own tt)
+          (settle_more script done deed h.safe.waits (relay_settled stays script dial until done bound links idle left dialled h));
+      left = rw is (left_on done (deed ∷ []) before left);
+      dialled = rw is dialled;
+      crowd = rw is h.crowd;
+      served = rw is (tt, served_mute script done deed links before m h.served);
     }
 
-pub takes_in : (script : Script) (dial : List ℕ) (accepted : ℕ) (until : Option ℕ) (conn : Conn) (moment : ℕ) (links : List Link) (waiting : List ℕ) (s t u : Told)
-    → Did s t (Called (Turned until (happening.Accepted conn)) ∷ []) → conn.0 ≡ s.wires.opened + 1 → Did t u (Asked moment ∷ [])
-    → TakesIn script dial accepted conn.0 links waiting s u
-unfolding goes_ask goes_mute
-takes_in script dial accepted until conn moment links waiting s t u turned number asked =
+pub takes_in : ClosedStays → (script : Script) (dial : List ℕ) (accepted : ℕ) (until : Option ℕ) (conn : Conn) (moment : ℕ) (links : List Link) (waiting : List ℕ)
+    (s t u : Told) → (until ≡ None → AllIdle links) → Did s t (Called (Turned until (happening.Accepted conn)) ∷ []) → conn.0 ≡ s.wires.opened + 1 → Did t u (Asked moment ∷ [])
+    → TakesIn (happening.Accepted conn) script dial accepted conn.0 links waiting s u
+unfolding goes_ask
+takes_in stays script dial accepted until conn moment links waiting s t u idle turned number asked =
     let deed : RelayDeed = Calls (Turned until (happening.Accepted conn)) in
     let first : t.wires.opened ≡ s.wires.opened + 1 = turned.wires.opened in
     let second : u.wires.opened ≡ t.wires.opened = asked.wires.opened in
@@ -165,12 +196,14 @@ takes_in script dial accepted until conn moment links waiting s t u turned numbe
     let less : (done : List RelayDeed) (stands : StandsRelay script dial done s accepted links) → stands.bound < conn.0 =
     λ done stands. let within = stands.within in omega (arith, within, number) in
     let behind : (done : List RelayDeed) → StandsRelay script dial done s accepted links → HoldsRelay script dial (done ++ deed ∷ []) conn.0 links =
-    λ done stands. accepted_relay script dial until conn done stands.bound links (less done stands) stands.holds in
+    λ done stands. accepted_relay stays script dial until conn done stands.bound links idle stands.left stands.dialled (less done stands) stands.holds in
     let both : List RelayDeed = deed ∷ Asks moment ∷ [] in
     record {
       deeds = both;
       performs = performs_then waiting waiting waiting s t u (deed ∷ []) (Asks moment ∷ [])
           (performs_call waiting s t (Turned until (happening.Accepted conn)) turned) (performs_ask waiting t u moment asked);
+      until = until;
+      calls_are = refl;
       newest = λ done stands. record {
         far = Nobody;
         others = connections_in done;
@@ -179,7 +212,8 @@ takes_in script dial accepted until conn moment links waiting s t u turned numbe
         alone = tt;
         is = omega (arith, number, first, second);
         unclosed = open_still conn.0 done both (stands.holds.fresh conn.0 (less done stands)).unclosed refl;
-        opening = λ f. absurd (true≢false (sym f));
+        silent = silent_append conn.0 done both (stands.holds.fresh conn.0 (less done stands)).silent (λ told. refl);
+        stands = refl;
       };
       holds = λ done stands.
           subst (λ (d : List RelayDeed). HoldsRelay script dial d conn.0 links) (append_assoc done (deed ∷ []) (Asks moment ∷ []))
@@ -190,59 +224,69 @@ takes_in script dial accepted until conn moment links waiting s t u turned numbe
     }
 
 -- what is due is given between
-newest_goes : (script : Script) (dial : List ℕ) (told : Bool) (number e : ℕ) (done : List RelayDeed) (a b : List Link) (u v : List ℕ) (s t : Told)
-    (g : Goes script dial a b u v s t) → IsNewest told number e done s → HoldsRelay script dial done e a → IsNewest told number e (done ++ g.deeds) t
-newest_goes script dial told number e done a b u v s t g n h = record {
+newest_goes : (script : Script) (dial : List ℕ) (stage : Stage) (number e : ℕ) (done : List RelayDeed) (a b : List Link) (u v : List ℕ) (s t : Told)
+    (g : GoesWithin script dial a b u v s t) → IsNewest stage number e done s → HoldsRelay script dial done e a → IsNewest stage number e (done ++ g.deeds) t
+newest_goes script dial stage number e done a b u v s t g n h = record {
   far = n.far;
   others = n.others;
   newest = connections_on done g.deeds g.same ∙ n.newest;
   alone = n.alone;
   is = n.is ∙ sym g.opened;
-  unclosed = open_still e done g.deeds n.unclosed (g.apart e (newest_apart script dial told number e done s a n h)).0.unclosed;
-  opening = λ is. opening_on number done g.deeds (n.opening is);
+  unclosed = open_still e done g.deeds n.unclosed (g.apart e (newest_apart script dial stage number e done s a n h)).0.unclosed;
+  silent = silent_append e done g.deeds n.silent (g.apart e (newest_apart script dial stage number e done s a n h)).0.silent;
+  stands = stands_on stage number n.far done g.deeds n.stands;
 }
 
-pub turn_accepts : (script : Script) (dial : List ℕ) (accepted e : ℕ) (a b c : List Link) (u v w : List ℕ) (s t x y : Told) → TakesIn script dial accepted e a u s t
-    → Goes script dial a b u v t x → Accepts script dial false (accepted + 1) e b c v w x y → TurnsOnce script dial accepted (accepted + 1) a c u w s y
-turn_accepts script dial accepted e a b c u v w s t x y p g q = record {
+pub turn_accepts : (what : Happening) (script : Script) (dial : List ℕ) (accepted e : ℕ) (a b c : List Link) (u v w : List ℕ) (s t x y : Told)
+    → TakesIn what script dial accepted e a u s t → GoesWithin script dial a b u v t x → Accepts script dial Fresh (accepted + 1) e b c v w x y
+    → TurnsOnce what script dial accepted (accepted + 1) a c u w s y
+turn_accepts what script dial accepted e a b c u v w s t x y p g q = record {
   deeds = p.deeds ++ (g.deeds ++ q.deeds);
   performs = performs_then u u w s t y p.deeds (g.deeds ++ q.deeds) p.performs (performs_then u v w t x y g.deeds q.deeds g.performs q.performs);
+  until = p.until;
+  calls_are = loop_calls_append p.deeds (g.deeds ++ q.deeds) (Turned p.until what ∷ []) [] p.calls_are
+      (loop_calls_append g.deeds q.deeds [] [] g.calls_are q.calls_are);
   holds = λ done stands.
-      let n = newest_goes script dial false (accepted + 1) e (done ++ p.deeds) a b u v t x g (p.newest done stands) (p.holds done stands) in
+      let n = newest_goes script dial Fresh (accepted + 1) e (done ++ p.deeds) a b u v t x g (p.newest done stands) (p.holds done stands) in
       let h = g.holds (done ++ p.deeds) e (p.holds done stands) in
       subst (λ (d : List RelayDeed). StandsRelay script dial d y (accepted + 1) c)
       (append_assoc (done ++ p.deeds) g.deeds q.deeds ∙ append_assoc done p.deeds (g.deeds ++ q.deeds)) (q.holds (done ++ p.deeds ++ g.deeds) n h);
   steady = λ done stands.
-      let n = newest_goes script dial false (accepted + 1) e (done ++ p.deeds) a b u v t x g (p.newest done stands) (p.holds done stands) in
+      let n = newest_goes script dial Fresh (accepted + 1) e (done ++ p.deeds) a b u v t x g (p.newest done stands) (p.holds done stands) in
       let h = g.holds (done ++ p.deeds) e (p.holds done stands) in
       steadily_then (AreSafe script dial) done p.deeds (g.deeds ++ q.deeds) (p.steady done stands)
       (steadily_then (AreSafe script dial) (done ++ p.deeds) g.deeds q.deeds (g.steady (done ++ p.deeds) e (p.holds done stands)) (q.steady (done ++ p.deeds ++ g.deeds) n h));
 }
 
-accept_broken : (fault : RelayFault) (script : Script) (dial : List ℕ) (accepted e : ℕ) (a b : List Link) (u v : List ℕ) (s t x y : Told)
-    → TakesIn script dial accepted e a u s t → Goes script dial a b u v t x → BreaksAccept fault script dial false (accepted + 1) e b v x y
-    → BreaksTurn fault script dial accepted a u s y
-accept_broken fault script dial accepted e a b u v s t x y p g q = record {
+accept_broken : (what : Happening) (fault : RelayFault) (script : Script) (dial : List ℕ) (accepted e : ℕ) (a b : List Link) (u v : List ℕ) (s t x y : Told)
+    → TakesIn what script dial accepted e a u s t → GoesWithin script dial a b u v t x → BreaksAccept fault script dial Fresh (accepted + 1) e b v x y
+    → BreaksTurn what fault script dial accepted a u s y
+accept_broken what fault script dial accepted e a b u v s t x y p g q = record {
   deeds = p.deeds ++ (g.deeds ++ q.deeds);
   breaks = breaks_then fault u u s t y p.deeds (g.deeds ++ q.deeds) p.performs (breaks_then fault u v t x y g.deeds q.deeds g.performs q.breaks);
+  until = p.until;
+  calls_are = loop_calls_append p.deeds (g.deeds ++ q.deeds) (Turned p.until what ∷ []) [] p.calls_are
+      (loop_calls_append g.deeds q.deeds [] [] g.calls_are q.calls_are);
   steady = λ done stands.
-      let n = newest_goes script dial false (accepted + 1) e (done ++ p.deeds) a b u v t x g (p.newest done stands) (p.holds done stands) in
+      let n = newest_goes script dial Fresh (accepted + 1) e (done ++ p.deeds) a b u v t x g (p.newest done stands) (p.holds done stands) in
       let h = g.holds (done ++ p.deeds) e (p.holds done stands) in
       steadily_then (AreSafe script dial) done p.deeds (g.deeds ++ q.deeds) (p.steady done stands)
       (steadily_then (AreSafe script dial) (done ++ p.deeds) g.deeds q.deeds (g.steady (done ++ p.deeds) e (p.holds done stands)) (q.steady (done ++ p.deeds ++ g.deeds) n h));
 }
 
-accept_ends : {T : Type 0} (result : Result T RelayFault) (script : Script) (dial : List ℕ) (accepted e : ℕ) (a b c : List Link) (u v w : List ℕ) (s t x y : Told)
-    → TakesIn script dial accepted e a u s t → Goes script dial a b u v t x → EndsAccept result script dial false (accepted + 1) e b c v w x y
-    → EndsTurn result script dial accepted (accepted + 1) a c u w s y
-accept_ends (Ok value) script dial accepted e a b c u v w s t x y p g q = turn_accepts script dial accepted e a b c u v w s t x y p g q
-accept_ends (Err fault) script dial accepted e a b c u v w s t x y p g q = accept_broken fault script dial accepted e a b u v s t x y p g q
+accept_ends : {T : Type 0} (result : Result T RelayFault) (what : Happening) (script : Script) (dial : List ℕ) (accepted e : ℕ) (a b c : List Link) (u v w : List ℕ)
+    (s t x y : Told) → TakesIn what script dial accepted e a u s t → GoesWithin script dial a b u v t x → EndsAccept result script dial Fresh (accepted + 1) e b c v w x y
+    → HandlesTurn result what script dial accepted (accepted + 1) a c u w s y
+accept_ends (Ok value) what script dial accepted e a b c u v w s t x y p g q = turn_accepts what script dial accepted e a b c u v w s t x y p g q
+accept_ends (Err fault) what script dial accepted e a b c u v w s t x y p g q = accept_broken what fault script dial accepted e a b u v s t x y p g q
 
-due_broken : (fault : RelayFault) (script : Script) (dial : List ℕ) (accepted e : ℕ) (a : List Link) (u : List ℕ) (s t x : Told) → TakesIn script dial accepted e a u s t
-    → BreaksGoing fault script dial a u t x → BreaksTurn fault script dial accepted a u s x
-due_broken fault script dial accepted e a u s t x p g = record {
+due_broken : (what : Happening) (fault : RelayFault) (script : Script) (dial : List ℕ) (accepted e : ℕ) (a : List Link) (u : List ℕ) (s t x : Told)
+    → TakesIn what script dial accepted e a u s t → BreaksGoing fault script dial a u t x → BreaksTurn what fault script dial accepted a u s x
+due_broken what fault script dial accepted e a u s t x p g = record {
   deeds = p.deeds ++ g.deeds;
   breaks = breaks_then fault u u s t x p.deeds g.deeds p.performs g.breaks;
+  until = p.until;
+  calls_are = loop_calls_append p.deeds g.deeds (Turned p.until what ∷ []) [] p.calls_are g.calls_are;
   steady = λ done stands.
       steadily_then (AreSafe script dial) done p.deeds g.deeds (p.steady done stands) (g.steady (done ++ p.deeds) e (p.holds done stands));
 }
@@ -250,72 +294,88 @@ due_broken fault script dial accepted e a u s t x p g = record {
 -- ---- a turn, by what happened
 
 -- by which none is accepted
-quiet_turn : (script : Script) (dial : List ℕ) (links : List Link) (waiting : List ℕ) (until : Option ℕ) (what : Happening) (moment : ℕ) (s t u : Told)
+quiet_turn : ClosedStays → (script : Script) (dial : List ℕ) (accepted : ℕ) (links : List Link) (waiting : List ℕ) (until : Option ℕ) (what : Happening) (moment : ℕ)
+    (s t u : Told) → (until ≡ None → AllIdle links)
     → ((connections : List RelayedConnection) → behind_deed connections (Calls (Turned until what)) ≡ connections) → t.wires.opened ≡ s.wires.opened
-    → Did s t (Called (Turned until what) ∷ []) → Did t u (Asked moment ∷ []) → Goes script dial links links waiting waiting s u
-quiet_turn script dial links waiting until what moment s t u still opened turned asked =
-    goes_then script dial links links links waiting waiting waiting s t u
-    (goes_mute script dial links waiting waiting s t (Calls (Turned until what)) (mute_turn until what) still (performs_call waiting s t (Turned until what) turned) opened)
+    → Did s t (Called (Turned until what) ∷ []) → Did t u (Asked moment ∷ []) → TurnsOnce what script dial accepted accepted links links waiting waiting s u
+quiet_turn stays script dial accepted links waiting until what moment s t u idle still opened turned asked =
+    let deed : RelayDeed = Calls (Turned until what) in
+    let holds : (done : List RelayDeed) (stands : StandsRelay script dial done s accepted links) → HoldsRelay script dial (done ++ deed ∷ []) stands.bound links =
+    λ done stands.
+    mute_relay script dial done deed stands.bound links (mute_turn until what) still tt
+    (relay_settled stays script dial until done stands.bound links idle stands.left stands.dialled stands.holds) stands.holds in
+    turns_goes what script dial accepted accepted links links links waiting waiting waiting s t u
+    (record {
+      deeds = deed ∷ [];
+      performs = performs_call waiting s t (Turned until what) turned;
+      until = until;
+      calls_are = refl;
+      holds = λ done stands. record {
+        bound = stands.bound;
+        within = let within = stands.within in omega (arith, opened, within);
+        count = stands.count ∙ sym (ap (λ (c : List RelayedConnection). length c) (connections_on done (deed ∷ []) still));
+        left = rw (connections_on done (deed ∷ []) still) (left_on done (deed ∷ []) (connections_in done) stands.left);
+        dialled = rw (connections_on done (deed ∷ []) still) stands.dialled;
+        holds = holds done stands;
+      };
+      steady = λ done stands. (stands.holds.safe, (holds done stands).safe);
+    })
     (goes_ask script dial links waiting t u moment asked)
 
-pub turns : {T : Type 0} (result : Result T RelayFault) (script : Script) (dial : List ℕ) (accepted : ℕ) (until : Option ℕ) (what : Happening) (moment : ℕ)
-    (a b c : List Link) (u v w : List ℕ) (s t x y z : Told) → Did s t (Called (Turned until what) ∷ [])
-    → ((conn : Conn) → what ≡ happening.Accepted conn → conn.0 ≡ s.wires.opened + 1) → Did t x (Asked moment ∷ []) → Goes script dial a b u v x y
-    → Reacts result script dial accepted what b c v w y z → EndsTurn result script dial accepted (accepted_behind what accepted) a c u w s z
-turns result script dial accepted until (happening.Accepted conn) moment a b c u v w s t x y z turned number asked due reacts =
-    accept_ends result script dial accepted conn.0 a b c u v w s x y z (takes_in script dial accepted until conn moment a u s t x turned (number conn refl) asked) due reacts
-turns result script dial accepted until (happening.Readable conn) moment a b c u v w s t x y z turned number asked due reacts =
-    turn_ends result script dial accepted a b c u v w s y z
-    (goes_then script dial a a b u u v s x y (quiet_turn script dial a u until (happening.Readable conn) moment s t x (λ n. refl) turned.wires.opened turned asked) due) reacts
-turns result script dial accepted until (happening.Writable conn) moment a b c u v w s t x y z turned number asked due reacts =
-    turn_ends result script dial accepted a b c u v w s y z
-    (goes_then script dial a a b u u v s x y (quiet_turn script dial a u until (happening.Writable conn) moment s t x (λ n. refl) turned.wires.opened turned asked) due) reacts
-turns result script dial accepted until happening.Quiet moment a b c u v w s t x y z turned number asked due reacts =
-    turn_ends result script dial accepted a b c u v w s y z
-    (goes_then script dial a a b u u v s x y (quiet_turn script dial a u until happening.Quiet moment s t x (λ n. refl) turned.wires.opened turned asked) due) reacts
-turns result script dial accepted until happening.Ended moment a b c u v w s t x y z turned number asked due reacts =
-    turn_ends result script dial accepted a b c u v w s y z
-    (goes_then script dial a a b u u v s x y (quiet_turn script dial a u until happening.Ended moment s t x (λ n. refl) turned.wires.opened turned asked) due) reacts
-turns result script dial accepted until happening.Failed moment a b c u v w s t x y z turned number asked due reacts =
-    turn_ends result script dial accepted a b c u v w s y z
-    (goes_then script dial a a b u u v s x y (quiet_turn script dial a u until happening.Failed moment s t x (λ n. refl) turned.wires.opened turned asked) due) reacts
+pub turns : {T : Type 0} → ClosedStays → (result : Result T RelayFault) (script : Script) (dial : List ℕ) (accepted : ℕ) (until : Option ℕ) (what : Happening) (moment : ℕ)
+    (a b c : List Link) (u v w : List ℕ) (s t x y z : Told) → (until ≡ None → AllIdle a) → Did s t (Called (Turned until what) ∷ [])
+    → ((conn : Conn) → what ≡ happening.Accepted conn → conn.0 ≡ s.wires.opened + 1) → Did t x (Asked moment ∷ []) → GoesWithin script dial a b u v x y
+    → Reacts result script dial accepted what b c v w y z → HandlesTurn result what script dial accepted (accepted_behind what accepted) a c u w s z
+turns stays result script dial accepted until (happening.Accepted conn) moment a b c u v w s t x y z idle turned number asked due reacts =
+    accept_ends result (happening.Accepted conn) script dial accepted conn.0 a b c u v w s x y z (takes_in stays script dial accepted until conn moment a u s t x idle turned (number conn refl) asked) due reacts
+turns stays result script dial accepted until (happening.Readable conn) moment a b c u v w s t x y z idle turned number asked due reacts =
+    turn_ends result (happening.Readable conn) script dial accepted accepted a b c u v w s y z
+    (turns_goes (happening.Readable conn) script dial accepted accepted a a b u u v s x y (quiet_turn stays script dial accepted a u until (happening.Readable conn) moment s t x idle (λ n. refl) turned.wires.opened turned asked) due) reacts
+turns stays result script dial accepted until (happening.Writable conn) moment a b c u v w s t x y z idle turned number asked due reacts =
+    turn_ends result (happening.Writable conn) script dial accepted accepted a b c u v w s y z
+    (turns_goes (happening.Writable conn) script dial accepted accepted a a b u u v s x y (quiet_turn stays script dial accepted a u until (happening.Writable conn) moment s t x idle (λ n. refl) turned.wires.opened turned asked) due) reacts
+turns stays result script dial accepted until happening.Quiet moment a b c u v w s t x y z idle turned number asked due reacts =
+    turn_ends result happening.Quiet script dial accepted accepted a b c u v w s y z
+    (turns_goes happening.Quiet script dial accepted accepted a a b u u v s x y (quiet_turn stays script dial accepted a u until happening.Quiet moment s t x idle (λ n. refl) turned.wires.opened turned asked) due) reacts
+turns stays result script dial accepted until happening.Ended moment a b c u v w s t x y z idle turned number asked due reacts =
+    turn_ends result happening.Ended script dial accepted accepted a b c u v w s y z
+    (turns_goes happening.Ended script dial accepted accepted a a b u u v s x y (quiet_turn stays script dial accepted a u until happening.Ended moment s t x idle (λ n. refl) turned.wires.opened turned asked) due) reacts
+turns stays result script dial accepted until happening.Failed moment a b c u v w s t x y z idle turned number asked due reacts =
+    turn_ends result happening.Failed script dial accepted accepted a b c u v w s y z
+    (turns_goes happening.Failed script dial accepted accepted a a b u u v s x y (quiet_turn stays script dial accepted a u until happening.Failed moment s t x idle (λ n. refl) turned.wires.opened turned asked) due) reacts
 
 -- it broke off as what is due was given
-pub turn_due_broken : (fault : RelayFault) (script : Script) (dial : List ℕ) (accepted : ℕ) (until : Option ℕ) (what : Happening) (moment : ℕ) (a : List Link) (u : List ℕ)
-    (s t x y : Told) → Did s t (Called (Turned until what) ∷ []) → ((conn : Conn) → what ≡ happening.Accepted conn → conn.0 ≡ s.wires.opened + 1)
-    → Did t x (Asked moment ∷ []) → BreaksGoing fault script dial a u x y → BreaksTurn fault script dial accepted a u s y
-turn_due_broken fault script dial accepted until (happening.Accepted conn) moment a u s t x y turned number asked due =
-    due_broken fault script dial accepted conn.0 a u s x y (takes_in script dial accepted until conn moment a u s t x turned (number conn refl) asked) due
-turn_due_broken fault script dial accepted until (happening.Readable conn) moment a u s t x y turned number asked due =
-    turn_broken fault script dial accepted a u s y
-    (goes_breaks fault script dial a a u u s x y (quiet_turn script dial a u until (happening.Readable conn) moment s t x (λ n. refl) turned.wires.opened turned asked) due)
-turn_due_broken fault script dial accepted until (happening.Writable conn) moment a u s t x y turned number asked due =
-    turn_broken fault script dial accepted a u s y
-    (goes_breaks fault script dial a a u u s x y (quiet_turn script dial a u until (happening.Writable conn) moment s t x (λ n. refl) turned.wires.opened turned asked) due)
-turn_due_broken fault script dial accepted until happening.Quiet moment a u s t x y turned number asked due =
-    turn_broken fault script dial accepted a u s y
-    (goes_breaks fault script dial a a u u s x y (quiet_turn script dial a u until happening.Quiet moment s t x (λ n. refl) turned.wires.opened turned asked) due)
-turn_due_broken fault script dial accepted until happening.Ended moment a u s t x y turned number asked due =
-    turn_broken fault script dial accepted a u s y
-    (goes_breaks fault script dial a a u u s x y (quiet_turn script dial a u until happening.Ended moment s t x (λ n. refl) turned.wires.opened turned asked) due)
-turn_due_broken fault script dial accepted until happening.Failed moment a u s t x y turned number asked due =
-    turn_broken fault script dial accepted a u s y
-    (goes_breaks fault script dial a a u u s x y (quiet_turn script dial a u until happening.Failed moment s t x (λ n. refl) turned.wires.opened turned asked) due)
+pub turn_due_broken : ClosedStays → (fault : RelayFault) (script : Script) (dial : List ℕ) (accepted : ℕ) (until : Option ℕ) (what : Happening) (moment : ℕ) (a : List Link) (u : List ℕ)
+    (s t x y : Told) → (until ≡ None → AllIdle a) → Did s t (Called (Turned until what) ∷ []) → ((conn : Conn) → what ≡ happening.Accepted conn → conn.0 ≡ s.wires.opened + 1)
+    → Did t x (Asked moment ∷ []) → BreaksGoing fault script dial a u x y → BreaksTurn what fault script dial accepted a u s y
+turn_due_broken stays fault script dial accepted until (happening.Accepted conn) moment a u s t x y idle turned number asked due =
+    due_broken (happening.Accepted conn) fault script dial accepted conn.0 a u s x y (takes_in stays script dial accepted until conn moment a u s t x idle turned (number conn refl) asked) due
+turn_due_broken stays fault script dial accepted until (happening.Readable conn) moment a u s t x y idle turned number asked due =
+    turns_broken (happening.Readable conn) fault script dial accepted accepted a a u u s x y (quiet_turn stays script dial accepted a u until (happening.Readable conn) moment s t x idle (λ n. refl) turned.wires.opened turned asked) due
+turn_due_broken stays fault script dial accepted until (happening.Writable conn) moment a u s t x y idle turned number asked due =
+    turns_broken (happening.Writable conn) fault script dial accepted accepted a a u u s x y (quiet_turn stays script dial accepted a u until (happening.Writable conn) moment s t x idle (λ n. refl) turned.wires.opened turned asked) due
+turn_due_broken stays fault script dial accepted until happening.Quiet moment a u s t x y idle turned number asked due =
+    turns_broken happening.Quiet fault script dial accepted accepted a a u u s x y (quiet_turn stays script dial accepted a u until happening.Quiet moment s t x idle (λ n. refl) turned.wires.opened turned asked) due
+turn_due_broken stays fault script dial accepted until happening.Ended moment a u s t x y idle turned number asked due =
+    turns_broken happening.Ended fault script dial accepted accepted a a u u s x y (quiet_turn stays script dial accepted a u until happening.Ended moment s t x idle (λ n. refl) turned.wires.opened turned asked) due
+turn_due_broken stays fault script dial accepted until happening.Failed moment a u s t x y idle turned number asked due =
+    turns_broken happening.Failed fault script dial accepted accepted a a u u s x y (quiet_turn stays script dial accepted a u until happening.Failed moment s t x idle (λ n. refl) turned.wires.opened turned asked) due
 
--- a turn that was done whole, and broke the loop off
-pub turn_last : (fault : RelayFault) (script : Script) (dial : List ℕ) (accepted newest : ℕ) (old new : List Link) (waiting left : List ℕ) (before now : Told)
-    → IsLastDone fault [] → TurnsOnce script dial accepted newest old new waiting left before now → BreaksTurn fault script dial accepted old waiting before now
-turn_last fault script dial accepted newest old new waiting left before now none t =
-    record { deeds = t.deeds; breaks = breaks_here fault waiting left before now t.deeds none t.performs; steady = t.steady }
+-- it broke off, but by no fault of the wires
+pub turn_breaks : (broke : RelayFault) (what : Happening) (script : Script) (dial : List ℕ) (accepted newest : ℕ) (old new : List Link) (waiting left : List ℕ)
+    (before now : Told) → BreaksTurn what broke script dial accepted old waiting before now → EndsTurn (Err broke) script dial accepted newest old new waiting left before now
+turn_breaks fault.Wires what script dial accepted newest old new waiting left before now b = absurd b.breaks.is_last
+turn_breaks fault.Sink what script dial accepted newest old new waiting left before now b = record { what = what; breaks = b }
+turn_breaks (fault.NoMemory want) what script dial accepted newest old new waiting left before now b = record { what = what; breaks = b }
 
 -- however it ends whose last answer is only whether the loop goes on
-pub turn_result : {T : Type 0} (result : Result T RelayFault) (script : Script) (dial : List ℕ) (accepted newest : ℕ) (old new : List Link) (waiting left : List ℕ)
-    (before now : Told) → IfErr result (λ broke. broke ≡ fault.Wires) → TurnsOnce script dial accepted newest old new waiting left before now
+pub turn_result : (result : Result Bool RelayFault) (what : Happening) (script : Script) (dial : List ℕ) (accepted newest : ℕ) (old new : List Link) (waiting left : List ℕ)
+    (before now : Told) → AnswersTurn result what → TurnsOnce what script dial accepted newest old new waiting left before now
     → EndsTurn result script dial accepted newest old new waiting left before now
-turn_result (Ok value) script dial accepted newest old new waiting left before now is t = t
-turn_result (Err broke) script dial accepted newest old new waiting left before now is t =
-    subst (λ (f : RelayFault). BreaksTurn f script dial accepted old waiting before now) (sym is)
-    (turn_last fault.Wires script dial accepted newest old new waiting left before now refl t)
+turn_result (Ok goes) what script dial accepted newest old new waiting left before now is t = record { what = what; followed = is; turns = t }
+turn_result (Err broke) what script dial accepted newest old new waiting left before now is t =
+    subst (λ (f : RelayFault). EndsTurn (Err f) script dial accepted newest old new waiting left before now) (sym is.0)
+    (subst (λ (w : Happening). TurnsOnce w script dial accepted newest old new waiting left before now) is.1 t)
 
 pub newest_at_most : (what : Happening) (accepted : ℕ) → accepted_behind what accepted ≤ accepted + 1
 newest_at_most (happening.Accepted conn) accepted = omega arith

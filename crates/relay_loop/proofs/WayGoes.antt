@@ -1,5 +1,5 @@
 -- One way of a connection, as deeds go on.
-use Rattle.std.proofs.Common.{◌≡◌, ◌≢◌, ◌⊎◌, ℕ, ◌==◌, if◌then◌else◌, true, false, List, [], ◌∷◌, ◌++◌, refl, sym, ap, ◌∙◌, subst, append_assoc, append-nil, inl, inr}
+use Rattle.std.proofs.Common.{◌≡◌, ◌≢◌, ◌⊎◌, ℕ, ◌==◌, if◌then◌else◌, false, List, [], ◌∷◌, ◌++◌, refl, sym, ap, ◌∙◌, subst, append-nil, inl, inr}
 use Rattle.std.proofs.lemmas.Bool.{ne_eqb}
 use Rattle.er_base.specs.declared.side.Side.{Side}
 use Rattle.outside.specs.Acts.{Listened, Dialled, Turned, Read, Sent, Closed, Act, Fetched, Wrote, Called, Asked, Drew}
@@ -7,15 +7,14 @@ use Rattle.outside.specs.Doings.{Told, Did}
 use Rattle.relay_script.specs.declared.script.Script.{Script}
 use Rattle.relay_loop.specs.declared.stamp.Stamp.{Stamp}
 use Rattle.relay_loop.specs.declared.way.Way.{Way}
-use Rattle.relay_loop.specs.RelayLines.{told_in_lines}
-use Rattle.relay_loop.specs.Octets.{given_by_act, given_in_acts, read_by_act, read_in_acts}
+use Rattle.relay_loop.specs.Octets.{given_by_act, given_in_acts, read_in_acts}
 use Rattle.relay_loop.specs.Ways.{HoldsWay}
 use Rattle.relay_loop.specs.WaySteps.{WayMoves, PrintsGiven, joined}
 use Rattle.relay_loop.specs.Sending.{IsSendTo, AreSendsTo}
-use Rattle.relay_loop.specs.Reading.{IsReadOf, AreReadsOf}
-use Rattle.relay_loop.specs.RelayDeeds.{RelayDeed, acts_from, text_left, Performs, deeds_of_acts, given_in, octets_read_at, closes_in, octets_told_of, IsCallAt, AreOfVisit, Steadily}
+use Rattle.relay_loop.specs.Reading.{AreReadsOf}
+use Rattle.relay_loop.specs.RelayDeeds.{RelayDeed, acts_from, text_left, Performs, deeds_of_acts, given_in, octets_read_at, closes_in, octets_told_of, AreOfVisit, Steadily}
 use Rattle.relay_loop.proofs.WayCalls.{moves_none}
-use Rattle.relay_loop.proofs.Deeds.{told_append, given_append, read_append, given_acts, read_acts, told_acts}
+use Rattle.relay_loop.proofs.Deeds.{told_append, given_append, read_append}
 use Rattle.relay_loop.proofs.LinkSafety.{NoReads}
 
 -- these octets were read of the side, these told as given, and these written to the other

@@ -1,8 +1,8 @@
 -- What was read is taken, up to what a line closes the connection with.
-use Rattle.std.proofs.Common.{◌≡◌, ℕ, ◌==◌, if◌then◌else◌, true, false, List, [], ◌∷◌, ◌++◌, refl, sym, ap, ◌∙◌, subst, append_assoc, append-nil, take, drop}
+use Rattle.std.proofs.Common.{◌≡◌, ℕ, ◌==◌, if◌then◌else◌, true, false, List, [], ◌∷◌, ◌++◌, refl, sym, ap, ◌∙◌, subst, append_assoc, append-nil, take, drop, inl, inr, fold}
 use Rattle.std.proofs.lemmas.Bool.{eq-eqb}
 use Rattle.std.proofs.lemmas.List.{take-append-drop}
-use Rattle.link_trait.specs.Wires.{reading_of}
+use Rattle.link_trait.specs.Wires.{Reading, reading_of}
 use Rattle.link_trait.specs.declared.wires.ReadAnswer.{ReadAnswer}
 use Rattle.link_trait.specs.declared.wires.ReadAnswer.TheVariants as read_answer
 use Rattle.outside.specs.Acts.{Called, Read}
@@ -11,26 +11,42 @@ use Rattle.outside.specs.Chains.{did_nothing}
 use Rattle.relay_script.specs.declared.script.Script.{Script}
 use Rattle.relay_model.specs.Laws.{ClosedStays}
 use Rattle.relay_loop.specs.declared.way.Way.{Way}
-use Rattle.relay_loop.specs.WaySteps.{WayMoves, TakesSoFar}
+use Rattle.relay_loop.specs.Settled.{SocketTold, told_by_read, told_by_act}
+use Rattle.relay_loop.specs.WaySteps.{WayMoves, StaysOpen, EndsWay, TakesSoFar}
 use Rattle.er_base.specs.declared.side.Side.{Side}
 use Rattle.er_base.specs.Printing.{Begins}
 use Rattle.relay_model.specs.Carried.{given_of_sent, carried}
 use Rattle.relay_model.specs.Laws.{GivenBegins}
 use Rattle.relay_loop.specs.Octets.{octets_read, read_in_acts}
 use Rattle.relay_loop.specs.RelayLines.{RelayLine, Received, SideEnd, text_of_line, text_of_lines, received_line, side_end_line}
-use Rattle.relay_loop.specs.Ways.{octets_of_pieces, HoldsWay}
-use Rattle.relay_loop.specs.Reading.{WayReads, TakesIn, Hears, HearsOnly, AreNews, PutsNews}
+use Rattle.relay_loop.specs.Ways.{octets_of_pieces}
+use Rattle.relay_loop.specs.Reading.{WayReads, TakesIn, EndsAsTold, Hears, HearsOnly, AreNews, PutsNews}
 use Rattle.std.proofs.lemmas.List.Concat.{flat_map-append}
 use Rattle.relay_loop.proofs.LiveWays.{given_unended}
 use Rattle.relay_loop.proofs.WayCalls.{still, moves_none, moves_then, absorbs}
 
+pub stays_then : (a b c : Way) → StaysOpen a b → StaysOpen b c → StaysOpen a c
+stays_then a b c p q =
+    record { ended = q.ended ∙ p.ended; lost = q.lost ∙ p.lost; closing = λ is. q.closing (p.closing is) }
+
+pub stays_end : (a b c : Way) → StaysOpen a b → EndsWay b c → EndsWay a c
+stays_end a b c p q = record { ended = q.ended; lost = q.lost ∙ p.lost; closing = λ is. q.closing (p.closing is) }
+
 pub so_far_none : (script : Script) (octets : List ℕ) (way : Way) → way.ended ≡ false → way.lost ≡ false → TakesSoFar script octets octets way way
-so_far_none script octets way unended alive = record { front = []; cut = refl; unended = unended; alive = alive; moves = moves_none script way }
+so_far_none script octets way unended alive = record {
+  front = [];
+  cut = refl;
+  unended = unended;
+  alive = alive;
+  stays = record { ended = refl; lost = refl; closing = λ c. c };
+  moves = moves_none script way;
+}
 
 -- some more are taken
 pub so_far_more : (script : Script) (octets rest left : List ℕ) (used : ℕ) (old mid new : Way) → new.ended ≡ false → new.lost ≡ false → left ≡ drop used rest
-    → TakesSoFar script octets rest old mid → WayMoves script (take used rest) [] mid new → TakesSoFar script octets left old new
-so_far_more script octets rest left used old mid new unended alive is s moves = record {
+    → TakesSoFar script octets rest old mid → WayMoves script (take used rest) [] mid new → StaysOpen mid new → TakesSoFar script octets left old new
+so_far_more script octets rest left used old mid new unended alive is s moves stays = record {
+  stays = stays_then old mid new s.stays stays;
   front = s.front ++ take used rest;
   cut =
       s.cut ∙ ap (λ (o : List ℕ). s.front ++ o) (sym (take-append-drop used rest)) ∙ sym (append_assoc s.front (take used rest) (drop used rest))
@@ -57,15 +73,26 @@ closed_taken stays script octets rest old new closed s =
 read_is : (conn : ℕ) (octets : List ℕ) → (if conn == conn then octets else []) ++ [] ≡ octets
 read_is conn octets = let same : (conn == conn) ≡ true = eq-eqb conn conn refl in rw same (append-nil octets)
 
-pub hears_none : (script : Script) (conn : ℕ) (way new : Way) (t : Told) → WayMoves script [] [] way new → Hears script conn way new t t
-hears_none script conn way new t moves = record { acts = []; did = did_nothing t; only = tt; moves = moves }
+pub hears_none : (script : Script) (conn : ℕ) (way new : Way) (t : Told) → WayMoves script [] [] way new → StaysOpen way new → Hears script conn way new t t
+hears_none script conn way new t moves stays =
+    record { acts = []; did = did_nothing t; only = tt; moves = moves; ends = λ told. inl (stays, refl) }
 
 by_answer : (script : Script) (answer : ReadAnswer) (slice : List ℕ) (old new : Way) → TakesIn script answer slice old new
     → WayMoves script (octets_read (reading_of answer slice)) [] old new
-by_answer script (read_answer.Some count) slice old new t = t
-by_answer script read_answer.NotNow slice old new t = t
-by_answer script read_answer.End slice old new t = t
-by_answer script read_answer.Failed slice old new t = t
+by_answer script (read_answer.Some count) slice old new t = t.0
+by_answer script read_answer.NotNow slice old new t = t.0
+by_answer script read_answer.End slice old new t = t.0
+by_answer script read_answer.Failed slice old new t = t.0
+
+own_read : (conn : ℕ) (reading : Reading) (told : SocketTold) → (if conn == conn then told_by_read told reading else told) ≡ told_by_read told reading
+own_read conn reading told = let same : (conn == conn) ≡ true = eq-eqb conn conn refl in rw same refl
+
+ends_by_answer : (script : Script) (answer : ReadAnswer) (slice : List ℕ) (old new : Way) (told : SocketTold) → TakesIn script answer slice old new
+    → EndsAsTold old new told (told_by_read told (reading_of answer slice))
+ends_by_answer script (read_answer.Some count) slice old new told t = inl (t.1, refl)
+ends_by_answer script read_answer.NotNow slice old new told t = inl (t.1, refl)
+ends_by_answer script read_answer.End slice old new told t = inr (t.1, refl)
+ends_by_answer script read_answer.Failed slice old new told t = inr (t.1, refl)
 
 pub hears_one : (script : Script) (conn size : ℕ) (old new : Way) (before now : Told) (answer : ReadAnswer) (slice : List ℕ)
     → Did before now (Called (Read conn size (reading_of answer slice)) ∷ []) → TakesIn script answer slice old new → Hears script conn old new before now
@@ -74,11 +101,19 @@ hears_one script conn size old new before now answer slice did takes = record {
   did = did;
   only = refl;
   moves = subst (λ (o : List ℕ). WayMoves script o [] old new) (sym (read_is conn (octets_read (reading_of answer slice)))) (by_answer script answer slice old new takes);
+  ends = λ told.
+      subst (λ (t : SocketTold). EndsAsTold old new told t) (sym (own_read conn (reading_of answer slice) told)) (ends_by_answer script answer slice old new told takes);
 }
 
+ends_behind : (a b c : Way) (before now : SocketTold) → StaysOpen a b → EndsAsTold b c before now → EndsAsTold a c before now
+ends_behind a b c before now stays (inl e) = inl (stays_then a b c stays e.0, e.1)
+ends_behind a b c before now stays (inr e) = inr (stays_end a b c stays e.0, e.1)
+
 -- what was moved before a read that took nothing
-pub hears_behind : (script : Script) (conn : ℕ) (a b c : Way) (s t : Told) → WayMoves script [] [] a b → Hears script conn b c s t → Hears script conn a c s t
-hears_behind script conn a b c s t moves h = record {
+pub hears_behind : (script : Script) (conn : ℕ) (a b c : Way) (s t : Told) → WayMoves script [] [] a b → StaysOpen a b → Hears script conn b c s t
+    → Hears script conn a c s t
+hears_behind script conn a b c s t moves stays h = record {
+  ends = λ told. ends_behind a b c told (fold (told_by_act conn) told h.acts) stays (h.ends told);
   acts = h.acts;
   did = h.did;
   only = h.only;

@@ -1,5 +1,5 @@
 -- The connections that a relay passed octets between, by its acts (this profile). They are numbered from 1 in the order in which they were accepted.
-use Rattle.std.specs.Prelude.{ℕ, ◌==◌, ◌+◌, Bool, true, false, List, [], ◌∷◌, length, fold, Option, Some, None}
+use Rattle.std.specs.Prelude.{◌≡◌, ◌⊎◌, ℕ, ◌==◌, ◌+◌, Bool, false, List, [], ◌∷◌, length, fold, Option, Some, None, ◌≤◌}
 use Rattle.std.specs.List.{list_any}
 use Rattle.link_trait.specs.declared.wires.Happening.{Happening}
 use Rattle.link_trait.specs.declared.wires.Happening.TheVariants as happening
@@ -53,6 +53,26 @@ behind_act before (Drew word) = before
 abbrev pub connections_in_acts : List Act → List RelayedConnection
 connections_in_acts acts = fold behind_act [] acts
 
+-- how many have both sides
+abbrev pub one_more_if_reached : Far → ℕ → ℕ
+one_more_if_reached Nobody count = count
+one_more_if_reached (Unreached address) count = count
+one_more_if_reached (Reached address r) count = count + 1
+
+abbrev pub count_of_reached : List RelayedConnection → ℕ
+count_of_reached [] = 0
+count_of_reached (one ∷ others) = one_more_if_reached one.r (count_of_reached others)
+
+-- another was dialled for it, unless 256 before it have both sides
+abbrev pub IsDialledFor : Far → (others : List RelayedConnection) → Type 0
+IsDialledFor Nobody others = 256 ≤ count_of_reached others
+IsDialledFor (Unreached address) others = Unit {0}
+IsDialledFor (Reached address r) others = Unit {0}
+
+abbrev pub AreDialledFor : List RelayedConnection → Type 0
+AreDialledFor [] = Unit {0}
+AreDialledFor (one ∷ others) = IsDialledFor one.r others × AreDialledFor others
+
 -- ---- closes
 
 abbrev pub closes_by_call : (conn : ℕ) → SeenCall → Bool
@@ -73,3 +93,52 @@ closes_by_act conn (Drew word) = false
 -- whether a connection was closed
 abbrev pub closes_in_acts : (conn : ℕ) → List Act → Bool
 closes_in_acts conn acts = list_any (closes_by_act conn) acts
+
+-- ---- whose calls are
+
+-- a side of a connection that has both
+abbrev pub IsSideOf : (conn e : ℕ) → Far → Type 0
+IsSideOf conn e Nobody = ⊥
+IsSideOf conn e (Unreached address) = ⊥
+IsSideOf conn e (Reached address r) = (conn ≡ e) ⊎ (conn ≡ r)
+
+abbrev pub IsSideAmong : (conn : ℕ) → List RelayedConnection → Type 0
+IsSideAmong conn [] = ⊥
+IsSideAmong conn (one ∷ others) = IsSideOf conn one.e one.r ⊎ IsSideAmong conn others
+
+-- a socket of a connection, which may have no other side
+abbrev pub IsSocketOf : (conn e : ℕ) → Far → Type 0
+IsSocketOf conn e Nobody = conn ≡ e
+IsSocketOf conn e (Unreached address) = conn ≡ e
+IsSocketOf conn e (Reached address r) = (conn ≡ e) ⊎ (conn ≡ r)
+
+abbrev pub IsSocketAmong : (conn : ℕ) → List RelayedConnection → Type 0
+IsSocketAmong conn [] = ⊥
+IsSocketAmong conn (one ∷ others) = IsSocketOf conn one.e one.r ⊎ IsSocketAmong conn others
+
+-- a connection was accepted, and nobody was dialled for the newest yet
+abbrev pub AwaitsDial : List RelayedConnection → Type 0
+AwaitsDial [] = ⊥
+AwaitsDial (newest ∷ others) = newest.r ≡ Nobody
+
+-- a call belongs to one of the connections so far: a dial, to the one address, to the newest, and once; a read and a write to one that has both sides
+abbrev pub IsOwnCall : (dial : List ℕ) → (before : List RelayedConnection) → SeenCall → Type 0
+IsOwnCall dial before (Listened address listens) = Unit {0}
+IsOwnCall dial before (Dialled address conn) = (address ≡ dial) × AwaitsDial before
+IsOwnCall dial before (Turned until what) = Unit {0}
+IsOwnCall dial before (Read conn size reading) = IsSideAmong conn before
+IsOwnCall dial before (Sent conn piece answer) = IsSideAmong conn before
+IsOwnCall dial before (Closed conn) = IsSocketAmong conn before
+
+-- a relay fetches nothing and draws nothing
+abbrev pub IsOwnAct : (dial : List ℕ) → (before : List RelayedConnection) → Act → Type 0
+IsOwnAct dial before (Fetched name answer) = ⊥
+IsOwnAct dial before (Wrote piece done) = Unit {0}
+IsOwnAct dial before (Called call) = IsOwnCall dial before call
+IsOwnAct dial before (Asked moment) = Unit {0}
+IsOwnAct dial before (Drew word) = ⊥
+
+-- each by the connections before it
+abbrev pub AreOwnActs : (dial : List ℕ) → (before : List RelayedConnection) → List Act → Type 0
+AreOwnActs dial before [] = Unit {0}
+AreOwnActs dial before (act ∷ acts) = IsOwnAct dial before act × AreOwnActs dial (behind_act before act) acts

@@ -32,9 +32,11 @@ known_closed = refl
 
 -- of five octets a write to connection 2 took three, and one that found no room none; what went to connection 1 isn't counted
 known_written : given_in_acts 2
-    (Called (Sent 2 (1 ∷ 2 ∷ 3 ∷ 4 ∷ 5 ∷ []) (write_answer.Some 3)) ∷ Called (Sent 1 (9 ∷ []) (write_answer.Some 1)) ∷ Called (Sent 2 (4 ∷ 5 ∷ []) write_answer.NotNow) ∷ [])
+    (Called (Sent 2 (1 ∷ 2 ∷ 3 ∷ 4 ∷ 5 ∷ []) (write_answer.Some 3)) ∷ Called (Sent 1 (9 ∷ []) (write_answer.Some 1))
+    ∷ Called (Sent 2 (4 ∷ 5 ∷ []) write_answer.NotNow) ∷ [])
     ≡ 1 ∷ 2 ∷ 3 ∷ []
 known_written = refl
 
-known_read : read_in_acts 1 (Called (Read 1 4096 (wires.Gave (7 ∷ 8 ∷ []))) ∷ Called (Read 2 4096 (wires.Gave (9 ∷ []))) ∷ Called (Read 1 4096 wires.End) ∷ []) ≡ 7 ∷ 8 ∷ []
+known_read : read_in_acts 1 (Called (Read 1 4096 (wires.Gave (7 ∷ 8 ∷ []))) ∷ Called (Read 2 4096 (wires.Gave (9 ∷ []))) ∷ Called (Read 1 4096 wires.End)
+    ∷ []) ≡ 7 ∷ 8 ∷ []
 known_read = refl

@@ -2,6 +2,7 @@
 pub mod RelayLines
 pub mod Octets
 pub mod Connections
+pub mod Settled
 pub mod Ways
 pub mod WaySteps
 pub mod Sending
@@ -11,5 +12,8 @@ pub mod Links
 pub mod Giving
 pub mod KnownAnswers
 pub mod Relays
+pub mod Endings
 pub mod Laws
+pub mod KnownRelays
+pub mod KnownEndings
 pub mod Rings

@@ -1,5 +1,5 @@
 -- Representation: what a relay did in its order, each line where it is put behind the lines that wait, and not where it is written; no claim rests on it.
-use Rattle.std.specs.Prelude.{◌≡◌, ◌⊎◌, ℕ, Bool, false, List, [], ◌∷◌, ◌++◌}
+use Rattle.std.specs.Prelude.{◌≡◌, ◌⊎◌, ℕ, Bool, false, List, [], ◌∷◌, ◌++◌, fold}
 use Rattle.std.specs.List.{flat_map, list_any}
 use Rattle.er_base.specs.declared.side.Side.{Side}
 use Rattle.outside.specs.Acts.{SeenCall, Listened, Dialled, Turned, Read, Sent, Closed, Act, Fetched, Wrote, Called, Asked, Drew}
@@ -10,6 +10,8 @@ use Rattle.relay_loop.specs.declared.fault.RelayFault.TheVariants as fault
 use Rattle.relay_loop.specs.RelayLines.{RelayLine, Heading, Opening, Received, Given, SideEnd, Closing, text_of_line, told_in_lines}
 use Rattle.relay_loop.specs.Octets.{read_by_call, given_by_call}
 use Rattle.relay_loop.specs.Connections.{closes_by_call}
+use Rattle.relay_loop.specs.Endings.{loop_call}
+use Rattle.relay_loop.specs.Settled.{SocketTold, told_nothing, told_by_call}
 
 pub data RelayDeed : Type 0 where
   -- a line waits behind those that wait
@@ -42,9 +44,9 @@ pub record Performs (waiting left : List ℕ) (before now : Told) (deeds : List 
   pub did : Did before now (acts_from waiting deeds)
   pub left_is : left ≡ text_left waiting deeds
 
--- what was done last where a relay breaks off: a write of lines that failed, or nothing
+-- what was done last where a relay breaks off in a turn or before the first: a write of lines that failed, or nothing
 abbrev pub IsLastDone : RelayFault → List Act → Type 0
-IsLastDone fault.Wires acts = acts ≡ []
+IsLastDone fault.Wires acts = ⊥
 IsLastDone fault.Sink acts = (text : List ℕ) × (acts ≡ Wrote text false ∷ [])
 IsLastDone (fault.NoMemory want) acts = acts ≡ []
 
@@ -113,6 +115,29 @@ closes_by_deed conn (Puts line) = false
 closes_by_deed conn Flushes = false
 closes_by_deed conn (Calls call) = closes_by_call conn call
 closes_by_deed conn (Asks moment) = false
+
+-- what a socket answered
+abbrev pub told_by_deed : (conn : ℕ) → SocketTold → RelayDeed → SocketTold
+told_by_deed conn told (Puts line) = told
+told_by_deed conn told Flushes = told
+told_by_deed conn told (Calls call) = told_by_call conn told call
+told_by_deed conn told (Asks moment) = told
+
+abbrev pub socket_behind : (conn : ℕ) → SocketTold → List RelayDeed → SocketTold
+socket_behind conn told deeds = fold (told_by_deed conn) told deeds
+
+abbrev pub socket_in : (conn : ℕ) → List RelayDeed → SocketTold
+socket_in conn deeds = socket_behind conn told_nothing deeds
+
+-- listens and turns
+abbrev pub loop_call_by_deed : RelayDeed → List SeenCall
+loop_call_by_deed (Puts line) = []
+loop_call_by_deed Flushes = []
+loop_call_by_deed (Calls call) = loop_call call
+loop_call_by_deed (Asks moment) = []
+
+abbrev pub loop_calls_in : List RelayDeed → List SeenCall
+loop_calls_in deeds = flat_map loop_call_by_deed deeds
 
 abbrev pub given_in : (conn : ℕ) → List RelayDeed → List ℕ
 given_in conn deeds = flat_map (given_by_deed conn) deeds

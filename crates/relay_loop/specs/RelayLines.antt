@@ -1,5 +1,5 @@
 -- The lines that a relay prints (this profile): a moment in milliseconds, the number of the connection, and what came or is given.
-use Rattle.std.specs.Prelude.{ℕ, ◌==◌, ◌&&◌, Bool, true, false, if◌then◌else◌, List, [], ◌∷◌, codes}
+use Rattle.std.specs.Prelude.{ℕ, ◌==◌, ◌&&◌, Bool, false, if◌then◌else◌, List, [], ◌∷◌, codes}
 use Rattle.std.specs.List.{flat_map, list_any}
 use Rattle.std.specs.Fmt.{decimal}
 use Rattle.er_base.specs.declared.side.Side.{Side}
@@ -80,8 +80,20 @@ closes_in_line number (Given moment of from octets) = false
 closes_in_line number (SideEnd moment of from) = false
 closes_in_line number (Closing moment of) = of == number
 
+-- that a side of it ended
+abbrev pub ends_in_line : (number : ℕ) → Side → RelayLine → Bool
+ends_in_line number side Heading = false
+ends_in_line number side (Opening moment of) = false
+ends_in_line number side (Received moment of from octets) = false
+ends_in_line number side (Given moment of from octets) = false
+ends_in_line number side (SideEnd moment of from) = (of == number) && is_same_side from side
+ends_in_line number side (Closing moment of) = false
+
 abbrev pub opens_in_lines : (number : ℕ) → List RelayLine → Bool
 opens_in_lines number lines = list_any (opens_in_line number) lines
 
 abbrev pub closes_in_lines : (number : ℕ) → List RelayLine → Bool
 closes_in_lines number lines = list_any (closes_in_line number) lines
+
+abbrev pub ends_in_lines : (number : ℕ) → Side → List RelayLine → Bool
+ends_in_lines number side lines = list_any (ends_in_line number side) lines

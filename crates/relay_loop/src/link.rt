@@ -1,16 +1,17 @@
 //! A connection of a relay: its two sockets, and what goes each way between them.
 
-ghost use Rattle.std.specs.Prelude.{◌≡◌, ◌≢◌, false, [], List, IfOk, OnOk};
-ghost use Rattle.std.specs.Result.{MatchResult};
-ghost use Rattle.outside.specs.Doings.{Told};
+ghost use Rattle.std.specs.Prelude.{◌≡◌, ◌≢◌, ◌⊎◌, true, false, None, [], List, IfOk, OnOk};
 ghost use Rattle.relay_script.specs.declared.script.Script as model;
 ghost use Rattle.relay_script.specs.ScriptRanges.{IsScriptInRange};
-ghost use Rattle.relay_loop.specs.WaySteps.{WayMoves, PrintsGiven};
+ghost use Rattle.relay_loop.specs.Ways.{IsUndue};
+ghost use Rattle.relay_loop.specs.WaySteps.{PrintsGiven};
+ghost use Rattle.relay_loop.specs.declared.sending.Flow.TheVariants as flow;
 ghost use Rattle.relay_loop.specs.Sending.{Sends};
-ghost use Rattle.relay_loop.specs.Giving.{PrintsBoth, WritesBoth, TellsFirst};
+ghost use Rattle.relay_loop.specs.Giving.{PrintsBoth, WritesBoth, failed_of};
 ghost use Rattle.relay_loop.specs.Reading.{PutsNews};
 ghost use Rattle.relay_loop.specs.RelayDeeds.{RelayDeed};
-ghost use Rattle.relay_loop.specs.Links.{HoldsLink, IsUntouched, IsUntold, Visits, BreaksVisit, EndsVisit};
+ghost use Rattle.relay_loop.specs.Links.{KeepsLink, IsUntouched, IsUntold, IsOverLink, IsIdleLink, LosesWay, FailsWay, FailsLink};
+ghost use Rattle.relay_loop.specs.Links.{EndsVisit, EndsRound, EndsSettled, EndsAsk};
 
 use crate::fault::RelayFault;
 use crate::lines::put_closed;
@@ -23,6 +24,7 @@ use crate::workspace::Workspace;
 use er_base::{NoMemory, Side};
 use link_trait::Conn;
 use outside::Outside;
+use relay_model::laws::closed_stays;
 use relay_script::Script;
 use std::alloc::Global;
 
@@ -63,8 +65,8 @@ impl Link {
     pub(crate) fn new(alloc: Global, number: u64, e: Conn, r: Conn) -> Result<Link, NoMemory>
         ensures sockets { IfOk result (λ link. (link.e ≡ e) × (link.r ≡ r)) }
         ensures number { IfOk result (λ link. link.number ≡ number) }
-        ensures holds { IfOk result (λ link. (script : model.Script) (done : List RelayDeed) → e.0 ≢ r.0 → IsUntold number done → IsUntouched e.0 done
-            → IsUntouched r.0 done → HoldsLink script done link) }
+        ensures keeps { IfOk result (λ link. (script : model.Script) (done : List RelayDeed) → e.0 ≢ r.0 → IsUntold number done → IsUntouched e.0 done
+            → IsUntouched r.0 done → KeepsLink script done link) }
     {
         Ok(Link {
             number,
@@ -98,7 +100,11 @@ impl Link {
     }
 
     // Whether a line closes the connection: nothing is read or given any more but what was printed before.
-    fn is_closing(&self) -> bool {
+    fn is_closing(&self) -> bool
+        ensures closes { result ≡ true → (self.now.from_e.closing ≡ true) ⊎ (self.now.from_r.closing ≡ true) }
+        ensures from_e { result ≡ false → self.now.from_e.closing ≡ false }
+        ensures from_r { result ≡ false → self.now.from_r.closing ≡ false }
+    {
         if self.from_e.closing {
             return true;
         }
@@ -106,7 +112,9 @@ impl Link {
     }
 
     // Whether both sides are to be closed now.
-    fn is_over(&self) -> bool {
+    fn is_over(&self) -> bool
+        ensures { result ≡ true → IsOverLink self.now }
+    {
         if self.from_e.closing {
             return self.from_e.printed.is_empty();
         }
@@ -123,7 +131,9 @@ impl Link {
     }
 
     /// The first moment at which something is due.
-    pub(crate) fn until(&self) -> Option<u64> {
+    pub(crate) fn until(&self) -> Option<u64>
+        ensures { result ≡ None → IsIdleLink self.now }
+    {
         if self.is_closing() {
             return None;
         }
@@ -166,34 +176,38 @@ impl Link {
 
     // What was told is written, but for what would be given behind a close. The side to which a write failed, if one did.
     fn send<O: Outside>(&mut self, outside: &mut O) -> Option<Side>
-        ensures { WritesBoth self.old self.new (O.told outside.old) (O.told outside.new) }
+        ensures { WritesBoth result self.old self.new (O.told outside.old) (O.told outside.new) }
     {
         let to_r = send_unless(self.from_r.closing, self.r, &mut self.from_e, outside);
         let to_e = send_unless(self.from_e.closing, self.e, &mut self.from_r, outside);
         failed_side(to_r, to_e)
     }
 
-    // What is due is told, and behind that it is written. The side to which a write failed, if one did.
+    // What is due is told, and behind that it is written. Whether a write failed: then what was held of the side that failed is due too.
     fn give_once<O: Outside>(
         &mut self,
         at: Stamp,
         workspace: &mut Workspace,
         outside: &mut O,
-    ) -> Result<Option<Side>, RelayFault>
+    ) -> Result<bool, RelayFault>
         requires number { at.number ≡ self.old.number }
-        ensures { (script : model.Script) → EndsVisit result script self.old self.new workspace.old.lines.items workspace.new.lines.items
+        ensures { (script : model.Script) → EndsRound result script self.old self.new workspace.old.lines.items workspace.new.lines.items
             (O.told outside.old) (O.told outside.new) }
     {
         self.print_due(at, &mut workspace.lines)?;
         write_lines(&mut workspace.lines, outside)?;
-        Ok(self.send(outside))
+        match self.send(outside) {
+            Some(side) => {
+                self.fail(at, side, workspace)?;
+                Ok(true)
+            }
+            None => Ok(false),
+        }
     }
 
     // A write to a side failed: what waits for it goes, and what was held of it is passed, unless the connection is closed anyway.
     fn fail(&mut self, at: Stamp, side: Side, workspace: &mut Workspace) -> Result<(), NoMemory>
-        requires number { at.number ≡ self.old.number }
-        ensures { OnOk result ((script : model.Script) (t : Told)
-            → Visits script self.old self.new workspace.old.lines.items workspace.new.lines.items t t) }
+        ensures { OnOk result (FailsLink side at.number self.old self.new workspace.old.lines.items workspace.new.lines.items) }
     {
         let closing = self.is_closing();
         match side {
@@ -210,20 +224,21 @@ impl Link {
         outside: &mut O,
     ) -> Result<(), RelayFault>
         requires number { at.number ≡ self.old.number }
-        ensures { (script : model.Script) → EndsVisit result script self.old self.new workspace.old.lines.items workspace.new.lines.items
+        ensures { (script : model.Script) → EndsSettled result script self.old self.new workspace.old.lines.items workspace.new.lines.items
             (O.told outside.old) (O.told outside.new) }
     {
-        for _ in 0..=2 {
-            match self.give_once(at, workspace, outside)? {
-                Some(side) => self.fail(at, side, workspace)?,
-                None => return Ok(()),
-            }
+        if !self.give_once(at, workspace, outside)? {
+            return Ok(());
         }
+        if !self.give_once(at, workspace, outside)? {
+            return Ok(());
+        }
+        self.give_once(at, workspace, outside)?;
         Ok(())
     }
 
     // A side that wasn't read since too much waited is read where less waits now.
-    #[tactic(auto, using(crate::proofs::LinkCalls::visits_none))]
+    #[tactic(auto, using(crate::proofs::LinkCalls::on_none))]
     fn hear_again<O: Outside>(
         &mut self,
         script: &Script,
@@ -251,7 +266,7 @@ impl Link {
     }
 
     // What came is taken, where it is asked for.
-    #[tactic(auto, using(crate::proofs::LinkCalls::visits_none))]
+    #[tactic(auto, using(crate::proofs::LinkCalls::on_none))]
     fn hear_of<O: Outside>(
         &mut self,
         script: &Script,
@@ -281,7 +296,8 @@ impl Link {
     ) -> Result<(), RelayFault>
         requires range { IsScriptInRange script.now }
         requires number { at.number ≡ self.old.number }
-        ensures { EndsVisit result script.now self.old self.new workspace.old.lines.items workspace.new.lines.items (O.told outside.old) (O.told outside.new) }
+        ensures { EndsSettled result script.now self.old self.new workspace.old.lines.items workspace.new.lines.items
+            (O.told outside.old) (O.told outside.new) }
     {
         self.hear_of(script, at, visit, workspace, outside)?;
         self.give(at, workspace, outside)?;
@@ -310,7 +326,7 @@ impl Link {
     }
 
     /// It is visited, where what is asked is its own. Whether it stays; else it was closed.
-    #[tactic(auto, using(crate::proofs::LinkCalls::visits_none))]
+    #[tactic(auto, using(crate::proofs::LinkCalls::stays_none))]
     pub(crate) fn ask<O: Outside>(
         &mut self,
         script: &Script,
@@ -320,7 +336,7 @@ impl Link {
         outside: &mut O,
     ) -> Result<bool, RelayFault>
         requires range { IsScriptInRange script.now }
-        ensures { EndsVisit result script.now self.old self.new workspace.old.lines.items workspace.new.lines.items (O.told outside.old) (O.told outside.new) }
+        ensures { EndsAsk result script.now self.old self.new workspace.old.lines.items workspace.new.lines.items (O.told outside.old) (O.told outside.new) }
     {
         match self.visit_for(asked, moment) {
             Some(visit) => self.visit(script, moment, visit, workspace, outside),
@@ -338,8 +354,9 @@ impl Link {
         outside: &mut O,
     ) -> Result<bool, RelayFault>
         requires range { IsScriptInRange script.now }
-        ensures { EndsVisit result script.now self.old self.new workspace.old.lines.items workspace.new.lines.items (O.told outside.old) (O.told outside.new) }
+        ensures { EndsAsk result script.now self.old self.new workspace.old.lines.items workspace.new.lines.items (O.told outside.old) (O.told outside.new) }
     {
+        closed_stays();
         let at = Stamp {
             moment,
             number: self.number,
@@ -354,13 +371,13 @@ impl Link {
 
     // Both sides are closed.
     fn close<O: Outside>(
-        &mut self,
+        &self,
         at: Stamp,
         workspace: &mut Workspace,
         outside: &mut O,
     ) -> Result<(), RelayFault>
-        requires number { at.number ≡ self.old.number }
-        ensures { (script : model.Script) → EndsVisit result script self.old self.new workspace.old.lines.items workspace.new.lines.items
+        requires number { at.number ≡ self.now.number }
+        ensures { (script : model.Script) → EndsVisit result script self.now self.now workspace.old.lines.items workspace.new.lines.items
             (O.told outside.old) (O.told outside.new) }
     {
         put_closed(at, &mut workspace.lines)?;
@@ -379,7 +396,8 @@ fn print_unless(
     way: &mut Way,
     lines: &mut Vec<u8>,
 ) -> Result<(), NoMemory>
-    ensures { OnOk result (PrintsGiven at way.old way.new lines.old.items lines.new.items) }
+    ensures prints { OnOk result (PrintsGiven at way.old way.new lines.old.items lines.new.items) }
+    ensures undue { OnOk result (is_closing ≡ false → way.new.lost ≡ false → IsUndue way.new.latest way.new.waits.items) }
 {
     if is_closing {
         return Ok(());
@@ -390,7 +408,7 @@ fn print_unless(
 // What was told of a way is written, unless the other way closes the connection.
 #[tactic(auto, using(crate::proofs::WaySends::sends_none))]
 fn send_unless<O: Outside>(is_closing: bool, to: Conn, way: &mut Way, outside: &mut O) -> Flow
-    ensures { Sends to.0 way.old way.new (O.told outside.old) (O.told outside.new) }
+    ensures { Sends is_closing result to.0 way.old way.new (O.told outside.old) (O.told outside.new) }
 {
     if is_closing {
         return Flow::Going;
@@ -399,14 +417,26 @@ fn send_unless<O: Outside>(is_closing: bool, to: Conn, way: &mut Way, outside: &
 }
 
 // The side to which a write failed.
-fn failed_side(to_r: Flow, to_e: Flow) -> Option<Side> {
-    if to_r == Flow::Failing {
-        return Some(Side::R);
+fn failed_side(to_r: Flow, to_e: Flow) -> Option<Side>
+    ensures { result ≡ failed_of to_r to_e }
+{
+    match to_r {
+        Flow::Failing => Some(Side::R),
+        Flow::Going => failed_at(to_e),
+        Flow::PutOff => failed_at(to_e),
     }
-    if to_e == Flow::Failing {
-        return Some(Side::E);
+}
+
+// Whether a write to e failed, where none to r did.
+fn failed_at(to_e: Flow) -> Option<Side>
+    ensures going { result ≡ failed_of flow.Going to_e }
+    ensures put_off { result ≡ failed_of flow.PutOff to_e }
+{
+    match to_e {
+        Flow::Failing => Some(Side::E),
+        Flow::Going => None,
+        Flow::PutOff => None,
     }
-    None
 }
 
 // A side failed: what waits for it goes, and it ends, unless the connection is closed anyway.
@@ -417,7 +447,9 @@ fn fail(
     towards: &mut Way,
     workspace: &mut Workspace,
 ) -> Result<(), NoMemory>
-    ensures moves { OnOk result ((script : model.Script) → WayMoves script [] [] failed.old failed.new × WayMoves script [] [] towards.old towards.new) }
+    ensures loses { OnOk result (LosesWay towards.old towards.new) }
+    ensures fails { OnOk result (FailsWay failed.old failed.new) }
+    ensures over { OnOk result (is_closing ≡ false → failed.new.ended ≡ true) }
     ensures puts { OnOk result (PutsNews at.number workspace.old.lines.items workspace.new.lines.items) }
 {
     towards.lose();
@@ -432,7 +464,8 @@ fn end_once(
     way: &mut Way,
     workspace: &mut Workspace,
 ) -> Result<(), NoMemory>
-    ensures moves { OnOk result ((script : model.Script) → WayMoves script [] [] way.old way.new) }
+    ensures fails { OnOk result (FailsWay way.old way.new) }
+    ensures over { OnOk result (is_closing ≡ false → way.new.ended ≡ true) }
     ensures puts { OnOk result (PutsNews at.number workspace.old.lines.items workspace.new.lines.items) }
 {
     if is_closing {
@@ -445,7 +478,10 @@ fn end_once(
 }
 
 /// The earlier of two moments, where they are.
-pub(crate) fn earlier(one: Option<u64>, other: Option<u64>) -> Option<u64> {
+pub(crate) fn earlier(one: Option<u64>, other: Option<u64>) -> Option<u64>
+    ensures first { result ≡ None → one ≡ None }
+    ensures second { result ≡ None → other ≡ None }
+{
     match (one, other) {
         (Some(one), Some(other)) => Some(one.min(other)),
         (one, None) => one,

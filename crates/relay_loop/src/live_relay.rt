@@ -1,13 +1,15 @@
 //! The loop: turn by turn what happens at its wires, and what is due.
 
-ghost use Rattle.std.specs.Prelude.{◌≡◌, ◌<◌, ◌≤◌, ◌+◌, ◌-◌, ◌^◌, ◌++◌, ◌∷◌, [], true, false, codes, List, ℕ, OnOk, IfErr};
+ghost use Rattle.std.specs.Prelude.{◌≡◌, ◌<◌, ◌≤◌, ◌+◌, ◌-◌, ◌^◌, ◌++◌, ◌∷◌, [], true, false, codes, List, ℕ, None, OnOk, IfErr};
 ghost use Rattle.outside.specs.Acts.{Asked, Wrote};
 ghost use Rattle.outside.specs.Doings.{Told, Did};
 ghost use Rattle.relay_script.specs.declared.script.Script as model;
 ghost use Rattle.relay_script.specs.ScriptRanges.{IsScriptInRange};
 ghost use Rattle.relay_loop.specs.declared.fault.RelayFault.TheVariants as fault;
 ghost use Rattle.relay_loop.specs.Relays.{Relays};
-ghost use Rattle.relay_loop.specs.Rings.{EndsGoing, EndsAccept, Reacts, accepted_behind, EndsTurn, EndsRun, RanSoFar};
+ghost use Rattle.relay_loop.specs.Endings.{EndsByCause};
+ghost use Rattle.relay_loop.specs.Rings.{AllIdle, Stage, Fresh, Opened, Unanswered, IsToClose};
+ghost use Rattle.relay_loop.specs.Rings.{EndsGoing, EndsAccept, Reacts, accepted_behind, AnswersTurn, EndsTurn, EndsRun, EndsBeginning, RanSoFar};
 
 use crate::fault::RelayFault;
 use crate::lines::{put_closed, put_end, put_open};
@@ -18,6 +20,7 @@ use crate::workspace::Workspace;
 use er_base::{NoMemory, Side};
 use link_trait::{Conn, Failed, Happening};
 use outside::Outside;
+use relay_model::laws::closed_stays;
 use relay_script::Script;
 use std::alloc::Global;
 use std::collections::VecDeque;
@@ -56,7 +59,9 @@ impl LiveRelay {
     }
 
     // The first moment at which something is due.
-    fn until(&self) -> Option<u64> {
+    fn until(&self) -> Option<u64>
+        ensures { result ≡ None → AllIdle self.now.links.items }
+    {
         let mut first = None;
         for link in self.links.iter() {
             first = earlier(first, link.until());
@@ -144,8 +149,9 @@ impl LiveRelay {
         conn: Conn,
         outside: &mut O,
     ) -> Result<(), RelayFault>
-        ensures accepts { (script : model.Script) (dial : List ℕ) → EndsAccept result script dial true at.number conn.0 self.old.links.items self.new.links.items
-            self.old.workspace.lines.items self.new.workspace.lines.items (O.told outside.old) (O.told outside.new) }
+        ensures accepts { (script : model.Script) (dial : List ℕ) (stage : Stage) → IsToClose stage self.old.links.items
+            → EndsAccept result script dial stage at.number conn.0 self.old.links.items self.new.links.items self.old.workspace.lines.items
+            self.new.workspace.lines.items (O.told outside.old) (O.told outside.new) }
         ensures accepted { self.new.accepted ≡ self.old.accepted }
     {
         put_closed(at, &mut self.workspace.lines)?;
@@ -161,8 +167,8 @@ impl LiveRelay {
         conn: Conn,
         outside: &mut O,
     ) -> Result<(), RelayFault>
-        ensures accepts { (script : model.Script) (dial : List ℕ) → EndsAccept result script dial true at.number conn.0 self.old.links.items self.new.links.items
-            self.old.workspace.lines.items self.new.workspace.lines.items (O.told outside.old) (O.told outside.new) }
+        ensures accepts { (script : model.Script) (dial : List ℕ) → EndsAccept result script dial Unanswered at.number conn.0 self.old.links.items
+            self.new.links.items self.old.workspace.lines.items self.new.workspace.lines.items (O.told outside.old) (O.told outside.new) }
         ensures accepted { self.new.accepted ≡ self.old.accepted }
     {
         put_end(at, Side::R, &mut self.workspace.lines)?;
@@ -178,7 +184,7 @@ impl LiveRelay {
         dial: &str,
         outside: &mut O,
     ) -> Result<(), RelayFault>
-        ensures accepts { (script : model.Script) → EndsAccept result script dial.now true at.number conn.0 self.old.links.items self.new.links.items
+        ensures accepts { (script : model.Script) → EndsAccept result script dial.now Opened at.number conn.0 self.old.links.items self.new.links.items
             self.old.workspace.lines.items self.new.workspace.lines.items (O.told outside.old) (O.told outside.new) }
         ensures accepted { self.new.accepted ≡ self.old.accepted }
     {
@@ -202,8 +208,8 @@ impl LiveRelay {
         outside: &mut O,
     ) -> Result<(), RelayFault>
         requires room { self.old.accepted < 2 ^ 64 - 1 }
-        ensures accepts { (script : model.Script) → EndsAccept result script dial.now false (self.old.accepted + 1) conn.0 self.old.links.items self.new.links.items
-            self.old.workspace.lines.items self.new.workspace.lines.items (O.told outside.old) (O.told outside.new) }
+        ensures accepts { (script : model.Script) → EndsAccept result script dial.now Fresh (self.old.accepted + 1) conn.0 self.old.links.items
+            self.new.links.items self.old.workspace.lines.items self.new.workspace.lines.items (O.told outside.old) (O.told outside.new) }
         ensures accepted { self.new.accepted ≡ self.old.accepted + 1 }
     {
         self.accepted += 1;
@@ -270,6 +276,7 @@ impl LiveRelay {
             self.old.workspace.lines.items self.new.workspace.lines.items (O.told outside.old) (O.told outside.new) }
         ensures accepted { OnOk result (self.new.accepted ≤ self.old.accepted + 1) }
     {
+        closed_stays();
         let happening = outside.turn(self.until());
         self.see_moment(outside);
         self.give_due(script, outside)?;
@@ -288,8 +295,9 @@ impl LiveRelay {
     ) -> Result<(), RelayFault>
         requires range { IsScriptInRange script.now }
         requires none { self.old.accepted ≡ 0 }
-        ensures { (first : Told) → RanSoFar script.now dial.now first (O.told outside.old) self.old.accepted self.old.workspace.lines.items self.old.links.items
-            → EndsRun result script.now dial.now first (O.told outside.new) self.new.accepted self.new.workspace.lines.items self.new.links.items }
+        ensures { (first : Told) (listen : List ℕ)
+            → RanSoFar listen 0 script.now dial.now first (O.told outside.old) self.old.accepted self.old.workspace.lines.items self.old.links.items
+            → EndsRun result listen turns script.now dial.now first (O.told outside.new) }
     {
         for _ in 0..turns {
             if !self.turn(alloc, script, dial, outside)? {
@@ -302,18 +310,21 @@ impl LiveRelay {
 
 // Whether the loop goes on behind a turn.
 fn goes_on(happening: Happening) -> Result<bool, RelayFault>
-    ensures { IfErr result (λ broke. broke ≡ fault.Wires) }
+    ensures { AnswersTurn result happening }
 {
     match happening {
         Happening::Ended => Ok(false),
         Happening::Failed => Err(RelayFault::Wires),
-        _ => Ok(true),
+        Happening::Accepted(_) => Ok(true),
+        Happening::Readable(_) => Ok(true),
+        Happening::Writable(_) => Ok(true),
+        Happening::Quiet => Ok(true),
     }
 }
 
 // Listens, and then writes the first line.
 fn begin<O: Outside>(listen: &str, outside: &mut O) -> Result<(), RelayFault>
-    ensures { (script : model.Script) (dial : List ℕ) → EndsRun result script dial (O.told outside.old) (O.told outside.new) 0 [] [] }
+    ensures { (script : model.Script) (dial : List ℕ) → EndsBeginning result listen.now script dial (O.told outside.old) (O.told outside.new) }
 {
     match outside.listen(listen) {
         Ok(()) => write_header(outside),
@@ -345,8 +356,11 @@ pub fn relay<O: Outside>(
 ) -> Result<(), RelayFault>
     requires range { IsScriptInRange script.now }
     // At each moment, however it ends, what was given to either side of each connection was told before, and is a beginning of what is carried of what was
-    // read of the other.
+    // read of the other; no call is at another socket or address; and by each wait all was given, but for what can't be then.
     ensures relays { Relays script.now dial.now (O.told outside.old) (O.told outside.new) }
+    // What it answers has its cause: that all turns were done or the wires ended; that the listen or the last turn failed; that the last write failed. Only
+    // want of memory isn't seen in what was done, but that it is in a turn, and no write failed before it.
+    ensures ends { EndsByCause result listen.now turns (O.told outside.old) (O.told outside.new) }
 {
     let mut live = LiveRelay::new(alloc);
     begin(listen, outside)?;

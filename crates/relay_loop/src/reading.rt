@@ -4,7 +4,7 @@ ghost use Rattle.std.specs.Prelude.{◌≡◌, ◌≤◌, ℕ, false, [], length
 ghost use Rattle.std.specs.Result.{MatchResult};
 ghost use Rattle.relay_script.specs.declared.script.Script as model;
 ghost use Rattle.relay_script.specs.ScriptRanges.{IsScriptInRange};
-ghost use Rattle.relay_loop.specs.WaySteps.{WayMoves};
+ghost use Rattle.relay_loop.specs.WaySteps.{WayMoves, StaysOpen, EndsWay};
 ghost use Rattle.relay_loop.specs.RelayDeeds.{IsLastDone};
 ghost use Rattle.relay_loop.specs.Reading.{Hears, HearsOnly, TakesIn, PutsNews};
 
@@ -54,6 +54,7 @@ fn take_all(
     requires unended { way.old.ended ≡ false }
     requires alive { way.old.lost ≡ false }
     ensures takes { OnOk result (WayMoves script.now octets.now [] way.old way.new) }
+    ensures stays { OnOk result (StaysOpen way.old way.new) }
     ensures puts { OnOk result (PutsNews at.number lines.old.items lines.new.items) }
 {
     closed_stays();
@@ -80,6 +81,7 @@ pub(crate) fn end(
 ) -> Result<(), NoMemory>
     requires unended { way.old.ended ≡ false }
     ensures ends { OnOk result ((script : model.Script) → WayMoves script [] [] way.old way.new) }
+    ensures ended { OnOk result (EndsWay way.old way.new) }
     ensures puts { OnOk result (PutsNews at.number lines.old.items lines.new.items) }
 {
     let mut came = Room::with_capacity(alloc, MOST_OCTETS)?;

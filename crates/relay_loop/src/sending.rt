@@ -1,6 +1,6 @@
 //! What was printed as given is written to the other side.
 
-ghost use Rattle.std.specs.Prelude.{◌≡◌};
+ghost use Rattle.std.specs.Prelude.{◌≡◌, false};
 ghost use Rattle.relay_loop.specs.Sending.{Sends};
 
 use crate::way::Way;
@@ -20,7 +20,7 @@ pub(crate) enum Flow {
 
 /// What was printed is written until nothing waits, or there is no room, or a write fails.
 pub(crate) fn send<O: Outside>(way: &mut Way, to: Conn, outside: &mut O) -> Flow
-    ensures { Sends to.0 way.old way.new (O.told outside.old) (O.told outside.new) }
+    ensures { Sends false result to.0 way.old way.new (O.told outside.old) (O.told outside.new) }
 {
     if way.lost {
         return Flow::Going;

@@ -3,8 +3,8 @@
 ghost use Rattle.std.specs.Prelude.{◌≡◌, ◌<◌, ◌≤◌, ◌+◌, true, false, [], length, take, IfOk, OnOk};
 ghost use Rattle.relay_script.specs.declared.script.Script as model;
 ghost use Rattle.relay_script.specs.ScriptRanges.{IsScriptInRange};
-ghost use Rattle.relay_loop.specs.Ways.{HoldsWay};
-ghost use Rattle.relay_loop.specs.WaySteps.{Keeps, WayMoves, PrintsGiven};
+ghost use Rattle.relay_loop.specs.Ways.{HoldsWay, first_due_of, IsUndue};
+ghost use Rattle.relay_loop.specs.WaySteps.{Keeps, WayMoves, StaysOpen, EndsWay, PrintsGiven};
 
 use crate::lines::put_given;
 use crate::piece::Piece;
@@ -40,12 +40,18 @@ pub(crate) struct Way {
     pub(crate) lost: bool,
     // Something may have come that wasn't read, since too much waits.
     pub(crate) unread: bool,
+    // The greatest moment at which something came or was given.
+    pub(crate) latest: u64,
 }
 
 impl Way {
     /// Nothing came.
     pub(crate) fn new(alloc: Global, side: Side) -> Result<Way, NoMemory>
-        ensures { IfOk result (λ way. (script : model.Script) → HoldsWay script side [] [] [] way) }
+        ensures holds { IfOk result (λ way. (script : model.Script) → HoldsWay script side [] [] [] way) }
+        ensures open { IfOk result (λ way. way.ended ≡ false) }
+        ensures alive { IfOk result (λ way. way.lost ≡ false) }
+        ensures waits { IfOk result (λ way. way.waits.items ≡ []) }
+        ensures printed { IfOk result (λ way. way.printed.items ≡ []) }
     {
         Ok(Way {
             side,
@@ -57,6 +63,7 @@ impl Way {
             closing: false,
             lost: false,
             unread: false,
+            latest: 0,
         })
     }
 
@@ -66,7 +73,10 @@ impl Way {
     }
 
     /// Whether nothing waits.
-    pub(crate) fn is_idle(&self) -> bool {
+    pub(crate) fn is_idle(&self) -> bool
+        ensures waits { result ≡ true → self.now.waits.items ≡ [] }
+        ensures printed { result ≡ true → self.now.printed.items ≡ [] }
+    {
         if self.printed.is_empty() {
             return self.waits.is_empty();
         }
@@ -74,16 +84,29 @@ impl Way {
     }
 
     /// The moment at which the first is due that is given later.
-    pub(crate) fn first_due(&self) -> Option<u64> {
+    pub(crate) fn first_due(&self) -> Option<u64>
+        ensures { result ≡ first_due_of self.now.waits.items }
+    {
         match self.waits.front() {
             Some(piece) => Some(piece.due),
             None => None,
         }
     }
 
+    // It is visited at a moment. None counts that is below an earlier one.
+    fn see(&mut self, moment: u64)
+        ensures at { moment ≤ self.new.latest }
+        ensures later { self.old.latest ≤ self.new.latest }
+        ensures new { self.new ≡ record self.old { latest = self.new.latest } }
+    {
+        if self.latest < moment {
+            self.latest = moment;
+        }
+    }
+
     // What is given for what came waits until it is due.
     fn keep(&mut self, given: Vec<u8>, due: u64) -> Result<(), NoMemory>
-        ensures { OnOk result (Keeps self.old self.new given.items) }
+        ensures { OnOk result (Keeps self.old self.new given.items due) }
     {
         if given.as_slice().is_empty() {
             return Ok(());
@@ -111,10 +134,12 @@ impl Way {
         ensures moves { IfOk result (λ used. 0 < length octets.now → 0 < used) }
         ensures unended { OnOk result (self.new.ended ≡ false) }
         ensures alive { OnOk result (self.new.lost ≡ false) }
+        ensures stays { OnOk result (StaysOpen self.old self.new) }
         ensures takes { IfOk result (λ used. WayMoves script.now (take used octets.now) [] self.old self.new) }
         ensures room { came.new.capacity ≡ 4096 }
     {
         closed_stays();
+        self.see(moment);
         let mut given = Vec::new(alloc);
         let taken = self
             .carrier
@@ -132,7 +157,7 @@ impl Way {
     ) -> Result<(), NoMemory>
         requires unended { self.old.ended ≡ false }
         requires room { came.old.capacity ≡ 4096 }
-        ensures ended { OnOk result (self.new.ended ≡ true) }
+        ensures ended { OnOk result (EndsWay self.old self.new) }
         ensures ends { OnOk result ((script : model.Script) → WayMoves script [] [] self.old self.new) }
         ensures room { came.new.capacity ≡ 4096 }
     {
@@ -141,6 +166,7 @@ impl Way {
             self.ended = true;
             return Ok(());
         }
+        self.see(moment);
         let mut given = Vec::new(alloc);
         let due = self.carrier.end(moment, came, &mut given)?;
         self.keep_held(given, due)?;
@@ -150,9 +176,10 @@ impl Way {
 
     // What was held when the side ended waits, where there is a side to give it to.
     fn keep_held(&mut self, given: Vec<u8>, due: u64) -> Result<(), NoMemory>
-        ensures keeps { OnOk result (self.old.lost ≡ false → Keeps self.old self.new given.items) }
+        ensures keeps { OnOk result (self.old.lost ≡ false → Keeps self.old self.new given.items due) }
         ensures side { OnOk result (self.new.side ≡ self.old.side) }
         ensures lost { OnOk result (self.new.lost ≡ self.old.lost) }
+        ensures closing { OnOk result (self.new.closing ≡ self.old.closing) }
     {
         if self.lost {
             return Ok(());
@@ -161,9 +188,12 @@ impl Way {
     }
 
     // Whether the first that waits is due.
-    fn is_due(&self, moment: u64) -> bool {
+    fn is_due(&self) -> bool
+        ensures some { result ≡ true → 0 < length self.now.waits.items }
+        ensures undue { result ≡ false → IsUndue self.now.latest self.now.waits.items }
+    {
         match self.first_due() {
-            Some(due) => due <= moment,
+            Some(due) => due <= self.latest,
             None => false,
         }
     }
@@ -173,6 +203,7 @@ impl Way {
         requires alive { self.old.lost ≡ false }
         ensures alive { OnOk result (self.new.lost ≡ false) }
         ensures prints { OnOk result (PrintsGiven at self.old self.new lines.old.items lines.new.items) }
+        ensures less { OnOk result (0 < length self.old.waits.items → length self.new.waits.items < length self.old.waits.items) }
     {
         closed_stays();
         let Some(piece) = self.waits.pop_front() else {
@@ -181,29 +212,34 @@ impl Way {
         put_given(at, self.side, piece.octets.as_slice(), lines)?;
         self.printed.extend_from_slice(piece.octets.as_slice())?;
         self.later = self.later.saturating_sub(piece.octets.len());
-        self.closing = self.closes();
+        self.close_behind();
         Ok(())
     }
 
-    // Whether the octets behind which a line closes the connection were printed: nothing comes behind them.
-    fn closes(&self) -> bool {
-        if self.waits.is_empty() {
-            return self.carrier.is_closed();
+    // Where the octets were printed behind which a line closes the connection, nothing comes behind them.
+    fn close_behind(&mut self)
+        ensures new { self.new ≡ record self.old { closing = self.new.closing } }
+        ensures stays { self.old.closing ≡ true → self.new.closing ≡ true }
+        ensures closes { self.old.closing ≡ false → self.new.closing ≡ true → (self.old.carrier.closed ≡ true) × (self.old.waits.items ≡ []) }
+    {
+        if !self.waits.is_empty() {
+            return;
         }
-        self.closing
+        if self.carrier.is_closed() {
+            self.closing = true;
+        }
     }
 
     /// What is due is printed, and is to be written behind its lines.
     pub(crate) fn print_due(&mut self, at: Stamp, lines: &mut Vec<u8>) -> Result<(), NoMemory>
-        ensures { OnOk result (PrintsGiven at self.old self.new lines.old.items lines.new.items) }
+        ensures prints { OnOk result (PrintsGiven at self.old self.new lines.old.items lines.new.items) }
+        ensures undue { OnOk result (self.new.lost ≡ false → IsUndue self.new.latest self.new.waits.items) }
     {
         if self.lost {
             return Ok(());
         }
-        for _ in 0..self.waits.len() {
-            if !self.is_due(at.moment) {
-                return Ok(());
-            }
+        self.see(at.moment);
+        while self.is_due() {
             self.print_first(at, lines)?;
         }
         Ok(())
@@ -216,13 +252,17 @@ impl Way {
         ensures writes { (script : model.Script) → WayMoves script [] (take count self.old.printed.items) self.old self.new }
         ensures alive { self.new.lost ≡ false }
         ensures less { length self.new.printed.items + count ≡ length self.old.printed.items }
+        ensures is { self.new ≡ record self.old { printed = self.new.printed } }
     {
         self.printed.advance(count);
     }
 
     /// The other side failed: what waits for it goes.
     pub(crate) fn lose(&mut self)
-        ensures { (script : model.Script) → WayMoves script [] [] self.old self.new }
+        ensures loses { (script : model.Script) → WayMoves script [] [] self.old self.new }
+        ensures lost { self.new.lost ≡ true }
+        ensures ended { self.new.ended ≡ self.old.ended }
+        ensures closing { self.new.closing ≡ self.old.closing }
     {
         self.waits.clear();
         self.later = 0;

@@ -5,7 +5,8 @@ use Rattle.hdlc_frames.specs.Framing.{Frame, BadFcs}
 use Rattle.x224_tpdu.specs.Function.{reading}
 use Rattle.x224_tpdu.specs.Parameters.{parameters_in}
 use Rattle.relay_script.specs.declared.unit_kind.UnitKind.{UnitKind}
-use Rattle.relay_script.specs.declared.unit_kind.UnitKind.TheVariants.{Bad, Info, Rr, Rnr, Rej, Srej, Sabm, Ua, Disc, Dm, Frmr, Other, Cr, Cc, Dr, Dc, Dt, Ak, Er}
+use Rattle.relay_script.specs.declared.unit_kind.UnitKind.TheVariants.{Bad, Info, Rr, Rnr, Rej, Srej, Sabm, Ua, Disc, Dm, Frmr, Other, Cr, Cc, Dr, Dc, Dt, Ak}
+use Rattle.relay_script.specs.declared.unit_kind.UnitKind.TheVariants.{Er}
 use Rattle.relay_model.specs.Units.{Outside, Whole, Holding, Overlong, turn_to, unit_turn, standing_from, parts_from, standing_behind, parts_of_sent}
 use Rattle.relay_model.specs.UnitKinds.{kinds_of_found, kinds_of_information}
 

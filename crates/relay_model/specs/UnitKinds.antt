@@ -8,10 +8,12 @@ use Rattle.hdlc_frames.specs.ControlOctets.{control_of}
 use Rattle.hdlc_frames.specs.Framing.{flag, Verdict, Frame, BadFcs, TooShort, TooLong, Aborted, frames_of}
 use Rattle.t70_header.specs.Blocks.{has_header, content_of_block}
 use Rattle.x224_tpdu.specs.declared.fault.TpFault.{TpFault}
-use Rattle.x224_tpdu.specs.Spelling.{TransportPdu, connection_request, connection_confirm, disconnect_request, disconnect_confirm, data_tpdu, acknowledgement, tpdu_error}
+use Rattle.x224_tpdu.specs.Spelling.{TransportPdu, connection_request, connection_confirm, disconnect_request, disconnect_confirm, data_tpdu, acknowledgement}
+use Rattle.x224_tpdu.specs.Spelling.{tpdu_error}
 use Rattle.x224_tpdu.specs.Function.{reading}
 use Rattle.relay_script.specs.declared.unit_kind.UnitKind.{UnitKind}
-use Rattle.relay_script.specs.declared.unit_kind.UnitKind.TheVariants.{Any, Bad, Info, Rr, Rnr, Rej, Srej, Sabm, Ua, Disc, Dm, Frmr, Other, Cr, Cc, Dr, Dc, Dt, Ak, Er}
+use Rattle.relay_script.specs.declared.unit_kind.UnitKind.TheVariants.{Any, Bad, Info, Rr, Rnr, Rej, Srej, Sabm, Ua, Disc, Dm, Frmr, Other, Cr, Cc, Dr, Dc, Dt}
+use Rattle.relay_script.specs.declared.unit_kind.UnitKind.TheVariants.{Ak, Er}
 use Rattle.relay_script.specs.Kinds.{is_same_kind}
 
 -- what is found in a unit, where a flag stands before it: it has one frame (a public law of this crate)

@@ -3,7 +3,8 @@ use Rattle.std.specs.Prelude.{ℕ, ◌==◌, Bool, List, [], ◌∷◌, Option, 
 use Rattle.std.specs.List.{find}
 use Rattle.std.specs.Str.{bytes_eq}
 use Rattle.relay_script.specs.declared.unit_kind.UnitKind.{UnitKind}
-use Rattle.relay_script.specs.declared.unit_kind.UnitKind.TheVariants.{Any, Bad, Info, Rr, Rnr, Rej, Srej, Sabm, Ua, Disc, Dm, Frmr, Other, Cr, Cc, Dr, Dc, Dt, Ak, Er}
+use Rattle.relay_script.specs.declared.unit_kind.UnitKind.TheVariants.{Any, Bad, Info, Rr, Rnr, Rej, Srej, Sabm, Ua, Disc, Dm, Frmr, Other, Cr, Cc, Dr, Dc, Dt}
+use Rattle.relay_script.specs.declared.unit_kind.UnitKind.TheVariants.{Ak, Er}
 
 -- KIND
 abbrev pub unit_kind_word : UnitKind → List ℕ

@@ -28,7 +28,8 @@ pub each_change :
     script_of (codes "relay 1\nlose e sabm 1\nrepeat r any 2\nalter e i 3 4 0F\nput r dt 5 -\ndelay e other 6 70\nclose r er 1000000000")
     ≡ of_lines (line_that E kind.Sabm 1 Lose ∷ line_that R kind.Any 2 Repeat ∷ line_that E kind.Info 3 (Alter 4 15) ∷ line_that R kind.Dt 5 (Put [])
     ∷ line_that E kind.Other 6 (Delay 70) ∷ line_that R kind.Er 1000000000 Close ∷ [])
-unfolding script_of lines_of rows_of words_of is_script_header script_lines_said script_line_says decimal_of number_argument side_argument octets_argument text_argument octets_spelled decode_pairs octet_mask_argument
+unfolding script_of lines_of rows_of words_of is_script_header script_lines_said script_line_says decimal_of number_argument side_argument octets_argument
+    text_argument octets_spelled decode_pairs octet_mask_argument
 each_change = refl
 
 -- a script without a header, and one of another version
@@ -56,5 +57,6 @@ pub faults :
     × HasFault (codes "put e sabm 1 f") (At 2 Hex)
     × HasFault (codes "delay e sabm 1 1000000001") (At 2 Value)
     × HasFault (codes "lose e x") (At 2 Count)
-unfolding script_of lines_of rows_of words_of is_script_header script_lines_said script_line_says decimal_of number_argument side_argument octets_argument text_argument octets_spelled decode_pairs octet_mask_argument
+unfolding script_of lines_of rows_of words_of is_script_header script_lines_said script_line_says decimal_of number_argument side_argument octets_argument
+    text_argument octets_spelled decode_pairs octet_mask_argument
 faults = (refl, refl, refl, refl, refl, refl, refl, refl, refl, refl, refl, refl, refl, refl, refl)

@@ -10,7 +10,8 @@ use Rattle.safety_automaton.specs.declared.phase.Stage.{Stage}
 use Rattle.safety_automaton.specs.declared.phase.Stage.TheVariants as stage
 use Rattle.safety_automaton.specs.declared.phase.Phase.{Phase as CodePhase}
 use Rattle.safety_automaton.specs.declared.phase.Phase.TheVariants as code
-use Rattle.safety_automaton.specs.Safety.{Safety, Phase, Ready, WaitAu1, WaitAu2, WaitAu3, WaitAr, Connected, Released, SafetyOutcome, sealed_by, verified_by, octets_sent_in_outcome, flag_of}
+use Rattle.safety_automaton.specs.Safety.{Safety, Phase, Ready, WaitAu1, WaitAu2, WaitAu3, WaitAr, Connected, Released, SafetyOutcome, sealed_by, verified_by}
+use Rattle.safety_automaton.specs.Safety.{octets_sent_in_outcome, flag_of}
 use Rattle.safety_automaton.specs.Reports.{KeptSafe, report_of}
 use Rattle.safety_automaton.specs.Views.{report_view, SendsAs}
 

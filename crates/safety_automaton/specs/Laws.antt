@@ -11,7 +11,10 @@ use Rattle.sapdu.specs.Messages.{IsMessage}
 use Rattle.safety_automaton.specs.declared.role.Role.{Role}
 use Rattle.safety_automaton.specs.declared.role.Role.TheVariants.{Initiator, Responder}
 use Rattle.safety_automaton.specs.Keys.{KmacEntry, key_at, AreKmacEntriesApart}
-use Rattle.safety_automaton.specs.Safety.{Safety, Connection, Phase, Ready, WaitAu1, WaitAu2, WaitAu3, WaitAr, Connected, Released, SafetyEvent, ConnectRequest, Received, DataRequest, DisconnectRequest, RefusedReleased, SafetyOutcome, SentAu1, SentAu2, SentAu3, SentAr, ReceivedAr, AcceptedDt, SentDt, Refused, ReleasedLocally, ReleasedByPeer, NothingDone, initiator, responder, fixed, flag_of, peer_flag, session_in, octets_sent_in_outcome, au2_text, au3_text, ar_text, message_text, step}
+use Rattle.safety_automaton.specs.Safety.{Safety, Connection, Phase, Ready, WaitAu1, WaitAu2, WaitAu3, WaitAr, Connected, Released, SafetyEvent, ConnectRequest}
+use Rattle.safety_automaton.specs.Safety.{Received, DataRequest, DisconnectRequest, RefusedReleased, SafetyOutcome, SentAu1, SentAu2, SentAu3, SentAr}
+use Rattle.safety_automaton.specs.Safety.{ReceivedAr, AcceptedDt, SentDt, Refused, ReleasedLocally, ReleasedByPeer, NothingDone, initiator, responder, fixed}
+use Rattle.safety_automaton.specs.Safety.{flag_of, peer_flag, session_in, octets_sent_in_outcome, au2_text, au3_text, ar_text, message_text, step}
 use Rattle.safety_automaton.specs.Rules.{IsReceived}
 
 -- ---- messages

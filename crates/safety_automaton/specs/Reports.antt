@@ -1,7 +1,8 @@
 -- What the calls of a side answer, by the safety model.
 use Rattle.std.specs.Prelude.{ℕ, List, Option, None}
 use Rattle.er_base.specs.declared.release.Release.{Release}
-use Rattle.safety_automaton.specs.Safety.{Safety, SafetyOutcome, SentAu1, SentAu2, SentAu3, SentAr, ReceivedAr, AcceptedDt, SentDt, Refused, ReleasedLocally, ReleasedByPeer, NothingDone}
+use Rattle.safety_automaton.specs.Safety.{Safety, SafetyOutcome, SentAu1, SentAu2, SentAu3, SentAr, ReceivedAr, AcceptedDt, SentDt, Refused, ReleasedLocally}
+use Rattle.safety_automaton.specs.Safety.{ReleasedByPeer, NothingDone}
 
 -- a side as it is kept: the side, and the texts that its last call sealed and verified
 pub record KeptSafe : Type 0 where

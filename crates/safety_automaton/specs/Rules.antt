@@ -12,7 +12,10 @@ use Rattle.session_keys.specs.Session.{session_of}
 use Rattle.sapdu.specs.Spelling.{SafetyPdu, Au1, Au2, Au3, Ar, Dt, Di, spelling, read_of}
 use Rattle.sapdu.specs.Messages.{IsMessage}
 use Rattle.sapdu.specs.declared.fault.SaFault.{SaFault}
-use Rattle.safety_automaton.specs.Safety.{Safety, Connection, Phase, Ready, WaitAu1, WaitAu2, WaitAu3, WaitAr, Connected, Released, SafetyEvent, ConnectRequest, Received, DataRequest, DisconnectRequest, Refusal, RefusedReleased, RefusedNotConnected, RefusedLength, SafetyOutcome, SentAu1, SentAu2, SentAu3, SentAr, ReceivedAr, AcceptedDt, SentDt, Refused, ReleasedLocally, ReleasedByPeer, NothingDone, flag_of, peer_flag, session_in, au2_text, au3_text, ar_text, message_text, step}
+use Rattle.safety_automaton.specs.Safety.{Safety, Connection, Phase, Ready, WaitAu1, WaitAu2, WaitAu3, WaitAr, Connected, Released, SafetyEvent, ConnectRequest}
+use Rattle.safety_automaton.specs.Safety.{Received, DataRequest, DisconnectRequest, Refusal, RefusedReleased, RefusedNotConnected, RefusedLength, SafetyOutcome}
+use Rattle.safety_automaton.specs.Safety.{SentAu1, SentAu2, SentAu3, SentAr, ReceivedAr, AcceptedDt, SentDt, Refused, ReleasedLocally, ReleasedByPeer}
+use Rattle.safety_automaton.specs.Safety.{NothingDone, flag_of, peer_flag, session_in, au2_text, au3_text, ar_text, message_text, step}
 
 -- ---- states and received SaPDUs
 
@@ -327,7 +330,8 @@ StepsEach =
 abbrev pub CauseReleases : Type 0
 CauseReleases =
     (key_of : ℕ → ℕ → Option TripleKey) (s : Safety) (event : SafetyEvent) (cause : Cause) → CauseMet key_of s event cause
-    → (next : Safety) × (release : Release) × (octets : List ℕ) × (step key_of s event ≡ (next, ReleasedLocally release octets)) × ReleasesWith s cause next release octets
+    → (next : Safety) × (release : Release) × (octets : List ℕ) × (step key_of s event ≡ (next, ReleasedLocally release octets))
+    × ReleasesWith s cause next release octets
 
 -- a side that releases met the cause of its reason
 abbrev pub ReleasesOnly : Type 0

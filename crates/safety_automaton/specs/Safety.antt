@@ -3,7 +3,8 @@
 use Rattle.std.specs.Prelude.{ℕ, ◌==◌, Bool, true, false, not, if◌then◌else◌, List, [], length, Option, Some, None, Result, Ok, Err}
 use Rattle.er_base.specs.declared.release.Release.{Release}
 use Rattle.er_base.specs.declared.cause.Cause.{Cause}
-use Rattle.er_base.specs.declared.cause.Cause.TheVariants.{User, NoKey, Au2MacWrong, Au3MacWrong, ArMacWrong, OtherResponder, OtherFeature, DtMacWrong, WrongDirection, Unexpected, Malformed}
+use Rattle.er_base.specs.declared.cause.Cause.TheVariants.{User, NoKey, Au2MacWrong, Au3MacWrong, ArMacWrong, OtherResponder, OtherFeature, DtMacWrong}
+use Rattle.er_base.specs.declared.cause.Cause.TheVariants.{WrongDirection, Unexpected, Malformed}
 use Rattle.er_base.specs.Causes.{release_of, by_peer_di}
 use Rattle.des_block.specs.declared.triple_key.TripleKey.{TripleKey}
 use Rattle.cbc_mac.specs.Mac.{mac_of}

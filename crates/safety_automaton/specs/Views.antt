@@ -6,7 +6,9 @@ use Rattle.safety_automaton.specs.declared.deed.SealRefused.{SealRefused}
 use Rattle.safety_automaton.specs.declared.deed.SealRefused.TheVariants as refused
 use Rattle.safety_automaton.specs.declared.safe_state.SafeState.{SafeState}
 use Rattle.safety_automaton.specs.declared.safe_state.SafeState.TheVariants as state
-use Rattle.safety_automaton.specs.Safety.{Phase, Ready, WaitAu1, WaitAu2, WaitAu3, WaitAr, Connected, Released, SafetyOutcome, SentAu1, SentAu2, SentAu3, SentAr, ReceivedAr, AcceptedDt, SentDt, Refused, ReleasedLocally, ReleasedByPeer, NothingDone, Refusal, RefusedReleased, RefusedNotConnected, RefusedLength}
+use Rattle.safety_automaton.specs.Safety.{Phase, Ready, WaitAu1, WaitAu2, WaitAu3, WaitAr, Connected, Released, SafetyOutcome, SentAu1, SentAu2, SentAu3}
+use Rattle.safety_automaton.specs.Safety.{SentAr, ReceivedAr, AcceptedDt, SentDt, Refused, ReleasedLocally, ReleasedByPeer, NothingDone, Refusal}
+use Rattle.safety_automaton.specs.Safety.{RefusedReleased, RefusedNotConnected, RefusedLength}
 use Rattle.safety_automaton.specs.Reports.{Report, ToldAccepted, ToldAnswered, ToldConnected, ToldIgnored, ToldReleased}
 
 -- the state of a phase

@@ -1,6 +1,7 @@
 -- The SaPDUs of SUBSET-037 as octets, the most significant octet of a number first: what they hold, how they are spelled, and what
 -- octets are read as.
-use Rattle.std.specs.Prelude.{ℕ, ◌+◌, ◌-◌, ◌%◌, ◌==◌, nat_lt, Bool, true, false, if◌then◌else◌, List, [], ◌∷◌, ◌++◌, length, take, drop, slice_index, Option, Some, None, Result, Ok, Err}
+use Rattle.std.specs.Prelude.{ℕ, ◌+◌, ◌-◌, ◌%◌, ◌==◌, nat_lt, Bool, true, false, if◌then◌else◌, List, [], ◌∷◌, ◌++◌, length, take, drop, slice_index, Option}
+use Rattle.std.specs.Prelude.{Some, None, Result, Ok, Err}
 use Rattle.er_base.specs.Octets.{three, eight, number_in}
 use Rattle.sapdu.specs.declared.fault.SaFault.{SaFault}
 use Rattle.sapdu.specs.declared.fault.SaFault.TheVariants.{Short, Kind, Long}

@@ -32,15 +32,17 @@ SidesAreInText =
     → HasPart (side_text n side (judged_at finds n o lines side)) (text_of_audit ends finds lines)
 
 -- what both ends of a tapped link accepted is found good in the lines of its sides, and these are printed
-pub record TextFindsGood (ends : Bool) (keys : List KmacEntry) (lines : List TapLine) (m : ℕ) (o : TapOpening) (l : Link) (history : List Occurrence) : Type 0 where
-  pub finds : FindsGood keys lines m o l history
-  pub of_e : HasPart (side_text m E (judged_at (key_at keys) m o lines E)) (text_of_audit ends (key_at keys) lines)
-  pub of_r : HasPart (side_text m R (judged_at (key_at keys) m o lines R)) (text_of_audit ends (key_at keys) lines)
+pub record TextFindsGood (ends : Bool) (keys : List KmacEntry) (lines : List TapLine) (m : ℕ) (o : TapOpening) (l : Link) (history : List Occurrence) : Type 0
+  where
+    pub finds : FindsGood keys lines m o l history
+    pub of_e : HasPart (side_text m E (judged_at (key_at keys) m o lines E)) (text_of_audit ends (key_at keys) lines)
+    pub of_r : HasPart (side_text m R (judged_at (key_at keys) m o lines R)) (text_of_audit ends (key_at keys) lines)
 
 -- for every list of steps whose numbers fit, of each link that is order-keeping so far, and for every tap and key file of it
 abbrev pub TextFindsAccepted : Type 0
 TextFindsAccepted =
     (plan : DrillPlan) (steps : List Step) → AllFit steps → AllAllowed plan.settings → plan.settings.modulo ≡ 8
     → (n : ℕ) (l : Link) → link_at (world_run plan steps).0 n ≡ Some l → IsOrderKeeping l.opening (history_on n (world_run plan steps).1)
-    → (ends : Bool) (keys : List KmacEntry) (lines : List TapLine) → AreInRange lines → (m : ℕ) → (t : IsTapped keys lines m l (history_on n (world_run plan steps).1))
+    → (ends : Bool) (keys : List KmacEntry) (lines : List TapLine) → AreInRange lines → (m : ℕ)
+    → (t : IsTapped keys lines m l (history_on n (world_run plan steps).1))
     → TextFindsGood ends keys lines m (opened_as keys lines m l (history_on n (world_run plan steps).1) t) l (history_on n (world_run plan steps).1)

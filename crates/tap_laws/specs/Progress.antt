@@ -133,4 +133,5 @@ SidesProgress =
 -- and the safety side of an end that isn't released isn't released either
 abbrev pub LiveSides : Type 0
 LiveSides =
-    (opening : Opening) (events : List Moment) → (end_run events (opened opening)).core.released ≡ None → IsOpen (end_run events (opened opening)).core.safe.safety.phase
+    (opening : Opening) (events : List Moment) → (end_run events (opened opening)).core.released ≡ None
+    → IsOpen (end_run events (opened opening)).core.safe.safety.phase

@@ -37,7 +37,8 @@ pub record IsTapped (keys : List KmacEntry) (lines : List TapLine) (m : ℕ) (l 
   pub of_r : stream_of m R lines ≡ passed_of R history
 
 -- how the tap opens the link
-abbrev pub opened_as : (keys : List KmacEntry) (lines : List TapLine) (m : ℕ) (l : Link) (history : List Occurrence) → IsTapped keys lines m l history → TapOpening
+abbrev pub opened_as : (keys : List KmacEntry) (lines : List TapLine) (m : ℕ) (l : Link) (history : List Occurrence) → IsTapped keys lines m l history
+    → TapOpening
 opened_as keys lines m l history t = record { engine = t.engine; rbc = t.rbc; moment = t.moment }
 
 -- an end of four layers that isn't released

@@ -4,10 +4,12 @@ use Rattle.er_base.specs.declared.side.Side.{Side}
 use Rattle.hdlc_frames.specs.Framing.{frames_of}
 use Rattle.t70_header.specs.Joining as joining
 use Rattle.x224_tpdu.specs.declared.fault.TpFault.{TpFault}
-use Rattle.x224_tpdu.specs.Spelling.{TransportPdu, connection_request, connection_confirm, disconnect_request, disconnect_confirm, data_tpdu, acknowledgement, tpdu_error}
+use Rattle.x224_tpdu.specs.Spelling.{TransportPdu, connection_request, connection_confirm, disconnect_request, disconnect_confirm, data_tpdu, acknowledgement}
+use Rattle.x224_tpdu.specs.Spelling.{tpdu_error}
 use Rattle.x224_tpdu.specs.Function.{reading}
 use Rattle.sapdu.specs.Messages.{most_octets}
-use Rattle.tap_model.specs.Hearing.{ReadFrame, frames_read, is_link_opening, behind_opening, ends, before_end, is_next, in_sequence, tpdus_from, pdus_in, Hearing, silence, with_text, texts_from, heard_of, heard}
+use Rattle.tap_model.specs.Hearing.{ReadFrame, frames_read, is_link_opening, behind_opening, ends, before_end, is_next, in_sequence, tpdus_from, pdus_in}
+use Rattle.tap_model.specs.Hearing.{Hearing, silence, with_text, texts_from, heard_of, heard}
 
 -- how far the hearing is
 pub record Ear : Type 0 where
@@ -90,4 +92,5 @@ behind_turn Ends rest = silence
 pub record HearingTurns : Type 0 where
   pub begins : (side : Side) (stream : List ℕ) → hearing_of_frames side new_ear (frames_read (frames_of stream)) ≡ heard side stream
   pub rests : (side : Side) (k : Ear) → hearing_of_frames side k [] ≡ silence
-  pub goes_on : (side : Side) (k : Ear) (f : ReadFrame) (fs : List ReadFrame) → hearing_of_frames side k (f ∷ fs) ≡ behind_turn (turn_of_tap_frame side k f) (λ next. hearing_of_frames side next fs)
+  pub goes_on : (side : Side) (k : Ear) (f : ReadFrame) (fs : List ReadFrame)
+      → hearing_of_frames side k (f ∷ fs) ≡ behind_turn (turn_of_tap_frame side k f) (λ next. hearing_of_frames side next fs)

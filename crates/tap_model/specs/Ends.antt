@@ -1,17 +1,20 @@
 -- How far a stream was heard, and why no further (this profile), frame by frame: which I frames counted, which frame ended the list of texts, and
 -- how many are left behind it. Frames are those of ISO/IEC 13239 at modulo 8, blocks those of ITU-T T.70, TPDUs those of ITU-T X.224 class 2.
-use Rattle.std.specs.Prelude.{ℕ, ◌+◌, ◌%◌, ◌==◌, nat_lt, Bool, true, false, not, ◌&&◌, ◌||◌, if◌then◌else◌, List, [], ◌∷◌, length, filter, Option, Some, None, Result, Ok, Err}
+use Rattle.std.specs.Prelude.{ℕ, ◌+◌, ◌%◌, ◌==◌, nat_lt, Bool, true, false, not, ◌&&◌, ◌||◌, if◌then◌else◌, List, [], ◌∷◌, length, filter, Option, Some, None}
+use Rattle.std.specs.Prelude.{Result, Ok, Err}
 use Rattle.er_base.specs.declared.side.Side.{Side}
 use Rattle.er_base.specs.Sides.{other}
 use Rattle.hdlc_frames.specs.Framing.{Verdict, Frame, BadFcs, TooShort, TooLong, Aborted}
 use Rattle.t70_header.specs.Joining as joining
 use Rattle.x224_tpdu.specs.declared.fault.TpFault.{TpFault}
-use Rattle.x224_tpdu.specs.Spelling.{TransportPdu, connection_request, connection_confirm, disconnect_request, disconnect_confirm, data_tpdu, acknowledgement, tpdu_error}
+use Rattle.x224_tpdu.specs.Spelling.{TransportPdu, connection_request, connection_confirm, disconnect_request, disconnect_confirm, data_tpdu, acknowledgement}
+use Rattle.x224_tpdu.specs.Spelling.{tpdu_error}
 use Rattle.x224_tpdu.specs.Function.{reading}
 use Rattle.sapdu.specs.Messages.{most_octets}
 use Rattle.tap_model.specs.declared.end_cause.EndCause.{EndCause}
 use Rattle.tap_model.specs.declared.end_cause.EndCause.TheVariants.{Unopened, Open, Gap, Disc, Dm, Block, Tpdu, Number, Long, Dr}
-use Rattle.tap_model.specs.Hearing.{ReadFrame, read_frame, address_of_side, Sort, Carries, SetsUp, Agrees, Disconnects, Leaves, Passes, sort_of, is_link_opening, is_next}
+use Rattle.tap_model.specs.Hearing.{ReadFrame, read_frame, address_of_side, Sort, Carries, SetsUp, Agrees, Disconnects, Leaves, Passes, sort_of}
+use Rattle.tap_model.specs.Hearing.{is_link_opening, is_next}
 
 -- ---- frames
 

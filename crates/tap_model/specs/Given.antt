@@ -11,7 +11,8 @@ use Rattle.safety_automaton.specs.Safety.{SafetyEvent, ConnectRequest, Received,
 use Rattle.er_end_model.specs.Outcomes.{SendRefusal}
 use Rattle.er_end_model.specs.Steps.{Finds, new_event_at, step_frame, refusal_of}
 use Rattle.er_end_model.specs.Layers.{Spoken, Core, model}
-use Rattle.er_end_model.specs.Ends.{Opening, Call, Answer, Event, Start, Come, Send, Take, Leave, Tick, Ended, Fault, Stalled, End, Moment, opened, step_event, end_run}
+use Rattle.er_end_model.specs.Ends.{Opening, Call, Answer, Event, Start, Come, Send, Take, Leave, Tick, Ended, Fault, Stalled, End, Moment, opened, step_event}
+use Rattle.er_end_model.specs.Ends.{end_run}
 use Rattle.er_end_model.specs.Origins.{octets_brought_by_event}
 use Rattle.tap_model.specs.Hearing.{heard, payloads}
 

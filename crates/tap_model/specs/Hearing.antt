@@ -1,6 +1,7 @@
 -- What the receiver of a stream hears of it (this profile): the texts of the sender's safety layer, in six steps of total functions. Frames are
 -- those of ISO/IEC 13239 at modulo 8, blocks those of ITU-T T.70, TPDUs those of ITU-T X.224 class 2.
-use Rattle.std.specs.Prelude.{ℕ, ◌+◌, ◌%◌, ◌==◌, nat_lt, Bool, true, false, not, ◌&&◌, if◌then◌else◌, List, [], ◌∷◌, ◌++◌, length, Option, Some, None, Result, Ok, Err}
+use Rattle.std.specs.Prelude.{ℕ, ◌+◌, ◌%◌, ◌==◌, nat_lt, Bool, true, false, not, ◌&&◌, if◌then◌else◌, List, [], ◌∷◌, ◌++◌, length, Option, Some, None, Result}
+use Rattle.std.specs.Prelude.{Ok, Err}
 use Rattle.std.specs.List.{flat_map}
 use Rattle.std.specs.Option.{option_to_list}
 use Rattle.er_base.specs.declared.side.Side.{Side}
@@ -12,7 +13,8 @@ use Rattle.hdlc_frames.specs.ControlOctets.{control_of}
 use Rattle.hdlc_frames.specs.Framing.{Verdict, Frame, BadFcs, TooShort, TooLong, Aborted, frames_of}
 use Rattle.t70_header.specs.Joining as joining
 use Rattle.x224_tpdu.specs.declared.fault.TpFault.{TpFault}
-use Rattle.x224_tpdu.specs.Spelling.{TransportPdu, connection_request, connection_confirm, disconnect_request, disconnect_confirm, data_tpdu, acknowledgement, tpdu_error}
+use Rattle.x224_tpdu.specs.Spelling.{TransportPdu, connection_request, connection_confirm, disconnect_request, disconnect_confirm, data_tpdu, acknowledgement}
+use Rattle.x224_tpdu.specs.Spelling.{tpdu_error}
 use Rattle.x224_tpdu.specs.Function.{reading}
 use Rattle.sapdu.specs.Messages.{most_octets}
 

@@ -24,7 +24,8 @@ use Rattle.er_end_model.specs.Steps.{Finds, hand_waiting_tpdus}
 use Rattle.er_end_model.specs.Ends.{Opening, Call, Answer, Start, Come, Moment, opened}
 use Rattle.tap_model.specs.declared.audit_verdict.AuditVerdict.{AuditVerdict}
 use Rattle.tap_model.specs.declared.audit_verdict.AuditVerdict.TheVariants.{Good, Malformed, Flag, Unexpected, Feature, Identity, NoKey}
-use Rattle.tap_model.specs.Hearing.{frames_read, behind_opening, before_end, in_sequence, payloads, tpdus_from, pdus_in, Hearing, silence, texts_from, heard_of, heard}
+use Rattle.tap_model.specs.Hearing.{frames_read, behind_opening, before_end, in_sequence, payloads, tpdus_from, pdus_in, Hearing, silence, texts_from, heard_of}
+use Rattle.tap_model.specs.Hearing.{heard}
 use Rattle.tap_model.specs.Given.{received}
 use Rattle.tap_model.specs.Verdicts.{Known, Read, ra_in, first_number, audit_verdict_on_item, judged_from}
 use Rattle.tap_model.specs.Lines.{NoLinkAt, TwiceAt, has, fault_from, fault_of_tap_lines, tap_opening_of_link, stream_of}
@@ -64,7 +65,8 @@ abbrev one_text : Hearing
 one_text = record { texts = au1 ∷ []; parting = None }
 
 -- the CR's AU1 is heard behind SABM; nothing is without it; an I frame that is repeated counts once
-pub hears_once : (hears E (sabm ∷ cr_i 0x00 ∷ []) ≡ one_text) × (hears E (cr_i 0x00 ∷ []) ≡ silence) × (hears E (sabm ∷ cr_i 0x00 ∷ cr_i 0x00 ∷ sabm ∷ []) ≡ one_text)
+pub hears_once : (hears E (sabm ∷ cr_i 0x00 ∷ []) ≡ one_text) × (hears E (cr_i 0x00 ∷ []) ≡ silence)
+    × (hears E (sabm ∷ cr_i 0x00 ∷ cr_i 0x00 ∷ sabm ∷ []) ≡ one_text)
 unfolding heard_of in_sequence before_end behind_opening frames_read control_of tpdus_from pdus_in reading parameters_in texts_from
 hears_once = (refl, refl, refl)
 
@@ -74,12 +76,14 @@ unfolding heard_of in_sequence before_end behind_opening frames_read control_of 
 hearing_ended_by_disconnect = (refl, refl)
 
 -- the second I frame, N(S) 1, has DT number 0; with DT number 1 it ends the list
-pub in_number : (hears E (sabm ∷ cr_i 0x00 ∷ dt_i 0x02 0 0x61 ∷ []) ≡ record { texts = au1 ∷ (0x61 ∷ []) ∷ []; parting = None }) × (hears E (sabm ∷ cr_i 0x00 ∷ dt_i 0x02 1 0x61 ∷ cr_i 0x04 ∷ []) ≡ one_text)
+pub in_number : (hears E (sabm ∷ cr_i 0x00 ∷ dt_i 0x02 0 0x61 ∷ []) ≡ record { texts = au1 ∷ (0x61 ∷ []) ∷ []; parting = None })
+    × (hears E (sabm ∷ cr_i 0x00 ∷ dt_i 0x02 1 0x61 ∷ cr_i 0x04 ∷ []) ≡ one_text)
 unfolding heard_of in_sequence before_end behind_opening frames_read control_of tpdus_from pdus_in reading parameters_in texts_from
 in_number = (refl, refl)
 
 -- of the other side UA opens the link, and I frames have the engine's address
-pub other_side : (hears R (ua ∷ Frame 0x03 (0x00 ∷ cr_block) ∷ []) ≡ one_text) × (hears R (ua ∷ cr_i 0x00 ∷ []) ≡ silence) × (hears R (sabm ∷ Frame 0x03 (0x00 ∷ cr_block) ∷ []) ≡ silence)
+pub other_side : (hears R (ua ∷ Frame 0x03 (0x00 ∷ cr_block) ∷ []) ≡ one_text) × (hears R (ua ∷ cr_i 0x00 ∷ []) ≡ silence)
+    × (hears R (sabm ∷ Frame 0x03 (0x00 ∷ cr_block) ∷ []) ≡ silence)
 unfolding heard_of in_sequence before_end behind_opening frames_read control_of tpdus_from pdus_in reading parameters_in texts_from
 other_side = (refl, refl, refl)
 
@@ -92,15 +96,18 @@ known = record { engine = 5; rbc = 9; session = None }
 abbrev at_e : (place : ℕ) → Read → AuditVerdict
 at_e place read = audit_verdict_on_item known E place read
 
-pub of_au1 : (at_e 0 (Ok (Au1 5 1 7, false)) ≡ Good) × (at_e 0 (Ok (Au1 6 1 7, false)) ≡ Identity) × (at_e 0 (Ok (Au1 6 2 7, false)) ≡ Feature) × (at_e 1 (Ok (Au1 6 2 7, false)) ≡ Unexpected) × (at_e 1 (Ok (Au1 6 2 7, true)) ≡ Flag) × (at_e 0 (Err (Short 1 0)) ≡ Malformed)
+pub of_au1 : (at_e 0 (Ok (Au1 5 1 7, false)) ≡ Good) × (at_e 0 (Ok (Au1 6 1 7, false)) ≡ Identity) × (at_e 0 (Ok (Au1 6 2 7, false)) ≡ Feature)
+    × (at_e 1 (Ok (Au1 6 2 7, false)) ≡ Unexpected) × (at_e 1 (Ok (Au1 6 2 7, true)) ≡ Flag) × (at_e 0 (Err (Short 1 0)) ≡ Malformed)
 unfolding audit_verdict_on_item
 of_au1 = (refl, refl, refl, refl, refl, refl)
 
-pub of_others : (at_e 1 (Ok (Au3 7, false)) ≡ NoKey) × (at_e 2 (Ok (Au3 7, false)) ≡ Unexpected) × (at_e 1 (Ok (Dt (0x61 ∷ []) 7, false)) ≡ Unexpected) × (at_e 9 (Ok (Dt (0x61 ∷ []) 7, false)) ≡ NoKey) × (at_e 3 (Ok (Di 0 7, false)) ≡ Good)
+pub of_others : (at_e 1 (Ok (Au3 7, false)) ≡ NoKey) × (at_e 2 (Ok (Au3 7, false)) ≡ Unexpected) × (at_e 1 (Ok (Dt (0x61 ∷ []) 7, false)) ≡ Unexpected)
+    × (at_e 9 (Ok (Dt (0x61 ∷ []) 7, false)) ≡ NoKey) × (at_e 3 (Ok (Di 0 7, false)) ≡ Good)
 unfolding audit_verdict_on_item
 of_others = (refl, refl, refl, refl, refl)
 
-pub at_r : (audit_verdict_on_item known R 0 (Ok (Au2 9 1 7 8, true)) ≡ NoKey) × (audit_verdict_on_item known R 0 (Ok (Au2 5 1 7 8, true)) ≡ Identity) × (audit_verdict_on_item known R 1 (Ok (Ar 8, false)) ≡ Flag) × (audit_verdict_on_item known R 0 (Ok (Ar 8, true)) ≡ Unexpected)
+pub at_r : (audit_verdict_on_item known R 0 (Ok (Au2 9 1 7 8, true)) ≡ NoKey) × (audit_verdict_on_item known R 0 (Ok (Au2 5 1 7 8, true)) ≡ Identity)
+    × (audit_verdict_on_item known R 1 (Ok (Ar 8, false)) ≡ Flag) × (audit_verdict_on_item known R 0 (Ok (Ar 8, true)) ≡ Unexpected)
 unfolding audit_verdict_on_item
 at_r = (refl, refl, refl, refl)
 
@@ -146,12 +153,16 @@ tap = line 2 (Link 1 5 9 0) ∷ line 3 (Octets 1 E first_octets) ∷ line 4 (Oct
 abbrev no_keys : Finds
 no_keys now engine rbc = None
 
-pub in_order : (fault_of_tap_lines tap ≡ None) × (fault_of_tap_lines (line 2 (Octets 1 E []) ∷ []) ≡ Some (NoLinkAt 2 1)) × (fault_of_tap_lines (line 2 (Link 1 5 9 0) ∷ line 3 (Link 1 5 9 0) ∷ []) ≡ Some (TwiceAt 3 1))
+pub in_order : (fault_of_tap_lines tap ≡ None) × (fault_of_tap_lines (line 2 (Octets 1 E []) ∷ []) ≡ Some (NoLinkAt 2 1))
+    × (fault_of_tap_lines (line 2 (Link 1 5 9 0) ∷ line 3 (Link 1 5 9 0) ∷ []) ≡ Some (TwiceAt 3 1))
 unfolding fault_from has
 in_order = (refl, refl, refl)
 
 pub first_frames : audit_text no_keys tap ≡ codes "1 e au1 good\n"
-unfolding links_text side_text tap_opening_of_link stream_of judged_from audit_verdict_on_item line_text line_end heard payloads heard_of in_sequence before_end behind_opening frames_read control_of tpdus_from pdus_in reading parameters_in texts_from digits number_in frames_of between_flags all_but_last cut framing.verdict_on verdict_on_content checked_part check_number unescaped ends_in_escape fcs_of fcs_bits dividend remainder divided_once add_front sent_bits low_bits low_number
+unfolding links_text side_text tap_opening_of_link stream_of judged_from audit_verdict_on_item line_text line_end heard payloads heard_of in_sequence
+    before_end behind_opening frames_read control_of tpdus_from pdus_in reading parameters_in texts_from digits number_in frames_of between_flags all_but_last
+    cut framing.verdict_on verdict_on_content checked_part check_number unescaped ends_in_escape fcs_of fcs_bits dividend remainder divided_once add_front
+    sent_bits low_bits low_number
 first_frames = refl
 
 -- ---- what a radio block centre's end is given of them: the text of the CR, although it has no key for it
@@ -163,7 +174,9 @@ abbrev events : List Moment
 events = record { now = 0; event = Come no_keys first_octets } ∷ record { now = 1; event = Come no_keys more_octets } ∷ []
 
 pub given_it : received events (opened callee) ≡ au1 ∷ []
-unfolding hand_waiting_tpdus eight number_in reading parameters_in frames_of between_flags all_but_last cut framing.verdict_on verdict_on_content checked_part check_number unescaped ends_in_escape spelling escaped escaped_octet content_of control_of fcs_of fcs_bits dividend remainder divided_once add_front sent_bits low_bits low_number
+unfolding hand_waiting_tpdus eight number_in reading parameters_in frames_of between_flags all_but_last cut framing.verdict_on verdict_on_content checked_part
+    check_number unescaped ends_in_escape spelling escaped escaped_octet content_of control_of fcs_of fcs_bits dividend remainder divided_once add_front
+    sent_bits low_bits low_number
 given_it = refl
 
 -- ---- and what an engine's end is given of UA and a CC without user data: its empty text, which is no AU2
@@ -179,5 +192,7 @@ agreed =
     ∷ []
 
 pub given_nothing_first : received agreed (opened caller) ≡ [] ∷ []
-unfolding hand_waiting_tpdus eight number_in reading parameters_in frames_of between_flags all_but_last cut framing.verdict_on verdict_on_content checked_part check_number unescaped ends_in_escape spelling escaped escaped_octet content_of control_of fcs_of fcs_bits dividend remainder divided_once add_front sent_bits low_bits low_number
+unfolding hand_waiting_tpdus eight number_in reading parameters_in frames_of between_flags all_but_last cut framing.verdict_on verdict_on_content checked_part
+    check_number unescaped ends_in_escape spelling escaped escaped_octet content_of control_of fcs_of fcs_bits dividend remainder divided_once add_front
+    sent_bits low_bits low_number
 given_nothing_first = refl

@@ -41,14 +41,18 @@ came_to heard left cause = record { heard = heard; left = left; why = cause }
 
 -- what isn't opened; an AK counts and ends nothing; a repeated I frame is no gap where the next one counts, and one at the end is
 pub of_open : (ends E (rr ∷ i_frame 0x00 ak ∷ []) ≡ came_to 0 0 why.Unopened) × (ends E (sabm ∷ i_frame 0x00 ak ∷ rr ∷ []) ≡ came_to 1 0 why.Open)
-    × (ends E (sabm ∷ i_frame 0x00 ak ∷ i_frame 0x00 ak ∷ i_frame 0x02 ak ∷ []) ≡ came_to 2 0 why.Open) × (ends E (sabm ∷ i_frame 0x00 ak ∷ i_frame 0x00 ak ∷ []) ≡ came_to 1 0 why.Gap)
+    × (ends E (sabm ∷ i_frame 0x00 ak ∷ i_frame 0x00 ak ∷ i_frame 0x02 ak ∷ []) ≡ came_to 2 0 why.Open)
+    × (ends E (sabm ∷ i_frame 0x00 ak ∷ i_frame 0x00 ak ∷ []) ≡ came_to 1 0 why.Gap)
     × (ends E (sabm ∷ i_frame 0x02 ak ∷ []) ≡ came_to 0 0 why.Gap) × (ends R (sabm ∷ ua ∷ i_frame 0x00 ak ∷ []) ≡ came_to 0 0 why.Open)
 unfolding stream_end end_from frames_among control_of reading parameters_in
 of_open = (refl, refl, refl, refl, refl, refl)
 
 -- the frame that ends the list isn't left, and one that is no intact frame neither; a DISC or DM of the other end ends nothing
-pub of_ended : (ends E (sabm ∷ i_frame 0x00 dc ∷ rr ∷ BadFcs ∷ sabm ∷ []) ≡ came_to 1 2 why.Tpdu) × (ends E (sabm ∷ i_frame 0x00 (dt 1) ∷ rr ∷ []) ≡ came_to 1 1 why.Number)
-    × (ends E (sabm ∷ i_frame 0x00 (dt 0) ∷ Frame 0x01 (0x02 ∷ 0x02 ∷ 0x00 ∷ ak) ∷ []) ≡ came_to 2 0 why.Block) × (ends E (sabm ∷ Frame 0x01 (0x53 ∷ []) ∷ rr ∷ []) ≡ came_to 0 1 why.Disc)
-    × (ends E (sabm ∷ Frame 0x03 (0x53 ∷ []) ∷ Frame 0x01 (0x1f ∷ []) ∷ []) ≡ came_to 0 0 why.Open) × (ends E (sabm ∷ Frame 0x03 (0x1f ∷ []) ∷ []) ≡ came_to 0 0 why.Dm)
+pub of_ended : (ends E (sabm ∷ i_frame 0x00 dc ∷ rr ∷ BadFcs ∷ sabm ∷ []) ≡ came_to 1 2 why.Tpdu)
+    × (ends E (sabm ∷ i_frame 0x00 (dt 1) ∷ rr ∷ []) ≡ came_to 1 1 why.Number)
+    × (ends E (sabm ∷ i_frame 0x00 (dt 0) ∷ Frame 0x01 (0x02 ∷ 0x02 ∷ 0x00 ∷ ak) ∷ []) ≡ came_to 2 0 why.Block)
+    × (ends E (sabm ∷ Frame 0x01 (0x53 ∷ []) ∷ rr ∷ []) ≡ came_to 0 1 why.Disc)
+    × (ends E (sabm ∷ Frame 0x03 (0x53 ∷ []) ∷ Frame 0x01 (0x1f ∷ []) ∷ []) ≡ came_to 0 0 why.Open)
+    × (ends E (sabm ∷ Frame 0x03 (0x1f ∷ []) ∷ []) ≡ came_to 0 0 why.Dm)
 unfolding stream_end end_from frames_among control_of reading parameters_in
 of_ended = (refl, refl, refl, refl, refl, refl)

@@ -32,15 +32,18 @@ verdict_at side place read = audit_verdict_on_item known side place read
 pub au2_by_mac :
     (verdict_at R 0 (Ok (Au2 9 1 0x1122334455667788 0xbd1745640dd6c194, true)) ≡ Good)
     × (verdict_at R 0 (Ok (Au2 9 1 0x1122334455667788 0xbd1745640dd6c195, true)) ≡ Mac)
-unfolding audit_verdict_on_item mac_of mac_bits blocks chained triple_encipher cipher rounds cipher_function substituted box_output round_keys keys_from bits number pick xor eight
+unfolding audit_verdict_on_item mac_of mac_bits blocks chained triple_encipher cipher rounds cipher_function substituted box_output round_keys keys_from bits
+    number pick xor eight
 au2_by_mac = (refl, refl)
 
 pub au3_by_mac : (verdict_at E 1 (Ok (Au3 0xcf4775838533c548, false)) ≡ Good) × (verdict_at E 1 (Ok (Au3 0xcf4775838533c549, false)) ≡ Mac)
-unfolding audit_verdict_on_item mac_of mac_bits blocks chained triple_encipher cipher rounds cipher_function substituted box_output round_keys keys_from bits number pick xor eight
+unfolding audit_verdict_on_item mac_of mac_bits blocks chained triple_encipher cipher rounds cipher_function substituted box_output round_keys keys_from bits
+    number pick xor eight
 au3_by_mac = (refl, refl)
 
 pub ar_by_mac : (verdict_at R 1 (Ok (Ar 0x75aa073c805b03c0, true)) ≡ Good) × (verdict_at R 1 (Ok (Ar 0x75aa073c805b03c1, true)) ≡ Mac)
-unfolding audit_verdict_on_item mac_of mac_bits blocks chained triple_encipher cipher rounds cipher_function substituted box_output round_keys keys_from bits number pick xor eight
+unfolding audit_verdict_on_item mac_of mac_bits blocks chained triple_encipher cipher rounds cipher_function substituted box_output round_keys keys_from bits
+    number pick xor eight
 ar_by_mac = (refl, refl)
 
 -- of `HELLO` from the engine, in the first place that a message can have
@@ -48,5 +51,6 @@ abbrev hello : List ℕ
 hello = 0x48 ∷ 0x45 ∷ 0x4c ∷ 0x4c ∷ 0x4f ∷ []
 
 pub dt_by_mac : (verdict_at E 2 (Ok (Dt hello 0x5244cbe51fa10045, false)) ≡ Good) × (verdict_at E 2 (Ok (Dt hello 0x5244cbe51fa10044, false)) ≡ Mac)
-unfolding audit_verdict_on_item mac_of mac_bits blocks chained triple_encipher cipher rounds cipher_function substituted box_output round_keys keys_from bits number pick xor eight
+unfolding audit_verdict_on_item mac_of mac_bits blocks chained triple_encipher cipher rounds cipher_function substituted box_output round_keys keys_from bits
+    number pick xor eight
 dt_by_mac = (refl, refl)

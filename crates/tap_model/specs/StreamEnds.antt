@@ -10,13 +10,15 @@ use Rattle.hdlc_frames.specs.Framing.{Verdict}
 use Rattle.t70_header.specs.declared.fault.BlockFault.{BlockFault}
 use Rattle.t70_header.specs.Joining as joining
 use Rattle.x224_tpdu.specs.declared.fault.TpFault.{TpFault}
-use Rattle.x224_tpdu.specs.Spelling.{TransportPdu, connection_request, connection_confirm, disconnect_request, disconnect_confirm, data_tpdu, acknowledgement, tpdu_error}
+use Rattle.x224_tpdu.specs.Spelling.{TransportPdu, connection_request, connection_confirm, disconnect_request, disconnect_confirm, data_tpdu, acknowledgement}
+use Rattle.x224_tpdu.specs.Spelling.{tpdu_error}
 use Rattle.x224_tpdu.specs.Function.{reading}
 use Rattle.sapdu.specs.Messages.{most_octets}
 use Rattle.er_end_model.specs.Steps.{Finds}
 use Rattle.tap_model.specs.declared.end_cause.EndCause.{EndCause}
 use Rattle.tap_model.specs.declared.end_cause.EndCause.TheVariants.{Unopened, Open, Gap, Disc, Dm, Block, Tpdu, Number, Long, Dr}
-use Rattle.tap_model.specs.Hearing.{ReadFrame, frames_read, read_frame, address_of_side, Carries, sort_of, is_link_opening, behind_opening, before_end, is_next, in_sequence, tpdus_from, pdus_in, Hearing, heard_of, heard, items}
+use Rattle.tap_model.specs.Hearing.{ReadFrame, frames_read, read_frame, address_of_side, Carries, sort_of, is_link_opening, behind_opening, before_end, is_next}
+use Rattle.tap_model.specs.Hearing.{in_sequence, tpdus_from, pdus_in, Hearing, heard_of, heard, items}
 use Rattle.tap_model.specs.Lines.{TapOpening, stream_of}
 use Rattle.tap_model.specs.Texts.{judged_at}
 use Rattle.tap_model.specs.Ends.{frames_among, StreamEnd, stream_end}
@@ -154,8 +156,10 @@ pub record IsEndedByFrame (side : Side) (verdicts : List Verdict) (e : StreamEnd
 
 pub data IsEndOf (side : Side) (verdicts : List Verdict) (e : StreamEnd) : Type 0 where
   NeverOpens : IsUnopened side verdicts → e ≡ record { heard = 0; left = 0; why = Unopened } → IsEndOf side verdicts e
-  StaysOpen : GoesOn side verdicts → (HasGap side verdicts → ⊥) → e ≡ record { heard = length (blocks_in side verdicts); left = 0; why = Open } → IsEndOf side verdicts e
-  StaysInGap : GoesOn side verdicts → HasGap side verdicts → e ≡ record { heard = length (blocks_in side verdicts); left = 0; why = Gap } → IsEndOf side verdicts e
+  StaysOpen : GoesOn side verdicts → (HasGap side verdicts → ⊥) → e ≡ record { heard = length (blocks_in side verdicts); left = 0; why = Open }
+      → IsEndOf side verdicts e
+  StaysInGap : GoesOn side verdicts → HasGap side verdicts → e ≡ record { heard = length (blocks_in side verdicts); left = 0; why = Gap }
+      → IsEndOf side verdicts e
   EndsByFrame : IsEndedByFrame side verdicts e → IsEndOf side verdicts e
 
 -- of all verdicts on the pieces of whatever stream: what the end tells is so. It refuses an audit that counts the frame that ended the list as left
@@ -181,7 +185,8 @@ abbrev pub RulesEnd : Type 0
 RulesEnd =
     (side : Side) (before : List Verdict) (verdict : Verdict) (behind : List Verdict) (frame : ReadFrame) (cause : EndCause)
     → IsGoingOn (stream_end side before).why → read_frame verdict ≡ frame ∷ [] → EndsList side (blocks_in side before) frame cause
-    → stream_end side (before ++ verdict ∷ behind) ≡ record { heard = length (blocks_in side (before ++ verdict ∷ [])); left = frames_among behind; why = cause }
+    → stream_end side (before ++ verdict ∷ behind)
+    ≡ record { heard = length (blocks_in side (before ++ verdict ∷ [])); left = frames_among behind; why = cause }
 
 -- the items that the line of an end counts are those that have a line each. It refuses an audit that counts a DR's text as no item
 abbrev pub ItemsAreCounted : Type 0

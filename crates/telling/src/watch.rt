@@ -1,9 +1,9 @@
 //! What a run over wires tells while it goes on: at most a line a second of what isn't as usual, and counts every ten minutes.
 
-use crate::ears::Ears;
 use crate::held::KeysHeld;
-use crate::tally::{Heard, Tally, Uncommon};
-use er_base::NoMemory;
+use counted::Counts;
+use er_base::{NoMemory, Release};
+use journal::{Began, EventTally};
 use std::alloc::Global;
 use std::fmt::Write;
 use std::net::SocketAddr;
@@ -18,20 +18,31 @@ const BETWEEN_LINES: u64 = 1;
 // The time between counts, in seconds.
 const BETWEEN_COUNTS: u64 = 600;
 
+// What isn't as usual.
+#[derive(Clone, Copy)]
+enum Uncommon {
+    // A release that no user asked for.
+    Released(Release),
+    // A connection that got no end, since as many as can be are live.
+    Full,
+    // One that got no end, since no user was left.
+    Unserved,
+}
+
 // Something uncommon that came at a connection, and its peer's address where it is known.
 #[derive(Clone, Copy)]
 struct News {
-    heard: Heard,
+    conn: u64,
+    what: Uncommon,
     peer: Option<SocketAddr>,
 }
 
-/// The counts of a run, and what waits to be told.
+/// What waits to be told of a run.
 #[derive(Drop)]
 pub struct Watch {
-    pub tally: Tally,
     /// What the key file of a server has for its radio block centre.
     pub keys: Option<KeysHeld>,
-    // The radio block centre of a server: of anything else nothing is told before the end.
+    /// The radio block centre of a server: of anything else nothing is told before the end.
     pub rbc: Option<u64>,
     waiting: Vec<News>,
     // What came besides, since the last line.
@@ -47,7 +58,6 @@ impl Watch {
     /// Nothing came yet. Later calls but those that make a line take no memory.
     pub fn new(alloc: Global, rbc: Option<u64>) -> Result<Watch, NoMemory> {
         Ok(Watch {
-            tally: Tally::new(alloc)?,
             keys: None,
             rbc,
             waiting: Vec::with_capacity(alloc, MOST_WAITING)?,
@@ -58,17 +68,20 @@ impl Watch {
         })
     }
 
-    /// Counts what a piece of the recording tells.
-    pub fn hear(&mut self, piece: &[u8]) {
-        let Some(heard) = self.tally.hear(piece) else {
+    /// An event was recorded that counts this: what isn't as usual waits to be told.
+    pub fn hear(&mut self, tally: &EventTally) {
+        let Some(what) = unusual(tally) else {
             return;
         };
         if self.rbc.is_none() {
             return;
         }
-        if self.waiting.len() >= MOST_WAITING
-            || self.waiting.push(News { heard, peer: None }).is_err()
-        {
+        let news = News {
+            conn: tally.conn,
+            what,
+            peer: None,
+        };
+        if self.waiting.len() >= MOST_WAITING || self.waiting.push(news).is_err() {
             self.more = self.more.saturating_add(1);
         }
     }
@@ -77,13 +90,13 @@ impl Watch {
     pub fn wants_address(&self, conn: u64) -> bool {
         self.waiting
             .iter()
-            .any(|news| news.heard.conn == conn && news.peer.is_none())
+            .any(|news| news.conn == conn && news.peer.is_none())
     }
 
     /// The connections of which something waits to be told, and whose address isn't known: the first of them.
     pub fn unknown(&self) -> Option<u64> {
         match self.waiting.first() {
-            Some(news) if news.peer.is_none() => Some(news.heard.conn),
+            Some(news) if news.peer.is_none() => Some(news.conn),
             _ => None,
         }
     }
@@ -91,7 +104,7 @@ impl Watch {
     /// The address of a connection's peer.
     pub fn meet(&mut self, conn: u64, peer: Option<SocketAddr>) {
         for news in self.waiting.iter_mut() {
-            if news.heard.conn == conn {
+            if news.conn == conn {
                 news.peer = peer;
             }
         }
@@ -126,7 +139,7 @@ impl Watch {
     }
 
     /// Whether counts are to be told now: ten minutes behind those before, where something happened.
-    pub fn has_counts(&mut self, now: Duration) -> bool {
+    pub fn has_counts(&mut self, now: Duration, counts: &Counts) -> bool {
         if self.rbc.is_none() {
             return false;
         }
@@ -138,41 +151,50 @@ impl Watch {
             return false;
         }
         self.newest_counts = Some(now);
-        let counted = self
-            .tally
-            .connections
-            .saturating_add(self.tally.turned_away)
-            .saturating_add(self.tally.accepted);
+        let counted = counts
+            .opened
+            .saturating_add(counts.turned_away)
+            .saturating_add(counts.accepted);
         let has_more = counted != self.counted;
         self.counted = counted;
         has_more
     }
+}
 
-    /// The line of counts.
-    pub fn counts(&self, alloc: Global, ears: &Ears) -> Result<String, NoMemory> {
-        let tally = &self.tally;
-        let mut line = String::new(alloc);
+/// The line of counts.
+pub fn counts_line(alloc: Global, counts: &Counts) -> Result<String, NoMemory> {
+    let mut line = String::new(alloc);
+    write!(
+        line,
+        "euroradio: connections {}, turned away {}, connected {}",
+        counts.opened, counts.turned_away, counts.connected
+    )?;
+    write!(
+        line,
+        ", messages accepted {}, said {}, refused {}, ignored {}",
+        counts.accepted, counts.said, counts.refused, counts.ignored
+    )?;
+    for known in counts.releases.iter() {
+        let release = known.release;
+        let side = side(release.by_peer);
         write!(
             line,
-            "euroradio: connections {}, turned away {}, connected {}",
-            tally.connections, tally.turned_away, tally.connected
+            ", released {}.{} {side} {}",
+            release.reason, release.sub, known.count
         )?;
-        write!(
-            line,
-            ", messages accepted {}, said {}, refused {}",
-            tally.accepted, tally.said, tally.refused
-        )?;
-        write!(line, ", frames {}, bad {}", ears.frames, ears.bad)?;
-        for known in tally.releases.iter() {
-            let release = known.release;
-            let side = side(release.by_peer);
-            write!(
-                line,
-                ", released {}.{} {side} {}",
-                release.reason, release.sub, known.count
-            )?;
-        }
-        Ok(line)
+    }
+    Ok(line)
+}
+
+// What of an event isn't as usual.
+fn unusual(tally: &EventTally) -> Option<Uncommon> {
+    match tally.released {
+        Some(release) if release.reason != 0 => Some(Uncommon::Released(release)),
+        _ => match tally.began {
+            Began::Nothing | Began::End => None,
+            Began::Full => Some(Uncommon::Full),
+            Began::Unserved => Some(Uncommon::Unserved),
+        },
     }
 }
 
@@ -182,11 +204,11 @@ pub fn side(by_peer: bool) -> &'static str {
 }
 
 fn put_news(line: &mut String, news: &News) -> Result<(), NoMemory> {
-    write!(line, "connection {}", news.heard.conn)?;
+    write!(line, "connection {}", news.conn)?;
     if let Some(peer) = news.peer {
         write!(line, " of {peer}")?;
     }
-    match news.heard.what {
+    match news.what {
         Uncommon::Released(release) => {
             let side = side(release.by_peer);
             let words = release.words();

@@ -1,5 +1,6 @@
 -- Why an event of a trace isn't taken behind those before it (this profile): the first of five checks that it fails.
-use Rattle.std.specs.Prelude.{ℕ, ◌==◌, nat_lt, nat_le, max, Bool, true, false, not, ◌&&◌, if◌then◌else◌, List, [], ◌∷◌, length, filter, Option, Some, None, is_some}
+use Rattle.std.specs.Prelude.{ℕ, ◌==◌, nat_lt, nat_le, max, Bool, true, false, not, ◌&&◌, if◌then◌else◌, List, [], ◌∷◌, length, filter, Option, Some, None}
+use Rattle.std.specs.Prelude.{is_some}
 use Rattle.std.specs.List.{list_any}
 use Rattle.des_block.specs.declared.triple_key.TripleKey.{TripleKey}
 use Rattle.er_settings.specs.Values.{Settings}
@@ -64,7 +65,8 @@ is_live (Some m) = not (is_some m.core.released && (model.untaken m.core.upper =
 -- the connections that were opened, in their order
 unfoldable pub connections_opened_in_trace : List Entry → List ℕ
 connections_opened_in_trace [] = []
-connections_opened_in_trace (entry ∷ entries) = if is_opening_role (role_of entry.event) then entry.conn ∷ connections_opened_in_trace entries else connections_opened_in_trace entries
+connections_opened_in_trace (entry ∷ entries) = if is_opening_role (role_of entry.event) then entry.conn ∷ connections_opened_in_trace entries
+    else connections_opened_in_trace entries
 
 -- how many of their ends are live
 unfoldable pub live_count : Settings → Finds → List Entry → ℕ

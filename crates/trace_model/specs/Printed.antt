@@ -5,7 +5,8 @@ use Rattle.er_settings.specs.Values.{Settings}
 use Rattle.er_trace.specs.declared.entry.Entry.{Entry}
 use Rattle.er_trace.specs.Outcomes as trace
 use Rattle.er_trace.specs.Texts.{header_words, entry_words, outcome_words}
-use Rattle.er_end_model.specs.Outcomes.{SendRefusal, RefusedReleased, RefusedNotConnected, RefusedLength, RefusedFull, Outcome, ConnectedTo, Accepted, Taken, NothingToTake, Refused, WasReleased, Octets}
+use Rattle.er_end_model.specs.Outcomes.{SendRefusal, RefusedReleased, RefusedNotConnected, RefusedLength, RefusedFull, Outcome, ConnectedTo, Accepted, Taken}
+use Rattle.er_end_model.specs.Outcomes.{NothingToTake, Refused, WasReleased, Octets}
 use Rattle.er_end_model.specs.Steps.{Finds}
 use Rattle.trace_model.specs.Connections.{happens, end_at}
 

@@ -7,4 +7,5 @@ use Rattle.trace_model.specs.Recordings.{unskipped, first_difference, is_outcome
 unfoldable pub verdict_left : (number outcomes : ℕ) → (lines printed : List (List ℕ)) → (is_cut : Bool) → CheckVerdict
 verdict_left number outcomes lines printed is_cut =
     verdict_with (first_difference (unskipped number lines) printed)
-    (verdict_on_rest (number + length lines + 1) is_cut (nat_lt (length (unskipped number lines)) (length printed)) (outcomes + length (filter is_outcome_line printed)))
+    (verdict_on_rest (number + length lines + 1) is_cut (nat_lt (length (unskipped number lines)) (length printed))
+    (outcomes + length (filter is_outcome_line printed)))

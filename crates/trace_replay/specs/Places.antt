@@ -119,7 +119,8 @@ count_of p (x ∷ xs) = one_if (p x) + count_of p xs
 
 -- what is kept stands for the ends of all connections behind events
 pub record AllHold (settings : Settings) (finds : Finds) (before : List Entry) (c : Connections) : Type 0 where
-  pub keeps : (conn : ℕ) → KeepsConnection (last_moment before) (place_of_connection c conn) (end_at settings finds conn before) (is_named conn before) (is_opened conn before)
+  pub keeps : (conn : ℕ) → KeepsConnection (last_moment before) (place_of_connection c conn) (end_at settings finds conn before) (is_named conn before)
+      (is_opened conn before)
   pub apart : AreApart (connections_opened_in_trace before)
   pub count : btree_map_len c.live ≡ count_of (λ conn. is_there (place_of_connection c conn)) (connections_opened_in_trace before)
 

@@ -7,7 +7,8 @@ use Rattle.x224_tpdu.specs.Spelling.{connection_request, connection_confirm, dis
 use Rattle.x224_tpdu.specs.declared.fault.TpFault.TheVariants.{Class, Parameter}
 use Rattle.x224_class2.specs.Segments.{Segment, segments_of, messages_in, text_so_far, ack_number}
 use Rattle.x224_class2.specs.Tpdus.{Cr, Cc, Dt, Ak, octets_given}
-use Rattle.x224_class2.specs.Transport.{Transport, Message, Disconnected, Refused, side_made, after_connect, after_accept, after_hand, after_taken, on_reading, number_named, next_tpdu, after_next, waiting_count}
+use Rattle.x224_class2.specs.Transport.{Transport, Message, Disconnected, Refused, side_made, after_connect, after_accept, after_hand, after_taken, on_reading}
+use Rattle.x224_class2.specs.Transport.{number_named, next_tpdu, after_next, waiting_count}
 
 -- n octets 41
 abbrev octets : ℕ → List ℕ
@@ -23,7 +24,9 @@ pub known_two_segments : segments_of 128 (octets 124) ≡ (false, octets 123) �
 unfolding segments_of
 known_two_segments = refl
 
-pub known_nine_segments : segments_of 128 (octets 1032) ≡ (false, octets 123) ∷ (false, octets 123) ∷ (false, octets 123) ∷ (false, octets 123) ∷ (false, octets 123) ∷ (false, octets 123) ∷ (false, octets 123) ∷ (false, octets 123) ∷ (true, octets 48) ∷ []
+pub known_nine_segments : segments_of 128 (octets 1032)
+    ≡ (false, octets 123) ∷ (false, octets 123) ∷ (false, octets 123) ∷ (false, octets 123) ∷ (false, octets 123) ∷ (false, octets 123) ∷ (false, octets 123)
+    ∷ (false, octets 123) ∷ (true, octets 48) ∷ []
 unfolding segments_of
 known_nine_segments = refl
 
@@ -141,7 +144,8 @@ known_second_request = refl
 pub known_confirm : next_tpdu (after_accept called (0x44 ∷ [])) ≡ Some (Cc 1 128 (0x44 ∷ []))
 known_confirm = refl
 
-pub known_least_of_three : next_tpdu (after_accept (on_reading (side_made false (small 1024)) (Ok (connection_request 1 0 1 8192 []))).0 (0x44 ∷ [])) ≡ Some (Cc 1 1024 (0x44 ∷ []))
+pub known_least_of_three : next_tpdu (after_accept (on_reading (side_made false (small 1024)) (Ok (connection_request 1 0 1 8192 []))).0 (0x44 ∷ []))
+    ≡ Some (Cc 1 1024 (0x44 ∷ []))
 known_least_of_three = refl
 
 abbrev accepted : Transport
@@ -226,7 +230,8 @@ known_data_last = refl
 -- an AK grants the credit of the settings whatever waits to be taken
 abbrev waits_two : Transport
 waits_two =
-    (on_reading (on_reading (after_next (after_accept (on_reading (side_made false (settings_of 8 7 3 128 1000 5 40000)) (Ok (connection_request 1 0 1 128 []))).0 (0x44 ∷ [])))
+    (on_reading (on_reading (after_next (after_accept
+    (on_reading (side_made false (settings_of 8 7 3 128 1000 5 40000)) (Ok (connection_request 1 0 1 128 []))).0 (0x44 ∷ [])))
     (Ok (data_tpdu 1 true 0 (0x45 ∷ [])))).0 (Ok (data_tpdu 1 true 1 (0x46 ∷ [])))).0
 
 pub known_credit_stays : next_tpdu (after_taken waits_two) ≡ Some (Ak 3 1)

@@ -1,13 +1,16 @@
 -- Contract: how what the code keeps stands for a side of the transport model, so that clauses speak of the model's steps; and that each
 -- call's function on what is kept is the model's step.
-use Rattle.std.specs.Prelude.{ℕ, ◌≡◌, ◌+◌, ◌-◌, ◌%◌, ◌<◌, ◌≤◌, suc, Bool, true, false, List, [], ◌∷◌, ◌++◌, length, map, drop, Option, Some, is_some, MatchOption}
+use Rattle.std.specs.Prelude.{ℕ, ◌≡◌, ◌+◌, ◌-◌, ◌%◌, ◌<◌, ◌≤◌, suc, Bool, true, false, List, [], ◌∷◌, ◌++◌, length, map, drop, Option, Some, is_some}
+use Rattle.std.specs.Prelude.{MatchOption}
 use Rattle.er_settings.specs.Values.{Settings}
 use Rattle.er_settings.specs.Ranges.{AllAllowed}
 use Rattle.x224_tpdu.specs.Spellings.{IsSize, IsWritable}
 use Rattle.x224_class2.specs.Segments.{Segment, segments_of, messages_in, text_so_far, ack_number, AllCarried}
 use Rattle.x224_class2.specs.Tpdus.{GivenTpdu, pdu_given}
-use Rattle.x224_class2.specs.Transport.{Transport, is_called, is_open, is_new, side_made, after_connect, after_accept, after_hand, after_taken, waiting_count, untaken_count, reception, next_tpdu, after_next}
-use Rattle.x224_class2.specs.Kept.{KeptTransport, kept_made, kept_after_connect, kept_after_accept, kept_after_hand, kept_after_taken, kept_reception, kept_next_tpdu, kept_after_next, octets_next}
+use Rattle.x224_class2.specs.Transport.{Transport, is_called, is_open, is_new, side_made, after_connect, after_accept, after_hand, after_taken, waiting_count}
+use Rattle.x224_class2.specs.Transport.{untaken_count, reception, next_tpdu, after_next}
+use Rattle.x224_class2.specs.Kept.{KeptTransport, kept_made, kept_after_connect, kept_after_accept, kept_after_hand, kept_after_taken, kept_reception}
+use Rattle.x224_class2.specs.Kept.{kept_next_tpdu, kept_after_next, octets_next}
 use Rattle.x224_class2.specs.declared.stage.Stage.{Stage}
 use Rattle.x224_class2.specs.declared.stage.Stage.TheVariants as stages
 
@@ -89,14 +92,17 @@ MadeStands = (is_caller : Bool) (settings : Settings) → AllAllowed settings �
 
 -- connect and accept
 abbrev pub ConnectStands : Type 0
-ConnectStands = (k : KeptTransport) (t : Transport) (user : List ℕ) → StandsForTransport k t → is_new t.stage ≡ true → length user ≤ 32 → StandsForTransport (kept_after_connect k user) (after_connect t user)
+ConnectStands = (k : KeptTransport) (t : Transport) (user : List ℕ) → StandsForTransport k t → is_new t.stage ≡ true → length user ≤ 32
+    → StandsForTransport (kept_after_connect k user) (after_connect t user)
 
 abbrev pub AcceptStands : Type 0
-AcceptStands = (k : KeptTransport) (t : Transport) (user : List ℕ) → StandsForTransport k t → is_called t.stage ≡ true → length user ≤ 32 → StandsForTransport (kept_after_accept k user) (after_accept t user)
+AcceptStands = (k : KeptTransport) (t : Transport) (user : List ℕ) → StandsForTransport k t → is_called t.stage ≡ true → length user ≤ 32
+    → StandsForTransport (kept_after_accept k user) (after_accept t user)
 
 -- hand
 abbrev pub HandStands : Type 0
-HandStands = (k : KeptTransport) (t : Transport) (message : List ℕ) → StandsForTransport k t → is_open t.stage ≡ true → 0 < length message → StandsForTransport (kept_after_hand k message) (after_hand t message)
+HandStands = (k : KeptTransport) (t : Transport) (message : List ℕ) → StandsForTransport k t → is_open t.stage ≡ true → 0 < length message
+    → StandsForTransport (kept_after_hand k message) (after_hand t message)
 
 -- taken
 abbrev pub TakenStands : Type 0

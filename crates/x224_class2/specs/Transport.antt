@@ -1,10 +1,12 @@
 -- The transport model: one side of a connection of ITU-T X.224 class 2 with explicit flow control (clauses 6 and
 -- 10). Lists are whole, numbers are absolute. What is refused, and that the user's taking lets a DT be acknowledged,
 -- are this profile's.
-use Rattle.std.specs.Prelude.{ℕ, ◌+◌, ◌-◌, ◌%◌, ◌==◌, ◌&&◌, not, nat_lt, nat_le, min, if◌then◌else◌, zero, suc, Bool, true, false, List, [], ◌∷◌, ◌++◌, length, slice_index_or, drop, Option, Some, None, Result, Ok, Err}
+use Rattle.std.specs.Prelude.{ℕ, ◌+◌, ◌-◌, ◌%◌, ◌==◌, ◌&&◌, not, nat_lt, nat_le, min, if◌then◌else◌, zero, suc, Bool, true, false, List, [], ◌∷◌, ◌++◌, length}
+use Rattle.std.specs.Prelude.{slice_index_or, drop, Option, Some, None, Result, Ok, Err}
 use Rattle.er_settings.specs.Values.{Settings}
 use Rattle.x224_tpdu.specs.declared.fault.TpFault.{TpFault}
-use Rattle.x224_tpdu.specs.Spelling.{TransportPdu, connection_request, connection_confirm, disconnect_request, disconnect_confirm, data_tpdu, acknowledgement, tpdu_error}
+use Rattle.x224_tpdu.specs.Spelling.{TransportPdu, connection_request, connection_confirm, disconnect_request, disconnect_confirm, data_tpdu, acknowledgement}
+use Rattle.x224_tpdu.specs.Spelling.{tpdu_error}
 use Rattle.x224_tpdu.specs.Function.{reading}
 use Rattle.x224_class2.specs.Segments.{Segment, segments_of, messages_in, text_so_far, ack_number}
 use Rattle.x224_class2.specs.Tpdus.{GivenTpdu, Cr, Cc, Dt, Ak}

@@ -7,7 +7,8 @@ use Rattle.x224_tpdu.specs.declared.kind.Kind.{Kind}
 use Rattle.x224_tpdu.specs.declared.kind.Kind.TheVariants.{Cr, Cc, Dr, Dc, Dt, Ak, Er}
 use Rattle.x224_tpdu.specs.Kinds.{kind_of_tpdu_code}
 use Rattle.x224_tpdu.specs.Parameters.{parameters_in, size_octet}
-use Rattle.x224_tpdu.specs.Spelling.{TransportPdu, connection_request, connection_confirm, disconnect_request, disconnect_confirm, data_tpdu, acknowledgement, tpdu_error}
+use Rattle.x224_tpdu.specs.Spelling.{TransportPdu, connection_request, connection_confirm, disconnect_request, disconnect_confirm, data_tpdu, acknowledgement}
+use Rattle.x224_tpdu.specs.Spelling.{tpdu_error}
 use Rattle.x224_tpdu.specs.Faults.{Layout, layout_of, parameter_part, first_fault}
 
 -- the number of two octets at a place of the fields

@@ -48,7 +48,8 @@ known_request_without_size = record {
   spelled_so = refl;
 }
 
-pub known_request_with_more : Spells (connection_request 15 0 1 8192 []) (0x0B ∷ 0xEF ∷ 0x00 ∷ 0x00 ∷ 0x00 ∷ 0x01 ∷ 0x20 ∷ 0xC5 ∷ 0x00 ∷ 0xC0 ∷ 0x01 ∷ 0x0D ∷ [])
+pub known_request_with_more : Spells (connection_request 15 0 1 8192 [])
+    (0x0B ∷ 0xEF ∷ 0x00 ∷ 0x00 ∷ 0x00 ∷ 0x01 ∷ 0x20 ∷ 0xC5 ∷ 0x00 ∷ 0xC0 ∷ 0x01 ∷ 0x0D ∷ [])
 known_request_with_more = record {
   parameters = record { code = 0xC5; value = [] } ∷ record { code = 0xC0; value = 0x0D ∷ [] } ∷ [];
   fits = ((lit< tt, lit< tt, lit< tt), lit≤ tt, lit≤ tt);
@@ -59,7 +60,8 @@ known_request_with_more = record {
 
 -- ---- readings, one of each kind
 
-pub known_reading_request : reading (0x0B ∷ 0xE1 ∷ 0x00 ∷ 0x00 ∷ 0x00 ∷ 0x01 ∷ 0x20 ∷ 0xC5 ∷ 0x00 ∷ 0xC0 ∷ 0x01 ∷ 0x0A ∷ 0x42 ∷ []) ≡ Ok (connection_request 1 0 1 1024 (0x42 ∷ []))
+pub known_reading_request : reading (0x0B ∷ 0xE1 ∷ 0x00 ∷ 0x00 ∷ 0x00 ∷ 0x01 ∷ 0x20 ∷ 0xC5 ∷ 0x00 ∷ 0xC0 ∷ 0x01 ∷ 0x0A ∷ 0x42 ∷ [])
+    ≡ Ok (connection_request 1 0 1 1024 (0x42 ∷ []))
 unfolding reading parameters_in
 known_reading_request = refl
 

@@ -1,10 +1,12 @@
--- The laws of reading a TPDU (ITU-T X.224, clause 13): octets that spell one are read as this one, none other are read as a TPDU, and faulty octets are read as their first fault.
+-- The laws of reading a TPDU (ITU-T X.224, clause 13): octets that spell one are read as this one, none other are read as a TPDU, and faulty octets are read as
+-- their first fault.
 use Rattle.std.specs.Prelude.{◌≡◌, ℕ, ◌<◌, ◌≤◌, List, length, Some, Result, Ok, Err}
 use Rattle.er_base.specs.Octets.{AreOctets}
 use Rattle.x224_tpdu.specs.declared.tpdu.Tpdu.{Tpdu}
 use Rattle.x224_tpdu.specs.declared.fault.TpFault.{TpFault}
 use Rattle.x224_tpdu.specs.Kinds.{least_user, most_user}
-use Rattle.x224_tpdu.specs.Spelling.{TransportPdu, connection_request, connection_confirm, disconnect_request, disconnect_confirm, data_tpdu, acknowledgement, tpdu_error, user_in}
+use Rattle.x224_tpdu.specs.Spelling.{TransportPdu, connection_request, connection_confirm, disconnect_request, disconnect_confirm, data_tpdu, acknowledgement}
+use Rattle.x224_tpdu.specs.Spelling.{tpdu_error, user_in}
 use Rattle.x224_tpdu.specs.Spellings.{pdu_of, kind_in, Spells, IsSize, IsWritable}
 use Rattle.x224_tpdu.specs.Faults.{first_fault}
 use Rattle.x224_tpdu.specs.Writing.{written_octets}

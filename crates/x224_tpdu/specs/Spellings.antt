@@ -1,4 +1,5 @@
--- Which octets spell a TPDU (ITU-T X.224, clause 13): the fields and the parameters that it may have. A TPDU has several spellings where its parameters may be skipped.
+-- Which octets spell a TPDU (ITU-T X.224, clause 13): the fields and the parameters that it may have. A TPDU has several spellings where its parameters may be
+-- skipped.
 use Rattle.std.specs.Prelude.{ℕ, ◌≡◌, ◌^◌, ◌<◌, ◌≤◌, false, List, length, Option, None, MatchOption, ◌≢◌, ◌⊎◌}
 use Rattle.x224_tpdu.specs.declared.kind.Kind.{Kind}
 use Rattle.x224_tpdu.specs.declared.kind.Kind.TheVariants.{Cr, Cc, Dr, Dc, Dt, Ak, Er}
@@ -6,7 +7,8 @@ use Rattle.x224_tpdu.specs.declared.tpdu.Tpdu.{Tpdu}
 use Rattle.x224_tpdu.specs.declared.tpdu.Tpdu.TheVariants as code
 use Rattle.x224_tpdu.specs.Kinds.{least_user, most_user}
 use Rattle.x224_tpdu.specs.Parameters.{Parameter, first_refused, size_octet}
-use Rattle.x224_tpdu.specs.Spelling.{TransportPdu, acknowledgement, connection_confirm, connection_request, data_tpdu, disconnect_confirm, disconnect_request, header_without_length_indicator, spelling, tpdu_error, user_in}
+use Rattle.x224_tpdu.specs.Spelling.{TransportPdu, acknowledgement, connection_confirm, connection_request, data_tpdu, disconnect_confirm, disconnect_request}
+use Rattle.x224_tpdu.specs.Spelling.{header_without_length_indicator, spelling, tpdu_error, user_in}
 
 -- the TPDU that a value of the program is
 abbrev pub pdu_of : Tpdu → TransportPdu

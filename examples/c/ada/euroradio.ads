@@ -30,10 +30,11 @@ package Euroradio is
    No_Memory     : constant Status := -7;
    Bad_Start     : constant Status := -8;
 
-   Version_Of_Binding : constant Unsigned_32 := 200;
+   Version_Of_Binding : constant Unsigned_32 := 201;
    Message_Most       : constant := 1_023;
    Out_Most           : constant := 200_208;
    Waiting_Most       : constant := 15;
+   Unsent_Most        : constant := 16;
    Moment_Most        : constant Unsigned_64 := 1_000_000_000_000_000;
 
    subtype Moment is Unsigned_64;
@@ -163,6 +164,9 @@ package Euroradio is
 
    function Waiting (The_End : in out Handle) return size_t
      with Import, Convention => C, External_Name => "euroradio_waiting";
+
+   function Unsent (The_End : in out Handle) return size_t
+     with Import, Convention => C, External_Name => "euroradio_unsent";
 
    function Is_Released (The_End : in out Handle; Told : out Deeds) return Status
      with Import, Convention => C, External_Name => "euroradio_released";

@@ -1,5 +1,6 @@
 -- By what the file says.
 use Rattle.relay_script.specs.Files.{script_of}
+use Rattle.er_program.specs.RelayCommands.{relay_view}
 use Rattle.er_program.proofs.RelayEnds.{spent_script}
 use Rattle.er_program.proofs.relay.scripted.Goals as goal
 
@@ -10,4 +11,4 @@ pub returns-in-Err-At : goal.returns-in-Err-At
 returns-in-Err-At g c = record { ends = rw (rw c.in-Err-At.field-0-is at c.in-Err-At.ensures.exact) c.out_of_form.ensures.does }
 
 pub returns-in-Err-NoMemory : goal.returns-in-Err-NoMemory
-returns-in-Err-NoMemory g c = record { ends = spent_script (script_of c.args.octets.now) c.args.command.now.dial.now _ }
+returns-in-Err-NoMemory g c = record { ends = spent_script (script_of c.args.octets.now) (relay_view c.args.command.now) _ }

@@ -1,5 +1,5 @@
 -- Nothing was opened yet.
-use Rattle.relay_loop.proofs.RelayRuns.{ran_begun, begun_deaf, begun_sunk, ends_begun}
+use Rattle.relay_loop.proofs.RelayRuns.{begun_deaf, ends_begun}
 use Rattle.relay_loop.proofs.live_relay.begin.Goals as goal
 
 pub returns-in-Ok : goal.returns-in-Ok

@@ -19,7 +19,7 @@ pub loop-rest-preserved : goal.loop-rest-preserved
 loop-rest-preserved c = record {
   room = c.in_ok-used.ensures.room;
   taken = so_far_more c.args.script.now c.args.octets.now c.loop-rest.rest.now _ c.in_ok-used.used _ _ _ c.in_ok-used.ensures.unended c.in_ok-used.ensures.alive
-      c.split_at.ensures.back c.loop-rest.invariant.taken c.in_ok-used.ensures.takes;
+      c.split_at.ensures.back c.loop-rest.invariant.taken c.in_ok-used.ensures.takes c.in_ok-used.ensures.stays;
   puts = news_then c.args.at.number _ _ _ c.loop-rest.invariant.puts c.in_ok-put_some.ensures;
 }
 

@@ -2,7 +2,7 @@ use Rattle.std.proofs.Common.{◌||◌, [], refl, sym, ap, ◌∙◌}
 use Rattle.er_end.specs.KeptEnds.{KEnd}
 use Rattle.er_end.specs.Given.{outcomes_in, used_by}
 use Rattle.loop_session.specs.Giving.{event_given_to_session}
-use Rattle.loop_session.proofs.Written.{gave_of}
+use Rattle.loop_session.proofs.Written.{counted_lines, gave_of}
 use Rattle.loop_session.proofs.session.Session.give.Goals as goal
 
 pub returns-clause-gave : goal.returns-clause-gave
@@ -11,3 +11,9 @@ returns-clause-gave g c = λ r same.
     (sym c.self.view_is) (c.at_end.ensures.event (record r { keys = [] }) ∙ same) refl
     (ap (λ z. c.self.inside.broken || z) c.breaks.ensures) (rw (c.get.ensures.same, c.deref_mut.ensures.value) at c.apply.follows.holds-at-none) (rw (c.get.ensures.same, c.deref_mut.ensures.value) at c.apply.ensures.told)
     (c.conclude.ensures.tells c.self.inside.end.value (c.apply.ensures.used ∙ ap (λ (e : KEnd). used_by e c.at_end.result) c.deref_mut.ensures.value ∙ c.at_end.ensures.used c.self.inside.end.value)) c.conclude.ensures.joins c.conclude.ensures.refused
+
+pub returns-clause-counts : goal.returns-clause-counts
+returns-clause-counts g c =
+    counted_lines _ _ c.conclude.result
+    (c.conclude.ensures.tells c.self.inside.end.value (c.apply.ensures.used ∙ ap (λ (e : KEnd). used_by e c.at_end.result) c.deref_mut.ensures.value ∙ c.at_end.ensures.used c.self.inside.end.value))
+    (c.conclude.ensures.counts c.self.inside.end.value)

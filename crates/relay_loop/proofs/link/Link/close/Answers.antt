@@ -1,14 +1,13 @@
 -- The line is written, and both are closed.
 use Rattle.std.proofs.Common.{refl}
 use Rattle.std.proofs.lemmas.Result.{err_from_is_err_and}
-use Rattle.relay_loop.specs.declared.fault.RelayFault.TheVariants as fault
 use Rattle.relay_loop.proofs.LinkCalls.{visit_breaks, breaks_at_once, breaks_first}
-use Rattle.relay_loop.proofs.LinkGives.{closing_waits, closes_visit}
+use Rattle.relay_loop.proofs.LinkGives.{closing_waits, closes_on}
 use Rattle.relay_loop.proofs.link.Link.close.Goals as goal
 
 pub returns : goal.returns
 returns g c = λ script.
-    closes_visit script c.args.at c.args.self.now _ _ _ _ _ _ _ c.requires.number c.in_ok-put_closed.ensures c.in_ok-write_lines.ensures.told
+    closes_on script c.args.at c.args.self.now _ _ _ _ _ _ _ c.requires.number c.in_ok-put_closed.ensures c.in_ok-write_lines.ensures.told
     c.in_ok-write_lines.ensures.none c.close.ensures.does c.close-2.ensures.does
 
 pub returns-in_err-put_closed : goal.returns-in_err-put_closed

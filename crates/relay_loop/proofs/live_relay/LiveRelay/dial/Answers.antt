@@ -1,6 +1,7 @@
 -- One was dialled, or none.
 use Rattle.std.proofs.Common.{refl}
 use Rattle.std.proofs.lemmas.Result.{err_from_is_err_and}
+use Rattle.relay_loop.specs.Rings.{Opened}
 use Rattle.relay_loop.proofs.RelayAccepts.{readies_flush, readies_unreached, readies_then, readies_end, accept_breaks}
 use Rattle.relay_loop.proofs.RelayDials.{dials_to, dial_broke, dial_accepts}
 use Rattle.relay_loop.proofs.live_relay.LiveRelay.dial.Goals as goal
@@ -15,7 +16,7 @@ returns-in_ok-keep-in-Ok-clause-accepts g c = λ script.
     rw c.keep.ensures.workspace
     (dial_accepts script c.args.dial.now c.args.at.number c.args.conn c.in-Ok.dialled c.in_ok-link-in-Ok.link c.args.self.now.links.items _ _ _ _ _ _
     c.in_ok-write_lines.ensures.told c.in_ok-write_lines.ensures.none c.in-Ok.ensures.does c.in-Ok.ensures.number c.in_ok-link-in-Ok.ensures.number
-    c.in_ok-link-in-Ok.ensures.sockets.0 c.in_ok-link-in-Ok.ensures.sockets.1 c.in_ok-keep-in-Ok.ensures.links (c.in_ok-link-in-Ok.ensures.holds script))
+    c.in_ok-link-in-Ok.ensures.sockets.0 c.in_ok-link-in-Ok.ensures.sockets.1 c.in_ok-keep-in-Ok.ensures.links (c.in_ok-link-in-Ok.ensures.keeps script))
 
 pub returns-in_err-link-in-Ok-clause-accepts : goal.returns-in_err-link-in-Ok-clause-accepts
 returns-in_err-link-in-Ok-clause-accepts g c = λ script.
@@ -37,6 +38,6 @@ pub returns-in-Err-clause-accepts : goal.returns-in-Err-clause-accepts
 returns-in-Err-clause-accepts g c = λ script.
     readies_end c.give_up.result script c.args.dial.now _ _ c.args.at.number c.args.conn.0 _ _ _ _ _ _ _ _
     (readies_then script c.args.dial.now _ _ _ c.args.at.number c.args.conn.0 _ _ _ _ _ _ _
-    (readies_flush script c.args.dial.now c.args.at.number c.args.conn.0 _ _ _ _ _ c.in_ok-write_lines.ensures.told c.in_ok-write_lines.ensures.none)
+    (readies_flush script c.args.dial.now Opened c.args.at.number c.args.conn.0 _ _ _ _ _ c.in_ok-write_lines.ensures.told c.in_ok-write_lines.ensures.none)
     (readies_unreached script c.args.dial.now c.args.at.number c.args.conn.0 _ _ _ _ c.in-Err.ensures.does))
     (c.give_up.ensures.accepts script c.args.dial.now)

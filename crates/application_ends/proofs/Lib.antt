@@ -1,0 +1,7 @@
+mod Faces
+mod Moving
+mod Leading
+mod Keeping
+mod Running
+mod Replaying
+mod Recording

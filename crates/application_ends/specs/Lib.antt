@@ -1,0 +1,4 @@
+-- What this crate states: its definitions, by module.
+pub mod StackEnds
+pub mod Laws
+pub mod KnownAnswers

@@ -1,0 +1,9 @@
+-- What was recorded stands among one act more.
+use Rattle.counted.proofs.Among.{still_among}
+use Rattle.counted.proofs.counted.CountedOutside.moment.Goals as goal
+
+pub invariant_of-self : goal.invariant_of-self
+invariant_of-self g c = record {
+  counted = c.args.self.now.counted;
+  among = still_among c.args.self.now.recorded.acts _ _ _ c.moment.ensures.does c.args.self.now.among;
+}

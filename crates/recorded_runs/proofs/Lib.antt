@@ -1,0 +1,3 @@
+mod Gathering
+mod Placing
+mod Joining
