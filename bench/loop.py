@@ -2,6 +2,7 @@
 
 import atexit
 import os
+import select
 import signal
 import socket
 import statistics
@@ -215,8 +216,103 @@ def over_sockets():
         )
     if floor == "none":
         print("no C compiler: the floor was not measured")
+    beside_application(keys, socket_rounds)
     taken, reserved = memory_of_accepted(keys, recording)
     print(f"over sockets, a connection that was accepted: {taken:.0f} KiB, {reserved:.0f} KiB reserved")
+
+
+# An application that says each message back, and reads meanwhile.
+ECHO = """
+import select, socket, sys
+line = socket.socket(socket.AF_UNIX)
+line.connect(sys.argv[1])
+line.setblocking(False)
+out, held = bytearray(), b""
+while True:
+    readable, writable, _ = select.select([line], [line] if out else [], [])
+    if writable:
+        del out[:line.send(out)]
+    if readable:
+        octets = line.recv(65536)
+        if not octets:
+            break
+        *lines, held = (held + octets).split(b"\\n")
+        for words in (text.split(b" ") for text in lines if text.startswith(b"message ")):
+            out += b"send %b %b\\n" % (words[1], words[2])
+"""
+
+
+class Trains:
+    """Calls with one application, this: each says a report once the one before was said back."""
+
+    def __init__(self, keys, address, count):
+        names = [os.path.join(work, f"train-{number}") for number in range(count)]
+        self.calls = [
+            subprocess.Popen([program, "call", keys, address, "5", "9", "-", name], stdout=subprocess.DEVNULL, stderr=subprocess.DEVNULL) for name in names
+        ]
+        for call in self.calls:
+            atexit.register(call.kill)
+        self.lines = []
+        for name in names:
+            line = socket.socket(socket.AF_UNIX)
+            while line.connect_ex(name) != 0:
+                time.sleep(0.01)
+            self.lines.append(line)
+        for line in self.lines:
+            if line.recv(4096) != b"connected 1 9\n":
+                sys.exit("a train isn't connected")
+
+    def say(self, reports):
+        """Each train says so many reports."""
+        report = b"send 1 %b\n" % b"position-report-00000001".hex().encode()
+        left = dict.fromkeys(self.lines, reports)
+        for line in self.lines:
+            line.sendall(report)
+        while left:
+            for line in select.select(list(left), [], [])[0]:
+                if not line.recv(4096).startswith(b"message 1 "):
+                    sys.exit("a train is released")
+                left[line] -= 1
+                if left[line]:
+                    line.sendall(report)
+                else:
+                    del left[line]
+
+    def end(self):
+        for call in self.calls:
+            call.kill()
+            call.wait()
+        for line in self.lines:
+            line.close()
+
+
+def beside_application(keys, rounds, reports=40):
+    """256 trains whose messages Echo says back, in the program, and an application in Python beside it."""
+    costs, rates = {}, {}
+    for beside in (False, True):
+        address, recording = f"127.0.0.1:{free_port()}", os.path.join(work, f"beside-{beside}")
+        path = [os.path.join(work, "centre")] if beside else []
+        server = begun([program, "serve", keys, address, "9", "-", *path], recording)
+        if beside:
+            atexit.register(subprocess.Popen([sys.executable, "-c", ECHO, *path]).kill)
+        if len(PROCESSORS) > 1:
+            os.sched_setaffinity(server.pid, PROCESSORS[:1])
+        trains = Trains(keys, address, 256)
+        trains.say(1)
+        costs[beside], rates[beside] = [], []
+        for _ in range(rounds):
+            before, began = used_by(server), time.monotonic()
+            trains.say(reports)
+            messages = 256 * reports
+            rates[beside].append(messages / (time.monotonic() - began))
+            costs[beside].append((used_by(server) - before) / 1e3 / messages)
+        trains.end()
+        server.send_signal(signal.SIGTERM)
+        server.wait()
+        os.remove(recording)
+    for beside, who in ((False, "Echo"), (True, "an application in Python")):
+        print(f"256 trains, said back by {who}: {min(costs[beside]):5.1f} us of the server a message (median {statistics.median(costs[beside]):5.1f}), {max(rates[beside]):6.0f} messages/s")
+    print(f"a message with an application costs the server {min(costs[True]) / min(costs[False]):.2f} times as much as one with Echo")
 
 
 print(f"load of the machine: {os.getloadavg()[0]:.1f} on {os.cpu_count()} processors")

@@ -10,7 +10,9 @@
 # floor, a C server that says back what it reads, called by C clients that are as many processes, begun so too, and write as often and as many octets
 # as a call does. Both servers live all the while, on one processor, their clients on the others, and are called in turns, so what else the machine
 # does is heard by both. What is compared is the servers' processor time a call, user and system, from the first connection of a round to its last
-# close; not that of their clients. Then the memory of a connection that was accepted. Each figure is the best of several runs or rounds, but where it
+# close; not that of their clients. Then 256 trains at once, whose reports are said back by Echo, in the program, and by an application in Python at the
+# socket of `serve`: the server's processor time a message, and messages a second; the trains are 256 `call`s with one application, which says the next
+# report of each once the one before came back. Then the memory of a connection that was accepted. Each figure is the best of several runs or rounds, but where it
 # says median. Nothing is asserted. Wants `rt` and python3, and for the floor a C compiler.
 # PROGRAM names another program than the built one, and then it is measured over sockets alone; ROUNDS is how many rounds over sockets, 15 unless told.
 set -eu

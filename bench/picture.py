@@ -15,7 +15,7 @@ OTHER = "all else"
 # A layer, its colour, and the crates whose functions are it.
 LAYERS = (
     ("frames: flags, escapes, check sequence", "#4477aa", ("hdlc_frames", "hdlc_fcs", "memchr")),
-    ("station of the link", "#66ccee", ("hdlc_balanced", "hdlc_station_core", "hdlc_station_model")),
+    ("station of the link", "#66ccee", ("hdlc_station", "hdlc_station_model")),
     ("blocks and transport", "#228833", ("t70_header", "x224_tpdu", "x224_class2")),
     ("safety layer without its ciphers", "#ccbb44", ("sapdu", "safety_automaton", "key_store")),
     # MACs are compiled in place in session_keys, which does nothing else for a message.

@@ -317,8 +317,8 @@ size_t euroradio_waiting(euroradio_end *end);
  * no credit for it or the window is full. At most EURORADIO_UNSENT_MOST; while so many wait, and only then, a send is
  * refused as FULL: a program that asks first can leave its own messages where they are, and those that it relays
  * untaken. It falls as octets come. A message that isn't among them was handed down, and may be lost with the link all
- * the same. Behind a release it stays as it is: so many never went. 0 where the handle holds no end. No reader of a
- * lock: see THREADS. Since version 2.1. */
+ * the same. At most 16. Behind a release it stays as it is: so many never went. 0 where the handle holds no end. No
+ * reader of a lock: see THREADS. Since version 2.1. */
 size_t euroradio_unsent(euroradio_end *end);
 
 /* Whether and why the end is released, at any time: at OK deeds->released is 1, deeds->reason, sub and by_peer say

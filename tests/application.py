@@ -1,4 +1,5 @@
-"""For application.sh beside it: application.py FOLDER. Fakes of the loop's side of an application's socket, and what the examples say to it, over a broker too."""
+"""For application.sh beside it: application.py FOLDER [PROGRAM]. Fakes of the loop's side of an application's socket, and what the examples say to it, over a
+broker too; and where a program is named, that program."""
 import atexit
 import functools
 import os
@@ -11,9 +12,10 @@ import time
 
 sys.dont_write_bytecode = True
 
+import beside  # noqa: E402
 import sites  # noqa: E402
 
-WORK = sys.argv[1]
+WORK, PROGRAM = (sys.argv[1:] + [None])[:2]
 GRAMMAR = re.compile(r"(send [0-9]+ (-|([0-9a-fA-F]{2})+)|release [0-9]+ [0-9]{1,3}|drain|keys|counts)")
 REPORTS = [f"position-report-{n:08}".encode().hex() for n in range(1, 4)]
 AUTHORITIES = [f"movement-authority-{n:08}".encode().hex() for n in range(1, 4)]
@@ -286,6 +288,16 @@ def with_programs(test):
 
 
 tests += [with_programs(test) for test in (bridge_passes_requests, centre_repeats_and_goes_on, trains_over_a_broker) if between]
+
+
+def real_trains_over_a_broker(programs):
+    """The same with three runs of the program."""
+    beside.trains_over_a_broker(PROGRAM, programs)
+
+
+if PROGRAM:
+    tests += beside.Cases(PROGRAM, WORK).all()
+    tests += [with_programs(real_trains_over_a_broker)] * bool(between)
 for test in tests:
     began = time.monotonic()
     try:
@@ -294,5 +306,7 @@ for test in tests:
     except (AssertionError, OSError, subprocess.SubprocessError) as fault:
         failed += 1
         print(f"{test.__name__}: {type(fault).__name__} {fault} after {time.monotonic() - began:.1f} s")
+if not PROGRAM:
+    print("skipped: the cases with the program, which was not built")
 print(f"{passed} passed, {failed} failed")
 sys.exit(failed > 0)

@@ -227,7 +227,7 @@ try() {
     # octets of stack, as docs/EMBEDDING.md tells them: of euroradio_call, euroradio_answer, euroradio_answer_keys, euroradio_free, any other call
     case $library in
       llvm) judge "$library: memory" "$work/$library-memory" 37000 37000 37000 9500 6500 ;;
-      rattle) judge "$library: memory" "$work/$library-memory" 68000 68000 68000 50000 30000 ;;
+      rattle) judge "$library: memory" "$work/$library-memory" 56000 56000 56000 52000 30000 ;;
       unproved) judge "$library: memory" "$work/$library-memory" 300000 300000 300000 300000 300000 ;;
     esac
     ! grep -q ' 0 failed$' "$work/said" || sed 's/^/  '"$library"': /' "$work/said"

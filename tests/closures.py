@@ -47,12 +47,12 @@ CLAIMS = [
     ("What is counted of a journal", "counted/specs/Counting"),
     ("Recorded before it goes, inside", "recorded_runs/specs/Inside"),
     ("What a relay did", "relay_loop/specs/Laws"),
+    ("`serve` and `call` with an application", "application_command/specs/ApplicationRuns"),
     ("A loop with an application", "application_model/specs/Laws"),
     ("The stack's ends under an application", "application_ends/specs/Laws"),
+    ("What a loop with an application did", "application_serving/specs/Laws"),
     ("Calls on one handle in C", "er_end_c/specs/Runs"),
 ]
-# Files that are marked `-- Representation:` and named by an exported clause all the same: docs/CLAIMS.md tells them.
-MARKED_WRONGLY = ["drill_ends/specs/StationEnds", "key_store/specs/Kept", "tap_model/specs/Ears"]
 KINDS = ("-- Representation:", "-- Contract:", "-- Lemmas:")
 BEGIN, END = "<!-- made by tests/closures.py -->", "<!-- end -->"
 IMPORT = re.compile(r"^\s*(?:pub )?use Rattle\.(\w+)\.specs\.([\w.]+?)(?:\.\{.*)?(?: as \w+)?$")
@@ -160,7 +160,7 @@ def named(files):
                     if item not in names and source[:-3] not in modules:
                         continue
                     for word, file in ties.items():
-                        if file not in MARKED_WRONGLY and re.search(rf"(?<![\w.]){re.escape(word)}(?!\w)", match[0]):
+                        if re.search(rf"(?<![\w.]){re.escape(word)}(?!\w)", match[0]):
                             found.append(f"crates/{crate}/src/{source}: a clause of `{item}` names {word} of {file}, whose first line says that none does")
     return found
 

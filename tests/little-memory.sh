@@ -1,9 +1,9 @@
 #!/usr/bin/env bash
 # Refuses growths of memory to the built program one at a time, while it serves a train over a loopback socket. What it printed must be a
-# beginning of a recording, told by a replay of it, and its answer want of memory. `little-memory.sh` tries a sample, `little-memory.sh all` each
-# growth until none is left to refuse, but for most of the users' boxes, which are alike (some minutes). Then each growth, the first 399 in a sample, is
-# refused to each command that reads a file, and to a bulk run: want of memory behind a beginning of what it prints, or all of it. Takes the built
-# program as it is; PROGRAM names another. Closes with 'N growths refused, M failed'.
+# beginning of a recording, told by a replay of it, and its answer want of memory; or it turned the one train away that wanted it, and served on.
+# `little-memory.sh` tries a sample, `little-memory.sh all` each growth until none is left to refuse, but for most of the users' boxes, which are alike
+# (some minutes). Then each growth, the first 399 in a sample, is refused to each command that reads a file, and to a bulk run: want of memory behind
+# a beginning of what it prints, or all of it. Takes the built program as it is; PROGRAM names another. Closes with 'N growths refused, .. M failed'.
 set -u
 cd "$(dirname "$0")/.." || exit 1
 program=${PROGRAM:-$PWD/crates/euroradio/out/euroradio}

@@ -349,6 +349,8 @@ def words(folder):
         (["bulk", "7"], ["1 words"]), (["replay", "a"], ["KEYS TRACE"]), (["check", "a"], ["KEYS TRACE"]), (["audit", "a"], ["KEYS TAP"]), (["audit", "a", "b", "end"], ["KEYS TAP, and ends or nothing", "3 words"]), (["bits"], ["FILE"]), (["migrate"], ["KEYS"]),
         (["serve", keys, "127.0.0.1:0", "9"], ["KEYS ADDRESS RBC TURNS"]), (["serve", keys, "127.0.0.1:0", "16777216", "0"], ["'16777216'"]), (["serve", keys, "127.0.0.1:0", "nine", "0"], ["'nine'"]),
         (["serve", keys, "127.0.0.1:0", "9", "1000000001"], ["'1000000001'"]), (["serve", keys, "127.0.0.1:0", "9", "-1"], ["'-1'"]), (["serve", keys, "127.0.0.1:0", "09", "0"], ["'09'"]),
+        (["serve", keys, "127.0.0.1:0", "9", "-1", "a"], ["'-1'"]), (["serve", keys, "127.0.0.1:0", "9", "0", "a", "b"], ["APPLICATION", "6 words"]),
+        (["call", keys, "127.0.0.1:1", "5", "x", "0", "a"], ["'x'"]), (["call", keys, "127.0.0.1:1", "5", "9", "0", "a", "b"], ["APPLICATION", "7 words"]),
         (["call", keys, "127.0.0.1:1", "5", "9"], ["KEYS ADDRESS ENGINE RBC TURNS"]), (["call", keys, "127.0.0.1:1", "x", "9", "0"], ["'x'"]), (["call", keys, "127.0.0.1:1", "5", "9", ""], ["''"]),
     ]:
         run(given, 1, "! usage\n", told)

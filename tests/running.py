@@ -16,7 +16,9 @@ from serving import KEYS, connected, events_of, free_port, is_listened_at, is_tr
 
 program = os.path.abspath(sys.argv[1])
 UNIT = "examples/running/euroradio.service"
+SERVED, CENTRE = "examples/running/euroradio-served.service", "examples/running/euroradio-centre.service"
 INSTALLED = "/usr/local/bin/euroradio"
+EXAMPLES = {"/usr/local/lib/euroradio/centre.py": "examples/application/centre.py", "/usr/local/lib/euroradio/drain.py": "examples/running/drain.py"}
 checks = failed = 0
 
 
@@ -37,18 +39,57 @@ def is_served(call):
     return call.returncode == 0 and is_train(events_of(text, "1"))
 
 
+def command_of(unit, line, environment):
+    """The words of a unit's command, of what systemd makes of it: %% is %, $$ is $, ${NAME} the environment's, and quotes as a shell's; and what is installed as
+    it lies here."""
+    with open(unit) as text:
+        command = re.search(rf"^{line}=(.*)$", text.read(), re.M)[1]
+    for name, value in {INSTALLED: program, **EXAMPLES, **{f"${{{name}}}": value for name, value in environment.items()}}.items():
+        command = command.replace(name, shlex.quote(value))
+    return shlex.split(command.replace("%%", "%").replace("$$", "$"))
+
+
+def verified():
+    """No unit has a word that systemd doesn't know."""
+    if not shutil.which("systemd-analyze"):
+        print("systemd-analyze isn't installed: the units' words weren't looked at")
+        return
+    for path in (UNIT, SERVED, CENTRE):
+        said = subprocess.run(["systemd-analyze", "verify", path], capture_output=True, text=True, check=False).stderr
+        check(os.path.basename(path) not in said, f"systemd-analyze: {said}")
+
+
+def with_application():
+    """The unit with an application: the centre's unit answers a train and drains at SIGTERM; without it the unit's own stop drains. The loop ends with status 0."""
+    for stops in (False, True):
+        folder = os.path.join(work, f"served-{stops}")
+        os.mkdir(folder)
+        port = free_port()
+        environment = {"CREDENTIALS_DIRECTORY": work, "STATE_DIRECTORY": folder, "RUNTIME_DIRECTORY": folder, "ADDRESS": f"127.0.0.1:{port}", "RBC": "9"}
+        loop = subprocess.Popen(command_of(SERVED, "ExecStart", {}), env=dict(os.environ, **environment), stderr=subprocess.DEVNULL)
+        check(is_listened_at(port), "the command of the unit with an application listens")
+        words = command_of(CENTRE, "ExecStart", {})
+        check(words[-1] == "/run/euroradio/application", f"the centre's unit names the socket: {words}")
+        centre = None if stops else subprocess.Popen([*words[:-1], os.path.join(folder, "application")], stdin=subprocess.DEVNULL, stdout=subprocess.DEVNULL)
+        train = os.path.join(folder, "train")
+        call = subprocess.Popen([program, "call", keys, f"127.0.0.1:{port}", "5", "9", "-", train], stdout=subprocess.PIPE, stderr=subprocess.DEVNULL, text=True)
+        reports = subprocess.Popen([sys.executable, "examples/application/train.py", train, "1000000"], stdout=subprocess.PIPE, text=True)
+        check(reports.stdout.readline() == "connected 1 9\n" and (stops or "message 1 " in reports.stdout.readline()), "a train is connected, and is answered")
+        if stops:
+            subprocess.run(command_of(SERVED, "ExecStop", environment), timeout=60, check=True)
+        else:
+            centre.terminate()
+            check(centre.wait(timeout=60) == 0, "the centre ends")
+        check(loop.wait(timeout=60) == 0, "the loop is drained")
+        reports.communicate(timeout=60)
+        check("< 1 released 0 0 peer\n" in call.communicate(timeout=60)[0], "the train is released")
+
+
 def unit():
-    """The unit has no word that systemd doesn't know; its command serves, and its recording replays."""
-    if shutil.which("systemd-analyze"):
-        said = subprocess.run(["systemd-analyze", "verify", UNIT], capture_output=True, text=True, check=False).stderr
-        check(os.path.basename(UNIT) not in said, f"systemd-analyze: {said}")
-    else:
-        print("systemd-analyze isn't installed: the unit's words weren't looked at")
+    """The unit's command serves, and its recording replays."""
     with open(UNIT) as text:
-        command = re.search(r"^ExecStart=(.*)$", text.read(), re.M)[1]
-    check(command.count(INSTALLED) == 1, "the command names the program once")
-    # What systemd makes of the line: %% is %, $$ is $, and quotes as a shell's.
-    words = shlex.split(command.replace("%%", "%").replace("$$", "$").replace(INSTALLED, shlex.quote(program)))
+        check(text.read().count(INSTALLED) == 1, "the unit names the program once")
+    words = command_of(UNIT, "ExecStart", {})
     state, port = os.path.join(work, "state"), free_port()
     os.mkdir(state)
     environment = dict(os.environ, CREDENTIALS_DIRECTORY=work, STATE_DIRECTORY=state, ADDRESS=f"127.0.0.1:{port}", RBC="9")
@@ -131,7 +172,9 @@ with tempfile.TemporaryDirectory() as work:
     keys = os.path.join(work, "keys")
     with open(keys, "w") as file:
         file.write(KEYS)
+    verified()
     unit()
+    with_application()
     through_a_pipe()
     unread_pipe()
 

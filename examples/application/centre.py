@@ -1,4 +1,4 @@
-"""A radio block centre as the application of a loop, which listens at a file name: centre.py APPLICATION. `euroradio` has no such word yet.
+"""A radio block centre as the application of a loop, which listens at a file name: centre.py APPLICATION.
 
 It greets each train, answers each position report with a movement authority, passes `keys` and `counts` of its standard input on, and drains at SIGTERM.
 """

@@ -1,4 +1,4 @@
-"""A bridge between a loop, which listens at a file name, and a broker: mqtt_bridge.py APPLICATION HOST:PORT SITE. `euroradio` has no such word yet.
+"""A bridge between a loop, which listens at a file name, and a broker: mqtt_bridge.py APPLICATION HOST:PORT SITE.
 
 One stands beside each `serve`, with a SITE of its own, a word without / + and #. Topics, and the texts there:
 

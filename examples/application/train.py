@@ -1,4 +1,4 @@
-"""A train as the application of a loop, which listens at a file name: train.py APPLICATION [REPORTS]. `euroradio` has no such word yet.
+"""A train as the application of a loop, which listens at a file name: train.py APPLICATION [REPORTS].
 
 It sends a position report, waits for the movement authority, sends the next, and leaves behind the last. Its status is 0 where each was answered.
 """
@@ -14,7 +14,11 @@ class Train:
         self.line, self.reports, self.answered = line, reports, 0
 
     def say(self, text):
-        self.line.sendall(text.encode() + b"\n")
+        try:
+            self.line.sendall(text.encode() + b"\n")
+        except OSError:
+            # The loop is gone, but what it told last can still be read.
+            pass
 
     def report(self, conn):
         self.say(f"send {conn} {REPORT.format(self.answered + 1).encode().hex()}")

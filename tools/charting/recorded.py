@@ -131,7 +131,7 @@ class Drawer:
             note.text = told
 
 
-TURNED_AWAY = {"full": "turned away, since {} trains were there", "unserved": "turned away, since {} connections were served before"}
+TURNED_AWAY = {"full": "turned away, while {} trains were there", "unserved": "turned away, since {} connections were served before"}
 
 
 def remark_words(item):

@@ -1,5 +1,6 @@
 -- The ends of the stack, event by event: their messages, and how far they are.
-use Rattle.std.proofs.Common.{arith, ◌≡◌, ◌≢◌, ◌∙◌, ◌≤◌, ◌<◌, ◌+◌, ◌-◌, inl, inr, ℕ, true, false, List, [], ◌∷◌, ◌++◌, length, drop, Option, Some, None, refl, sym, ap, append-nil}
+use Rattle.std.proofs.Common.{arith, ◌≡◌, ◌≢◌, ◌∙◌, ◌≤◌, ◌<◌, ◌+◌, ◌-◌, inl, inr, ℕ, true, false, List, [], ◌∷◌, ◌++◌, length, drop, Option, Some, None, refl}
+use Rattle.std.proofs.Common.{sym, ap, append-nil}
 use Rattle.std.specs.Prelude.{◌==◌}
 use Rattle.std.specs.List.{slice_get}
 use Rattle.std.proofs.lemmas.Bool.{ne_eqb}
@@ -20,7 +21,8 @@ use Rattle.er_end_model.specs.Ends as end
 use Rattle.er_end_model.specs.Ends.{End, Opening, opened, step_event, hears_each, told_of_each}
 use Rattle.application_model.specs.Ends.{EndStage, end_stage_behind, texts_accepted, texts_taken, EventAt, KeepsMessages}
 use Rattle.application_model.specs.Laws.{TakesTheOldest, TakesAlone}
-use Rattle.application_ends.specs.StackEnds.{befalls_end, stack_end_behind, end_of_events, texts_accepted_at, texts_waiting_at, stack_kind, stage_of_end}
+use Rattle.application_ends.specs.StackEnds.{HeldKeys, befalls_end, befalls_at, stack_end_behind, end_of_events, texts_accepted_at, texts_waiting_at}
+use Rattle.application_ends.specs.StackEnds.{stack_kind, stage_of_end}
 use Rattle.application_ends.proofs.Faces.{Face, face_then, face_else, face_concludes}
 use Rattle.application_ends.proofs.Leading.{said, stage_at, Leads, rests, octets_lead, start_leads, send_leads, leave_leads, tick_leads, break_leads}
 
@@ -163,11 +165,11 @@ call_befalls steps_only settings now engine rbc rb (Some kmac) =
     befalls_then None (Some m) (Some r.0) r.1 (opened_alike (end.Call settings engine rbc kmac rb now)) (befalls_on steps_only now end.Start (Some m))
 
 -- one event more
-pub end_on : (settings : Settings) (finds : Finds) (m : Option End) (xs : List EventAt) (x : EventAt)
-    → stack_end_behind settings finds m (xs ++ x ∷ []) ≡ (befalls_end settings finds x.moment x.event (stack_end_behind settings finds m xs)).0
+pub end_on : (settings : Settings) (held : HeldKeys) (m : Option End) (xs : List EventAt) (x : EventAt)
+    → stack_end_behind settings held m (xs ++ x ∷ []) ≡ (befalls_at settings held x.time x.event (stack_end_behind settings held m xs)).0
 unfolding stack_end_behind
-end_on settings finds m [] x = refl
-end_on settings finds m (y ∷ ys) x = end_on settings finds (befalls_end settings finds y.moment y.event m).0 ys x
+end_on settings held m [] x = refl
+end_on settings held m (y ∷ ys) x = end_on settings held (befalls_at settings held y.time y.event m).0 ys x
 
 module _ (steps_only : StepsOnly) (settings : Settings) (finds : Finds) where
   pub befalls : (now : ℕ) (what : Event) (m : Option End) → Befalls m (befalls_end settings finds now what m).1 (befalls_end settings finds now what m).0
@@ -196,23 +198,24 @@ module _ (steps_only : StepsOnly) (settings : Settings) (finds : Finds) where
   befalls now (event.Unserved count) None = befalls_nothing None
   befalls now (event.Unserved count) (Some m) = befalls_nothing (Some m)
 
-  -- ---- all events
+-- ---- all events
 
-  all_bounded : (m : Option End) (xs : List EventAt) → IsBounded m → IsBounded (stack_end_behind settings finds m xs)
+module _ (steps_only : StepsOnly) (settings : Settings) (held : HeldKeys) where
+  all_bounded : (m : Option End) (xs : List EventAt) → IsBounded m → IsBounded (stack_end_behind settings held m xs)
   unfolding stack_end_behind
   all_bounded m [] p = p
-  all_bounded m (x ∷ xs) p = all_bounded (befalls_end settings finds x.moment x.event m).0 xs ((befalls x.moment x.event m).bound p)
+  all_bounded m (x ∷ xs) p = all_bounded (befalls_at settings held x.time x.event m).0 xs ((befalls steps_only settings (held x.time.keys) x.time.moment x.event m).bound p)
 
-  pub keeps : KeepsMessages (stack_kind settings finds)
+  pub keeps : KeepsMessages (stack_kind settings held)
   unfolding stack_end_behind
   keeps =
       record {
         none = refl;
-        each = λ before moment what.
-            let m = end_of_events settings finds before in
-            let told = (befalls_end settings finds moment what m).1 in
-            (befalls moment what m).waits (all_bounded None before tt)
-            ∙ ap (λ (n : Option End). texts_taken (said told) ++ texts_waiting_at n) (sym (end_on settings finds None before (record { moment = moment; event = what })));
+        each = λ before time what.
+            let m = end_of_events settings held before in
+            let told = (befalls_at settings held time what m).1 in
+            (befalls steps_only settings (held time.keys) time.moment what m).waits (all_bounded None before tt)
+            ∙ ap (λ (n : Option End). texts_taken (said told) ++ texts_waiting_at n) (sym (end_on settings held None before (record { time = time; event = what })));
       }
 
 -- ---- takes
@@ -233,10 +236,10 @@ take_befalls : (settings : Settings) (finds : Finds) (now : ℕ) (m : Option End
 take_befalls settings finds now None = refl
 take_befalls settings finds now (Some m) = take_leaves now m.core (oldest_of m.core.upper.accepted m.core.upper.used)
 
-pub takes_oldest : (settings : Settings) (finds : Finds) → TakesTheOldest (stack_kind settings finds)
-takes_oldest settings finds before moment =
-    ap texts_waiting_at (end_on settings finds None before (record { moment = moment; event = event.Take }))
-    ∙ take_befalls settings finds moment (end_of_events settings finds before)
+pub takes_oldest : (settings : Settings) (held : HeldKeys) → TakesTheOldest (stack_kind settings held)
+takes_oldest settings held before time =
+    ap texts_waiting_at (end_on settings held None before (record { time = time; event = event.Take }))
+    ∙ take_befalls settings (held time.keys) time.moment (end_of_events settings held before)
 
 -- ---- nothing but a take takes
 
@@ -287,6 +290,6 @@ untaken_at steps_only settings finds now (event.Full count) (Some m) other = ref
 untaken_at steps_only settings finds now (event.Unserved count) None other = refl
 untaken_at steps_only settings finds now (event.Unserved count) (Some m) other = refl
 
-pub takes_alone : StepsOnly → (settings : Settings) (finds : Finds) → TakesAlone (stack_kind settings finds)
-takes_alone steps_only settings finds before moment what other =
-    untaken_at steps_only settings finds moment what (end_of_events settings finds before) other
+pub takes_alone : StepsOnly → (settings : Settings) (held : HeldKeys) → TakesAlone (stack_kind settings held)
+takes_alone steps_only settings held before time what other =
+    untaken_at steps_only settings (held time.keys) time.moment what (end_of_events settings held before) other

@@ -5,3 +5,5 @@ mod Keeping
 mod Running
 mod Replaying
 mod Recording
+mod Looking
+mod Replayed

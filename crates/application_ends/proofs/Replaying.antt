@@ -1,5 +1,6 @@
 -- A replay prints what the ends of the stack tell: where each event of a trace is taken, none opens an end twice.
-use Rattle.std.proofs.Common.{◌≡◌, ◌∙◌, ◌⊎◌, inl, inr, ℕ, Bool, true, false, ◌||◌, ◌&&◌, List, [], ◌∷◌, ◌++◌, map, Option, Some, None, refl, sym, ap, subst, append-nil, append_assoc}
+use Rattle.std.proofs.Common.{◌≡◌, ◌∙◌, ◌⊎◌, inl, inr, ℕ, Bool, true, false, ◌||◌, ◌&&◌, List, [], ◌∷◌, ◌++◌, map, Option, Some, None, refl, sym, ap, subst}
+use Rattle.std.proofs.Common.{append-nil, append_assoc}
 use Rattle.std.specs.Prelude.{◌==◌, nat_lt, if◌then◌else◌}
 use Rattle.std.proofs.lemmas.Bool.{cases_Bool, eqb-true}
 use Rattle.er_settings.specs.Values.{Settings}
@@ -12,12 +13,13 @@ use Rattle.er_end_model.specs.Ends.{End}
 use Rattle.trace_model.specs.declared.replay_fault.ReplayFault.{ReplayFault}
 use Rattle.trace_model.specs.declared.replay_fault.ReplayFault.TheVariants.{ConnTwice, MomentBack}
 use Rattle.trace_model.specs.Connections.{happens, happens_at, end_behind, end_at}
-use Rattle.trace_model.specs.Checks.{Role, Opens, Declines, Belongs, role_of, is_opening_role, names, is_named, last_moment, key_check, many_check, live_count, role_check, fault_of_trace_event}
+use Rattle.trace_model.specs.Checks.{Role, Opens, Declines, Belongs, role_of, is_opening_role, names, is_named, last_moment, key_check, many_check}
+use Rattle.trace_model.specs.Checks.{live_count, role_check, fault_of_trace_event}
 use Rattle.trace_model.specs.Printed.{trace_outcome_of}
 use Rattle.trace_model.specs.Replays.{AreTaken}
 use Rattle.application_model.specs.Ends.{EventAt}
 use Rattle.application_ends.specs.StackEnds.{befalls_end, stack_end_behind}
-use Rattle.application_ends.specs.Laws.{events_of_entry, events_in_trace, ReplaysTellTheSame}
+use Rattle.application_ends.specs.Laws.{held_alone, events_of_entry, events_in_trace, ReplaysTellTheSame}
 
 -- ---- an end that is there was opened
 
@@ -71,7 +73,7 @@ not_then : (b : Bool) (fault : ReplayFault) (rest : Option ReplayFault) → (if 
 not_then true fault rest e = absurd (cc)
 not_then false fault rest e = e
 
-unnamed : (b : Bool) (fault : ReplayFault) (rest : Option ReplayFault) → (if b then Some fault else rest) ≡ None → b ≡ false
+pub unnamed : (b : Bool) (fault : ReplayFault) (rest : Option ReplayFault) → (if b then Some fault else rest) ≡ None → b ≡ false
 unnamed true fault rest e = absurd (cc)
 unnamed false fault rest e = refl
 
@@ -108,28 +110,28 @@ end_append settings finds conn m (e ∷ a) b = end_append settings finds conn (h
 module _ (settings : Settings) (finds : Finds) (conn : ℕ) where
   -- behind one of them
   same_at : (first : List Entry) (e : Entry) (xs : List EventAt) → fault_of_trace_event settings finds first e ≡ None
-      → stack_end_behind settings finds (end_at settings finds conn first) (events_of_entry conn e ++ xs)
-      ≡ stack_end_behind settings finds (happens_at settings finds conn (end_at settings finds conn first) e) xs
+      → stack_end_behind settings (held_alone finds) (end_at settings finds conn first) (events_of_entry conn e ++ xs)
+      ≡ stack_end_behind settings (held_alone finds) (happens_at settings finds conn (end_at settings finds conn first) e) xs
   unfolding stack_end_behind
   same_at first e xs taken =
       let now = end_at settings finds conn first in
       elim (cases_Bool (e.conn == conn)) [
         | inl mine ↦
             rw mine
-            (ap (λ (r : Option End × List Outcome). stack_end_behind settings finds r.0 xs)
+            (ap (λ (r : Option End × List Outcome). stack_end_behind settings (held_alone finds) r.0 xs)
             (same_event settings finds first e taken now (ap (λ (c : ℕ). end_at settings finds c first) (eqb-true e.conn conn mine))))
         | inr other ↦ rw other refl
       ]
 
   -- behind the first of them the end is the same
   same_from : (first rest : List Entry) → AreTaken settings finds (first ++ rest)
-      → stack_end_behind settings finds (end_at settings finds conn first) (events_in_trace conn rest) ≡ end_at settings finds conn (first ++ rest)
+      → stack_end_behind settings (held_alone finds) (end_at settings finds conn first) (events_in_trace conn rest) ≡ end_at settings finds conn (first ++ rest)
   unfolding stack_end_behind end_behind
   same_from first [] taken = ap (end_at settings finds conn) (sym (append-nil first))
   same_from first (e ∷ rest) taken =
       let next = append_assoc first (e ∷ []) rest in
       same_at first e (events_in_trace conn rest) (taken first e rest refl)
-      ∙ ap (λ (n : Option End). stack_end_behind settings finds n (events_in_trace conn rest)) (sym (end_append settings finds conn None first (e ∷ [])))
+      ∙ ap (λ (n : Option End). stack_end_behind settings (held_alone finds) n (events_in_trace conn rest)) (sym (end_append settings finds conn None first (e ∷ [])))
       ∙ same_from (first ++ e ∷ []) rest (subst (AreTaken settings finds) (sym next) taken)
       ∙ ap (end_at settings finds conn) next
 

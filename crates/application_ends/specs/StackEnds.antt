@@ -10,7 +10,7 @@ use Rattle.er_end_model.specs.Ends.{End}
 use Rattle.trace_model.specs.Connections.{happens}
 use Rattle.trace_model.specs.Checks.{role_of, is_opening_role}
 use Rattle.trace_model.specs.Printed.{trace_outcome_of}
-use Rattle.application_model.specs.Ends.{EndStage, SettingUp, Speaking, Parted, EventAt, EndKind}
+use Rattle.application_model.specs.Ends.{EndStage, SettingUp, Speaking, Parted, EventTime, EventAt, EndKind}
 
 -- an event at a connection, by settings and by how KMACs are looked up. An end is opened once: an event that would open it again is nothing to it
 abbrev pub befalls_end : Settings → Finds → ℕ → Event → Option End → Option End × List Outcome
@@ -18,13 +18,21 @@ befalls_end settings finds now what None = happens settings finds now what None
 befalls_end settings finds now what (Some m) =
     if is_opening_role (role_of what) then (Some m, []) else happens settings finds now what (Some m)
 
--- the end behind events, where one of them opened it
-unfoldable pub stack_end_behind : Settings → Finds → Option End → List EventAt → Option End
-stack_end_behind settings finds m [] = m
-stack_end_behind settings finds m (x ∷ xs) = stack_end_behind settings finds (befalls_end settings finds x.moment x.event m).0 xs
+-- how KMACs are looked up under the keys of each reading of the key file, the first of which is 0
+abbrev pub HeldKeys : Type 0
+HeldKeys = ℕ → Finds
 
-abbrev pub end_of_events : Settings → Finds → List EventAt → Option End
-end_of_events settings finds before = stack_end_behind settings finds None before
+-- an event goes by the keys that hold as it comes
+abbrev pub befalls_at : Settings → HeldKeys → EventTime → Event → Option End → Option End × List Outcome
+befalls_at settings held time what m = befalls_end settings (held time.keys) time.moment what m
+
+-- the end behind events, where one of them opened it
+unfoldable pub stack_end_behind : Settings → HeldKeys → Option End → List EventAt → Option End
+stack_end_behind settings held m [] = m
+stack_end_behind settings held m (x ∷ xs) = stack_end_behind settings held (befalls_at settings held x.time x.event m).0 xs
+
+abbrev pub end_of_events : Settings → HeldKeys → List EventAt → Option End
+end_of_events settings held before = stack_end_behind settings held None before
 
 -- the messages that it accepted, and those of them that its user didn't take
 abbrev pub texts_accepted_at : Option End → List (List ℕ)
@@ -36,10 +44,10 @@ texts_waiting_at None = []
 texts_waiting_at (Some m) = drop m.core.upper.used m.core.upper.accepted
 
 -- what comes of an event is what the end tells, as a trace says it
-abbrev pub stack_kind : Settings → Finds → EndKind
-stack_kind settings finds = record {
-  tells = λ before moment what. map trace_outcome_of (befalls_end settings finds moment what (end_of_events settings finds before)).1;
-  waiting = λ before. texts_waiting_at (end_of_events settings finds before);
+abbrev pub stack_kind : Settings → HeldKeys → EndKind
+stack_kind settings held = record {
+  tells = λ before time what. map trace_outcome_of (befalls_at settings held time what (end_of_events settings held before)).1;
+  waiting = λ before. texts_waiting_at (end_of_events settings held before);
 }
 
 -- ---- how far an end is, by its own state

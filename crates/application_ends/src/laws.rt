@@ -40,7 +40,8 @@ pub fn stages_are_true()
     application_model::laws::knows_by_events();
 }
 
-/// What comes of an event at an end of the stack is what a replay of a recording prints of it; so a replay of all events of a loop prints what the loop recorded.
+/// What comes of an event at an end of the stack is what a replay of a recording prints of it. So at each moment a replay prints what a loop recorded, under a key
+/// file that gives, at the moment of each event, the keys that held as it came: one in which old entries stay, with their windows, where the loop read anew.
 /// Refuses an end that answers as of another moment than that of its event.
 pub fn replays_tell_the_same()
     ensures event { ReplaysTellTheSame }

@@ -4,6 +4,7 @@ ghost use Rattle.std.specs.Prelude.{◌≡◌, IfOk};
 ghost use Rattle.er_base.specs.Words.{words_of};
 ghost use Rattle.application_lines.specs.Requests.{request_said};
 ghost use Rattle.application_lines.specs.Streams.{request_line_told};
+ghost use Rattle.application_lines.specs.Taking.{IsApplicationLineInRange};
 
 use crate::request::Request;
 use crate::requests::read_request;
@@ -27,7 +28,8 @@ pub enum ApplicationLine {
 impl ApplicationLine {
     /// Reads the line of this number.
     pub(crate) fn read(alloc: Global, number: u64, line: &[u8]) -> Result<ApplicationLine, NoMemory>
-        ensures { IfOk result (λ read. read ≡ request_line_told number (request_said (words_of line.now))) }
+        ensures told { IfOk result (λ read. read ≡ request_line_told number (request_said (words_of line.now))) }
+        ensures range { IfOk result (λ read. IsApplicationLineInRange read) }
     {
         match read_request(alloc, line) {
             Ok(request) => Ok(ApplicationLine::Asks(request)),

@@ -1,11 +1,11 @@
 //! Reads what comes from an application, line by line.
 
-ghost use Rattle.std.specs.Prelude.{◌≡◌, ◌<◌, ◌≤◌, [], length, take, Some, None, IfOk};
+ghost use Rattle.std.specs.Prelude.{◌≡◌, ◌<◌, ◌≤◌, [], length, take, Some, None, IfOk, IfSome};
 ghost use Rattle.er_base.specs.declared.why.Why.TheVariants.{Long};
 ghost use Rattle.application_lines.specs.declared.application_line.ApplicationLine.TheVariants.{Faulty};
 ghost use Rattle.application_lines.specs.Streams.{next_line_number};
 ghost use Rattle.application_lines.specs.Standings.{at_first_line, line_standing_from, stands_behind_long, says_from};
-ghost use Rattle.application_lines.specs.Taking.{cut_length, lines_taken, pieces_cut};
+ghost use Rattle.application_lines.specs.Taking.{cut_length, lines_taken, pieces_cut, IsApplicationLineInRange};
 
 use crate::application_line::ApplicationLine;
 use crate::first_piece::first_piece;
@@ -81,6 +81,7 @@ impl LineReader {
         ensures moves { IfOk result (λ taken. 0 < length octets.now → 0 < taken.used) }
         ensures stands { IfOk result (λ taken. self.new ≡ line_standing_from self.old (take taken.used octets.now)) }
         ensures says { IfOk result (λ taken. says_from self.old (take taken.used octets.now) ≡ lines_taken taken.line) }
+        ensures range { IfOk result (λ taken. IfSome taken.line (λ line. IsApplicationLineInRange line)) }
     {
         let (piece, ended) = first_piece(octets);
         if self.long {

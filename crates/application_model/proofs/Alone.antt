@@ -7,11 +7,13 @@ use Rattle.er_trace.specs.Outcomes.{TraceOutcome}
 use Rattle.application_lines.specs.Notices.{ApplicationNotice}
 use Rattle.application_model.specs.Ends.{EventAt, EndKind, KeepsMessages, texts_accepted, texts_taken}
 use Rattle.application_model.specs.Lines.{notices_of_event, connected_lines}
-use Rattle.application_model.specs.Histories.{ServiceHappening, Attaches, Departs, Brings, Takes, Opens, Befalls, Closes, KeysRead, ServiceItem, Came, LineRead, Occurred, Informed, KeysFetched}
+use Rattle.application_model.specs.Histories.{ServiceHappening, Attaches, Departs, Brings, Takes, Opens, Befalls, Closes, KeysRead, ServiceItem, Came}
+use Rattle.application_model.specs.Histories.{LineRead, Occurred, Informed, KeysFetched}
 use Rattle.application_lines.specs.declared.application_line.ApplicationLine.{ApplicationLine}
 use Rattle.application_lines.specs.declared.application_line.ApplicationLine.TheVariants.{Asks, Faulty}
 use Rattle.application_lines.specs.declared.request.Request.TheVariants as request
-use Rattle.application_model.specs.Services.{Attendance, Absent, Attached, Service, behind_line, service_behind_happening, behind_item, behind_items, inform, informed, attaches, keys_notice, occurs}
+use Rattle.application_model.specs.Services.{Attendance, Absent, Attached, Service, behind_line, service_behind_happening, behind_item, behind_items, inform}
+use Rattle.application_model.specs.Services.{informed, attaches, keys_notice, time_at, occurs}
 use Rattle.application_model.specs.Claims.{events_of_item, outcomes_of_item, events_at, outcomes_at_connection, outcomes_alone}
 use Rattle.application_model.proofs.Steadies.{Family, IsSteady, KeepsAnswers, line_keeps}
 
@@ -38,7 +40,7 @@ line_same s (Faulty line why) conn = refl
 item_came : (s : Service) (item : ServiceItem) (conn : ℕ) → (behind_item s item).ends conn ≡ s.ends conn ++ events_of_item conn item
 item_came s (Came happening) conn = came_same s happening conn ∙ sym (append-nil (s.ends conn))
 item_came s (LineRead line) conn = line_same s line conn ∙ sym (append-nil (s.ends conn))
-item_came s (Occurred moment c what outcomes) conn =
+item_came s (Occurred time c what outcomes) conn =
     elim (cases_Bool (conn == c)) [ inl mine ↦ rw mine refl | inr other ↦ rw other (sym (append-nil (s.ends conn))) ]
 item_came s (Informed notice) conn = sym (append-nil (s.ends conn))
 item_came s KeysFetched conn = sym (append-nil (s.ends conn))
@@ -53,7 +55,7 @@ all_came s (item ∷ items) conn =
 
 -- ---- one part behind the other
 
-events_append : (conn : ℕ) (a b : List ServiceItem) → events_at conn (a ++ b) ≡ events_at conn a ++ events_at conn b
+pub events_append : (conn : ℕ) (a b : List ServiceItem) → events_at conn (a ++ b) ≡ events_at conn a ++ events_at conn b
 events_append conn [] b = refl
 events_append conn (item ∷ a) b =
     ap (λ (x : List EventAt). events_of_item conn item ++ x) (events_append conn a b) ∙ sym (append_assoc (events_of_item conn item) (events_at conn a) (events_at conn b))
@@ -68,7 +70,7 @@ pub alone_append : (kind : EndKind) (before a b : List EventAt)
     → outcomes_alone kind before (a ++ b) ≡ outcomes_alone kind before a ++ outcomes_alone kind (before ++ a) b
 alone_append kind before [] b = ap (λ (x : List EventAt). outcomes_alone kind x b) (sym (append-nil before))
 alone_append kind before (x ∷ a) b =
-    let first = kind.tells before x.moment x.event in
+    let first = kind.tells before x.time x.event in
     ap (λ (o : List TraceOutcome). first ++ o)
     (alone_append kind (before ++ x ∷ []) a b
     ∙ ap (λ (y : List EventAt). outcomes_alone kind (before ++ x ∷ []) a ++ outcomes_alone kind y b) (append_assoc before (x ∷ []) a))
@@ -105,12 +107,12 @@ module _ (kind : EndKind) where
 
   event_alone : (moment c : ℕ) (what : Event) (s : Service) → AloneOf s (occurs kind moment c what s)
   event_alone moment c what s conn =
-      let outcomes = kind.tells (s.ends c) moment what in
+      let outcomes = kind.tells (s.ends c) (time_at moment s) what in
       let none = none_of_informed conn s.application (notices_of_event c what outcomes) in
       elim (cases_Bool (conn == c)) [
         | inl mine ↦
             let same = eqb-true conn c mine in
-            rw (mine, none.0, none.1) (ap (λ (n : ℕ). kind.tells (s.ends n) moment what ++ []) (sym same))
+            rw (mine, none.0, none.1) (ap (λ (n : ℕ). kind.tells (s.ends n) (time_at moment s) what ++ []) (sym same))
         | inr other ↦ rw (other, none.0, none.1) refl
       ]
 
@@ -179,11 +181,11 @@ pub messages_kept : (kind : EndKind) → KeepsMessages kind → (before xs : Lis
     ≡ texts_taken (outcomes_alone kind before xs) ++ kind.waiting (before ++ xs)
 messages_kept kind keeps before [] = append-nil (kind.waiting before) ∙ ap kind.waiting (sym (append-nil before))
 messages_kept kind keeps before (x ∷ xs) =
-    let first = kind.tells before x.moment x.event in
+    let first = kind.tells before x.time x.event in
     let rest = outcomes_alone kind (before ++ x ∷ []) xs in
     ap (λ (t : List (List ℕ)). kind.waiting before ++ t) (accepted_append first rest)
     ∙ sym (append_assoc (kind.waiting before) (texts_accepted first) (texts_accepted rest))
-    ∙ ap (λ (t : List (List ℕ)). t ++ texts_accepted rest) (keeps.each before x.moment x.event)
+    ∙ ap (λ (t : List (List ℕ)). t ++ texts_accepted rest) (keeps.each before x.time x.event)
     ∙ append_assoc (texts_taken first) (kind.waiting (before ++ x ∷ [])) (texts_accepted rest)
     ∙ ap (λ (t : List (List ℕ)). texts_taken first ++ t) (messages_kept kind keeps (before ++ x ∷ []) xs)
     ∙ sym (append_assoc (texts_taken first) (texts_taken rest) (kind.waiting ((before ++ x ∷ []) ++ xs)))

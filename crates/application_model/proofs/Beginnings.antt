@@ -6,11 +6,14 @@ use Rattle.application_lines.specs.declared.application_line.ApplicationLine.The
 use Rattle.application_lines.specs.declared.request.Request.TheVariants as request
 use Rattle.application_lines.specs.Notices.{ApplicationNotice, notice_text}
 use Rattle.application_model.specs.Lines.{notices_of_event, connected_lines, is_line_of, lines_of_connection}
-use Rattle.application_model.specs.Histories.{ServiceHappening, Attaches, Departs, Brings, Takes, Opens, Befalls, Closes, KeysRead, ServiceItem, Came, LineRead, Occurred, Informed, KeysFetched}
-use Rattle.application_model.specs.Services.{Attendance, Absent, Attached, is_attached, waiting_more, heard_from, octets_taken_by, Service, at_start, service_behind_happening, behind_item, behind_items}
+use Rattle.application_model.specs.Histories.{ServiceHappening, Attaches, Departs, Brings, Takes, Opens, Befalls, Closes, KeysRead, ServiceItem, Came}
+use Rattle.application_model.specs.Histories.{LineRead, Occurred, Informed, KeysFetched}
+use Rattle.application_model.specs.Services.{Attendance, Absent, Attached, is_attached, waiting_more, heard_from, octets_taken_by, Service, at_start}
+use Rattle.application_model.specs.Services.{service_behind_happening, behind_item, behind_items}
 use Rattle.application_model.specs.Turns.{IsOldest, IsDoneInTurn}
 use Rattle.application_model.specs.Claims.{lines_if_there, lines_due, RequestDeed, deeds_owed, deed_done, deeds_due}
-use Rattle.application_model.specs.Laws.{IsNoChange, AreNoChanges, journal_of_item, told_in_item, ToldBeginsTheJournal, deeds_asked_in, deeds_done_in, DoneBeginsTheAsked, AllAskedIsDone}
+use Rattle.application_model.specs.Laws.{IsNoChange, AreNoChanges, journal_of_item, told_in_item, ToldBeginsTheJournal, deeds_asked_in, deeds_done_in}
+use Rattle.application_model.specs.Laws.{DoneBeginsTheAsked, AllAskedIsDone}
 use Rattle.application_model.proofs.Turning.{turn_cut}
 
 -- ---- an application stays
@@ -27,7 +30,7 @@ still_waiting : (text : List ℕ) (application : Attendance) → is_attached app
 still_waiting text Absent there = absurd (cc)
 still_waiting text (Attached standing waiting) there = refl
 
-stays : (s : Service) (item : ServiceItem) → IsNoChange item → is_attached s.application ≡ true → is_attached (behind_item s item).application ≡ true
+pub stays : (s : Service) (item : ServiceItem) → IsNoChange item → is_attached s.application ≡ true → is_attached (behind_item s item).application ≡ true
 stays s (Came Attaches) no_change there = absurd no_change
 stays s (Came Departs) no_change there = absurd no_change
 stays s (Came (Brings octets)) no_change there = still_heard octets s.application there
@@ -42,7 +45,7 @@ stays s (LineRead (Asks request.Drain)) no_change there = there
 stays s (LineRead (Asks request.Keys)) no_change there = there
 stays s (LineRead (Asks request.Counts)) no_change there = there
 stays s (LineRead (Faulty line why)) no_change there = there
-stays s (Occurred moment c what outcomes) no_change there = there
+stays s (Occurred time c what outcomes) no_change there = there
 stays s (Informed notice) no_change there = still_waiting (notice_text notice) s.application there
 stays s KeysFetched no_change there = there
 
@@ -92,8 +95,8 @@ module _ (conn : ℕ) where
       (λ q. balances (behind_item s (Came happening)) owed items last (stays s (Came happening) none.0 there) none.1 q) p
   balances s owed (LineRead line ∷ items) last there none p =
       balances (behind_item s (LineRead line)) owed items last (stays s (LineRead line) none.0 there) none.1 p
-  balances s owed (Occurred moment c what outcomes ∷ items) last there none p =
-      let item = Occurred moment c what outcomes in
+  balances s owed (Occurred time c what outcomes ∷ items) last there none p =
+      let item = Occurred time c what outcomes in
       let notices = notices_of_event c what outcomes in
       let mine = lines_of_connection conn notices in
       let rest = balances (behind_item s item) (owed ++ lines_if_there conn s.application notices) items last (stays s item none.0 there) none.1 p in
@@ -123,7 +126,7 @@ told_begins conn before during after last p none =
 owed_grows : (s : Service) (item : ServiceItem) (owed : List RequestDeed) → deeds_owed s item owed ≡ owed ++ deeds_owed s item []
 owed_grows s (Came happening) owed = sym (append-nil owed)
 owed_grows s (LineRead line) owed = refl
-owed_grows s (Occurred moment c what outcomes) owed = sym (append-nil owed)
+owed_grows s (Occurred time c what outcomes) owed = sym (append-nil owed)
 owed_grows s (Informed notice) owed = sym (append-nil owed)
 owed_grows s KeysFetched owed = sym (append-nil owed)
 

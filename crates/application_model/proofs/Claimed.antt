@@ -13,7 +13,7 @@ use Rattle.application_model.proofs.Alone.{AloneOf, alone_steadily, messages_kep
 use Rattle.application_model.proofs.Rooms.{HasRoomAtTakes, room_steadily, taken_with_room, opens_nothing_drained}
 use Rattle.application_model.proofs.Firsts.{FirstToldOf, first_steadily, tells_first, numbers_rise}
 
-nothing_lost : (kind : EndKind) (items : List ServiceItem) → GoesByItsEvents kind items → KeepsMessages kind → LosesNothing kind items
+pub nothing_lost : (kind : EndKind) (items : List ServiceItem) → GoesByItsEvents kind items → KeepsMessages kind → LosesNothing kind items
 nothing_lost kind items alone keeps conn =
     let all = messages_kept kind keeps [] (events_at conn items) in
     ap texts_accepted (alone conn)

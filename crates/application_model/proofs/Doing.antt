@@ -12,7 +12,8 @@ use Rattle.application_lines.specs.Notices.{NoticeRefusal, ApplicationNotice, Go
 use Rattle.application_model.specs.Ends.{EndStage, SettingUp, Speaking, Parted, KnownEnd, EndKind, is_known, numbers_unparted}
 use Rattle.application_model.specs.Lines.{send_refused, notices_of_outcome, notices_of_event, stage_line, connected_lines}
 use Rattle.application_model.specs.Histories.{KeysAnswer, Hold, AreFaulty, Attaches, Came, Occurred, Informed}
-use Rattle.application_model.specs.Services.{Attendance, Absent, Attached, Service, behind_item, behind_items, behind_line, is_attached, one_then, inform, informed, reads, keys_notice, is_of_outside, occurs, releases_all, at_live, answers_line}
+use Rattle.application_model.specs.Services.{Attendance, Absent, Attached, Service, behind_item, behind_items, behind_line, is_attached, one_then, inform}
+use Rattle.application_model.specs.Services.{informed, reads, keys_notice, is_of_outside, time_at, occurs, releases_all, at_live, answers_line}
 use Rattle.application_model.specs.Turns.{IsDoneInTurn}
 use Rattle.application_model.specs.Claims.{RequestDeed, AtEnd, deed_where_live, deeds_asked, deed_of_event, deed_of_notice, deeds_due}
 use Rattle.application_model.proofs.Steadies.{Family, IsSteady}
@@ -101,15 +102,15 @@ no_deed_outside conn (event.Unserved count) own = refl
 module _ (kind : EndKind) where
   other_event : (moment conn : ℕ) (what : Event) (s : Service) → deed_of_event conn what ≡ None → DoneOf s (occurs kind moment conn what s)
   other_event moment conn what s none =
-      let outcomes = kind.tells (s.ends conn) moment what in
-      rw none (informed_none (behind_item s (Occurred moment conn what outcomes)) [] s.application (notices_of_event conn what outcomes) (event_no_deed conn what outcomes))
+      let outcomes = kind.tells (s.ends conn) (time_at moment s) what in
+      rw none (informed_none (behind_item s (Occurred (time_at moment s) conn what outcomes)) [] s.application (notices_of_event conn what outcomes) (event_no_deed conn what outcomes))
 
   own_event : (moment conn : ℕ) (what : Event) (s : Service) (owed : List RequestDeed) → deed_of_event conn what ≡ Some (AtEnd conn what)
       → IsDoneInTurn deeds_due s (AtEnd conn what ∷ owed) (occurs kind moment conn what s) owed
   own_event moment conn what s owed mine =
-      let outcomes = kind.tells (s.ends conn) moment what in
+      let outcomes = kind.tells (s.ends conn) (time_at moment s) what in
       rw mine
-      (owed, refl, informed_none (behind_item s (Occurred moment conn what outcomes)) owed s.application (notices_of_event conn what outcomes) (event_no_deed conn what outcomes))
+      (owed, refl, informed_none (behind_item s (Occurred (time_at moment s) conn what outcomes)) owed s.application (notices_of_event conn what outcomes) (event_no_deed conn what outcomes))
 
   releases_done : (moment : ℕ) (conns : List ℕ) (s : Service)
       → IsDoneInTurn deeds_due s (map (λ (conn : ℕ). AtEnd conn (event.Release 0)) conns) (releases_all kind moment conns s) []

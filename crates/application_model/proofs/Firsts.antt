@@ -9,8 +9,10 @@ use Rattle.application_lines.specs.declared.request.Request.TheVariants as reque
 use Rattle.application_lines.specs.Notices.{ApplicationNotice}
 use Rattle.application_model.specs.Ends.{SettingUp, KnownEnd, learning, known_behind, without_end, numbers_known, EndKind}
 use Rattle.application_model.specs.Lines.{notices_of_event, connected_lines}
-use Rattle.application_model.specs.Histories.{ServiceHappening, Attaches, Departs, Brings, Takes, Opens, Befalls, Closes, KeysRead, ServiceItem, Came, LineRead, Occurred, Informed, KeysFetched}
-use Rattle.application_model.specs.Services.{Attendance, Absent, Attached, Service, at_start, behind_line, service_behind_happening, behind_item, behind_items, inform, informed, keys_notice, occurs}
+use Rattle.application_model.specs.Histories.{ServiceHappening, Attaches, Departs, Brings, Takes, Opens, Befalls, Closes, KeysRead, ServiceItem, Came}
+use Rattle.application_model.specs.Histories.{LineRead, Occurred, Informed, KeysFetched}
+use Rattle.application_model.specs.Services.{Attendance, Absent, Attached, Service, at_start, behind_line, service_behind_happening, behind_item}
+use Rattle.application_model.specs.Services.{behind_items, inform, informed, keys_notice, time_at, occurs}
 use Rattle.application_model.specs.Claims.{RiseTo, IsBeginning, TellsFirst, NumbersRise}
 use Rattle.application_model.proofs.Steadies.{Family, IsPlain, IsSteady, KeepsAnswers, line_keeps}
 
@@ -23,7 +25,7 @@ BeginsWithEnds s happening items = Unit {0}
 abbrev FirstAt : Service → ServiceItem → List ServiceItem → Type 0
 FirstAt s (Came happening) items = BeginsWithEnds s happening items
 FirstAt s (LineRead line) items = Unit {0}
-FirstAt s (Occurred moment conn what outcomes) items = Unit {0}
+FirstAt s (Occurred time conn what outcomes) items = Unit {0}
 FirstAt s (Informed notice) items = Unit {0}
 FirstAt s KeysFetched items = Unit {0}
 
@@ -46,7 +48,7 @@ begins_more s (KeysRead answer) items more p = tt
 first_more : (s : Service) (item : ServiceItem) (items more : List ServiceItem) → FirstAt s item items → FirstAt s item (items ++ more)
 first_more s (Came happening) items more p = begins_more s happening items more p
 first_more s (LineRead line) items more p = tt
-first_more s (Occurred moment conn what outcomes) items more p = tt
+first_more s (Occurred time conn what outcomes) items more p = tt
 first_more s (Informed notice) items more p = tt
 first_more s KeysFetched items more p = tt
 
@@ -76,8 +78,8 @@ came_first s (KeysRead answer) plain = tt
 module _ (kind : EndKind) where
   event_first : (moment conn : ℕ) (what : Event) (s : Service) → FirstToldOf s (occurs kind moment conn what s)
   event_first moment conn what s =
-      let outcomes = kind.tells (s.ends conn) moment what in
-      (tt, informed_first (behind_item s (Occurred moment conn what outcomes)) s.application (notices_of_event conn what outcomes))
+      let outcomes = kind.tells (s.ends conn) (time_at moment s) what in
+      (tt, informed_first (behind_item s (Occurred (time_at moment s) conn what outcomes)) s.application (notices_of_event conn what outcomes))
 
   answers_first : KeepsAnswers kind FirstToldOf
   answers_first =
@@ -167,7 +169,7 @@ line_rise s (Faulty line why) p = p
 item_rise : (s : Service) (item : ServiceItem) → Rise s → Rise (behind_item s item)
 item_rise s (Came happening) p = came_rise s happening p
 item_rise s (LineRead line) p = line_rise s line p
-item_rise s (Occurred moment c what outcomes) p = rw (same_numbers c outcomes s.known) p
+item_rise s (Occurred time c what outcomes) p = rw (same_numbers c outcomes s.known) p
 item_rise s (Informed notice) p = p
 item_rise s KeysFetched p = p
 

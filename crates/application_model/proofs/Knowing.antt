@@ -1,5 +1,6 @@
 -- What a loop knows of a live connection is what the events at its end told: numbers are given once, and no event comes before its connection is opened.
-use Rattle.std.proofs.Common.{arith, ◌≡◌, ◌∙◌, ◌≤◌, ◌<◌, ◌+◌, ◌==◌, ◌&&◌, not, ℕ, zero, suc, nat_lt, Bool, true, false, inl, inr, List, [], ◌∷◌, ◌++◌, length, map, refl, ap, sym, subst, append-nil, if◌then◌else◌}
+use Rattle.std.proofs.Common.{arith, ◌≡◌, ◌∙◌, ◌≤◌, ◌<◌, ◌+◌, ◌==◌, ◌&&◌, not, ℕ, zero, suc, nat_lt, Bool, true, false, inl, inr, List, [], ◌∷◌, ◌++◌, length}
+use Rattle.std.proofs.Common.{map, refl, ap, sym, subst, append-nil, if◌then◌else◌}
 use Rattle.std.specs.List.{All}
 use Rattle.std.proofs.lemmas.Bool.{cases_Bool, eqb-true, ne_eqb}
 use Rattle.std.proofs.lemmas.List.Elements.{All-nil, All-cons}
@@ -10,12 +11,17 @@ use Rattle.application_lines.specs.declared.application_line.ApplicationLine.{Ap
 use Rattle.application_lines.specs.declared.application_line.ApplicationLine.TheVariants.{Asks, Faulty}
 use Rattle.application_lines.specs.declared.request.Request.TheVariants as request
 use Rattle.application_lines.specs.Notices.{ApplicationNotice}
-use Rattle.application_model.specs.Ends.{EndStage, SettingUp, Speaking, Parted, KnownEnd, stage_after, end_stage_behind, learning, known_behind, without_end, is_known, numbers_known, number_unless_parted, numbers_unparted, EventAt, EndKind}
+use Rattle.application_model.specs.Ends.{EndStage, SettingUp, Speaking, Parted, KnownEnd, stage_after, end_stage_behind, learning, known_behind, without_end}
+use Rattle.application_model.specs.Ends.{is_known, numbers_known, number_unless_parted, numbers_unparted, EventTime, EventAt, EndKind}
 use Rattle.application_model.specs.Lines.{notices_of_event, connected_lines}
-use Rattle.application_model.specs.Histories.{ServiceHappening, Attaches, Departs, Brings, Takes, Opens, Befalls, Closes, KeysRead, ServiceItem, Came, LineRead, Occurred, Informed, KeysFetched}
-use Rattle.application_model.specs.Services.{Attendance, Absent, Attached, is_attached, has_room, Service, at_start, behind_line, service_behind_happening, behind_item, behind_items, one_then, inform, informed, informs, reads, came_alone, keys_notice, lines_brought, is_of_outside, occurs, takes_most, takes_at, takes_waiting, releases_all, at_live, answers_line, reads_line, reads_lines, meets, serves_one, serves_all}
+use Rattle.application_model.specs.Histories.{ServiceHappening, Attaches, Departs, Brings, Takes, Opens, Befalls, Closes, KeysRead, ServiceItem, Came}
+use Rattle.application_model.specs.Histories.{LineRead, Occurred, Informed, KeysFetched}
+use Rattle.application_model.specs.Services.{Attendance, Absent, Attached, is_attached, has_room, Service, at_start, behind_line, service_behind_happening}
+use Rattle.application_model.specs.Services.{behind_item, behind_items, one_then, inform, informed, informs, reads, came_alone, keys_notice, lines_brought}
+use Rattle.application_model.specs.Services.{is_of_outside, time_at, occurs, takes_most, takes_at, takes_waiting, releases_all, at_live, answers_line}
+use Rattle.application_model.specs.Services.{reads_line, reads_lines, meets, serves_one, serves_all}
 use Rattle.application_model.specs.Claims.{outcomes_alone}
-use Rattle.application_model.specs.Laws.{IsKnownByEvents, KnowsByEvents, EachTellsItsOwn}
+use Rattle.application_model.specs.Laws.{IsKnownByEvents, KnowsByEvents, EachTellsItsOwn, readings_in_item, readings_in, EventsHaveTheNewestKeys}
 use Rattle.application_model.proofs.Alone.{alone_append, all_came}
 
 -- ---- stages
@@ -76,7 +82,7 @@ module _ (kind : EndKind) where
   abbrev IsFitting : Service → ServiceItem → Type 0
   IsFitting s (Came happening) = Unit {0}
   IsFitting s (LineRead line) = Unit {0}
-  IsFitting s (Occurred moment c what outcomes) = (c ≤ s.opened) × (outcomes ≡ kind.tells (s.ends c) moment what)
+  IsFitting s (Occurred time c what outcomes) = (c ≤ s.opened) × (outcomes ≡ kind.tells (s.ends c) time what) × (time.keys ≡ s.keys)
   IsFitting s (Informed notice) = Unit {0}
   IsFitting s KeysFetched = Unit {0}
 
@@ -109,17 +115,17 @@ module _ (kind : EndKind) where
   ends_behind ends c x = λ (n : ℕ). if n == c then ends n ++ x ∷ [] else ends n
 
   learns : (ends : ℕ → List EventAt) (c : ℕ) (x : EventAt) (k : KnownEnd) → IsKnownByEvents kind ends k
-      → IsKnownByEvents kind (ends_behind ends c x) (learning c (kind.tells (ends c) x.moment x.event) k)
+      → IsKnownByEvents kind (ends_behind ends c x) (learning c (kind.tells (ends c) x.time x.event) k)
   learns ends c x k is =
-      let told = kind.tells (ends c) x.moment x.event in
+      let told = kind.tells (ends c) x.time x.event in
       elim (cases_Bool (k.number == c)) [
         | inl mine ↦
             let before = outcomes_alone kind [] (ends k.number) in
             rw (mine, mine)
             (ap (λ (s : EndStage). end_stage_behind s told) is
             ∙ sym (stage_parts SettingUp before told)
-            ∙ ap (λ (n : ℕ). end_stage_behind SettingUp (before ++ kind.tells (ends n) x.moment x.event)) (sym (eqb-true k.number c mine))
-            ∙ ap (λ (o : List TraceOutcome). end_stage_behind SettingUp (before ++ o)) (sym (append-nil (kind.tells (ends k.number) x.moment x.event)))
+            ∙ ap (λ (n : ℕ). end_stage_behind SettingUp (before ++ kind.tells (ends n) x.time x.event)) (sym (eqb-true k.number c mine))
+            ∙ ap (λ (o : List TraceOutcome). end_stage_behind SettingUp (before ++ o)) (sym (append-nil (kind.tells (ends k.number) x.time x.event)))
             ∙ ap (end_stage_behind SettingUp) (sym (alone_append kind [] (ends k.number) (x ∷ []))))
         | inr other ↦ rw (other, other) is
       ]
@@ -128,10 +134,10 @@ module _ (kind : EndKind) where
   keeps_number c outcomes k opened p = elim (cases_Bool (k.number == c)) [ inl mine ↦ rw mine p | inr other ↦ rw other p ]
 
   all_learn : (ends : ℕ → List EventAt) (opened c : ℕ) (x : EventAt) (known : List KnownEnd) → EachKnown ends opened known
-      → EachKnown (ends_behind ends c x) opened (known_behind c (kind.tells (ends c) x.moment x.event) known)
+      → EachKnown (ends_behind ends c x) opened (known_behind c (kind.tells (ends c) x.time x.event) known)
   all_learn ends opened c x [] p = tt
   all_learn ends opened c x (k ∷ known) p =
-      let told = kind.tells (ends c) x.moment x.event in
+      let told = kind.tells (ends c) x.time x.event in
       (learns ends c x k p.0, keeps_number c told k opened p.1, all_learn ends opened c x known p.2)
 
   none_yet : (ends : ℕ → List EventAt) (opened c : ℕ) (x : EventAt) → c ≤ opened → NoneYet ends opened → NoneYet (ends_behind ends c x) opened
@@ -159,8 +165,8 @@ module _ (kind : EndKind) where
   item_knows : (s : Service) (item : ServiceItem) → IsFitting s item → Knows s → Knows (behind_item s item)
   item_knows s (Came happening) fits p = came_knows s happening p
   item_knows s (LineRead line) fits p = line_knows s line p
-  item_knows s (Occurred moment c what outcomes) fits p =
-      let x : EventAt = record { moment = moment; event = what } in
+  item_knows s (Occurred time c what outcomes) fits p =
+      let x : EventAt = record { time = time; event = what } in
       rw fits.1 (all_learn s.ends s.opened c x s.known p.0, none_yet s.ends s.opened c x fits.0 p.1)
   item_knows s (Informed notice) fits p = p
   item_knows s KeysFetched fits p = p
@@ -193,7 +199,7 @@ module _ (kind : EndKind) where
   item_rises : (s : Service) (item : ServiceItem) → s.opened ≤ (behind_item s item).opened
   item_rises s (Came happening) = came_rises s happening
   item_rises s (LineRead line) = line_rises s line
-  item_rises s (Occurred moment c what outcomes) = omega arith
+  item_rises s (Occurred time c what outcomes) = omega arith
   item_rises s (Informed notice) = omega arith
   item_rises s KeysFetched = omega arith
 
@@ -220,8 +226,8 @@ module _ (kind : EndKind) where
 
   event_fits : (moment c : ℕ) (what : Event) (s : Service) → c ≤ s.opened → AllFit s (occurs kind moment c what s)
   event_fits moment c what s given =
-      let outcomes = kind.tells (s.ends c) moment what in
-      ((given, refl), informed_fits (behind_item s (Occurred moment c what outcomes)) s.application (notices_of_event c what outcomes))
+      let outcomes = kind.tells (s.ends c) (time_at moment s) what in
+      ((given, refl, refl), informed_fits (behind_item s (Occurred (time_at moment s) c what outcomes)) s.application (notices_of_event c what outcomes))
 
   most_fit : (moment c most : ℕ) (s : Service) → c ≤ s.opened → AllFit s (takes_most kind moment c most s)
   unfolding takes_most
@@ -328,7 +334,8 @@ module _ (kind : EndKind) where
       and_second false b e = absurd (cc)
   meets_fits moment (Closes conn) s p = (tt, tt)
   meets_fits moment (KeysRead answer) s p =
-      then_fits (came_alone (KeysRead answer)) (informs (keys_notice answer ∷ [])) s (tt, tt) (informed_fits s s.application (keys_notice answer ∷ []))
+      then_fits (came_alone (KeysRead answer)) (informs (keys_notice answer ∷ [])) s (tt, tt)
+      (informed_fits (service_behind_happening s (KeysRead answer)) s.application (keys_notice answer ∷ []))
 
   one_fits : (moment : ℕ) (happening : ServiceHappening) (s : Service) → Knows s → AllFit s (serves_one kind moment happening s)
   unfolding serves_one
@@ -345,11 +352,12 @@ module _ (kind : EndKind) where
       then_fits (serves_one kind next.0 next.1) (serves_all kind happenings) s first
       (all_fit happenings (behind_items s (serves_one kind next.0 next.1 s)) (all_know s (serves_one kind next.0 next.1 s) first p))
 
-  fits_at : (s : Service) (before after : List ServiceItem) (moment c : ℕ) (what : Event) (outcomes : List TraceOutcome)
-      → AllFit s (before ++ Occurred moment c what outcomes ∷ after) → outcomes ≡ kind.tells ((behind_items s before).ends c) moment what
+  fits_at : (s : Service) (before after : List ServiceItem) (time : EventTime) (c : ℕ) (what : Event) (outcomes : List TraceOutcome)
+      → AllFit s (before ++ Occurred time c what outcomes ∷ after)
+      → (outcomes ≡ kind.tells ((behind_items s before).ends c) time what) × (time.keys ≡ (behind_items s before).keys)
   unfolding behind_items
-  fits_at s [] after moment c what outcomes fits = fits.0.1
-  fits_at s (item ∷ before) after moment c what outcomes fits = fits_at (behind_item s item) before after moment c what outcomes fits.1
+  fits_at s [] after time c what outcomes fits = (fits.0.1, fits.0.2)
+  fits_at s (item ∷ before) after time c what outcomes fits = fits_at (behind_item s item) before after time c what outcomes fits.1
 
   all_of : (ends : ℕ → List EventAt) (opened : ℕ) (known : List KnownEnd) → EachKnown ends opened known → All (IsKnownByEvents kind ends) known
   all_of ends opened [] p = All-nil (IsKnownByEvents kind ends)
@@ -359,9 +367,47 @@ none_known : (kind : EndKind) → Knows kind at_start
 none_known kind = (tt, λ n above. refl)
 
 pub each_tells_its_own : EachTellsItsOwn
-each_tells_its_own kind happenings before after moment conn what outcomes e =
-    fits_at kind at_start before after moment conn what outcomes (subst (AllFit kind at_start) e (all_fit kind happenings at_start (none_known kind)))
-    ∙ ap (λ (came : List EventAt). kind.tells came moment what) (all_came at_start before conn)
+each_tells_its_own kind happenings before after time conn what outcomes e =
+    (fits_at kind at_start before after time conn what outcomes (subst (AllFit kind at_start) e (all_fit kind happenings at_start (none_known kind)))).0
+    ∙ ap (λ (came : List EventAt). kind.tells came time what) (all_came at_start before conn)
+
+-- which keys hold
+came_read : (s : Service) (happening : ServiceHappening) → (service_behind_happening s happening).keys ≡ s.keys + readings_in_item (Came happening)
+came_read s Attaches = omega arith
+came_read s Departs = omega arith
+came_read s (Brings octets) = omega arith
+came_read s (Takes count) = omega arith
+came_read s (Opens what) = omega arith
+came_read s (Befalls c what) = omega arith
+came_read s (Closes c) = omega arith
+came_read s (KeysRead answer) = refl
+
+line_read : (s : Service) (line : ApplicationLine) → (behind_line s line).keys ≡ s.keys + 0
+line_read s (Asks (request.Send conn text)) = omega arith
+line_read s (Asks (request.Release conn sub)) = omega arith
+line_read s (Asks request.Drain) = omega arith
+line_read s (Asks request.Keys) = omega arith
+line_read s (Asks request.Counts) = omega arith
+line_read s (Faulty line why) = omega arith
+
+item_read : (s : Service) (item : ServiceItem) → (behind_item s item).keys ≡ s.keys + readings_in_item item
+item_read s (Came happening) = came_read s happening
+item_read s (LineRead line) = line_read s line
+item_read s (Occurred time c what outcomes) = omega arith
+item_read s (Informed notice) = omega arith
+item_read s KeysFetched = omega arith
+
+all_read : (s : Service) (items : List ServiceItem) → (behind_items s items).keys ≡ s.keys + readings_in items
+unfolding behind_items
+all_read s [] = omega arith
+all_read s (item ∷ items) =
+    let first = item_read s item in let rest = all_read (behind_item s item) items in omega (arith, first, rest)
+
+pub have_the_newest_keys : EventsHaveTheNewestKeys
+have_the_newest_keys kind happenings before after time conn what outcomes e =
+    let fits = fits_at kind at_start before after time conn what outcomes (subst (AllFit kind at_start) e (all_fit kind happenings at_start (none_known kind))) in
+    let read = all_read at_start before in
+    omega (arith, fits.1, read)
 
 pub knows_by_events : KnowsByEvents
 knows_by_events kind happenings =

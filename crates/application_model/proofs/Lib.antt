@@ -10,3 +10,5 @@ mod Takings
 mod Claimed
 mod Messages
 mod Knowing
+mod Cutting
+mod Reading

@@ -11,7 +11,8 @@ use Rattle.application_lines.specs.Notices.{NoticeRefusal, ApplicationNotice, Co
 use Rattle.application_model.specs.Ends.{KnownEnd, EndStage, SettingUp, Speaking, Parted, EventAt, EndKind, texts_taken}
 use Rattle.application_model.specs.Lines.{send_refused, notices_of_event, stage_line, connected_lines, is_line_of}
 use Rattle.application_model.specs.Histories.{KeysAnswer, Hold, AreFaulty, ServiceItem, Occurred}
-use Rattle.application_model.specs.Services.{Attendance, Absent, Attached, has_room, Service, at_start, behind_items, inform, informed, keys_notice, is_of_outside, occurs, service_history}
+use Rattle.application_model.specs.Services.{Attendance, Absent, Attached, has_room, Service, at_start, behind_items, inform, informed, keys_notice}
+use Rattle.application_model.specs.Services.{is_of_outside, time_at, occurs, service_history}
 use Rattle.application_model.specs.Claims.{outcomes_at_connection, outcomes_of_item, events_at}
 use Rattle.application_model.specs.Laws.{TakesAlone, text_told, told_in_item, texts_told, AcceptedAreTold}
 use Rattle.application_model.proofs.Steadies.{Family, IsSteady, KeepsAnswers, line_keeps, all_hold}
@@ -132,11 +133,11 @@ module _ (conn : ℕ) where
   module _ (kind : EndKind) (alone : TakesAlone kind) where
     -- the outcomes of an event among those of this connection
     taken_of : (moment c : ℕ) (what : Event) (s : Service)
-        → texts_taken (outcomes_at_connection conn (occurs kind moment c what s)) ≡ if_mine c (texts_taken (kind.tells (s.ends c) moment what))
+        → texts_taken (outcomes_at_connection conn (occurs kind moment c what s)) ≡ if_mine c (texts_taken (kind.tells (s.ends c) (time_at moment s) what))
     taken_of moment c what s =
-        let outcomes = kind.tells (s.ends c) moment what in
+        let outcomes = kind.tells (s.ends c) (time_at moment s) what in
         let none = none_of_informed conn s.application (notices_of_event c what outcomes) in
-        ap (λ (o : List TraceOutcome). texts_taken (outcomes_of_item conn (Occurred moment c what outcomes) ++ o)) none.1
+        ap (λ (o : List TraceOutcome). texts_taken (outcomes_of_item conn (Occurred (time_at moment s) c what outcomes) ++ o)) none.1
         ∙ taken_if (conn == c) outcomes
       where
         taken_if : (mine : Bool) (outcomes : List TraceOutcome)
@@ -146,7 +147,7 @@ module _ (conn : ℕ) where
 
     take_told : (moment c : ℕ) (s : Service) → has_room s.application ≡ true → TellsTaken s (occurs kind moment c event.Take s)
     take_told moment c s room =
-        let outcomes = kind.tells (s.ends c) moment event.Take in
+        let outcomes = kind.tells (s.ends c) (time_at moment s) event.Take in
         all_with_room s.application (notices_of_event c event.Take outcomes) room ∙ lines_tell c event.Take outcomes ∙ sym (taken_of moment c event.Take s)
 
     nothing_if : (mine : Bool) (texts : List (List ℕ)) → texts ≡ [] → (if mine then texts else []) ≡ []
@@ -155,8 +156,8 @@ module _ (conn : ℕ) where
 
     event_told : (moment c : ℕ) (what : Event) (s : Service) → what ≢ event.Take → TellsTaken s (occurs kind moment c what s)
     event_told moment c what s other =
-        let outcomes = kind.tells (s.ends c) moment what in
-        let none = nothing_if (conn == c) (texts_taken outcomes) (alone (s.ends c) moment what other) in
+        let outcomes = kind.tells (s.ends c) (time_at moment s) what in
+        let none = nothing_if (conn == c) (texts_taken outcomes) (alone (s.ends c) (time_at moment s) what other) in
         none_if_absent s.application (notices_of_event c what outcomes) (lines_tell c what outcomes ∙ none) ∙ sym (taken_of moment c what s ∙ none)
 
     no_take : (what : Event) → is_of_outside what ≡ true → what ≢ event.Take

@@ -7,10 +7,12 @@ use Rattle.application_lines.specs.declared.application_line.ApplicationLine.{Ap
 use Rattle.application_lines.specs.declared.application_line.ApplicationLine.TheVariants.{Asks, Faulty}
 use Rattle.application_lines.specs.declared.request.Request.TheVariants as request
 use Rattle.application_lines.specs.Notices.{ApplicationNotice}
-use Rattle.application_model.specs.Ends.{EndKind}
+use Rattle.application_model.specs.Ends.{EventTime, EndKind}
 use Rattle.application_model.specs.Lines.{notices_of_event, connected_lines}
-use Rattle.application_model.specs.Histories.{ServiceHappening, Attaches, Departs, Brings, Takes, Opens, Befalls, Closes, KeysRead, ServiceItem, Came, LineRead, Occurred, Informed, KeysFetched}
-use Rattle.application_model.specs.Services.{Attendance, Absent, Attached, has_room, Service, at_start, behind_line, service_behind_happening, behind_item, behind_items, inform, informed, keys_notice, is_of_outside, occurs}
+use Rattle.application_model.specs.Histories.{ServiceHappening, Attaches, Departs, Brings, Takes, Opens, Befalls, Closes, KeysRead, ServiceItem, Came}
+use Rattle.application_model.specs.Histories.{LineRead, Occurred, Informed, KeysFetched}
+use Rattle.application_model.specs.Services.{Attendance, Absent, Attached, has_room, Service, at_start, behind_line, service_behind_happening, behind_item}
+use Rattle.application_model.specs.Services.{behind_items, inform, informed, keys_notice, is_of_outside, time_at, occurs}
 use Rattle.application_model.specs.Claims.{IsTakenWithRoom, is_drain, is_drain_item, was_drained, OpensNothingDrained}
 use Rattle.application_model.proofs.Steadies.{Family, IsPlain, IsSteady, KeepsAnswers, line_keeps}
 
@@ -25,7 +27,7 @@ MayComeAt s happening = Unit {0}
 abbrev HasRoomAtItem : Service → ServiceItem → Type 0
 HasRoomAtItem s (Came happening) = MayComeAt s happening
 HasRoomAtItem s (LineRead line) = Unit {0}
-HasRoomAtItem s (Occurred moment conn what outcomes) = HasRoomAtEvent s what
+HasRoomAtItem s (Occurred time conn what outcomes) = HasRoomAtEvent s what
 HasRoomAtItem s (Informed notice) = Unit {0}
 HasRoomAtItem s KeysFetched = Unit {0}
 
@@ -73,8 +75,8 @@ may_come s (KeysRead answer) plain = tt
 module _ (kind : EndKind) where
   event_room : (moment conn : ℕ) (what : Event) (s : Service) → HasRoomAtEvent s what → HasRoomAtTakes s (occurs kind moment conn what s)
   event_room moment conn what s room =
-      let outcomes = kind.tells (s.ends conn) moment what in
-      (room, informed_room (behind_item s (Occurred moment conn what outcomes)) s.application (notices_of_event conn what outcomes))
+      let outcomes = kind.tells (s.ends conn) (time_at moment s) what in
+      (room, informed_room (behind_item s (Occurred (time_at moment s) conn what outcomes)) s.application (notices_of_event conn what outcomes))
 
   answers_room : KeepsAnswers kind HasRoomAtTakes
   answers_room =
@@ -102,15 +104,15 @@ module _ (kind : EndKind) where
         keys = λ answer s. informed_room s s.application (keys_notice answer ∷ []);
       }
 
-room_at : (s : Service) (before after : List ServiceItem) (moment conn : ℕ) (outcomes : List TraceOutcome)
-    → HasRoomAtTakes s (before ++ Occurred moment conn event.Take outcomes ∷ after) → has_room (behind_items s before).application ≡ true
+room_at : (s : Service) (before after : List ServiceItem) (time : EventTime) (conn : ℕ) (outcomes : List TraceOutcome)
+    → HasRoomAtTakes s (before ++ Occurred time conn event.Take outcomes ∷ after) → has_room (behind_items s before).application ≡ true
 unfolding behind_items
-room_at s [] after moment conn outcomes p = p.0
-room_at s (item ∷ before) after moment conn outcomes p = room_at (behind_item s item) before after moment conn outcomes p.1
+room_at s [] after time conn outcomes p = p.0
+room_at s (item ∷ before) after time conn outcomes p = room_at (behind_item s item) before after time conn outcomes p.1
 
 pub taken_with_room : (items : List ServiceItem) → HasRoomAtTakes at_start items → IsTakenWithRoom items
-taken_with_room items p before after moment conn outcomes e =
-    room_at at_start before after moment conn outcomes (subst (HasRoomAtTakes at_start) e p)
+taken_with_room items p before after time conn outcomes e =
+    room_at at_start before after time conn outcomes (subst (HasRoomAtTakes at_start) e p)
 
 -- ---- where nothing was drained
 
@@ -148,7 +150,7 @@ or_back false false c = refl
 item_drained : (s : Service) (item : ServiceItem) → (behind_item s item).draining ≡ is_drain_item item || s.draining
 item_drained s (Came happening) = came_drained s happening
 item_drained s (LineRead line) = line_drained s line
-item_drained s (Occurred moment c what outcomes) = refl
+item_drained s (Occurred time c what outcomes) = refl
 item_drained s (Informed notice) = refl
 item_drained s KeysFetched = refl
 

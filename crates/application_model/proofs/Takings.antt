@@ -1,5 +1,6 @@
 -- What waits at live connections is taken behind each happening, as long as there is room.
-use Rattle.std.proofs.Common.{arith, ◌≡◌, ℕ, zero, suc, ◌+◌, ◌==◌, ◌≤◌, ◌||◌, ◌&&◌, not, nat_lt, Bool, true, false, inl, inr, List, [], ◌∷◌, ◌++◌, length, drop, map, refl, ap, sym, ◌∙◌, subst, append-nil, if◌then◌else◌, eq-eqb}
+use Rattle.std.proofs.Common.{arith, ◌≡◌, ℕ, zero, suc, ◌+◌, ◌==◌, ◌≤◌, ◌||◌, ◌&&◌, not, nat_lt, Bool, true, false, inl, inr, List, [], ◌∷◌, ◌++◌, length}
+use Rattle.std.proofs.Common.{drop, map, refl, ap, sym, ◌∙◌, subst, append-nil, if◌then◌else◌, eq-eqb}
 use Rattle.std.specs.List.{list_any}
 use Rattle.std.proofs.lemmas.Bool.{cases_Bool, eqb-true, ltb-false, le-ltb}
 use Rattle.er_trace.specs.declared.event.Event.TheVariants as event
@@ -7,7 +8,8 @@ use Rattle.application_lines.specs.Notices.{ApplicationNotice, notice_text}
 use Rattle.application_model.specs.Ends.{KnownEnd, is_known, numbers_known, EventAt, EndKind}
 use Rattle.application_model.specs.Lines.{notices_of_event}
 use Rattle.application_model.specs.Histories.{ServiceHappening, ServiceItem, Occurred, Informed}
-use Rattle.application_model.specs.Services.{Attendance, Absent, Attached, has_room, waiting_more, Service, at_start, behind_item, behind_items, one_then, inform, informed, occurs, takes_most, takes_at, takes_waiting, meets, serves_one, serves_all}
+use Rattle.application_model.specs.Services.{Attendance, Absent, Attached, has_room, waiting_more, Service, at_start, behind_item, behind_items, one_then}
+use Rattle.application_model.specs.Services.{inform, informed, time_at, occurs, takes_most, takes_at, takes_waiting, meets, serves_one, serves_all}
 use Rattle.application_model.specs.Laws.{TakesTheOldest, WaitsForRoomAlone}
 use Rattle.application_model.proofs.Turning.{behind_append}
 use Rattle.application_model.proofs.Alone.{all_came, none_of_informed}
@@ -66,10 +68,10 @@ module _ (kind : EndKind) (oldest : TakesTheOldest kind) where
   -- what came at a connection with a take
   take_came : (moment c : ℕ) (s : Service) (conn : ℕ)
       → (behind_items s (occurs kind moment c event.Take s)).ends conn
-      ≡ s.ends conn ++ (if conn == c then record { moment = moment; event = event.Take } ∷ [] else [])
+      ≡ s.ends conn ++ (if conn == c then record { time = time_at moment s; event = event.Take } ∷ [] else [])
   take_came moment c s conn =
-      let outcomes = kind.tells (s.ends c) moment event.Take in
-      let mine = if conn == c then record { moment = moment; event = event.Take } ∷ [] else [] in
+      let outcomes = kind.tells (s.ends c) (time_at moment s) event.Take in
+      let mine = if conn == c then record { time = time_at moment s; event = event.Take } ∷ [] else [] in
       all_came s (occurs kind moment c event.Take s) conn
       ∙ ap (λ (x : List EventAt). s.ends conn ++ (mine ++ x)) (none_of_informed conn s.application (notices_of_event c event.Take outcomes)).0
       ∙ ap (λ (x : List EventAt). s.ends conn ++ x) (append-nil mine)
@@ -79,15 +81,15 @@ module _ (kind : EndKind) (oldest : TakesTheOldest kind) where
   take_silent moment c s conn none =
       ap kind.waiting (take_came moment c s conn)
       ∙ elim (cases_Bool (conn == c)) [
-        | inl mine ↦ rw mine (oldest (s.ends conn) moment ∙ ap (drop 1) none)
+        | inl mine ↦ rw mine (oldest (s.ends conn) (time_at moment s) ∙ ap (drop 1) none)
         | inr other ↦ rw other (ap kind.waiting (append-nil (s.ends conn)) ∙ none)
       ]
 
   took_one : (moment c : ℕ) (s : Service) → Took s (occurs kind moment c event.Take s)
   unfolding behind_items
   took_one moment c s =
-      let outcomes = kind.tells (s.ends c) moment event.Take in
-      let told = informed_heeds (behind_item s (Occurred moment c event.Take outcomes)) s.application (notices_of_event c event.Take outcomes) in
+      let outcomes = kind.tells (s.ends c) (time_at moment s) event.Take in
+      let told = informed_heeds (behind_item s (Occurred (time_at moment s) c event.Take outcomes)) s.application (notices_of_event c event.Take outcomes) in
       record {
         numbers = told.numbers ∙ same_numbers c outcomes s.known;
         room = told.room;
@@ -133,7 +135,7 @@ module _ (kind : EndKind) (oldest : TakesTheOldest kind) where
   -- the end behind one take has one message less
   take_leaves : (moment c : ℕ) (s : Service)
       → kind.waiting ((behind_items s (occurs kind moment c event.Take s)).ends c) ≡ drop 1 (kind.waiting (s.ends c))
-  take_leaves moment c s = ap kind.waiting (take_came moment c s c) ∙ (rw (itself c) (oldest (s.ends c) moment))
+  take_leaves moment c s = ap kind.waiting (take_came moment c s c) ∙ (rw (itself c) (oldest (s.ends c) (time_at moment s)))
 
   most_at : (may : Bool) (moment c most : ℕ) (s : Service) → length (kind.waiting (s.ends c)) ≤ suc most
       → (has_room s.application && nat_lt 0 (length (kind.waiting (s.ends c)))) ≡ may

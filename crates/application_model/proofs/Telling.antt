@@ -5,8 +5,9 @@ use Rattle.er_trace.specs.declared.event.Event.{Event}
 use Rattle.application_lines.specs.Notices.{ApplicationNotice}
 use Rattle.application_model.specs.Ends.{EndKind}
 use Rattle.application_model.specs.Lines.{notices_of_event, connected_lines, is_line_of, lines_of_connection}
-use Rattle.application_model.specs.Histories.{KeysAnswer, Hold, AreFaulty, ServiceHappening, Attaches, Departs, Brings, Takes, Opens, Befalls, Closes, KeysRead, ServiceItem, Came, Occurred, Informed}
-use Rattle.application_model.specs.Services.{Attendance, Absent, Attached, Service, behind_item, behind_items, inform, informed, keys_notice, occurs}
+use Rattle.application_model.specs.Histories.{KeysAnswer, Hold, AreFaulty, ServiceHappening, Attaches, Departs, Brings, Takes, Opens, Befalls, Closes}
+use Rattle.application_model.specs.Histories.{KeysRead, ServiceItem, Came, Occurred, Informed}
+use Rattle.application_model.specs.Services.{Attendance, Absent, Attached, Service, behind_item, behind_items, inform, informed, keys_notice, time_at, occurs}
 use Rattle.application_model.specs.Turns.{IsDoneInTurn}
 use Rattle.application_model.specs.Claims.{lines_if_there, lines_due}
 use Rattle.application_model.proofs.Steadies.{Family, IsPlain, IsSteady, KeepsAnswers, line_keeps}
@@ -37,8 +38,8 @@ module _ (conn : ℕ) where
 
   event_told : (kind : EndKind) (moment c : ℕ) (what : Event) (s : Service) → ToldOf s (occurs kind moment c what s)
   event_told kind moment c what s =
-      let outcomes = kind.tells (s.ends c) moment what in
-      told_if_there (behind_item s (Occurred moment c what outcomes)) s.application (notices_of_event c what outcomes)
+      let outcomes = kind.tells (s.ends c) (time_at moment s) what in
+      told_if_there (behind_item s (Occurred (time_at moment s) c what outcomes)) s.application (notices_of_event c what outcomes)
 
   came_told : (happening : ServiceHappening) (s : Service) → IsPlain happening → ToldOf s (Came happening ∷ [])
   came_told Attaches s plain = absurd plain

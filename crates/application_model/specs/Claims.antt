@@ -8,9 +8,11 @@ use Rattle.application_lines.specs.declared.application_line.ApplicationLine.The
 use Rattle.application_lines.specs.declared.request.Request.{Request}
 use Rattle.application_lines.specs.declared.request.Request.TheVariants as request
 use Rattle.application_lines.specs.Notices.{ApplicationNotice, Connected, Message, Refused, Released, Gone, Counts, Keys, KeysFault, Fault}
-use Rattle.application_model.specs.Ends.{KnownEnd, is_known, numbers_known, numbers_unparted, EventAt, EndKind, KeepsMessages, texts_accepted, texts_taken}
+use Rattle.application_model.specs.Ends.{KnownEnd, is_known, numbers_known, numbers_unparted, EventTime, EventAt, EndKind, KeepsMessages, texts_accepted}
+use Rattle.application_model.specs.Ends.{texts_taken}
 use Rattle.application_model.specs.Lines.{notices_of_event, connected_lines, is_line_of, lines_of_connection}
-use Rattle.application_model.specs.Histories.{ServiceHappening, Attaches, Departs, Brings, Takes, Opens, Befalls, Closes, KeysRead, ServiceItem, Came, LineRead}
+use Rattle.application_model.specs.Histories.{ServiceHappening, Attaches, Departs, Brings, Takes, Opens, Befalls, Closes, KeysRead, ServiceItem, Came}
+use Rattle.application_model.specs.Histories.{LineRead}
 use Rattle.application_model.specs.Histories.{Occurred, Informed, KeysFetched}
 use Rattle.application_model.specs.Services.{Attendance, Absent, Attached, has_room, Service, at_start, behind_items, inform}
 use Rattle.application_model.specs.Turns.{Debt, IsDoneInTurn}
@@ -35,14 +37,14 @@ owed_at_happening conn s (KeysRead answer) owed = owed
 abbrev pub lines_owed : ℕ → Service → ServiceItem → List ApplicationNotice → List ApplicationNotice
 lines_owed conn s (Came happening) owed = owed_at_happening conn s happening owed
 lines_owed conn s (LineRead line) owed = owed
-lines_owed conn s (Occurred moment c what outcomes) owed = owed ++ lines_if_there conn s.application (notices_of_event c what outcomes)
+lines_owed conn s (Occurred time c what outcomes) owed = owed ++ lines_if_there conn s.application (notices_of_event c what outcomes)
 lines_owed conn s (Informed notice) owed = owed
 lines_owed conn s KeysFetched owed = owed
 
 abbrev pub line_informed : ℕ → ServiceItem → Option ApplicationNotice
 line_informed conn (Came happening) = None
 line_informed conn (LineRead line) = None
-line_informed conn (Occurred moment c what outcomes) = None
+line_informed conn (Occurred time c what outcomes) = None
 line_informed conn (Informed notice) = if is_line_of conn notice then Some notice else None
 line_informed conn KeysFetched = None
 
@@ -73,7 +75,7 @@ deeds_asked known (Faulty line why) = []
 abbrev pub deeds_owed : Service → ServiceItem → List RequestDeed → List RequestDeed
 deeds_owed s (Came happening) owed = owed
 deeds_owed s (LineRead line) owed = owed ++ deeds_asked s.known line
-deeds_owed s (Occurred moment c what outcomes) owed = owed
+deeds_owed s (Occurred time c what outcomes) owed = owed
 deeds_owed s (Informed notice) owed = owed
 deeds_owed s KeysFetched owed = owed
 
@@ -106,7 +108,7 @@ deed_of_notice (Fault line why) = None
 abbrev pub deed_done : ServiceItem → Option RequestDeed
 deed_done (Came happening) = None
 deed_done (LineRead line) = None
-deed_done (Occurred moment conn what outcomes) = deed_of_event conn what
+deed_done (Occurred time conn what outcomes) = deed_of_event conn what
 deed_done (Informed notice) = deed_of_notice notice
 deed_done KeysFetched = None
 
@@ -119,14 +121,14 @@ deeds_due = record { grows = deeds_owed; does = deed_done }
 abbrev pub events_of_item : ℕ → ServiceItem → List EventAt
 events_of_item conn (Came happening) = []
 events_of_item conn (LineRead line) = []
-events_of_item conn (Occurred moment c what outcomes) = if conn == c then record { moment = moment; event = what } ∷ [] else []
+events_of_item conn (Occurred time c what outcomes) = if conn == c then record { time = time; event = what } ∷ [] else []
 events_of_item conn (Informed notice) = []
 events_of_item conn KeysFetched = []
 
 abbrev pub outcomes_of_item : ℕ → ServiceItem → List TraceOutcome
 outcomes_of_item conn (Came happening) = []
 outcomes_of_item conn (LineRead line) = []
-outcomes_of_item conn (Occurred moment c what outcomes) = if conn == c then outcomes else []
+outcomes_of_item conn (Occurred time c what outcomes) = if conn == c then outcomes else []
 outcomes_of_item conn (Informed notice) = []
 outcomes_of_item conn KeysFetched = []
 
@@ -141,7 +143,7 @@ outcomes_at_connection conn (item ∷ items) = outcomes_of_item conn item ++ out
 -- the outcomes of events alone, behind those that came before
 abbrev pub outcomes_alone : EndKind → List EventAt → List EventAt → List TraceOutcome
 outcomes_alone kind before [] = []
-outcomes_alone kind before (x ∷ xs) = kind.tells before x.moment x.event ++ outcomes_alone kind (before ++ x ∷ []) xs
+outcomes_alone kind before (x ∷ xs) = kind.tells before x.time x.event ++ outcomes_alone kind (before ++ x ∷ []) xs
 
 abbrev pub GoesByItsEvents : EndKind → List ServiceItem → Type 0
 GoesByItsEvents kind items = (conn : ℕ) → outcomes_at_connection conn items ≡ outcomes_alone kind [] (events_at conn items)
@@ -153,8 +155,8 @@ LosesNothing kind items = (conn : ℕ)
     → texts_accepted (outcomes_at_connection conn items) ≡ texts_taken (outcomes_at_connection conn items) ++ kind.waiting (events_at conn items)
 
 abbrev pub IsTakenWithRoom : List ServiceItem → Type 0
-IsTakenWithRoom items = (before after : List ServiceItem) (moment conn : ℕ) (outcomes : List TraceOutcome)
-    → items ≡ before ++ Occurred moment conn event.Take outcomes ∷ after → has_room (behind_items at_start before).application ≡ true
+IsTakenWithRoom items = (before after : List ServiceItem) (time : EventTime) (conn : ℕ) (outcomes : List TraceOutcome)
+    → items ≡ before ++ Occurred time conn event.Take outcomes ∷ after → has_room (behind_items at_start before).application ≡ true
 
 -- ---- a drain: nothing more is accepted
 
@@ -169,7 +171,7 @@ is_drain (Faulty line why) = false
 abbrev pub is_drain_item : ServiceItem → Bool
 is_drain_item (Came happening) = false
 is_drain_item (LineRead line) = is_drain line
-is_drain_item (Occurred moment conn what outcomes) = false
+is_drain_item (Occurred time conn what outcomes) = false
 is_drain_item (Informed notice) = false
 is_drain_item KeysFetched = false
 

@@ -2,7 +2,8 @@
 use Rattle.std.specs.Prelude.{◌≡◌, ℕ, ◌==◌, not, Bool, if◌then◌else◌, List, [], ◌∷◌, ◌++◌, map, filter}
 use Rattle.std.specs.List.{flat_map, list_any}
 use Rattle.er_trace.specs.declared.event.Event.{Event}
-use Rattle.er_trace.specs.Outcomes.{TraceOutcome, Connected, Accepted, Taken, Empty, RefusedReleased, RefusedNotConnected, RefusedLength, RefusedFull, Released}
+use Rattle.er_trace.specs.Outcomes.{TraceOutcome, Connected, Accepted, Taken, Empty, RefusedReleased, RefusedNotConnected, RefusedLength, RefusedFull}
+use Rattle.er_trace.specs.Outcomes.{Released}
 use Rattle.er_trace.specs.Outcomes.{Octets}
 
 -- how far the end of a connection is: its connection is being set up; it is connected to this peer; it was released
@@ -60,14 +61,19 @@ numbers_unparted known = flat_map (λ (k : KnownEnd). number_unless_parted k.num
 
 -- ---- the ends themselves
 
+-- when an event comes: its moment, and how often the key file had been read again by then, which says the keys that hold
+pub record EventTime : Type 0 where
+  pub moment : ℕ
+  pub keys : ℕ
+
 -- an event at an end
 pub record EventAt : Type 0 where
-  pub moment : ℕ
+  pub time : EventTime
   pub event : Event
 
 -- a kind of ends: behind the events that came at one, what comes of an event, and the messages that were accepted and wait to be taken, the oldest first
 pub record EndKind : Type 0 where
-  pub tells : List EventAt → ℕ → Event → List TraceOutcome
+  pub tells : List EventAt → EventTime → Event → List TraceOutcome
   pub waiting : List EventAt → List (List ℕ)
 
 -- the messages that outcomes accept, and those that they take
@@ -100,6 +106,6 @@ texts_taken (Octets octets ∷ outcomes) = texts_taken outcomes
 -- an end keeps what it accepts, in order, until it is taken
 pub record KeepsMessages (kind : EndKind) : Type 0 where
   pub none : kind.waiting [] ≡ []
-  pub each : (before : List EventAt) (moment : ℕ) (what : Event)
-      → kind.waiting before ++ texts_accepted (kind.tells before moment what)
-      ≡ texts_taken (kind.tells before moment what) ++ kind.waiting (before ++ record { moment = moment; event = what } ∷ [])
+  pub each : (before : List EventAt) (time : EventTime) (what : Event)
+      → kind.waiting before ++ texts_accepted (kind.tells before time what)
+      ≡ texts_taken (kind.tells before time what) ++ kind.waiting (before ++ record { time = time; event = what } ∷ [])

@@ -4,6 +4,7 @@ use Rattle.er_trace.specs.declared.event.Event.{Event}
 use Rattle.er_trace.specs.Outcomes.{TraceOutcome}
 use Rattle.application_lines.specs.declared.application_line.ApplicationLine.{ApplicationLine}
 use Rattle.application_lines.specs.Notices.{ApplicationNotice}
+use Rattle.application_model.specs.Ends.{EventTime}
 
 -- what the key file gave: so many entries hold, or the words of its fault
 pub data KeysAnswer : Type 0 where
@@ -22,7 +23,7 @@ pub data ServiceHappening : Type 0 where
   Opens : Event → ServiceHappening
   Befalls : (conn : ℕ) → Event → ServiceHappening
   Closes : (conn : ℕ) → ServiceHappening
-  -- the key file was read again
+  -- the key file was fetched and read: with so many entries it holds from now on, or what was read before holds still
   KeysRead : KeysAnswer → ServiceHappening
 
 -- what a history is made of
@@ -30,8 +31,8 @@ pub data ServiceItem : Type 0 where
   Came : ServiceHappening → ServiceItem
   -- a line of the application was read
   LineRead : ApplicationLine → ServiceItem
-  -- an event at the end of a connection, at a moment, and its outcomes: its lines are printed
-  Occurred : (moment conn : ℕ) → Event → List TraceOutcome → ServiceItem
+  -- an event at the end of a connection, and its outcomes: its lines are printed
+  Occurred : EventTime → (conn : ℕ) → Event → List TraceOutcome → ServiceItem
   -- a line is appended to what waits for the application
   Informed : ApplicationNotice → ServiceItem
   -- the key file is fetched

@@ -1,5 +1,5 @@
 -- What the definitions of a loop with an application imply.
-use Rattle.std.specs.Prelude.{true, take, drop, ◌≡◌, ◌≢◌, ℕ, ◌==◌, if◌then◌else◌, List, [], ◌∷◌, ◌++◌, codes}
+use Rattle.std.specs.Prelude.{true, take, drop, ◌≡◌, ◌≢◌, ℕ, ◌+◌, ◌==◌, if◌then◌else◌, List, [], ◌∷◌, ◌++◌, Option, Some, None, codes}
 use Rattle.std.specs.List.{All, flat_map, filter_map}
 use Rattle.std.specs.Fmt.{decimal}
 use Rattle.er_base.specs.declared.release.Release.{Release}
@@ -9,14 +9,20 @@ use Rattle.er_trace.specs.declared.event.Event.TheVariants as event
 use Rattle.er_trace.specs.Outcomes as trace
 use Rattle.er_trace.specs.Outcomes.{TraceOutcome}
 use Rattle.er_trace.specs.Texts.{words_of_outcome}
+use Rattle.application_lines.specs.declared.application_line.ApplicationLine.{ApplicationLine}
+use Rattle.application_lines.specs.Streams.{stream_says}
 use Rattle.application_lines.specs.Notices.{ApplicationNotice, Connected, Message, Refused, Released, Gone, Counts, Keys, KeysFault, Fault, EndReleased}
 use Rattle.application_lines.specs.Notices.{Unconnected, OfLength, Overfull, notice_words}
-use Rattle.application_model.specs.Ends.{SettingUp, KnownEnd, end_stage_behind, is_known, EventAt, EndKind, KeepsMessages, texts_accepted, texts_taken}
+use Rattle.application_model.specs.Ends.{SettingUp, KnownEnd, end_stage_behind, is_known, EventTime, EventAt, EndKind, KeepsMessages, texts_accepted}
+use Rattle.application_model.specs.Ends.{texts_taken}
 use Rattle.application_model.specs.Lines.{connected_lines, lines_of_connection, notices_of_event}
-use Rattle.application_model.specs.Histories.{ServiceHappening, Attaches, Departs, ServiceItem, Came, LineRead, Occurred, Informed, KeysFetched}
-use Rattle.application_model.specs.Services.{has_room, Service, at_start, behind_item, behind_items, service_history}
-use Rattle.application_model.specs.Turns.{IsDoneInTurn}
-use Rattle.application_model.specs.Claims.{IsBeginning, lines_due, RequestDeed, deeds_owed, deed_done, deeds_due, ServesItsApplication}
+use Rattle.application_model.specs.Histories.{ServiceHappening, Attaches, Departs, Brings, Takes, Opens, Befalls, Closes, KeysRead, ServiceItem, Came}
+use Rattle.application_model.specs.Histories.{LineRead, Occurred, Informed, KeysFetched}
+use Rattle.application_model.specs.Services.{lines_brought, readings_in_answer, has_room, Service, at_start, behind_item, behind_items, service_history}
+use Rattle.application_model.specs.Turns.{Debt, IsDoneInTurn}
+use Rattle.application_model.specs.Claims.{IsBeginning, lines_due, RequestDeed, deeds_owed, deed_done, deeds_due, GoesByItsEvents, LosesNothing}
+use Rattle.application_model.specs.Claims.{IsTakenWithRoom, OpensNothingDrained}
+use Rattle.application_model.specs.Claims.{NumbersRise, ServesItsApplication}
 use Rattle.application_model.specs.Claims.{events_at, outcomes_at_connection, outcomes_alone}
 
 -- whatever comes, the loop does as is claimed
@@ -27,8 +33,8 @@ ServiceIsAsClaimed = (kind : EndKind) (happenings : List (ℕ × ServiceHappenin
 
 -- a take takes the oldest message that waits
 abbrev pub TakesTheOldest : EndKind → Type 0
-TakesTheOldest kind = (before : List EventAt) (moment : ℕ)
-    → kind.waiting (before ++ record { moment = moment; event = event.Take } ∷ []) ≡ drop 1 (kind.waiting before)
+TakesTheOldest kind = (before : List EventAt) (time : EventTime)
+    → kind.waiting (before ++ record { time = time; event = event.Take } ∷ []) ≡ drop 1 (kind.waiting before)
 
 -- behind all that comes: where the application is there and has room, no message waits at a live connection
 abbrev pub WaitsForRoomAlone : Type 0
@@ -42,13 +48,13 @@ WaitsForRoomAlone =
 
 -- nothing but a take takes a message
 abbrev pub TakesAlone : EndKind → Type 0
-TakesAlone kind = (before : List EventAt) (moment : ℕ) (what : Event) → what ≢ event.Take → texts_taken (kind.tells before moment what) ≡ []
+TakesAlone kind = (before : List EventAt) (time : EventTime) (what : Event) → what ≢ event.Take → texts_taken (kind.tells before time what) ≡ []
 
 -- what an application was told, and of it the messages of a connection
 abbrev pub told_in_item : ServiceItem → List ApplicationNotice
 told_in_item (Came happening) = []
 told_in_item (LineRead line) = []
-told_in_item (Occurred moment conn what outcomes) = []
+told_in_item (Occurred time conn what outcomes) = []
 told_in_item (Informed notice) = notice ∷ []
 told_in_item KeysFetched = []
 
@@ -94,9 +100,37 @@ KnowsByEvents =
 -- what comes of an event is what its end tells behind the events that came at it before
 abbrev pub EachTellsItsOwn : Type 0
 EachTellsItsOwn =
-    (kind : EndKind) (happenings : List (ℕ × ServiceHappening)) (before after : List ServiceItem) (moment conn : ℕ) (what : Event)
-    (outcomes : List TraceOutcome) → service_history kind happenings ≡ before ++ Occurred moment conn what outcomes ∷ after
-    → outcomes ≡ kind.tells (events_at conn before) moment what
+    (kind : EndKind) (happenings : List (ℕ × ServiceHappening)) (before after : List ServiceItem) (time : EventTime) (conn : ℕ) (what : Event)
+    (outcomes : List TraceOutcome) → service_history kind happenings ≡ before ++ Occurred time conn what outcomes ∷ after
+    → outcomes ≡ kind.tells (events_at conn before) time what
+
+-- ---- which keys hold
+
+-- how often the key file was read again, with success
+abbrev pub readings_in_item : ServiceItem → ℕ
+readings_in_item (Came Attaches) = 0
+readings_in_item (Came Departs) = 0
+readings_in_item (Came (Brings octets)) = 0
+readings_in_item (Came (Takes count)) = 0
+readings_in_item (Came (Opens what)) = 0
+readings_in_item (Came (Befalls conn what)) = 0
+readings_in_item (Came (Closes conn)) = 0
+readings_in_item (Came (KeysRead answer)) = readings_in_answer answer
+readings_in_item (LineRead line) = 0
+readings_in_item (Occurred time conn what outcomes) = 0
+readings_in_item (Informed notice) = 0
+readings_in_item KeysFetched = 0
+
+abbrev pub readings_in : List ServiceItem → ℕ
+readings_in [] = 0
+readings_in (item ∷ items) = readings_in_item item + readings_in items
+
+-- an event comes under the keys of the newest reading before it
+abbrev pub EventsHaveTheNewestKeys : Type 0
+EventsHaveTheNewestKeys =
+    (kind : EndKind) (happenings : List (ℕ × ServiceHappening)) (before after : List ServiceItem) (time : EventTime) (conn : ℕ) (what : Event)
+    (outcomes : List TraceOutcome) → service_history kind happenings ≡ before ++ Occurred time conn what outcomes ∷ after
+    → time.keys ≡ readings_in before
 
 -- ---- what it means that an application is told in turn
 
@@ -114,7 +148,7 @@ AreNoChanges (item ∷ items) = IsNoChange item × AreNoChanges items
 abbrev pub journal_of_item : ServiceItem → List ApplicationNotice
 journal_of_item (Came happening) = []
 journal_of_item (LineRead line) = []
-journal_of_item (Occurred moment conn what outcomes) = notices_of_event conn what outcomes
+journal_of_item (Occurred time conn what outcomes) = notices_of_event conn what outcomes
 journal_of_item (Informed notice) = []
 journal_of_item KeysFetched = []
 
@@ -126,6 +160,64 @@ ToldBeginsTheJournal =
     → IsDoneInTurn (lines_due conn) at_start [] (before ++ Came Attaches ∷ (during ++ after)) last → AreNoChanges during
     → IsBeginning (lines_of_connection conn (flat_map told_in_item during))
     (lines_of_connection conn (connected_lines (behind_items at_start before).known ++ flat_map journal_of_item during))
+
+-- ---- which lines are read
+
+abbrev pub lines_to_read_at : Service → ServiceHappening → List ApplicationLine → List ApplicationLine
+lines_to_read_at s Attaches owed = []
+lines_to_read_at s Departs owed = []
+lines_to_read_at s (Brings octets) owed = owed ++ lines_brought octets s.application
+lines_to_read_at s (Takes count) owed = owed
+lines_to_read_at s (Opens what) owed = owed
+lines_to_read_at s (Befalls conn what) owed = owed
+lines_to_read_at s (Closes conn) owed = owed
+lines_to_read_at s (KeysRead answer) owed = owed
+
+abbrev pub lines_to_read : Service → ServiceItem → List ApplicationLine → List ApplicationLine
+lines_to_read s (Came happening) owed = lines_to_read_at s happening owed
+lines_to_read s (LineRead line) owed = owed
+lines_to_read s (Occurred time conn what outcomes) owed = owed
+lines_to_read s (Informed notice) owed = owed
+lines_to_read s KeysFetched owed = owed
+
+abbrev pub line_read_by : ServiceItem → Option ApplicationLine
+line_read_by (Came happening) = None
+line_read_by (LineRead line) = Some line
+line_read_by (Occurred time conn what outcomes) = None
+line_read_by (Informed notice) = None
+line_read_by KeysFetched = None
+
+-- an application's octets owe the lines that they say, each of which is read
+abbrev pub lines_due_to_read : Debt ApplicationLine
+lines_due_to_read = record { grows = lines_to_read; does = line_read_by }
+
+-- whatever comes: each line is read in turn, and none twice
+abbrev pub LinesAreRead : Type 0
+LinesAreRead =
+    (kind : EndKind) (happenings : List (ℕ × ServiceHappening))
+    → IsDoneInTurn lines_due_to_read at_start [] (service_history kind happenings) []
+
+-- what an application brought in a part of a history, and the lines that were read there
+abbrev pub octets_brought_by : ServiceItem → List ℕ
+octets_brought_by (Came Attaches) = []
+octets_brought_by (Came Departs) = []
+octets_brought_by (Came (Brings octets)) = octets
+octets_brought_by (Came (Takes count)) = []
+octets_brought_by (Came (Opens what)) = []
+octets_brought_by (Came (Befalls conn what)) = []
+octets_brought_by (Came (Closes conn)) = []
+octets_brought_by (Came (KeysRead answer)) = []
+octets_brought_by (LineRead line) = []
+octets_brought_by (Occurred time conn what outcomes) = []
+octets_brought_by (Informed notice) = []
+octets_brought_by KeysFetched = []
+
+-- so the lines that were read of an application since it came begin what its octets say that it brought
+abbrev pub ReadBeginsTheSaid : Type 0
+ReadBeginsTheSaid =
+    (before during after : List ServiceItem) (last : List ApplicationLine)
+    → IsDoneInTurn lines_due_to_read at_start [] (before ++ Came Attaches ∷ (during ++ after)) last → AreNoChanges during
+    → IsBeginning (filter_map line_read_by during) (stream_says (flat_map octets_brought_by during))
 
 -- ---- what it means that its lines are done in turn
 
@@ -146,6 +238,25 @@ DoneBeginsTheAsked =
 -- and where nothing is owed any more, it is all of that
 abbrev pub AllAskedIsDone : Type 0
 AllAskedIsDone = (items : List ServiceItem) → IsDoneInTurn deeds_due at_start [] items [] → deeds_asked_in at_start items ≡ deeds_done_in items
+
+-- ---- at each moment
+
+-- what is claimed of a history, of one that may go on: lines and deeds may still be owed
+pub record ServesItSoFar (kind : EndKind) (items : List ServiceItem) : Type 0 where
+  pub told : (conn : ℕ) → (owed : List ApplicationNotice) × IsDoneInTurn (lines_due conn) at_start [] items owed
+  pub read : (owed : List ApplicationLine) × IsDoneInTurn lines_due_to_read at_start [] items owed
+  pub said : (owed : List RequestDeed) × IsDoneInTurn deeds_due at_start [] items owed
+  pub isolated : GoesByItsEvents kind items
+  pub kept : KeepsMessages kind → LosesNothing kind items
+  pub room : IsTakenWithRoom items
+  pub drained : OpensNothingDrained items
+  pub rise : NumbersRise items
+
+-- wherever a history is cut
+abbrev pub EachBeginningIsAsClaimed : Type 0
+EachBeginningIsAsClaimed =
+    (kind : EndKind) (happenings : List (ℕ × ServiceHappening)) (front back : List ServiceItem) → service_history kind happenings ≡ front ++ back
+    → ServesItSoFar kind front
 
 -- ---- the words of the recording
 

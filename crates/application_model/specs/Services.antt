@@ -1,5 +1,5 @@
 -- What a loop with an application goes by, and what it does when something comes (this profile): who is told what, which lines are taken, where room counts.
-use Rattle.std.specs.Prelude.{ℕ, zero, suc, ◌+◌, ◌-◌, ◌==◌, nat_lt, Bool, true, false, not, ◌&&◌, if◌then◌else◌, List, [], ◌∷◌, ◌++◌, length, map}
+use Rattle.std.specs.Prelude.{ℕ, zero, suc, ◌+◌, ◌-◌, min, ◌==◌, nat_lt, Bool, true, false, not, ◌&&◌, if◌then◌else◌, List, [], ◌∷◌, ◌++◌, length, map}
 use Rattle.er_trace.specs.declared.event.Event.{Event}
 use Rattle.er_trace.specs.declared.event.Event.TheVariants as event
 use Rattle.er_trace.specs.Outcomes as trace
@@ -10,10 +10,12 @@ use Rattle.application_lines.specs.declared.request.Request.{Request}
 use Rattle.application_lines.specs.declared.request.Request.TheVariants as request
 use Rattle.application_lines.specs.Notices.{ApplicationNotice, Gone, Counts, Keys, KeysFault, Fault, notice_text}
 use Rattle.application_lines.specs.Standings.{LineStanding, at_first_line, line_standing_from, says_from}
-use Rattle.application_model.specs.Ends.{SettingUp, KnownEnd, known_behind, without_end, is_known, numbers_known, numbers_unparted, EventAt, EndKind}
+use Rattle.application_model.specs.Ends.{SettingUp, KnownEnd, known_behind, without_end, is_known, numbers_known, numbers_unparted, EventTime, EventAt}
+use Rattle.application_model.specs.Ends.{EndKind}
 use Rattle.application_model.specs.Ends.{texts_taken}
 use Rattle.application_model.specs.Lines.{notices_of_event, connected_lines}
-use Rattle.application_model.specs.Histories.{KeysAnswer, Hold, AreFaulty, ServiceHappening, Attaches, Departs, Brings, Takes, Opens, Befalls, Closes, KeysRead}
+use Rattle.application_model.specs.Histories.{KeysAnswer, Hold, AreFaulty, ServiceHappening, Attaches, Departs, Brings, Takes, Opens, Befalls, Closes}
+use Rattle.application_model.specs.Histories.{KeysRead}
 use Rattle.application_model.specs.Histories.{ServiceItem, Came, LineRead, Occurred, Informed, KeysFetched}
 
 -- no application is there; or one is, where its stream stands, and how many octets wait for it
@@ -22,7 +24,7 @@ pub data Attendance : Type 0 where
   Attached : LineStanding → (waiting : ℕ) → Attendance
 
 -- what the loop goes by: its live connections, numbers rising, and what came at the end of each; how many were opened, how many connected and how many
--- messages were taken since the start; the application; and whether nothing more is accepted
+-- messages were taken since the start; the application; whether nothing more is accepted; and how often the key file was read again, with success
 pub record Service : Type 0 where
   pub known : List KnownEnd
   pub ends : ℕ → List EventAt
@@ -31,6 +33,7 @@ pub record Service : Type 0 where
   pub messages : ℕ
   pub application : Attendance
   pub draining : Bool
+  pub keys : ℕ
 
 -- the most octets that may wait for an application where a message is taken
 abbrev pub most_for_application : ℕ
@@ -82,7 +85,12 @@ at_start = record {
   messages = 0;
   application = Absent;
   draining = false;
+  keys = 0;
 }
+
+abbrev pub readings_in_answer : KeysAnswer → ℕ
+readings_in_answer (Hold entries) = 1
+readings_in_answer (AreFaulty words) = 0
 
 abbrev pub service_behind_happening : Service → ServiceHappening → Service
 service_behind_happening s Attaches = record s { application = Attached at_first_line 0 }
@@ -92,7 +100,7 @@ service_behind_happening s (Takes count) = record s { application = octets_taken
 service_behind_happening s (Opens what) = record s { known = s.known ++ record { number = s.opened + 1; stage = SettingUp } ∷ []; opened = s.opened + 1 }
 service_behind_happening s (Befalls conn what) = s
 service_behind_happening s (Closes conn) = record s { known = without_end conn s.known }
-service_behind_happening s (KeysRead answer) = s
+service_behind_happening s (KeysRead answer) = record s { keys = s.keys + readings_in_answer answer }
 
 abbrev pub behind_request : Service → Request → Service
 behind_request s (request.Send conn text) = s
@@ -105,18 +113,22 @@ abbrev pub behind_line : Service → ApplicationLine → Service
 behind_line s (Asks asked) = behind_request s asked
 behind_line s (Faulty line why) = s
 
-abbrev pub behind_event : Service → ℕ → ℕ → Event → List TraceOutcome → Service
-behind_event s moment conn what outcomes = record s {
+-- a count that stays at 2 ^ 64 - 1
+abbrev pub counted_up : ℕ → ℕ → ℕ
+counted_up count more = min (count + more) 18446744073709551615
+
+abbrev pub behind_event : Service → EventTime → ℕ → Event → List TraceOutcome → Service
+behind_event s time conn what outcomes = record s {
   known = known_behind conn outcomes s.known;
-  ends = λ (c : ℕ). if c == conn then s.ends c ++ record { moment = moment; event = what } ∷ [] else s.ends c;
-  connected = s.connected + connections_made outcomes;
-  messages = s.messages + length (texts_taken outcomes);
+  ends = λ (c : ℕ). if c == conn then s.ends c ++ record { time = time; event = what } ∷ [] else s.ends c;
+  connected = counted_up s.connected (connections_made outcomes);
+  messages = counted_up s.messages (length (texts_taken outcomes));
 }
 
 abbrev pub behind_item : Service → ServiceItem → Service
 behind_item s (Came happening) = service_behind_happening s happening
 behind_item s (LineRead line) = behind_line s line
-behind_item s (Occurred moment conn what outcomes) = behind_event s moment conn what outcomes
+behind_item s (Occurred time conn what outcomes) = behind_event s time conn what outcomes
 behind_item s (Informed notice) = record s { application = waiting_more (notice_text notice) s.application }
 behind_item s KeysFetched = s
 
@@ -175,14 +187,18 @@ is_of_outside event.Stalled = true
 is_of_outside (event.Full count) = true
 is_of_outside (event.Unserved count) = true
 
+-- an event at this moment
+abbrev pub time_at : ℕ → Service → EventTime
+time_at moment s = record { moment = moment; keys = s.keys }
+
 -- ---- the same over ends of a kind
 
 module _ (kind : EndKind) where
   -- an event at the end of a connection, and its lines
   abbrev pub occurs : ℕ → ℕ → Event → Service → List ServiceItem
   occurs moment conn what s =
-      let outcomes = kind.tells (s.ends conn) moment what in
-      Occurred moment conn what outcomes ∷ informed s.application (notices_of_event conn what outcomes)
+      let outcomes = kind.tells (s.ends conn) (time_at moment s) what in
+      Occurred (time_at moment s) conn what outcomes ∷ informed s.application (notices_of_event conn what outcomes)
 
   -- a message is taken where one waits and there is room, so many times at the most
   unfoldable pub takes_most : ℕ → ℕ → ℕ → Service → List ServiceItem

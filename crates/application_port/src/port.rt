@@ -1,9 +1,10 @@
 //! The loop's side of its application.
 
-ghost use Rattle.std.specs.Prelude.{◌≡◌, ◌≤◌, ◌<◌, true, [], length, take, IfOk, OnOk, OnErr};
+ghost use Rattle.std.specs.Prelude.{◌≡◌, ◌≤◌, ◌<◌, true, [], length, take, IfOk, IfSome, OnOk, OnErr};
 ghost use Rattle.application_lines.specs.Notices.{notice_text};
 ghost use Rattle.application_lines.specs.Lending.{notice_lent};
 ghost use Rattle.application_lines.specs.Standings.{at_first_line};
+ghost use Rattle.application_lines.specs.Taking.{IsApplicationLineInRange};
 ghost use Rattle.application_model.specs.Services.{is_attached, has_room};
 ghost use Rattle.application_port.specs.Ports.{NobodyThere, Talking, attendance_of, output_of, told_at_port, written_at_port, HearsAtPort};
 
@@ -120,6 +121,7 @@ impl Port {
         ensures within { IfOk result (λ taken. taken.used ≤ length octets.now) }
         ensures moves { IfOk result (λ taken. 0 < length octets.now → 0 < taken.used) }
         ensures hears { IfOk result (λ taken. HearsAtPort self.old self.new (take taken.used octets.now) taken.line) }
+        ensures range { IfOk result (λ taken. IfSome taken.line (λ line. IsApplicationLineInRange line)) }
     {
         self.reader.take(alloc, octets)
     }

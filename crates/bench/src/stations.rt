@@ -4,22 +4,19 @@
 //! The n-th frame of a direction is lost or not by the line's seed alone, with stations of either kind.
 
 mod end;
-mod fitting;
-mod go_back;
-mod kind;
 mod loss;
-mod selective;
+mod measured;
 mod wire;
 
-ghost use Rattle.std.specs.Prelude.{◌*◌, ◌≤◌};
+ghost use Rattle.std.specs.Prelude.{◌*◌, ◌≤◌, ◌≡◌, true};
+ghost use Rattle.hdlc_station.specs.Stations.{is_selective_reject};
 
 use crate::numbers::Numbers;
-use crate::stations::go_back::GoBack;
-use crate::stations::kind::Kind;
-use crate::stations::selective::Selective;
+use crate::stations::measured::Measured;
 use crate::stations::wire::{T1, Totals, Wire};
 use er_base::NoMemory;
 use er_settings::Settings;
+use hdlc_station::Reject;
 use std::alloc::Global;
 use std::io;
 
@@ -35,7 +32,7 @@ struct Plan {
 impl Plan {
     // Runs it over a wire. Four rounds a payload are more than it takes where the line loses up to ten frames of a hundred: fewer
     // payloads are taken then only where the link was released.
-    fn run<S: Kind>(&self, alloc: Global, calling: S, called: S) -> Result<Totals, NoMemory> {
+    fn run(&self, alloc: Global, calling: Measured, called: Measured) -> Result<Totals, NoMemory> {
         let mut wire = Wire::new(alloc, calling, called, self.seed, self.of_hundred)?;
         let payload = [0x55; 1026];
         let length = self.length.min(1026) as usize;
@@ -43,24 +40,17 @@ impl Plan {
         Ok(wire.run(&payload[..length], self.payloads, rounds))
     }
 
-    // Runs it with stations with go-back.
-    fn go_back(&self, alloc: Global, settings: &Settings) -> Result<Totals, NoMemory> {
-        let calling = GoBack::calling(alloc, settings)?;
-        match GoBack::called(alloc, settings) {
-            Ok(called) => self.run(alloc, calling, called),
-            Err(refused) => {
-                drop(calling);
-                Err(refused)
-            }
-        }
-    }
-
-    // Runs it with stations with selective reject.
-    fn selective(&self, alloc: Global, settings: &Settings) -> Result<Totals, NoMemory>
-        requires { 2 * settings.now.window ≤ settings.now.modulo }
+    // Makes both stations, and runs it.
+    fn measure(
+        &self,
+        alloc: Global,
+        settings: &Settings,
+        reject: Reject,
+    ) -> Result<Totals, NoMemory>
+        requires { is_selective_reject reject ≡ true → 2 * settings.now.window ≤ settings.now.modulo }
     {
-        let calling = Selective::calling(alloc, settings)?;
-        match Selective::called(alloc, settings) {
+        let calling = Measured::calling(alloc, settings, reject)?;
+        match Measured::called(alloc, settings, reject) {
             Ok(called) => self.run(alloc, calling, called),
             Err(refused) => {
                 drop(calling);
@@ -90,9 +80,9 @@ pub fn measure(rt: HostRuntime, selective: bool, numbers: &Numbers) -> io::Resul
         payloads,
     };
     let totals = if !selective {
-        plan.go_back(rt.alloc(), &settings)
+        plan.measure(rt.alloc(), &settings, Reject::GoBack)
     } else if settings.window <= settings.modulo / 2 {
-        plan.selective(rt.alloc(), &settings)
+        plan.measure(rt.alloc(), &settings, Reject::Selective)
     } else {
         return Err(io::Error::from(io::ErrorKind::InvalidInput));
     };

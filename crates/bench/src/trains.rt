@@ -11,7 +11,7 @@ mod train_wires;
 
 use crate::numbers::Numbers;
 use crate::trains::loop_objects::{LoopClock, LoopSink, NoFiles};
-use crate::trains::train::CENTRE;
+use crate::trains::train::centre;
 use crate::trains::train_wires::TrainWires;
 use er_base::NoMemory;
 use er_settings::Settings;
@@ -54,7 +54,7 @@ fn serve_once(
     let mut files = NoFiles;
     let mut clock = LoopClock;
     let mut outside = Parts::new(&mut files, sink, wires, &mut clock, &mut words);
-    let served = serve(alloc, keys, &plan, "here", CENTRE, users, &mut outside)?;
+    let served = serve(alloc, keys, &plan, "here", centre(), users, &mut outside)?;
     Ok(served.turns)
 }
 

@@ -11,7 +11,7 @@ use Rattle.journal.specs.declared.event_tally.EventTally.{EventTally}
 use Rattle.journal.specs.Tallies.{what_event_begins, messages_said_by_event, tells_connection, tells_acceptance, tells_refusal, told_release}
 use Rattle.journal.specs.Tallies.{count_outcomes, release_or_none, IsTallyOfEntry}
 use Rattle.journal.specs.Saying.{CountAlike, LinesSayCounts}
-use Rattle.counted.specs.declared.counts.Counts.{Counts}
+use Rattle.counted.specs.declared.counts.JournalCounts.{JournalCounts}
 use Rattle.counted.specs.Counting.{begins_an_end, turns_away, ends_begun_in_journal, turned_away_in_journal, said_in_journal, outcomes_of_entries}
 use Rattle.counted.specs.Counting.{connected_in_journal, accepted_in_journal, refused_in_journal, releases_in_journal, shown_count, counts_of_releases}
 use Rattle.counted.specs.Counting.{HaveTallies, IsCountOf, CountTheSame}
@@ -103,7 +103,7 @@ together law (x ∷ xs) (y ∷ ys) (s ∷ ss) (t ∷ ts) have_x have_y e =
     with_one x y xs ys s t have_x.0 have_y.0 alike
     (together law xs ys ss ts have_x.1.1 have_y.1.1 (rest_of (entry_text x) (entry_text y) (map entry_text xs) (map entry_text ys) e))
 
-pub decided : LinesSayCounts → (recorded : List Act) (c d : Counts) → IsCountOf recorded c → IsCountOf recorded d → CountTheSame c d
+pub decided : LinesSayCounts → (recorded : List Act) (c d : JournalCounts) → IsCountOf recorded c → IsCountOf recorded d → CountTheSame c d
 decided law recorded c d is_c is_d =
     let both = together law is_c.entries is_d.entries is_c.tallies is_d.tallies is_c.have is_d.have (sym is_c.lines ∙ is_d.lines) in
     record {

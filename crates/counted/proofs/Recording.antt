@@ -7,7 +7,7 @@ use Rattle.loop_model.specs.Journals.{JournalEntry, entry_text}
 use Rattle.outside.specs.Acts.{Act, Wrote}
 use Rattle.journal.specs.Tallies.{IsTallyOf, IsTallyOfEntry}
 use Rattle.journal.specs.declared.event_tally.EventTally.{EventTally}
-use Rattle.counted.specs.declared.counts.Counts.{Counts}
+use Rattle.counted.specs.declared.counts.JournalCounts.{JournalCounts}
 use Rattle.counted.specs.Counting.{lines_recorded_by, lines_recorded_in, AreCounts, HaveTallies, IsCountOf}
 use Rattle.journal.specs.Saying.{HasTallyRanges}
 
@@ -19,7 +19,7 @@ one_more_has [] (u ∷ us) x t have is ranges = absurd have
 one_more_has (y ∷ ys) [] x t have is ranges = absurd have
 one_more_has (y ∷ ys) (u ∷ us) x t have is ranges = (have.0, (have.1.0, one_more_has ys us x t have.1.1 is ranges))
 
-pub counted_more : (acts next : List Act) (lines : List ℕ) (t : EventTally) (old new : Counts) → next ≡ acts ++ Wrote lines true ∷ [] → IsTallyOf lines t
+pub counted_more : (acts next : List Act) (lines : List ℕ) (t : EventTally) (old new : JournalCounts) → next ≡ acts ++ Wrote lines true ∷ [] → IsTallyOf lines t
     → HasTallyRanges t
     → ((xs : List JournalEntry) (x : JournalEntry) → AreCounts xs old → IsTallyOfEntry x t → AreCounts (xs ++ x ∷ []) new)
     → ∥ IsCountOf acts old ∥₁ → ∥ IsCountOf next new ∥₁
@@ -34,7 +34,7 @@ counted_more acts next lines t old new e tally ranges adds is = ∥∥₁_map is
   are = adds c.entries tally.entry c.are tally.counts;
 })
 
-pub counted_still : (acts next : List Act) (lines : List ℕ) (counts : Counts) → next ≡ acts ++ Wrote lines false ∷ []
+pub counted_still : (acts next : List Act) (lines : List ℕ) (counts : JournalCounts) → next ≡ acts ++ Wrote lines false ∷ []
     → ∥ IsCountOf acts counts ∥₁ → ∥ IsCountOf next counts ∥₁
 counted_still acts next lines counts e is = ∥∥₁_map is (λ (c : IsCountOf acts counts). record {
   entries = c.entries;

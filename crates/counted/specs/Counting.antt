@@ -11,7 +11,7 @@ use Rattle.journal.specs.Tallies.{what_event_begins, messages_said_by_event, tel
 use Rattle.journal.specs.Tallies.{IsTallyOfEntry}
 use Rattle.journal.specs.Saying.{HasTallyRanges}
 use Rattle.journal.specs.declared.event_tally.EventTally.{EventTally}
-use Rattle.counted.specs.declared.counts.Counts.{Counts}
+use Rattle.counted.specs.declared.counts.JournalCounts.{JournalCounts}
 use Rattle.counted.specs.declared.release_count.ReleaseCount.{ReleaseCount}
 
 -- ---- over all entries
@@ -88,7 +88,7 @@ counts_of_releases releases = map (count_of_release releases) (take 64 (differen
 
 -- ---- all counts
 
-pub record AreCounts (xs : List JournalEntry) (counts : Counts) : Type 0 where
+pub record AreCounts (xs : List JournalEntry) (counts : JournalCounts) : Type 0 where
   pub opened : counts.opened ≡ shown_count (ends_begun_in_journal xs)
   pub turned_away : counts.turned_away ≡ shown_count (turned_away_in_journal xs)
   pub connected : counts.connected ≡ shown_count (connected_in_journal xs)
@@ -120,7 +120,7 @@ HaveTallies (x ∷ xs) [] = ⊥
 HaveTallies (x ∷ xs) (t ∷ ts) = IsTallyOfEntry x t × (HasTallyRanges t × HaveTallies xs ts)
 
 -- by these acts the lines of these entries were recorded, in their order, and no other lines; and the counts are theirs
-pub record IsCountOf (recorded : List Act) (counts : Counts) : Type 0 where
+pub record IsCountOf (recorded : List Act) (counts : JournalCounts) : Type 0 where
   pub entries : List JournalEntry
   pub lines : lines_recorded_in recorded ≡ map entry_text entries
   pub tallies : List EventTally
@@ -128,7 +128,7 @@ pub record IsCountOf (recorded : List Act) (counts : Counts) : Type 0 where
   pub are : AreCounts entries counts
 
 -- both have the same counts, but for the frames that were ignored
-pub record CountTheSame (c d : Counts) : Type 0 where
+pub record CountTheSame (c d : JournalCounts) : Type 0 where
   pub opened : c.opened ≡ d.opened
   pub turned_away : c.turned_away ≡ d.turned_away
   pub connected : c.connected ≡ d.connected

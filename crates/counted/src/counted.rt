@@ -14,7 +14,7 @@ ghost use Rattle.outside.specs.Doings.{Did};
 ghost use Rattle.journal.specs.Tallies.{IsTallyOf};
 ghost use Rattle.counted.specs.Counting.{shown_count, IsCountOf, AreAmong};
 
-use crate::counts::Counts;
+use crate::counts::JournalCounts;
 use journal::{EventTally, Journal};
 use link_trait::{Conn, Failed, FetchFault, Happening, ReadAnswer, WriteAnswer};
 use outside::{History, Note, Outside};
@@ -27,7 +27,7 @@ pub struct Counted<O: Journal + Drop> {
     /// What is inside.
     pub outside: O,
     /// What was counted.
-    pub counts: Counts,
+    pub counts: JournalCounts,
     /// What was recorded.
     pub recorded: History,
     ghost counted: { ∥ IsCountOf recorded.acts counts ∥₁ },
@@ -43,13 +43,13 @@ impl<O: Journal + Drop> Counted<O> {
     {
         Counted {
             outside,
-            counts: Counts::new(),
+            counts: JournalCounts::new(),
             recorded: History::new(),
         }
     }
 
     /// The counts of what was recorded with success: of these entries, whose lines were recorded in this order. It all stands among what was done inside.
-    pub fn counts(&self) -> &Counts
+    pub fn counts(&self) -> &JournalCounts
         ensures counts { result.now ≡ self.now.counts }
         ensures counted { ∥ IsCountOf self.now.recorded.acts result.now ∥₁ }
         ensures among { ∥ AreAmong self.now.recorded.acts (O.told self.now.outside).acts ∥₁ }

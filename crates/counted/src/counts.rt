@@ -18,7 +18,7 @@ pub const MOST_RELEASES: usize = 64;
 
 /// What is counted of the entries of a journal. Each count stays at its greatest value.
 #[derive(Debug, Drop)]
-pub struct Counts {
+pub struct JournalCounts {
     /// Ends that began.
     pub opened: u64,
     /// Connections that got no end.
@@ -64,13 +64,13 @@ fn has_ranges(_tally: EventTally)
     ensures { HasTallyRanges _tally }
 {}
 
-impl Counts {
+impl JournalCounts {
     /// Nothing was recorded yet.
-    pub fn new() -> Counts
+    pub fn new() -> JournalCounts
         ensures counts { AreCounts [] result }
         ensures ignored { result.ignored ≡ 0 }
     {
-        Counts {
+        JournalCounts {
             opened: 0,
             turned_away: 0,
             connected: 0,

@@ -7,7 +7,7 @@ ghost use Rattle.journal.specs.declared.event_tally.EventTally.{EventTally};
 ghost use Rattle.journal.specs.Tallies.{IsTallyOfEntry};
 ghost use Rattle.outside.specs.Acts.{Act};
 ghost use Rattle.counted.specs.Counting.{times_released, different_releases, IsCountOf, CountTheSame};
-ghost use Rattle.counted.specs.declared.counts.Counts.{Counts};
+ghost use Rattle.counted.specs.declared.counts.JournalCounts.{JournalCounts};
 ghost use Rattle.counted.specs.Rising.{RiseByTally};
 
 /// The tally of an entry is what the counts rise by with it. They wouldn't where a refused message counted as accepted.
@@ -17,7 +17,7 @@ pub fn rise_by_the_tally()
 
 /// What was recorded decides the counts: whoever counts it as the lines of other entries counts alike. So it were not if a count told what no line tells.
 pub fn are_decided_by_the_lines()
-    ensures { (recorded : List Act) (c d : Counts) → IsCountOf recorded c → IsCountOf recorded d → CountTheSame c d }
+    ensures { (recorded : List Act) (c d : JournalCounts) → IsCountOf recorded c → IsCountOf recorded d → CountTheSame c d }
 {
     journal::laws::lines_say_counts();
 }

@@ -10,5 +10,5 @@ pub mod laws;
 mod release_count;
 
 pub use counted::Counted;
-pub use counts::{Counts, MOST_RELEASES};
+pub use counts::{JournalCounts, MOST_RELEASES};
 pub use release_count::ReleaseCount;

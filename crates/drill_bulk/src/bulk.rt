@@ -7,7 +7,7 @@ ghost use Rattle.drill_bulk.specs.Turns.{kmac, bulk_set_up_steps, sender, messag
 ghost use Rattle.drill_bulk.specs.Draws.{words_drawn};
 
 use des_block::TripleKey;
-use er_base::{NoMemory, Octets, Side};
+use er_base::{EtcsNumber, Moment, NoMemory, Octets, Side};
 use er_scenario::Step;
 use rand_core::{Rng, SeedableRng};
 use rand_pcg::Lcg64Xsh32;
@@ -67,8 +67,8 @@ fn add_set_up(steps: &mut Vec<Step>) -> Result<(), NoMemory>
 {
     steps.push(Step::Link {
         link: LINK,
-        engine: 1,
-        rbc: 2,
+        engine: EtcsNumber::new(1),
+        rbc: EtcsNumber::new(2),
         ke: KMAC,
         kr: Some(KMAC),
         ra: 1,
@@ -106,7 +106,7 @@ fn add_turn(alloc: Global, index: u32, word: u32, steps: &mut Vec<Step>) -> Resu
     add_mishap(word, steps)?;
     add_drain(steps)?;
     steps.push(Step::Tick {
-        moment: 1_000 * (index as u64 + 1),
+        moment: Moment::new(1_000 * (index as u64 + 1)),
     })?;
     add_drain(steps)?;
     steps.push(Step::Take {

@@ -11,7 +11,7 @@ use Rattle.hdlc_frames.specs.Framing.{Verdict, Frame, TooLong, TooShort, BadFcs,
 use Rattle.hdlc_frames.specs.Deframing.{KeptDeframer, feeding_of, stream_behind_kept}
 use Rattle.hdlc_frames.specs.declared.found.Found.{Found}
 use Rattle.hdlc_frames.specs.Shown.{verdict_of_octets_found}
-use Rattle.hdlc_selective.specs.Kept.{FitsPlace}
+use Rattle.hdlc_station.specs.Held.{FitsPlace}
 
 body_short : (content : List ℕ) → length content ≤ 1032 → length (body_of content) ≤ 1032
 unfolding checked_part

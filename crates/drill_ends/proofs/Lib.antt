@@ -1,7 +1,6 @@
 pub mod SafeRows
 pub mod StationFrames
 pub mod Fitting
-pub mod EitherCalls
 pub mod StationCalls
 pub mod StationRows
 pub mod StackMoments

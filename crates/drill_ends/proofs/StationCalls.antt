@@ -12,7 +12,9 @@ use Rattle.hdlc_station_model.specs.Stations.{Station, Deed, no_deed, settled}
 use Rattle.hdlc_station_model.specs.Sending.{waiting}
 use Rattle.hdlc_station_model.specs.Calls.{closes, hands, finishes}
 use Rattle.hdlc_station_model.specs.Events.{said_octets, quits}
-use Rattle.hdlc_balanced.specs.Kept.{octets_of_sent_frames}
+use Rattle.hdlc_station.specs.Kept.{KeptStation, kept_of, octets_of_sent_frames}
+use Rattle.hdlc_station.specs.Places.{NumberPlace}
+use Rattle.hdlc_station.specs.Stations.{StationKept, is_selective, KeepsHeld, IsKeptOf, StandsInCall}
 use Rattle.er_end_model.specs.Outcomes.{RefusedFull}
 use Rattle.drill_model.specs.Outcomes.{DrillOutcome, Arrived, Frame as FrameOut}
 use Rattle.drill_model.specs.StationEnds.{if_up, if_arrived, all_arrived, if_released, outcomes_told_by_station, station_and_told, payload_refusal_of_station, handed_unless}
@@ -20,9 +22,6 @@ use Rattle.drill_ends.specs.declared.told.Told.{Told}
 use Rattle.drill_ends.specs.declared.told.Told.TheVariants as told
 use Rattle.drill_ends.specs.declared.refusal.Refusal.TheVariants as refusal
 use Rattle.drill_ends.specs.Tellings.{EachTold, AreTold, told_outcomes_of, told_outcomes_in}
-use Rattle.drill_ends.specs.declared.either_station.EitherStation.{EitherStation}
-use Rattle.drill_ends.specs.declared.either_station.EitherStation.TheVariants as either
-use Rattle.drill_ends.specs.EitherStations.{KeepsStationOfKind, StandsInCall}
 use Rattle.drill_ends.specs.KeptStations.{StandsQuiet}
 use Rattle.drill_ends.specs.StationEnds.{told_up, told_arrived, told_payloads, told_released, told_deed, told_frames, TellsFrames, CallDid}
 
@@ -73,48 +72,68 @@ call_told t =
     (released_told t.deed.released))
     (frames_told t.calling t.extended t.said)
 
+-- a deed that was told part by part
+pub deed_grew : (d : Deed) (before up arrived more all : List Told) → up ≡ before ++ told_up d.up → arrived ≡ up ++ told_arrived d.payload
+    → more ≡ arrived ++ map told.Arrived d.more → all ≡ more ++ told_released d.released → all ≡ before ++ told_deed d
+deed_grew d before up arrived more all up_is arrived_is more_is all_is =
+    all_is
+    ∙ ap (λ (xs : List Told). xs ++ told_released d.released)
+    (more_is
+    ∙ ap (λ (xs : List Told). xs ++ map told.Arrived d.more) (arrived_is ∙ ap (λ (xs : List Told). xs ++ told_arrived d.payload) up_is)
+    ∙ append_assoc (before ++ told_up d.up) (told_arrived d.payload) (map told.Arrived d.more)
+    ∙ append_assoc before (told_up d.up) (told_payloads d))
+    ∙ append_assoc before (told_up d.up ++ told_payloads d) (told_released d.released)
+
 -- what is kept says nothing of the call
-keeps_settled : (k : EitherStation) (selective : Bool) (s : Station) → KeepsStationOfKind k selective s → KeepsStationOfKind k selective (settled s)
-keeps_settled (either.GoBack k) true s h = absurd h
-keeps_settled (either.GoBack k) false s h = h
-keeps_settled (either.Selective k) true s h = record { core = h.core; behind = h.behind; no_gap = h.no_gap }
-keeps_settled (either.Selective k) false s h = absurd h
+held_settled : (places : Option (List NumberPlace)) (s : Station) → KeepsHeld places s → KeepsHeld places (settled s)
+held_settled None s h = tt
+held_settled (Some places) s h = h
+
+texts_alike : (k : KeptStation) (s : Station) → k ≡ kept_of s → octets_of_sent_frames k.calling k.extended s.said ≡ octets_of_sent_frames s.calling s.extended s.said
+texts_alike k s is = ap (λ (x : KeptStation). octets_of_sent_frames x.calling x.extended s.said) is
 
 module _ (selective : Bool) where
   -- between two calls, with an empty room
-  pub call_begins : (k : EitherStation) (s : Station) (room : Stored) → StandsQuiet k selective s → room.items ≡ [] → StandsInCall k selective [] room no_deed s
-  call_begins k s room h empty = record {
-    keeps = h.keeps;
-    order = h.order;
-    given = h.given;
-    deed = h.deed;
-    text = empty ∙ sym (ap (octets_of_sent_frames s.calling s.extended) h.said);
-  }
+  pub call_begins : (old k : StationKept) (s : Station) (room : Stored) → k ≡ old → StandsQuiet old selective s → room.items ≡ [] → StandsInCall k [] room no_deed s
+  call_begins old k s room same quiet empty =
+      let h : StandsQuiet k selective s = subst (λ (x : StationKept). StandsQuiet x selective s) (sym same) quiet in
+      record {
+        stands = record {
+          is = h.keeps.core;
+          order = h.order;
+          given = h.given;
+          deed = h.deed;
+          text = empty ∙ sym (ap (octets_of_sent_frames k.core.calling k.core.extended) h.said);
+        };
+        held = h.keeps.held;
+      }
 
   -- and behind it: what the call told, and then its frames
-  pub call_ends : (k : EitherStation) (room : Stored) (d : Deed) (t : Station) (before between now : List Told)
-      → StandsInCall k selective [] room d t → between ≡ before ++ told_deed d → TellsFrames room.items between now → CallDid k selective before now (station_and_told t)
-  call_ends k room d t before between now h tells frames =
-      let deed : told_deed d ≡ told_deed t.deed = ap told_deed (sym h.deed) in
+  pub call_ends : (k : StationKept) (room : Stored) (d : Deed) (t : Station) (before between now : List Told) → is_selective k ≡ selective
+      → StandsInCall k [] room d t → between ≡ before ++ told_deed d → TellsFrames room.items between now → CallDid k selective before now (station_and_told t)
+  call_ends k room d t before between now way h tells frames =
+      let deed : told_deed d ≡ told_deed t.deed = ap told_deed (sym h.stands.deed) in
       record {
-        stands = record { keeps = keeps_settled k selective t h.keeps; order = h.order; given = h.given; said = refl; deed = refl };
+        stands = record {
+          keeps = record { core = h.stands.is; way = way; held = held_settled k.places t h.held };
+          order = h.stands.order;
+          given = h.stands.given;
+          said = refl;
+          deed = refl;
+        };
         list = told_deed t.deed ++ told_frames t.calling t.extended t.said;
-        grew = frames t.calling t.extended t.said h.text
+        grew = frames t.calling t.extended t.said (h.stands.text ∙ texts_alike k.core t h.stands.is)
             ∙ ap (λ (xs : List Told). xs ++ told_frames t.calling t.extended t.said) tells
             ∙ append_assoc before (told_deed d) (told_frames t.calling t.extended t.said)
             ∙ ap (λ (xs : List Told). before ++ (xs ++ told_frames t.calling t.extended t.said)) deed;
         told = call_told t;
       }
 
-  -- a call at a moment
-  pub stands_at : (call : ℕ → Station → Station) (k : EitherStation) (room : Stored) (d : Deed) (s : Station) (a b : ℕ) → a ≡ b
-      → StandsInCall k selective [] room d (call a s) → StandsInCall k selective [] room d (call b s)
-  stands_at call k room d s a b same h = subst (λ (n : ℕ). StandsInCall k selective [] room d (call n s)) same h
-
-  -- between two calls, by the kind of the station
-  pub begins_as : (k of_kind : EitherStation) (s : Station) (room : Stored) → k ≡ of_kind → StandsQuiet k selective s → room.items ≡ []
-      → StandsInCall of_kind selective [] room no_deed s
-  begins_as k of_kind s room is h empty = subst (λ (x : EitherStation). StandsInCall x selective [] room no_deed s) is (call_begins k s room h empty)
+  -- the station stays one of its kind
+  pub way_stays : (old k mid new : StationKept) (s : Station) → k ≡ old → StandsQuiet old selective s → is_selective mid ≡ is_selective k
+      → new ≡ record mid { core = new.core } → is_selective new ≡ selective
+  way_stays old k mid new s same quiet first last =
+      ap (λ (x : StationKept). is_selective x) last ∙ first ∙ ap (λ (x : StationKept). is_selective x) same ∙ quiet.keeps.way
 
 -- nothing was told
 pub nothing_told : (before : List Told) → before ≡ before ++ told_deed no_deed
@@ -122,16 +141,16 @@ nothing_told before = sym (append-nil before)
 
 -- ---- the user releases
 
-keeps_quit : (k : EitherStation) (selective : Bool) (sub : ℕ) (s : Station) → KeepsStationOfKind k selective (closes s) → KeepsStationOfKind k selective (quits sub s)
-keeps_quit (either.GoBack k) true sub s h = absurd h
-keeps_quit (either.GoBack k) false sub s h = h
-keeps_quit (either.Selective k) true sub s h = record { core = h.core; behind = h.behind; no_gap = h.no_gap }
-keeps_quit (either.Selective k) false sub s h = absurd h
+held_quit : (places : Option (List NumberPlace)) (sub : ℕ) (s : Station) → KeepsHeld places (closes s) → KeepsHeld places (quits sub s)
+held_quit None sub s h = tt
+held_quit (Some places) sub s h = h
 
-pub quit_stands : (selective : Bool) (k : EitherStation) (room : Stored) (sub : ℕ) (s : Station) → StandsInCall k selective [] room no_deed (closes s)
-    → StandsInCall k selective [] room (record { up = false; payload = None; more = []; released = Some (release_of (User sub)) }) (quits sub s)
-quit_stands selective k room sub s h =
-    record { keeps = keeps_quit k selective sub s h.keeps; order = h.order; given = h.given; deed = refl; text = h.text }
+pub quit_stands : (k : StationKept) (room : Stored) (sub : ℕ) (s : Station) → StandsInCall k [] room no_deed (closes s)
+    → StandsInCall k [] room (record { up = false; payload = None; more = []; released = Some (release_of (User sub)) }) (quits sub s)
+quit_stands k room sub s h = record {
+  stands = record { is = h.stands.is; order = h.stands.order; given = h.stands.given; deed = refl; text = h.stands.text };
+  held = held_quit k.places sub s h.held;
+}
 
 -- ---- the user sends
 
@@ -152,19 +171,19 @@ full_refused s payload n some few many is =
     ∙ ap (λ (m : ℕ). Some (RefusedFull m)) (sym is)
 
 module _ (selective : Bool) where
-  pub hand_did : (k : EitherStation) (s : Station) (payload : List ℕ) (now : ℕ) (before after : List Told) → payload_refusal_of_station s payload None ≡ None
+  pub hand_did : (k : StationKept) (s : Station) (payload : List ℕ) (now : ℕ) (before after : List Told) → payload_refusal_of_station s payload None ≡ None
       → CallDid k selective before after (station_and_told (finishes (hands now payload s))) → CallDid k selective before after (handed_unless (payload_refusal_of_station s payload None) now payload s)
   hand_did k s payload now before after none d =
       subst (λ o. CallDid k selective before after (handed_unless o now payload s)) (sym none)
       (record { stands = d.stands; list = d.list; grew = d.grew; told = d.told })
 
-  pub full_did : (old k : EitherStation) (s : Station) (payload : List ℕ) (now n : ℕ) (before after : List Told) → payload_refusal_of_station s payload None ≡ Some (RefusedFull n)
+  pub full_did : (old k : StationKept) (s : Station) (payload : List ℕ) (now n : ℕ) (before after : List Told) → payload_refusal_of_station s payload None ≡ Some (RefusedFull n)
       → StandsQuiet old selective s → k ≡ old → after ≡ before ++ told.Refused (refusal.Full n) ∷ []
       → CallDid k selective before after (handed_unless (payload_refusal_of_station s payload None) now payload s)
   full_did old k s payload now n before after some h same grew =
       subst (λ o. CallDid k selective before after (handed_unless o now payload s)) (sym some)
       (record {
-        stands = subst (λ (x : EitherStation). StandsQuiet x selective s) (sym same) h;
+        stands = subst (λ (x : StationKept). StandsQuiet x selective s) (sym same) h;
         list = told.Refused (refusal.Full n) ∷ [];
         grew = grew;
         told = (record { refused = refusal.Full n; told_is = refl; is = refl }, tt);

@@ -8,7 +8,7 @@ use Rattle.hdlc_frames.specs.Deframing.{kept_of, stream_behind_kept}
 use Rattle.hdlc_frames.specs.FirstClose.{ClosesFirst}
 use Rattle.hdlc_frames.specs.Laws.{KeptStandsForStream, WrittenIsFirst}
 use Rattle.hdlc_station_model.specs.Frames.{Frame, sent_octets, sent_address, sent_body}
-use Rattle.hdlc_balanced.specs.Kept.{octets_of_sent_frames}
+use Rattle.hdlc_station.specs.Kept.{octets_of_sent_frames}
 use Rattle.drill_ends.specs.declared.told.Told.{Told}
 use Rattle.drill_ends.specs.declared.told.Told.TheVariants as told
 use Rattle.drill_ends.specs.StationEnds.{told_frames, TellingFrames}

@@ -1,23 +1,28 @@
 -- What an end of levels link and link-sr does at an event: its calls, the stream that it was given, and its release.
-use Rattle.std.proofs.Common.{◌≡◌, ℕ, Bool, true, false, ◌||◌, List, [], ◌∷◌, ◌++◌, length, drop, take, Option, Some, None, refl, sym, ap, ◌∙◌, subst, append-nil, append_assoc}
+use Rattle.std.proofs.Common.{◌≡◌, ◌⊎◌, inl, inr, ℕ, ◌<◌, Bool, true, false, ◌&&◌, ◌||◌, if◌then◌else◌, is_some, List, [], ◌∷◌, ◌++◌, length, drop, take, Option, Some, None, refl, sym, ap, ◌∙◌, subst, arith, append-nil, append_assoc, leb-true}
+use Rattle.std.specs.Prelude.{nat_le, nat_lt}
+use Rattle.std.proofs.lemmas.Bool.{cases_Bool}
 use Rattle.std.proofs.lemmas.List.{drop_at, take-append-drop}
 use Rattle.er_base.specs.declared.release.Release.{Release}
 use Rattle.hdlc_frames.specs.Framing.{Verdict, frames_of}
 use Rattle.hdlc_frames.specs.Deframing as frames
 use Rattle.hdlc_frames.specs.Laws.{KeptStandsForStream, StreamGoesOn}
 use Rattle.hdlc_station_model.specs.Stations.{Station, Deed, no_deed, settled, is_down}
+use Rattle.hdlc_station_model.specs.Sending.{waiting}
 use Rattle.hdlc_station_model.specs.Calls.{starts, hands, finishes, ticks}
 use Rattle.hdlc_station_model.specs.Selective.{receives_as}
 use Rattle.hdlc_station_model.specs.Laws.{HandsKeep}
 use Rattle.hdlc_pair_laws.specs.Keeping.{FramesGive}
 use Rattle.hdlc_station_model.specs.Reports.{newer, is_release, TellsRelease, ReleasesAreTold, KeepsRelease, FinishKeepsRelease}
-use Rattle.hdlc_station_model.specs.Events.{news, is_late}
-use Rattle.er_end_model.specs.Outcomes.{SendRefusal}
+use Rattle.hdlc_station_model.specs.Events.{news, quits, is_late}
+use Rattle.er_end_model.specs.Outcomes.{SendRefusal, RefusedFull, RefusedLength}
 use Rattle.drill_model.specs.Outcomes.{DrillOutcome}
-use Rattle.drill_model.specs.StationEnds.{station_and_told, station_start, frames_heard, payload_refusal_of_station, handed_unless, station_send, if_expired, station_tick}
+use Rattle.drill_model.specs.StationEnds.{station_and_told, station_start, frames_heard, payload_refusal_of_station, handed_unless, station_send, station_release, if_expired, station_tick}
 use Rattle.drill_ends.specs.declared.told.Told.{Told}
+use Rattle.drill_ends.specs.declared.told.Told.TheVariants as told
+use Rattle.drill_ends.specs.declared.refusal.Refusal.TheVariants as refusal
 use Rattle.drill_ends.specs.declared.station_end.StationEnd.{StationEnd}
-use Rattle.drill_ends.specs.declared.either_station.EitherStation.{EitherStation}
+use Rattle.hdlc_station.specs.Stations.{StationKept}
 use Rattle.drill_ends.specs.Tellings.{AreTold}
 use Rattle.drill_ends.specs.KeptStations.{StandsQuiet, StandsStation}
 use Rattle.drill_model.specs.Ends.{station_end}
@@ -73,7 +78,7 @@ at_end : (k : StationEnd) (selective : Bool) (stream : List ℕ) (before now : L
 at_end k selective stream before now a d reads known =
     record { stands = joined k selective a.0 stream d.stands reads known; list = d.list; grew = d.grew; told = d.told }
 
-pub starts_so : ReleasesAreTold → FinishKeepsRelease → (old : StationEnd) (k : EitherStation) (moment : ℕ) (before now : List Told)
+pub starts_so : ReleasesAreTold → FinishKeepsRelease → (old : StationEnd) (k : StationKept) (moment : ℕ) (before now : List Told)
     → ((selective : Bool) → CallTells selective old.station k before now None (λ s. finishes (starts moment s))) → StationDoes old (record old { station = k }) before now (station_start moment)
 starts_so laws law old k moment before now call selective s stream h =
     let d = call selective s h.station in
@@ -85,7 +90,7 @@ pub expired_told : (expired : Bool) (outcomes : List DrillOutcome) (list : List 
 expired_told true outcomes list a = a
 expired_told false outcomes list a = a
 
-pub ticks_so : ReleasesAreTold → FinishKeepsRelease → (old : StationEnd) (k : EitherStation) (released new : Option Release) (moment : ℕ) (before now : List Told)
+pub ticks_so : ReleasesAreTold → FinishKeepsRelease → (old : StationEnd) (k : StationKept) (released new : Option Release) (moment : ℕ) (before now : List Told)
     → ((selective : Bool) → CallTells selective old.station k before now released (λ s. finishes (ticks moment s))) → new ≡ newer released old.released
     → StationDoes old (record old { station = k; released = new }) before now (station_tick moment)
 ticks_so laws law old k released new moment before now call kept selective s stream h =
@@ -109,7 +114,7 @@ hand_known laws law hand old moment payload selective s stream h None =
     known_kept old.released s (finishes t) (known_of old selective s stream h) (told_finished law s t ((laws moment s h.station.deed).3 payload))
     ((law t).deed ∙ (hand moment payload s).2 ∙ h.station.deed)
 
-pub sends_so : ReleasesAreTold → FinishKeepsRelease → HandsKeep → (old : StationEnd) (k : EitherStation) (moment : ℕ) (payload : List ℕ) (before now : List Told) → old.released ≡ None
+pub sends_so : ReleasesAreTold → FinishKeepsRelease → HandsKeep → (old : StationEnd) (k : StationKept) (moment : ℕ) (payload : List ℕ) (before now : List Told) → old.released ≡ None
     → ((selective : Bool) → CallDoes selective old.station k before now (λ s. handed_unless (payload_refusal_of_station s payload None) moment payload s))
     → StationDoes old (record old { station = k }) before now (station_send moment payload)
 sends_so laws law hand old k moment payload before now none call selective s stream h =
@@ -117,6 +122,53 @@ sends_so laws law hand old k moment payload before now none call selective s str
     subst (λ r. StationDid (record old { station = k }) selective stream before now (handed_unless (payload_refusal_of_station s payload r) moment payload s)) (sym unreleased)
     (at_end (record old { station = k }) selective stream before now (handed_unless (payload_refusal_of_station s payload None) moment payload s) (call selective s h.station) h.reads
     (hand_known laws law hand old moment payload selective s stream h (payload_refusal_of_station s payload None)))
+
+too_long : (n : ℕ) → 1026 < n → nat_le n 1026 ≡ false
+too_long n long = elim (cases_Bool (nat_le n 1026)) [ inl y ↦ absurd (omega (arith, long, leb-true n 1026 y)) | inr no_more ↦ no_more ]
+
+and_false : (b : Bool) → (b && false) ≡ false
+and_false true = refl
+and_false false = refl
+
+-- a payload of no octets, or of too many
+pub length_refused : (k : StationEnd) (moment : ℕ) (payload : List ℕ) (before now : List Told) → k.released ≡ None
+    → (length payload ≡ 0) ⊎ (1026 < length payload) → now ≡ before ++ told.Refused (refusal.Length (length payload)) ∷ []
+    → StationDoes k k before now (station_send moment payload)
+length_refused k moment payload before now none wrong grew selective s stream h =
+    let unreleased : s.released ≡ None = sym h.released ∙ none in
+    let test : (nat_le 1 (length payload) && nat_le (length payload) 1026) ≡ false = elim wrong [
+      | inl nothing ↦ ap (λ (n : ℕ). nat_le 1 n && nat_le n 1026) nothing
+      | inr long ↦ ap (λ (b : Bool). nat_le 1 (length payload) && b) (too_long (length payload) long) ∙ and_false (nat_le 1 (length payload))
+    ] in
+    subst (λ r. StationDid k selective stream before now (handed_unless (payload_refusal_of_station s payload r) moment payload s)) (sym unreleased)
+    (subst (λ (b : Bool). StationDid k selective stream before now
+    (handed_unless (if b then (if nat_lt (waiting s) 16 then None else Some (RefusedFull (waiting s))) else Some (RefusedLength (length payload))) moment payload s)) (sym test)
+    (record {
+      stands = h;
+      list = told.Refused (refusal.Length (length payload)) ∷ [];
+      grew = grew;
+      told = (record { refused = refusal.Length (length payload); told_is = refl; is = refl }, tt);
+    }))
+
+-- ---- the user releases
+
+none_released : (o : Option Release) → is_some o ≡ false → is_release o ≡ false
+none_released None e = refl
+none_released (Some release) e = absurd cc
+
+pub quits_so : (old : StationEnd) (k : StationKept) (sub : ℕ) (release : Release) (before now : List Told) → is_some old.released ≡ false
+    → ((selective : Bool) → CallTells selective old.station k before now (Some release) (quits sub))
+    → StationDoes old (record old { station = k; released = Some release }) before now (station_release sub)
+quits_so old k sub release before now none call selective s stream h =
+    let d = call selective s h.station in
+    let live : is_down s.phase ≡ false = h.down ∙ ap is_release (sym h.released) ∙ none_released old.released none in
+    subst (λ (b : Bool). StationDid (record old { station = k; released = Some release }) selective stream before now (if b then (s, []) else station_and_told (quits sub s))) (sym live)
+    (record {
+      stands = record { station = d.0.stands; reads = h.reads; released = d.1; down = rw live refl };
+      list = d.0.list;
+      grew = d.0.grew;
+      told = d.0.told;
+    })
 
 -- ---- octets
 
@@ -138,7 +190,7 @@ none_heard old d moment selective s stream octets before h reads is =
     (record { stands = joined (record old { deframer = d }) selective s (stream ++ octets) h.station reads (known_of old selective s stream h); list = []; grew = sym (append-nil before); told = tt })
 
 -- octets up to the end of a frame
-pub one_heard : FramesGive → FinishKeepsRelease → (old : StationEnd) (k : EitherStation) (d : frames.KeptDeframer) (released new : Option Release) (moment : ℕ) (verdict : Verdict)
+pub one_heard : FramesGive → FinishKeepsRelease → (old : StationEnd) (k : StationKept) (d : frames.KeptDeframer) (released new : Option Release) (moment : ℕ) (verdict : Verdict)
     (selective : Bool) (s : Station) (stream octets : List ℕ) (before now : List Told) → StandsStation old selective s stream
     → d ≡ frames.kept_of (stream ++ octets) → frames_of (stream ++ octets) ≡ frames_of stream ++ verdict ∷ []
     → CallTells selective old.station k before now released (λ s. finishes (receives_as selective moment verdict s)) → new ≡ newer released old.released

@@ -3,13 +3,12 @@ use Rattle.std.specs.Prelude.{ℕ, ◌≡◌, ◌≤◌, Bool, List, [], length}
 use Rattle.hdlc_frames.specs.Deframing as frames
 use Rattle.hdlc_station_model.specs.Stations.{Station, no_deed, is_down}
 use Rattle.hdlc_station_model.specs.Reports.{is_release}
-use Rattle.drill_ends.specs.declared.either_station.EitherStation.{EitherStation}
-use Rattle.drill_ends.specs.EitherStations.{KeepsStationOfKind}
+use Rattle.hdlc_station.specs.Stations.{StationKept, IsKeptOf}
 use Rattle.drill_ends.specs.declared.station_end.StationEnd.{StationEnd}
 
 -- a station of the code stands where one of the model of this kind does, between two calls
-pub record StandsQuiet (k : EitherStation) (selective : Bool) (s : Station) : Type 0 where
-  pub keeps : KeepsStationOfKind k selective s
+pub record StandsQuiet (k : StationKept) (selective : Bool) (s : Station) : Type 0 where
+  pub keeps : IsKeptOf k selective s
   pub order : s.acked ≤ s.sent
   pub given : s.sent ≤ length s.handed
   pub said : s.said ≡ []

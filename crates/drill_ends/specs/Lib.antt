@@ -3,7 +3,7 @@ pub mod Keys
 pub mod Refusals
 pub mod Events
 pub mod Tellings
-pub mod EitherStations
+pub mod StationPlans
 pub mod KeptStations
 pub mod KeptStacks
 pub mod KeptEnds

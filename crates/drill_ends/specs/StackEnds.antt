@@ -6,7 +6,7 @@ use Rattle.safety_automaton.specs.Keys.{KmacEntry, key_at}
 use Rattle.safety_automaton.specs.Safety.{session_in}
 use Rattle.hdlc_station_model.specs.Frames.{Frame}
 use Rattle.hdlc_station_model.specs.Events.{news}
-use Rattle.hdlc_balanced.specs.Kept.{octets_of_sent_frames}
+use Rattle.hdlc_station.specs.Kept.{octets_of_sent_frames}
 use Rattle.er_end_model.specs.Layers.{model}
 use Rattle.er_end_model.specs.Steps.{Finds, new_event, new_event_at}
 use Rattle.er_end_model.specs.Ends.{End as Stack, hears_each}

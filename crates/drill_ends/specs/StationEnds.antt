@@ -1,4 +1,4 @@
--- Representation: what an end of levels link and link-sr of the code tells of an event; no claim rests on it.
+-- Contract: what an end of levels link and link-sr tells of an event.
 use Rattle.std.specs.Prelude.{ℕ, ◌≡◌, Bool, true, false, List, [], ◌∷◌, ◌++◌, map, Option, Some, None}
 use Rattle.er_base.specs.declared.release.Release.{Release}
 use Rattle.hdlc_station_model.specs.Frames.{Frame, sent_octets}
@@ -7,8 +7,8 @@ use Rattle.hdlc_station_model.specs.Events.{news}
 use Rattle.drill_model.specs.Outcomes.{DrillOutcome}
 use Rattle.drill_model.specs.Ends.{EndAtLevel, OfStation}
 use Rattle.drill_model.specs.StationEnds.{station_and_told, frames_heard}
-use Rattle.hdlc_balanced.specs.Kept.{octets_of_sent_frames}
-use Rattle.drill_ends.specs.declared.either_station.EitherStation.{EitherStation}
+use Rattle.hdlc_station.specs.Kept.{octets_of_sent_frames}
+use Rattle.hdlc_station.specs.Stations.{StationKept}
 use Rattle.drill_ends.specs.declared.told.Told.{Told}
 use Rattle.drill_ends.specs.declared.told.Told.TheVariants as told
 use Rattle.drill_ends.specs.Tellings.{AreTold}
@@ -51,18 +51,18 @@ pub record TellingFrames (calling extended : Bool) (frames : List Frame) (rest :
   pub leads : now ++ told_frames calling extended left ≡ before ++ told_frames calling extended frames
 
 -- a call was made, what it told and the frames that it sent were told
-pub record CallDid (new : EitherStation) (selective : Bool) (before now : List Told) (a : Station × List DrillOutcome) : Type 0 where
+pub record CallDid (new : StationKept) (selective : Bool) (before now : List Told) (a : Station × List DrillOutcome) : Type 0 where
   pub stands : StandsQuiet new selective a.0
   pub list : List Told
   pub grew : now ≡ before ++ list
   pub told : AreTold a.1 list
 
 -- wherever the station stands
-abbrev pub CallDoes : (selective : Bool) → EitherStation → EitherStation → List Told → List Told → (Station → Station × List DrillOutcome) → Type 0
+abbrev pub CallDoes : (selective : Bool) → StationKept → StationKept → List Told → List Told → (Station → Station × List DrillOutcome) → Type 0
 CallDoes selective old new before now moves = (s : Station) → StandsQuiet old selective s → CallDid new selective before now (moves s)
 
 -- the same of a call that may tell a release
-abbrev pub CallTells : (selective : Bool) → EitherStation → EitherStation → List Told → List Told → Option Release → (Station → Station) → Type 0
+abbrev pub CallTells : (selective : Bool) → StationKept → StationKept → List Told → List Told → Option Release → (Station → Station) → Type 0
 CallTells selective old new before now released call =
     (s : Station) → StandsQuiet old selective s → CallDid new selective before now (station_and_told (call s)) × (released ≡ (call s).deed.released)
 

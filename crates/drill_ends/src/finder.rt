@@ -3,17 +3,18 @@
 ghost use Rattle.std.specs.Prelude.{◌≡◌};
 ghost use Rattle.drill_ends.specs.Keys.{key_entries_of_pair, AreKeysSteady};
 
-use des_block::TripleKey;
+use er_base::{EtcsNumber, Moment};
 use safety_automaton::KeyFinder;
+use session_keys::Kmac;
 use std::marker::Model;
 
 /// The one key that the ends of a link can find, at every moment: the KMAC of an engine and a radio block centre, if the latter has
 /// one. In contracts it is the list of the keys.
 #[derive(Drop)]
 pub struct OneKey {
-    engine: u32,
-    rbc: u32,
-    kmac: Option<TripleKey>,
+    engine: EtcsNumber,
+    rbc: EtcsNumber,
+    kmac: Option<Kmac>,
 }
 
 impl Model for OneKey {
@@ -27,8 +28,8 @@ impl Model for OneKey {
 }
 
 impl OneKey {
-    /// The KMAC of an engine and a radio block centre, by their ETCS numbers, if there is one.
-    pub fn new(engine: u32, rbc: u32, kmac: Option<TripleKey>) -> OneKey
+    /// The KMAC of an engine and a radio block centre, if there is one.
+    pub fn new(engine: EtcsNumber, rbc: EtcsNumber, kmac: Option<Kmac>) -> OneKey
         ensures { result ≡ key_entries_of_pair engine rbc kmac }
     {
         OneKey { engine, rbc, kmac }
@@ -38,18 +39,18 @@ impl OneKey {
     pub fn is_steady(&self)
         ensures { AreKeysSteady self.now }
     {
-        let _kmac = self.kmac;
+        let _kmac = &self.kmac;
     }
 }
 
 impl KeyFinder for OneKey {
     ghost entries = { λ k. k };
 
-    fn find(&self, engine: u32, rbc: u32, now: u64) -> Option<TripleKey> {
-        match self.kmac {
+    fn find(&self, engine: EtcsNumber, rbc: EtcsNumber, now: Moment) -> Option<Kmac> {
+        match &self.kmac {
             Some(kmac) => {
-                if self.engine == engine && self.rbc == rbc {
-                    Some(kmac)
+                if self.engine.get() == engine.get() && self.rbc.get() == rbc.get() {
+                    Some(kmac.copied())
                 } else {
                     None
                 }

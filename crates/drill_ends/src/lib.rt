@@ -2,7 +2,6 @@
 #![tactic(auto)]
 
 mod drill_end;
-mod either_station;
 mod end_event;
 mod finder;
 pub mod laws;

@@ -37,10 +37,11 @@ fn checked_in(alloc: Global, safe: &Safe) -> Result<Option<Checked>, NoMemory>
     let Some(text) = safe.verified() else {
         return Ok(None);
     };
-    let Some(key) = safe.session() else {
+    let Some(keys) = safe.session() else {
         return Ok(None);
     };
     let text = Octets::new(Vec::from_slice(alloc, text)?);
+    let key = keys.key();
     Ok(Some(Checked { key, text }))
 }
 
@@ -51,10 +52,11 @@ fn tell_sealed(alloc: Global, safe: &Safe, told: &mut VecDeque<Told>) -> Result<
     let Some(text) = safe.sealed() else {
         return Ok(());
     };
-    let Some(key) = safe.session() else {
+    let Some(keys) = safe.session() else {
         return Ok(());
     };
     let text = Octets::new(Vec::from_slice(alloc, text)?);
+    let key = keys.key();
     told.push_back(Told::Sealed { key, text })?;
     Ok(())
 }
@@ -165,7 +167,7 @@ fn received(
     ensures { IfOk result (λ told. SafeWent safe.new told.items (safe_end_step (key_at keys.now now) safe.old.safety (safety_event (model.Receive octets.now)))) }
 {
     let mut room = Room::with_capacity(alloc, SAPDU_OCTETS)?;
-    let deed = safe.receive(keys, now.get(), octets, &mut room);
+    let deed = safe.receive(keys, now, octets, &mut room);
     let checked = checked_in(alloc, safe)?;
     let mut told = VecDeque::new(alloc);
     tell_report(alloc, &deed, checked, &mut told)?;

@@ -52,7 +52,8 @@ fn tell_one(
     hdlc_frames::laws::goes_on();
     hdlc_frames::laws::kept_stands_for_stream();
     keys.is_steady();
-    let effects = end.apply(keys, now.get(), &given_at(event));
+    let _within = now.get();
+    let effects = end.apply(keys, now, &given_at(event));
     let used = effects.used;
     if let Some(refused) = effects.refused {
         told.push_back(Told::Refused(Refusal::of_stack(refused)))?;

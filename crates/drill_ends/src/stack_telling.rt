@@ -60,9 +60,10 @@ fn tell_checked(
     let Some(text) = end.verified() else {
         return Ok(());
     };
-    let Some(key) = end.session() else {
+    let Some(keys) = end.session() else {
         return Ok(());
     };
+    let key = keys.key();
     let text = copied(alloc, text)?;
     match (connected, end.accepted()) {
         (Some(peer), _) => told.push_back(Told::Connected { peer, key, text })?,
@@ -82,10 +83,11 @@ fn tell_sealed(alloc: Global, end: &End, told: &mut VecDeque<Told>) -> Result<()
     let Some(text) = end.sealed() else {
         return Ok(());
     };
-    let Some(key) = end.session() else {
+    let Some(keys) = end.session() else {
         return Ok(());
     };
     let text = copied(alloc, text)?;
+    let key = keys.key();
     told.push_back(Told::Sealed { key, text })?;
     Ok(())
 }

@@ -5,7 +5,7 @@ ghost use Rattle.hdlc_station_model.specs.Stations.{Station as AnyStation};
 ghost use Rattle.hdlc_station_model.specs.Reports.{newer};
 ghost use Rattle.drill_model.specs.StationEnds.{station_start, station_send, station_release, station_tick};
 ghost use Rattle.drill_model.specs.Ends.{station_end_step};
-ghost use Rattle.drill_ends.specs.EitherStations.{made_by};
+ghost use Rattle.drill_ends.specs.StationPlans.{made_by};
 ghost use Rattle.drill_ends.specs.Events.{event_of};
 ghost use Rattle.drill_ends.specs.KeptStations.{StandsStation};
 ghost use Rattle.drill_ends.specs.StationEnds.{StationDoes, StationReads, StationWent};

@@ -3,6 +3,7 @@
 ghost use Rattle.std.specs.Prelude.{◌≡◌, ◌≤◌, ◌*◌, true};
 
 use er_settings::Settings;
+use hdlc_station::Reject;
 use std::marker::Model;
 
 /// How both stations of a link are made: with selective reject or without, and by which settings. With selective reject the window is at most
@@ -15,7 +16,7 @@ pub struct StationPlan {
 
 impl Model for StationPlan {
     ghost use Rattle.std.specs.Prelude.{◌≡◌, ◌≤◌, ◌*◌, true};
-    ghost use Rattle.drill_ends.specs.EitherStations.{StationsPlan};
+    ghost use Rattle.drill_ends.specs.StationPlans.{StationsPlan};
 
     ghost Value = { StationsPlan };
 
@@ -25,6 +26,8 @@ impl Model for StationPlan {
 }
 
 impl StationPlan {
+    ghost use Rattle.hdlc_station.specs.Stations.{is_selective_reject};
+
     /// Stations of this kind and with these settings.
     pub fn new(selective: bool, settings: Settings) -> StationPlan
         requires { selective ≡ true → 2 * settings.window ≤ settings.modulo }
@@ -33,6 +36,16 @@ impl StationPlan {
         StationPlan {
             selective,
             settings,
+        }
+    }
+    // How these stations ask for frames that were lost.
+    pub(crate) fn reject(&self) -> Reject
+        ensures { is_selective_reject result ≡ self.now.selective }
+    {
+        if self.selective {
+            Reject::Selective
+        } else {
+            Reject::GoBack
         }
     }
 }

@@ -5,19 +5,20 @@ ghost use Rattle.hdlc_frames.specs.Shown.{verdict_of_octets_found};
 ghost use Rattle.hdlc_station_model.specs.Calls.{starts, finishes, ticks};
 ghost use Rattle.hdlc_station_model.specs.Selective.{receives_as};
 ghost use Rattle.hdlc_station_model.specs.Events.{quits};
-ghost use Rattle.hdlc_selective.specs.Kept.{FitsPlace};
+ghost use Rattle.hdlc_station.specs.Held.{FitsPlace};
+ghost use Rattle.hdlc_station.specs.Stations.{IsKeptOf, most_answers};
 ghost use Rattle.drill_model.specs.StationEnds.{payload_refusal_of_station, handed_unless};
-ghost use Rattle.drill_ends.specs.EitherStations.{KeepsStationOfKind, let_by, made_by};
+ghost use Rattle.drill_ends.specs.StationPlans.{made_by};
 ghost use Rattle.drill_ends.specs.StationEnds.{CallDoes, CallTells};
 
-use crate::either_station::{EitherStation, tell_arrived, tell_run};
 use crate::payload::Payload;
 use crate::refusal::Refusal;
 use crate::station_plan::StationPlan;
-use crate::telling::{tell_frames, tell_released, tell_up};
+use crate::telling::{tell_arrived, tell_frames, tell_more, tell_released, tell_up};
 use crate::told::Told;
 use er_base::{Cause, Moment, NoMemory, Release, Room};
 use hdlc_frames::Found;
+use hdlc_station::Station;
 use std::alloc::Global;
 use std::collections::VecDeque;
 use std::marker::Model;
@@ -25,48 +26,53 @@ use std::marker::Model;
 /// The most octets of a frame on the line.
 const FRAME_OCTETS: usize = 2064;
 
-/// The most frames of an event beside those that the window lets through.
-const MORE_FRAMES: usize = 3;
+/// The most frames of an event beside those that answer a frame.
+const MORE_FRAMES: usize = 2;
 
 /// A station, and room for the frames of one event. In contracts it is the station.
 #[derive(Drop)]
 pub struct TellingStation {
-    station: EitherStation,
+    station: Station,
     room: Room,
 }
 
 impl Model for TellingStation {
     ghost use Rattle.std.specs.Prelude.{◌≡◌, ◌+◌, ◌*◌};
-    ghost use Rattle.drill_ends.specs.declared.either_station.EitherStation.{EitherStation};
-    ghost use Rattle.drill_ends.specs.EitherStations.{let_through};
+    ghost use Rattle.hdlc_station.specs.Stations.{StationKept, is_selective, most_answers};
 
-    ghost Value = { EitherStation };
+    ghost Value = { StationKept };
 
     ghost view = { λ t. t.station };
 
-    ghost invariant = { λ t. t.room.capacity ≡ (let_through t.station + 3) * 2064 };
+    ghost invariant = { λ t. t.room.capacity ≡ (most_answers (is_selective t.station) t.station.core.window + 2) * 2064 };
 }
 
-/// The most frames of an event that the window lets through.
-fn let_by(selective: bool, window: u8) -> usize
-    ensures value { result ≡ let_by selective window }
+/// The most frames of an answer to a frame.
+fn most_answers(selective: bool, window: u8) -> usize
+    ensures value { result ≡ most_answers selective window }
     ensures few { result ≤ 510 }
 {
     if selective {
         2 * window as usize
     } else {
-        window as usize
+        window as usize + 1
     }
 }
 
 impl TellingStation {
     /// The calling station of a link, or the called one.
     pub fn new(alloc: Global, calling: bool, plan: &StationPlan) -> Result<TellingStation, NoMemory>
-        ensures { IfOk result (λ k. KeepsStationOfKind k plan.now.selective (made_by calling plan.now.settings)) }
+        ensures { IfOk result (λ k. IsKeptOf k plan.now.selective (made_by calling plan.now.settings)) }
     {
-        let station = EitherStation::new(alloc, calling, plan)?;
-        let through = let_by(plan.selective, plan.settings.window);
-        let room = Room::with_capacity(alloc, (through + MORE_FRAMES) * FRAME_OCTETS)?;
+        let settings = &plan.settings;
+        let reject = plan.reject();
+        let station = if calling {
+            Station::calling(alloc, settings, reject)?
+        } else {
+            Station::called(alloc, settings, reject)?
+        };
+        let most = most_answers(plan.selective, settings.window);
+        let room = Room::with_capacity(alloc, (most + MORE_FRAMES) * FRAME_OCTETS)?;
         Ok(TellingStation { station, room })
     }
 
@@ -80,18 +86,9 @@ impl TellingStation {
         ensures { OnOk result ((selective : Bool) → CallTells selective self.old self.new told.old.items told.new.items None (λ s. finishes (starts now s))) }
     {
         self.room.clear();
-        match &mut self.station {
-            EitherStation::GoBack(station) => {
-                station.start(now.get(), &mut self.room);
-                station.finish(&mut self.room);
-                tell_frames(alloc, self.room.held(), told)
-            }
-            EitherStation::Selective(station) => {
-                station.start(now.get(), &mut self.room);
-                station.finish(&mut self.room);
-                tell_frames(alloc, self.room.held(), told)
-            }
-        }
+        self.station.start(now, &mut self.room);
+        self.station.finish(&mut self.room);
+        tell_frames(alloc, self.room.held(), told)
     }
 
     /// What a deframer found comes in, and the answer that is owed follows. Answers why the station was released, where it was.
@@ -106,27 +103,16 @@ impl TellingStation {
         ensures { IfOk result (λ released. (selective : Bool) → CallTells selective self.old self.new told.old.items told.new.items released
             (λ s. finishes (receives_as selective now (verdict_of_octets_found found.now) s))) }
     {
+        hdlc_station::laws::either_kind();
         self.room.clear();
-        match &mut self.station {
-            EitherStation::GoBack(station) => {
-                let deed = station.receive(now.get(), found, &mut self.room);
-                station.finish(&mut self.room);
-                tell_up(deed.up, told)?;
-                tell_arrived(alloc, &deed, told)?;
-                tell_released(deed.released, told)?;
-                tell_frames(alloc, self.room.held(), told)?;
-                Ok(deed.released)
-            }
-            EitherStation::Selective(station) => {
-                let deed = station.receive(now.get(), found, &mut self.room);
-                station.finish(&mut self.room);
-                tell_up(deed.up, told)?;
-                tell_run(alloc, station, deed.taken, told)?;
-                tell_released(deed.released, told)?;
-                tell_frames(alloc, self.room.held(), told)?;
-                Ok(deed.released)
-            }
-        }
+        let deed = self.station.receive(now, found, &mut self.room);
+        self.station.finish(&mut self.room);
+        tell_up(deed.up, told)?;
+        tell_arrived(alloc, &deed, told)?;
+        tell_more(alloc, &self.station, deed.more, told)?;
+        tell_released(deed.released, told)?;
+        tell_frames(alloc, self.room.held(), told)?;
+        Ok(deed.released)
     }
 
     /// The user's payload is handed down, unless too many wait.
@@ -140,25 +126,14 @@ impl TellingStation {
         ensures { OnOk result ((selective : Bool) → CallDoes selective self.old self.new told.old.items told.new.items
             (λ s. handed_unless (payload_refusal_of_station s payload.now None) now payload.now s)) }
     {
+        hdlc_station::laws::either_kind();
         self.room.clear();
-        match &mut self.station {
-            EitherStation::GoBack(station) => {
-                if let Err(full) = station.hand(now.get(), payload.octets(), &mut self.room) {
-                    told.push_back(Told::Refused(Refusal::Full(full.waiting)))?;
-                    return Ok(());
-                }
-                station.finish(&mut self.room);
-                tell_frames(alloc, self.room.held(), told)
-            }
-            EitherStation::Selective(station) => {
-                if let Err(full) = station.hand(now.get(), payload.octets(), &mut self.room) {
-                    told.push_back(Told::Refused(Refusal::Full(full.waiting)))?;
-                    return Ok(());
-                }
-                station.finish(&mut self.room);
-                tell_frames(alloc, self.room.held(), told)
-            }
+        if let Err(full) = self.station.hand(now, payload.octets(), &mut self.room) {
+            told.push_back(Told::Refused(Refusal::Full(full.waiting)))?;
+            return Ok(());
         }
+        self.station.finish(&mut self.room);
+        tell_frames(alloc, self.room.held(), told)
     }
 
     /// The user releases, with a sub-reason.
@@ -173,18 +148,9 @@ impl TellingStation {
         self.room.clear();
         let release = Cause::User { sub }.release();
         told.push_back(Told::Released(release))?;
-        match &mut self.station {
-            EitherStation::GoBack(station) => {
-                station.close(&mut self.room);
-                tell_frames(alloc, self.room.held(), told)?;
-                Ok(release)
-            }
-            EitherStation::Selective(station) => {
-                station.close(&mut self.room);
-                tell_frames(alloc, self.room.held(), told)?;
-                Ok(release)
-            }
-        }
+        self.station.close(&mut self.room);
+        tell_frames(alloc, self.room.held(), told)?;
+        Ok(release)
     }
 
     /// The moment has come. Answers why the station was released, where it was.
@@ -197,22 +163,12 @@ impl TellingStation {
         ensures { IfOk result (λ released. (selective : Bool) → CallTells selective self.old self.new told.old.items told.new.items released
             (λ s. finishes (ticks now s))) }
     {
+        hdlc_station::laws::either_kind();
         self.room.clear();
-        match &mut self.station {
-            EitherStation::GoBack(station) => {
-                let released = station.tick(now.get(), &mut self.room);
-                station.finish(&mut self.room);
-                tell_released(released, told)?;
-                tell_frames(alloc, self.room.held(), told)?;
-                Ok(released)
-            }
-            EitherStation::Selective(station) => {
-                let released = station.tick(now.get(), &mut self.room);
-                station.finish(&mut self.room);
-                tell_released(released, told)?;
-                tell_frames(alloc, self.room.held(), told)?;
-                Ok(released)
-            }
-        }
+        let released = self.station.tick(now, &mut self.room);
+        self.station.finish(&mut self.room);
+        tell_released(released, told)?;
+        tell_frames(alloc, self.room.held(), told)?;
+        Ok(released)
     }
 }

@@ -1,9 +1,8 @@
--- Which level has which step of a drill, and the moments that a step may name (this profile).
+-- Which level has which step of a drill (this profile).
 use Rattle.er_scenario.specs.declared.level.Level.{Level}
 use Rattle.er_scenario.specs.declared.level.Level.TheVariants as level
 use Rattle.er_scenario.specs.declared.step.Step.{Step}
 use Rattle.er_scenario.specs.declared.step.Step.TheVariants as does
-use Rattle.er_scenario.specs.StepNumbers.{IsMoment}
 
 -- the levels that have a step
 abbrev pub IsOfLevel : Level → Step → Type 0
@@ -36,8 +35,3 @@ IsOfLevel level.Link (does.Tick moment) = Unit {0}
 IsOfLevel level.LinkSr (does.Tick moment) = Unit {0}
 IsOfLevel level.Full (does.Tick moment) = Unit {0}
 IsOfLevel l (does.Drain n most) = Unit {0}
-
--- the moment of a tick is at most 10^15 milliseconds
-abbrev pub HasMoment : Step → Type 0
-HasMoment (does.Tick moment) = IsMoment moment
-HasMoment other = Unit {0}

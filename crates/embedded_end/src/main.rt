@@ -8,9 +8,8 @@ mod talk;
 
 use crate::side::{CENTRE, ENGINE, Side};
 use crate::talk::talk;
-use er_base::Moment;
+use er_end::{EtcsNumber, KeyFinder, Moment};
 use key_store::KeyStore;
-use safety_automaton::KeyFinder;
 use std::io;
 
 const KEYS: &[u8] = b"version = 1
@@ -24,10 +23,11 @@ fn main(rt: HostRuntime) -> io::Result<()> {
     let Ok(keys) = KeyStore::from_bytes(rt.alloc(), KEYS) else {
         return Err(io::Error::from(io::ErrorKind::InvalidData));
     };
-    let Some(kmac) = keys.find(ENGINE, CENTRE, 0) else {
+    let now = Moment::new(0);
+    let (called, caller) = (EtcsNumber::new(CENTRE), EtcsNumber::new(ENGINE));
+    let Some(kmac) = keys.find(caller, called, now) else {
         return Err(io::Error::from(io::ErrorKind::InvalidData));
     };
-    let now = Moment::new(0);
     let Ok(mut engine) = Side::engine(rt.alloc(), kmac, 0x0102030405060708, now) else {
         return Err(io::Error::from(io::ErrorKind::OutOfMemory));
     };

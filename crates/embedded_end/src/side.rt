@@ -8,11 +8,8 @@ ghost use Rattle.er_end.specs.KeptEnds.{kept_opened};
 ghost use Rattle.er_end.specs.Standing.{IsAllowed};
 ghost use Rattle.embedded_end.specs.Sides.{IsSideOf, SideDid, SideHeard};
 
-use des_block::TripleKey;
-use er_base::{Moment, NoMemory};
-use er_end::End;
+use er_end::{End, EtcsNumber, Kmac, Moment, NoMemory, Settings};
 use er_end_promises::laws::calls_in_turn;
-use er_settings::Settings;
 use key_store::KeyStore;
 use std::alloc::Global;
 
@@ -37,21 +34,18 @@ impl Side {
     pub fn centre(alloc: Global, random: u64, now: Moment) -> Result<Side, NoMemory>
         ensures { IfOk result (λ side. IsSideOf (Answer usual_settings 9 random now) side) }
     {
-        let end = End::answer(alloc, &Settings::usual(), CENTRE, random, now.get())?;
+        let me = EtcsNumber::new(CENTRE);
+        let end = End::answer(alloc, &Settings::usual(), me, random, now)?;
         Side::new(alloc, end)
     }
 
     /// An engine: its end is to call the radio block centre.
-    pub fn engine(
-        alloc: Global,
-        kmac: TripleKey,
-        random: u64,
-        now: Moment,
-    ) -> Result<Side, NoMemory>
+    pub fn engine(alloc: Global, kmac: Kmac, random: u64, now: Moment) -> Result<Side, NoMemory>
         ensures { IfOk result (λ side. IsSideOf (Call usual_settings 5 9 kmac random now) side) }
     {
         let settings = Settings::usual();
-        let end = End::call(alloc, &settings, ENGINE, CENTRE, kmac, random, now.get())?;
+        let (me, peer) = (EtcsNumber::new(ENGINE), EtcsNumber::new(CENTRE));
+        let end = End::call(alloc, &settings, me, peer, kmac, random, now)?;
         Side::new(alloc, end)
     }
 
@@ -71,7 +65,7 @@ impl Side {
         ensures { IfOk result (λ _. SideDid (record { now = now; event = Start } ∷ []) self.old self.new) }
     {
         calls_in_turn();
-        let deeds = self.end.start(now.get());
+        let deeds = self.end.start(now);
         self.to_line.extend_from_slice(deeds.out)?;
         Ok(())
     }
@@ -97,7 +91,7 @@ impl Side {
         ensures heard { IfOk result (λ used. SideHeard (take used octets.now) self.old self.new) }
     {
         calls_in_turn();
-        let (used, deeds) = self.end.octets(keys, now.get(), octets);
+        let (used, deeds) = self.end.octets(keys, now, octets);
         self.peer = self.peer.or(deeds.connected);
         self.to_line.extend_from_slice(deeds.out)?;
         Ok(used)
@@ -108,7 +102,7 @@ impl Side {
         ensures { IfOk result (λ _. SideHeard [] self.old self.new) }
     {
         calls_in_turn();
-        if let Some(taken) = self.end.take(now.get()) {
+        if let Some(taken) = self.end.take(now) {
             self.to_user.extend_from_slice(taken.text)?;
             self.to_line.extend_from_slice(taken.out)?;
         }
@@ -120,7 +114,7 @@ impl Side {
         ensures { IfOk result (λ _. SideDid (record { now = now; event = Send message.now } ∷ []) self.old self.new) }
     {
         calls_in_turn();
-        if let Ok(deeds) = self.end.send(now.get(), message) {
+        if let Ok(deeds) = self.end.send(now, message) {
             self.to_line.extend_from_slice(deeds.out)?;
         }
         Ok(())

@@ -5,7 +5,7 @@ ghost use Rattle.er_end_model.specs.Ends.{Opening};
 ghost use Rattle.embedded_end.specs.Sides.{IsSideOf, UserGoesOn, UserHasAccepted};
 
 use crate::side::Side;
-use er_base::{Moment, NoMemory};
+use er_end::{Moment, NoMemory};
 use er_end_promises::laws::{accepted_are_verified, calls_in_turn, taken_in_order};
 use key_store::KeyStore;
 

@@ -8,7 +8,7 @@ use std::marker::Model;
 pub const MOST_ETCS_NUMBER: u32 = 16_777_215;
 
 /// The number of an engine or of a radio block centre, at most [`MOST_ETCS_NUMBER`].
-#[derive(Clone, Copy)]
+#[derive(Clone, Copy, Debug)]
 pub struct EtcsNumber {
     number: u32,
 }

@@ -8,7 +8,7 @@ use std::marker::Model;
 pub const MOST_MOMENT: u64 = 1_000_000_000_000_000;
 
 /// A moment in milliseconds, at most [`MOST_MOMENT`].
-#[derive(Clone, Copy)]
+#[derive(Clone, Copy, Debug)]
 pub struct Moment {
     at: u64,
 }

@@ -6,8 +6,9 @@ use Rattle.er_base.specs.Stored.{Stored}
 use Rattle.hdlc_station_model.specs.Stations.{Station, no_deed, is_down, sees}
 use Rattle.hdlc_station_model.specs.Sending.{can_send, waiting, sends_next, sends_up_to}
 use Rattle.hdlc_station_model.specs.Calls.{hands}
-use Rattle.hdlc_balanced.specs.Kept.{KeptStation, kept_of, WritesFramesAtMost}
-use Rattle.hdlc_balanced.specs.Alike.{model_of, DoesStationCall}
+use Rattle.hdlc_station.specs.Kept.{KeptStation, kept_of, WritesFramesAtMost}
+use Rattle.hdlc_station.specs.Stations.{StationKept}
+use Rattle.hdlc_station.specs.Alike.{model_of, DoesStationCall}
 use Rattle.er_end.specs.FrameRoom.{one_if, FitsFrameRoom}
 
 one_at_most : (b : Bool) → one_if b ≤ 1
@@ -49,10 +50,11 @@ hand_fits k now m new out out' is w grows near sent fits =
     let d : one_if (not (is_down new.phase)) ≡ one_if (not (is_down k.phase)) = ap (λ (q : Phase). one_if (not (is_down q))) p in
     omega (arith, w, grows, near, sent, fits, o, d)
 
-pub hand_keeps : {E : Type 0} (k : KeptStation) (now : ℕ) (m : List ℕ) (new : KeptStation) (out out' : Stored) (r : Result (Unit {0}) E)
-    → IfOk r (λ _. DoesStationCall new out out' no_deed (hands now m (model_of k))) → IfErr r (λ _. new ≡ k) → IfErr r (λ _. out' ≡ out)
-    → k.ahead ≤ new.ahead → WritesFramesAtMost k out new out' k.window → length out'.items + k.ahead * 2064 ≤ length out.items + new.ahead * 2064
-    → FitsFrameRoom k out.items → FitsFrameRoom new out'.items
-hand_keeps k now m new out out' (Ok done) does same unwritten grows within sent fits =
-    hand_fits k now m new out.items out'.items does.kept within.window grows within.near sent fits
-hand_keeps k now m new out out' (Err full) does same unwritten grows within sent fits = rw (same, unwritten) fits
+pub hand_keeps : {E : Type 0} (old : StationKept) (now : ℕ) (m : List ℕ) (new : StationKept) (out out' : Stored) (r : Result (Unit {0}) E)
+    → IfOk r (λ _. DoesStationCall new.core out out' no_deed (hands now m (model_of old.core))) → IfErr r (λ _. new ≡ old) → IfErr r (λ _. out' ≡ out)
+    → old.core.ahead ≤ new.core.ahead → WritesFramesAtMost old.core out new.core out' old.core.window
+    → length out'.items + old.core.ahead * 2064 ≤ length out.items + new.core.ahead * 2064
+    → FitsFrameRoom old.core out.items → FitsFrameRoom new.core out'.items
+hand_keeps old now m new out out' (Ok done) does same unwritten grows within sent fits =
+    hand_fits old.core now m new.core out.items out'.items does.kept within.window grows within.near sent fits
+hand_keeps old now m new out out' (Err full) does same unwritten grows within sent fits = rw (same, unwritten) fits

@@ -10,8 +10,8 @@ use Rattle.hdlc_station_model.specs.Frames.{Frame, Rr, Disc, sent_octets}
 use Rattle.hdlc_station_model.specs.Stations.{Station, Deed, no_deed, settled, is_down, is_up, sees, puts}
 use Rattle.hdlc_station_model.specs.Sending.{can_send, waiting, sends_next, sends_up_to, settles}
 use Rattle.hdlc_station_model.specs.Calls.{starts, receives, hands, finishes, ticks, closes, closes_at, may_send}
-use Rattle.hdlc_balanced.specs.Kept.{KeptStation, kept_of, octets_of_sent_frames}
-use Rattle.hdlc_balanced.specs.Alike.{model_of, Sound, Alike, KeepsStationsAlike, KeptIsModelled}
+use Rattle.hdlc_station.specs.Kept.{KeptStation, kept_of, octets_of_sent_frames}
+use Rattle.hdlc_station.specs.Alike.{model_of, Sound, Alike, KeepsStationsAlike, KeptIsModelled}
 use Rattle.er_end.specs.KeptLayers.{KLine, ran, line_starts, line_receives, line_told, line_hands, line_finishes, line_ticks, line_given_up, line_closes, line_may_send, line_is_free}
 use Rattle.er_end.specs.Standing.{LineStands}
 

@@ -12,9 +12,9 @@ use Rattle.er_base.specs.declared.cause.Cause.TheVariants.{LineEnded, LineFailed
 use Rattle.hdlc_frames.specs.Framing.{Verdict, frames_of}
 use Rattle.hdlc_frames.specs.Deframing as deframing
 use Rattle.hdlc_frames.specs.Laws.{StreamGoesOn}
-use Rattle.hdlc_balanced.specs.Kept as line
-use Rattle.hdlc_balanced.specs.Alike.{KeptIsModelled}
-use Rattle.hdlc_balanced.specs.Alike as stations
+use Rattle.hdlc_station.specs.Kept as line
+use Rattle.hdlc_station.specs.Alike.{KeptIsModelled}
+use Rattle.hdlc_station.specs.Alike as stations
 use Rattle.x224_class2.specs.Standing.{ConnectStands, AcceptStands, HandStands, TakenStands, ReceptionStands, NextStands, CountsStand}
 use Rattle.x224_class2.specs.Standing as transport
 use Rattle.safety_automaton.specs.Laws.{SendsFew}

@@ -1,7 +1,7 @@
 -- Representation: how much room for frames an event needs; no claim rests on it.
 use Rattle.std.specs.Prelude.{ℕ, ◌+◌, ◌-◌, ◌*◌, ◌≤◌, Bool, true, false, not, List, length}
 use Rattle.hdlc_station_model.specs.Stations.{is_down}
-use Rattle.hdlc_balanced.specs.Kept.{KeptStation}
+use Rattle.hdlc_station.specs.Kept.{KeptStation}
 
 abbrev pub one_if : Bool → ℕ
 one_if true = 1

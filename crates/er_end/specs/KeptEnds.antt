@@ -3,13 +3,14 @@
 use Rattle.std.specs.Prelude.{ℕ, ◌+◌, ◌==◌, Bool, true, false, List, [], ◌++◌, length, Option, Some, None, is_some, if◌then◌else◌}
 use Rattle.er_base.specs.declared.cause.Cause.{Cause}
 use Rattle.er_base.specs.declared.cause.Cause.TheVariants.{LineEnded, LineFailed, LineStalled}
+use Rattle.er_base.specs.declared.release.Release.{Release}
 use Rattle.er_settings.specs.Values.{Settings}
 use Rattle.hdlc_frames.specs.Framing.{Verdict}
 use Rattle.hdlc_frames.specs.Deframing as deframing
 use Rattle.hdlc_station_model.specs.Stations.{made}
-use Rattle.hdlc_balanced.specs.Kept as line
+use Rattle.hdlc_station.specs.Kept as line
 use Rattle.x224_class2.specs.Kept as transport
-use Rattle.safety_automaton.specs.Safety.{Safety, initiator, responder}
+use Rattle.safety_automaton.specs.Safety.{Safety, Phase, initiator, responder, authenticated_peer}
 use Rattle.safety_automaton.specs.Reports as reports
 use Rattle.er_end_model.specs.Outcomes.{Outcome, SendRefusal}
 use Rattle.er_end_model.specs.Steps.{Finds, new_event_at, step_start, step_frame, refusal_of, step_send_unless, step_take, step_release, step_tick, step_break}
@@ -91,6 +92,14 @@ after_break cause k = with_core k (step_break kept cause k.core)
 -- the messages that wait for the user
 abbrev pub waiting_in : KEnd → List (List ℕ)
 waiting_in k = k.core.upper.inbox.waits
+
+-- the peer with whom the safe connection stands, until the end is released
+abbrev pub peer_until_release : Option Release → Phase → Option ℕ
+peer_until_release None phase = authenticated_peer phase
+peer_until_release (Some why) phase = None
+
+abbrev pub peer_of : KEnd → Option ℕ
+peer_of k = peer_until_release k.core.released k.core.safe.safety.phase
 
 unfoldable pub deadline_of : KEnd → Option ℕ
 deadline_of k = deadline kept k.core

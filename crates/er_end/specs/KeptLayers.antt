@@ -5,9 +5,9 @@ use Rattle.er_base.specs.declared.release.Release.{Release}
 use Rattle.hdlc_frames.specs.Framing.{Verdict}
 use Rattle.hdlc_station_model.specs.Stations.{Station, Deed as LinkDeed}
 use Rattle.hdlc_station_model.specs.Calls as station
-use Rattle.hdlc_balanced.specs.Kept as line
-use Rattle.hdlc_balanced.specs.Kept.{octets_of_sent_frames}
-use Rattle.hdlc_balanced.specs.Alike.{model_of}
+use Rattle.hdlc_station.specs.Kept as line
+use Rattle.hdlc_station.specs.Kept.{octets_of_sent_frames}
+use Rattle.hdlc_station.specs.Alike.{model_of}
 use Rattle.x224_class2.specs.Kept as transport
 use Rattle.x224_class2.specs.Transport.{ReceptionDeed, is_new, is_open}
 use Rattle.er_end_model.specs.Stacks.{Ops, Stack}

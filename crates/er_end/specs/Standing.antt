@@ -4,8 +4,8 @@ use Rattle.std.specs.Prelude.{ℕ, ◌≡◌, ◌≤◌, List, [], ◌∷◌, �
 use Rattle.er_settings.specs.Ranges.{AllAllowed}
 use Rattle.hdlc_frames.specs.Deframing as deframing
 use Rattle.hdlc_station_model.specs.Stations.{Station}
-use Rattle.hdlc_balanced.specs.Kept.{kept_of, octets_of_sent_frames}
-use Rattle.hdlc_balanced.specs.Alike.{Sound}
+use Rattle.hdlc_station.specs.Kept.{kept_of, octets_of_sent_frames}
+use Rattle.hdlc_station.specs.Alike.{Sound}
 use Rattle.x224_class2.specs.Standing.{StandsForTransport}
 use Rattle.er_end_model.specs.Outcomes.{Outcome}
 use Rattle.er_end_model.specs.Stacks.{Stack}

@@ -1,6 +1,6 @@
 //! The end and its calls.
 
-ghost use Rattle.std.specs.Prelude.{◌≡◌, ◌≤◌, ◌<◌, ◌^◌, ◌∷◌, length, option_map, Some, None, IfOk, IfSome, IsNone, MatchResult, MatchOption};
+ghost use Rattle.std.specs.Prelude.{◌≡◌, ◌≤◌, ◌<◌, ◌∷◌, length, option_map, Some, None, IfOk, IfSome, IsNone, MatchResult, MatchOption};
 ghost use Rattle.std.specs.Borrow.{sem};
 ghost use Rattle.er_base.specs.declared.cause.Cause.TheVariants.{LineEnded, LineFailed, LineStalled};
 ghost use Rattle.hdlc_frames.specs.Shown.{verdict_of_octets_found};
@@ -11,7 +11,7 @@ ghost use Rattle.x224_class2.specs.Kept.{kept_made};
 ghost use Rattle.er_end_model.specs.Ends.{Call, Answer};
 ghost use Rattle.er_end.specs.Inboxes.{first_in, newest_of};
 ghost use Rattle.er_end.specs.KeptLayers.{kept};
-ghost use Rattle.er_end.specs.KeptEnds.{kept_opened, kept_core_made, kept_end_made, after_start, used_of, after_octets, refusal_of_send, after_send, after_take, after_release, after_tick, after_break, kept_end_behind_event, tells, waiting_in, deadline_of};
+ghost use Rattle.er_end.specs.KeptEnds.{kept_opened, kept_core_made, kept_end_made, after_start, used_of, after_octets, refusal_of_send, after_send, after_take, after_release, after_tick, after_break, kept_end_behind_event, tells, waiting_in, peer_of, deadline_of};
 ghost use Rattle.er_end.specs.Given.{model_event_of, used_by, outcomes_in, TellsEndOutcomes};
 ghost use Rattle.er_end.specs.Shown.{Shows, refusal_view};
 ghost use Rattle.er_end.specs.Resting.{LeavesEndAs};
@@ -23,12 +23,12 @@ use crate::layers::Layers;
 use crate::line::Line;
 use crate::safety_side::SafetySide;
 use crate::sapdu_room::SapduRoom;
-use des_block::TripleKey;
-use er_base::{Cause, Moment, NoMemory, Release};
+use er_base::{Cause, EtcsNumber, Moment, NoMemory, Release};
 use er_settings::Settings;
 use hdlc_frames::Deframer;
 use hdlc_station_model::Counts;
 use safety_automaton::{KeyFinder, Safe};
+use session_keys::{Kmac, SessionKeys};
 use std::alloc::Global;
 use std::marker::Model;
 use t70_header::Joiner;
@@ -37,7 +37,7 @@ use x224_class2::Transport;
 /// One end of a link. After a release it refuses each send, answers empty deeds to all other events, and still gives the messages that
 /// wait to be taken.
 ///
-/// A moment is in milliseconds, at most 10^15; one below the last counts as the last.
+/// A moment below the last counts as the last.
 #[derive(Drop)]
 pub struct End {
     // where the SaPDUs and blocks of an event are written
@@ -55,43 +55,37 @@ impl Model for End {
 }
 
 impl End {
-    /// An end that calls: an engine of this ETCS number, the radio block centre that it calls, both below 2^24, their KMAC and the
-    /// engine's random number. The time for the set-up runs from now on.
+    /// An end that calls: an engine of this ETCS number, the radio block centre that it calls, their KMAC and the engine's random
+    /// number. The time for the set-up runs from now on.
     #[tactic(auto, unfolding(crate::specs::KeptEnds::kept_opened))]
     pub fn call(
         alloc: Global,
         settings: &Settings,
-        me: u32,
-        peer: u32,
-        kmac: TripleKey,
+        me: EtcsNumber,
+        peer: EtcsNumber,
+        kmac: Kmac,
         rb: u64,
-        now: u64,
+        now: Moment,
     ) -> Result<End, NoMemory>
-        requires me { me < 2 ^ 24 }
-        requires peer { peer < 2 ^ 24 }
-        requires moment { now ≤ 1000000000000000 }
         ensures { IfOk result (λ end. end ≡ kept_opened (Call settings.now me peer kmac rb now)) }
     {
         let safe = Safe::initiator(me, peer, kmac, rb);
-        End::new(alloc, true, settings, safe, Moment::new(now))
+        End::new(alloc, true, settings, safe, now)
     }
 
-    /// An end that answers: a radio block centre of this ETCS number, below 2^24, and its random number. The time for the set-up runs
-    /// from now on.
+    /// An end that answers: a radio block centre of this ETCS number, and its random number. The time for the set-up runs from now on.
     #[tactic(auto, unfolding(crate::specs::KeptEnds::kept_opened))]
     pub fn answer(
         alloc: Global,
         settings: &Settings,
-        me: u32,
+        me: EtcsNumber,
         ra: u64,
-        now: u64,
+        now: Moment,
     ) -> Result<End, NoMemory>
-        requires me { me < 2 ^ 24 }
-        requires moment { now ≤ 1000000000000000 }
         ensures { IfOk result (λ end. end ≡ kept_opened (Answer settings.now me ra now)) }
     {
         let safe = Safe::responder(me, ra);
-        End::new(alloc, false, settings, safe, Moment::new(now))
+        End::new(alloc, false, settings, safe, now)
     }
 
     fn new(
@@ -127,27 +121,30 @@ impl End {
 
     /// An end that calls begins: its station sends the set-up frame.
     #[tactic(auto, unfolding(crate::specs::KeptEnds::after_start))]
-    pub fn start(&mut self, now: u64) -> Deeds<'_>
-        requires { now ≤ 1000000000000000 }
+    pub fn start(&mut self, now: Moment) -> Deeds<'_>
         ensures* after { sem 𝓛 (LeavesEndAs self.entry (after_start now self.old)) }
         ensures shows { Shows result (after_start now self.old).core }
     {
-        self.layers.start_station(Moment::new(now), &mut self.room);
+        self.layers.start_station(now, &mut self.room);
         let this: &Self = self;
         this.deeds()
     }
 
     /// Octets come from the line. They are used up to the first that closes a frame, all where none does: how many were used. A released
     /// end uses all.
-    pub fn octets<K: KeyFinder>(&mut self, keys: &K, now: u64, piece: &[u8]) -> (usize, Deeds<'_>)
-        requires { now ≤ 1000000000000000 }
+    pub fn octets<K: KeyFinder>(
+        &mut self,
+        keys: &K,
+        now: Moment,
+        piece: &[u8],
+    ) -> (usize, Deeds<'_>)
         ensures* after { sem 𝓛 (LeavesEndAs self.entry (after_octets (key_at (K.entries keys.now)) now piece.now self.old)) }
         ensures used { result.0 ≡ used_of self.old piece.now }
         ensures within { result.0 ≤ length piece.now }
         ensures moves { 0 < length piece.now → 0 < result.0 }
         ensures shows { Shows result.1 (after_octets (key_at (K.entries keys.now)) now piece.now self.old).core }
     {
-        let used = self.hear(keys, Moment::new(now), piece);
+        let used = self.hear(keys, now, piece);
         let this: &Self = self;
         (used, this.deeds())
     }
@@ -173,8 +170,7 @@ impl End {
 
     /// The user sends a message, 1 to 1,023 octets. A refused send leaves all as it was.
     #[tactic(auto, unfolding(crate::specs::KeptEnds::refusal_of_send, crate::specs::KeptEnds::after_send))]
-    pub fn send(&mut self, now: u64, user: &[u8]) -> Result<Deeds<'_>, SendRefused>
-        requires { now ≤ 1000000000000000 }
+    pub fn send(&mut self, now: Moment, user: &[u8]) -> Result<Deeds<'_>, SendRefused>
         ensures* after { sem 𝓛 (LeavesEndAs self.entry (after_send now user.now self.old)) }
         ensures answer { MatchResult result
             (λ deeds. (refusal_of_send user.now self.old ≡ None) × Shows deeds (after_send now user.now self.old).core)
@@ -183,23 +179,21 @@ impl End {
         if let Some(refused) = self.layers.refusal(user) {
             return Err(refused);
         }
-        self.layers
-            .send_message(Moment::new(now), user, &mut self.room);
+        self.layers.send_message(now, user, &mut self.room);
         let this: &Self = self;
         Ok(this.deeds())
     }
 
     /// The user takes the oldest message that waits. None exactly where none does.
     #[tactic(auto, unfolding(crate::specs::KeptEnds::after_take))]
-    pub fn take(&mut self, now: u64) -> Option<Taken<'_>>
-        requires { now ≤ 1000000000000000 }
+    pub fn take(&mut self, now: Moment) -> Option<Taken<'_>>
         ensures* after { sem 𝓛 (LeavesEndAs self.entry (after_take now self.old)) }
         ensures taken { MatchOption result
             (length (waiting_in self.old) ≡ 0)
             (λ taken. (taken.text.now ≡ first_in (waiting_in self.old)) × (0 < length (waiting_in self.old)) × (taken.out.now ≡ (after_take now self.old).core.line.out)) }
     {
         let none = self.layers.side.inbox.len() == 0;
-        self.layers.take_message(Moment::new(now), &mut self.room);
+        self.layers.take_message(now, &mut self.room);
         if none {
             return None;
         }
@@ -212,25 +206,22 @@ impl End {
 
     /// The user releases with this sub-reason.
     #[tactic(auto, unfolding(crate::specs::KeptEnds::after_release))]
-    pub fn release(&mut self, now: u64, sub: u8) -> Deeds<'_>
-        requires { now ≤ 1000000000000000 }
+    pub fn release(&mut self, now: Moment, sub: u8) -> Deeds<'_>
         ensures* after { sem 𝓛 (LeavesEndAs self.entry (after_release now sub self.old)) }
         ensures shows { Shows result (after_release now sub self.old).core }
     {
-        self.layers
-            .release_by_user(Moment::new(now), sub, &mut self.room);
+        self.layers.release_by_user(now, sub, &mut self.room);
         let this: &Self = self;
         this.deeds()
     }
 
     /// The moment has come: T1 may expire, then the time for the set-up.
     #[tactic(auto, unfolding(crate::specs::KeptEnds::after_tick))]
-    pub fn tick(&mut self, now: u64) -> Deeds<'_>
-        requires { now ≤ 1000000000000000 }
+    pub fn tick(&mut self, now: Moment) -> Deeds<'_>
         ensures* after { sem 𝓛 (LeavesEndAs self.entry (after_tick now self.old)) }
         ensures shows { Shows result (after_tick now self.old).core }
     {
-        self.layers.tick(Moment::new(now), &mut self.room);
+        self.layers.tick(now, &mut self.room);
         let this: &Self = self;
         this.deeds()
     }
@@ -269,13 +260,12 @@ impl End {
     }
 
     /// Gives an end any event: does what the call of that event does, and answers all that came of it.
-    pub fn apply<K: KeyFinder>(&mut self, keys: &K, now: u64, event: &Event<'_>) -> Effects<'_>
-        requires { now ≤ 1000000000000000 }
+    pub fn apply<K: KeyFinder>(&mut self, keys: &K, now: Moment, event: &Event<'_>) -> Effects<'_>
         ensures* after { sem 𝓛 (LeavesEndAs self.entry (kept_end_behind_event now (model_event_of (key_at (K.entries keys.now)) event.now) self.old)) }
         ensures told { outcomes_in result ≡ tells now (model_event_of (key_at (K.entries keys.now)) event.now) self.old }
         ensures used { result.used ≡ used_by self.old event.now }
     {
-        let done = self.give(keys, Moment::new(now), event);
+        let done = self.give(keys, now, event);
         let this: &Self = self;
         match done {
             Done::Used(used) => Effects {
@@ -359,9 +349,10 @@ impl End {
         self.layers.line.out()
     }
 
-    /// How many messages that the user sent wait for their last segment to be handed down: where 16 do, a send is refused as full.
+    /// How many messages wait for their last segment to be handed down, at most 16: while 16 do, a send is refused as full.
     pub fn unsent(&self) -> usize
-        ensures { result ≡ kept.waiting self.now.core.upper }
+        ensures value { result ≡ kept.waiting self.now.core.upper }
+        ensures most { result ≤ 16 }
     {
         self.layers.transport.waiting()
     }
@@ -396,6 +387,16 @@ impl End {
         self.layers.released
     }
 
+    /// The peer with whom the safe connection stands: none before both sides have authenticated each other (SUBSET-037), and none once the end is released.
+    pub fn peer(&self) -> Option<EtcsNumber>
+        ensures { result ≡ peer_of self.now }
+    {
+        if self.layers.released.is_some() {
+            return None;
+        }
+        self.layers.side.safe.peer()
+    }
+
     /// How many accepted messages wait to be taken, at most 15.
     pub fn waiting(&self) -> usize
         ensures value { result ≡ length (waiting_in self.now) }
@@ -405,8 +406,8 @@ impl End {
     }
 
     /// The session keys, as soon as they are known, also after a release.
-    pub fn session(&self) -> Option<TripleKey>
-        ensures { result ≡ session_in self.now.core.safe.safety.phase }
+    pub fn session(&self) -> Option<&SessionKeys>
+        ensures { option_map (λ k. k.now) result ≡ session_in self.now.core.safe.safety.phase }
     {
         self.layers.side.safe.session()
     }

@@ -11,7 +11,7 @@ pub fn standing()
     ensures runs { RunsAlike }
     ensures shows { ShowsAlike }
 {
-    hdlc_balanced::laws::steps_alike();
+    hdlc_station::laws::steps_alike();
     x224_class2::laws::standing();
     safety_automaton::laws::lengths();
     hdlc_frames::laws::goes_on();

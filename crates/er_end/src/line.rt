@@ -2,16 +2,16 @@
 
 ghost use Rattle.std.specs.Prelude.{◌≡◌, ◌≤◌, ◌==◌, [], length, true, IfOk};
 ghost use Rattle.hdlc_frames.specs.Shown.{verdict_of_octets_found};
-ghost use Rattle.hdlc_balanced.specs.Kept.{kept_of};
-ghost use Rattle.hdlc_balanced.specs.Told.{deed_of};
+ghost use Rattle.hdlc_station.specs.Kept.{kept_of};
+ghost use Rattle.hdlc_station.specs.Told.{deed_of};
 ghost use Rattle.hdlc_station_model.specs.Stations.{made};
 ghost use Rattle.er_end.specs.KeptLayers.{line_starts, line_receives, line_told, line_hands, line_finishes, line_ticks, line_given_up, line_closes, line_may_send, line_is_free};
 
 use er_base::{Moment, NoMemory, Release, Room};
 use er_settings::Settings;
 use er_settings::laws::allowed_are_bounded;
-use hdlc_balanced::{LinkDeed, Station};
 use hdlc_frames::Found;
+use hdlc_station::{LinkDeed, Reject, Station};
 use hdlc_station_model::Counts;
 use std::alloc::Global;
 use std::marker::Model;
@@ -27,15 +27,16 @@ pub struct Line {
 }
 
 impl Model for Line {
-    ghost use Rattle.std.specs.Prelude.{◌≡◌, ◌≤◌};
+    ghost use Rattle.std.specs.Prelude.{◌≡◌, ◌≤◌, false};
+    ghost use Rattle.hdlc_station.specs.Stations.{is_selective};
     ghost use Rattle.er_end.specs.KeptLayers.{KLine};
     ghost use Rattle.er_end.specs.FrameRoom.{FitsFrameRoom};
 
     ghost Value = { KLine };
 
-    ghost view = { λ l. record { station = l.station; out = l.out.items } };
+    ghost view = { λ l. record { station = l.station.core; out = l.out.items } };
 
-    ghost invariant = { λ l. (l.out.capacity ≡ 200208) × (l.station.window ≤ 31) × (l.station.ahead ≤ l.station.window) × FitsFrameRoom l.station l.out.items };
+    ghost invariant = { λ l. (l.out.capacity ≡ 200208) × (l.station.core.window ≤ 31) × (l.station.core.ahead ≤ l.station.core.window) × FitsFrameRoom l.station.core l.out.items × (is_selective l.station ≡ false) };
 }
 
 impl Line {
@@ -47,9 +48,9 @@ impl Line {
         allowed_are_bounded();
         let _ = &settings.window;
         let station = if calling {
-            Station::calling(alloc, settings)?
+            Station::calling(alloc, settings, Reject::GoBack)?
         } else {
-            Station::called(alloc, settings)?
+            Station::called(alloc, settings, Reject::GoBack)?
         };
         let out = Room::with_capacity(alloc, OUT)?;
         Ok(Line { station, out })
@@ -68,7 +69,7 @@ impl Line {
         ensures { self.new ≡ line_starts now (record self.old { out = [] }) }
     {
         self.out.clear();
-        self.station.start(now.get(), &mut self.out);
+        self.station.start(now, &mut self.out);
     }
 
     /// An event begins in which what a deframer found comes.
@@ -78,7 +79,7 @@ impl Line {
         ensures told { deed_of result ≡ line_told now (verdict_of_octets_found found.now) (record self.old { out = [] }) }
     {
         self.out.clear();
-        self.station.receive(now.get(), found, &mut self.out)
+        self.station.receive(now, found, &mut self.out)
     }
 
     /// A payload is handed down, while none waits.
@@ -88,7 +89,7 @@ impl Line {
         requires free { line_is_free self.old ≡ true }
         ensures { self.new ≡ line_hands now payload.now self.old }
     {
-        let _handed = self.station.hand(now.get(), payload, &mut self.out);
+        let _handed = self.station.hand(now, payload, &mut self.out);
     }
 
     /// The answer that is still owed is sent.
@@ -106,7 +107,7 @@ impl Line {
         ensures given_up { result ≡ line_given_up now (record self.old { out = [] }) }
     {
         self.out.clear();
-        self.station.tick(now.get(), &mut self.out)
+        self.station.tick(now, &mut self.out)
     }
 
     /// The link is ended.

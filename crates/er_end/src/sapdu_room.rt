@@ -87,7 +87,7 @@ impl SapduRoom {
         ensures accepted { IfAccepted (report_view result.0) (λ user. length user ≤ 1023) }
     {
         self.room.clear();
-        let deed = safe.receive(keys, now.get(), text, &mut self.room);
+        let deed = safe.receive(keys, now, text, &mut self.room);
         (deed, ShortSapdu::of(self.room.held()))
     }
 

@@ -37,7 +37,7 @@ impl Held {
         ensures deeds { result ≡ deeds_of 0 (after_start now self.old.end) }
     {
         self.awaits_start = false;
-        CDeeds::of_event(0, &self.end.start(now.get()))
+        CDeeds::of_event(0, &self.end.start(now))
     }
 
     /// Octets come.
@@ -45,7 +45,7 @@ impl Held {
         ensures held { self.new ≡ held_with_end self.old (after_octets (finds_in self.old) now piece.now self.old.end) }
         ensures deeds { result ≡ deeds_of (used_of self.old.end piece.now) (after_octets (finds_in self.old) now piece.now self.old.end) }
     {
-        let (used, deeds) = self.end.octets(&self.keys, now.get(), piece);
+        let (used, deeds) = self.end.octets(&self.keys, now, piece);
         CDeeds::of_event(used, &deeds)
     }
 
@@ -56,7 +56,7 @@ impl Held {
             (λ deeds. (refusal_of_send text.now self.old.end ≡ None) × (deeds ≡ deeds_of 0 (after_send now text.now self.old.end)))
             (λ refused. refusal_of_send text.now self.old.end ≡ Some (refusal_view refused)) }
     {
-        match self.end.send(now.get(), text) {
+        match self.end.send(now, text) {
             Ok(deeds) => Ok(CDeeds::of_event(0, &deeds)),
             Err(refused) => Err(refused),
         }
@@ -67,7 +67,7 @@ impl Held {
         ensures held { self.new ≡ held_with_end self.old (after_take now self.old.end) }
         ensures answer { result ≡ taken_deeds (waiting_in self.old.end) (after_take now self.old.end) }
     {
-        taken_deeds(&self.end.take(now.get()))
+        taken_deeds(&self.end.take(now))
     }
 
     /// The user releases.
@@ -75,7 +75,7 @@ impl Held {
         ensures held { self.new ≡ held_with_end self.old (after_release now sub self.old.end) }
         ensures deeds { result ≡ deeds_of 0 (after_release now sub self.old.end) }
     {
-        CDeeds::of_event(0, &self.end.release(now.get(), sub))
+        CDeeds::of_event(0, &self.end.release(now, sub))
     }
 
     /// The moment has come.
@@ -83,7 +83,7 @@ impl Held {
         ensures held { self.new ≡ held_with_end self.old (after_tick now self.old.end) }
         ensures deeds { result ≡ deeds_of 0 (after_tick now self.old.end) }
     {
-        CDeeds::of_event(0, &self.end.tick(now.get()))
+        CDeeds::of_event(0, &self.end.tick(now))
     }
 
     /// The line ended.

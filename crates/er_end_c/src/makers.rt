@@ -18,6 +18,7 @@ use er_base::{EtcsNumber, MOST_ETCS_NUMBER, Moment};
 use er_end::End;
 use er_settings::Settings;
 use key_store::{KeyEntry, KeyFileFault, KeyStore};
+use session_keys::Kmac;
 use std::alloc::Global;
 
 /// Makes an end that calls.
@@ -37,17 +38,17 @@ pub extern "C" fn euroradio_call(
         (Some (held_made (Call (settings_from settings.now) me peer (key_of kmac.now) rb now) None))
         end.old end.new result }
 {
-    let key = TripleKey {
+    let kmac = Kmac::new(TripleKey {
         first: kmac[0],
         second: kmac[1],
         third: kmac[2],
-    };
+    });
     let (settings, now) = match admitted(end, now, are_numbers(me, peer), settings) {
         Ok(admitted) => admitted,
         Err(fault) => return fault.status(),
     };
     let (me, peer) = (EtcsNumber::new(me), EtcsNumber::new(peer));
-    match calling(alloc, &settings, me, peer, key, rb, now) {
+    match calling(alloc, &settings, me, peer, kmac, rb, now) {
         Some(held) => {
             end.put_held(held);
             status::OK
@@ -185,13 +186,13 @@ fn calling(
     settings: &Settings,
     me: EtcsNumber,
     peer: EtcsNumber,
-    key: TripleKey,
+    kmac: Kmac,
     rb: u64,
     now: Moment,
 ) -> Option<Box<Held>>
-    ensures { IfSome result (λ held. held.value ≡ held_made (Call settings.now me peer key rb now) None) }
+    ensures { IfSome result (λ held. held.value ≡ held_made (Call settings.now me peer kmac rb now) None) }
 {
-    match End::call(alloc, settings, me.get(), peer.get(), key, rb, now.get()) {
+    match End::call(alloc, settings, me, peer, kmac, rb, now) {
         Ok(end) => boxed(alloc, end, None, now, true),
         Err(_) => None,
     }
@@ -272,7 +273,7 @@ fn with_keys(
 ) -> Option<Box<Held>>
     ensures { IfSome result (λ held. held.value ≡ held_made (Answer settings.now me ra now) (Some store)) }
 {
-    match End::answer(alloc, settings, me.get(), ra, now.get()) {
+    match End::answer(alloc, settings, me, ra, now) {
         Ok(end) => boxed(alloc, end, Some(store), now, false),
         Err(_) => None,
     }

@@ -105,6 +105,7 @@ pub extern "C" fn euroradio_waiting(alloc: Global, end: &mut CEnd) -> usize
 pub extern "C" fn euroradio_unsent(alloc: Global, end: &mut CEnd) -> usize
     ensures held { end_held_in_handle end.new ≡ end_held_in_handle end.old }
     ensures count { result ≡ count_unsent_at_handle (end_held_in_handle end.old) }
+    ensures most { result ≤ 16 }
 {
     let Some(held) = end.take_held(alloc) else {
         return 0;

@@ -1,5 +1,7 @@
 //! What an end promises, as facts that a caller can cite. The functions do nothing; their contracts are the laws.
 
+ghost use Rattle.std.specs.Prelude.{◌≤◌};
+ghost use Rattle.er_end.specs.KeptLayers.{kept};
 ghost use Rattle.er_end_promises.specs.AfterRelease.{EndsRestOnceReleased, ReleaseIsToldAtOnce};
 ghost use Rattle.er_end_promises.specs.Calls.{CallsInTurn, CallsTellDeeds};
 ghost use Rattle.er_end_promises.specs.Order.{TakenBeginsAccepted, TakenInOrder};
@@ -69,6 +71,13 @@ pub fn octets_fit(end: &End)
     ensures { CallGivesAtMost end.now }
 {
     let _ = end.out();
+}
+
+/// No more than 16 messages wait to be sent.
+pub fn few_wait(end: &End)
+    ensures { kept.waiting end.now.core.upper ≤ 16 }
+{
+    let _ = end.unsent();
 }
 
 /// A message of 1 to 1,023 octets that is sent at a connected end is taken exactly while fewer than 16 wait to be sent, as `End::unsent` tells them.

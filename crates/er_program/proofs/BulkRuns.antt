@@ -8,6 +8,7 @@ use Rattle.er_settings.specs.Making.{usual_settings}
 use Rattle.er_scenario.specs.declared.level.Level.{Level}
 use Rattle.er_scenario.specs.declared.level.Level.TheVariants as level
 use Rattle.er_scenario.specs.declared.step.Step.{Step}
+use Rattle.drill_model.specs.StepLevels.{IsOfLevel}
 use Rattle.drill_model.specs.Worlds.{DrillPlan}
 use Rattle.drill_model.specs.Faults.{fault_behind, AllDone}
 use Rattle.drill_bulk.specs.Turns.{bulk_steps}
@@ -16,7 +17,7 @@ use Rattle.er_statuses.specs.Answers.{Files}
 use Rattle.er_program.specs.Answers.{IsBulkAnswer}
 use Rattle.er_program.specs.Commands.{Bulk}
 use Rattle.er_program.specs.BulkTexts.{bulk_plan, steps_of_bulk}
-use Rattle.er_program.specs.BulkRuns.{IsDoable, AreDoable, DidFirst}
+use Rattle.er_program.specs.BulkRuns.{AreDoable, DidFirst}
 use Rattle.er_program.specs.KeyWriting.{GivesOne}
 use Rattle.er_program.specs.Writing.{EndsCommand}
 use Rattle.er_statuses.specs.declared.status.Status.{Status}
@@ -26,9 +27,9 @@ use Rattle.er_program.proofs.BulkSteps.{take_one_more, steps_doable}
 
 -- ---- the loop
 
-pub doable_at : (level : Level) (steps : List Step) (i : ℕ) (s : Step) → AreDoable level steps → slice_get steps i ≡ Some s → IsDoable level s
+pub doable_at : (level : Level) (steps : List Step) (i : ℕ) (s : Step) → AreDoable level steps → slice_get steps i ≡ Some s → IsOfLevel level s
 doable_at level [] i s all at = absurd (cc)
-doable_at level (x ∷ xs) zero s all at = subst (IsDoable level) (same_Some x s at) all.0
+doable_at level (x ∷ xs) zero s all at = subst (IsOfLevel level) (same_Some x s at) all.0
 doable_at level (x ∷ xs) (suc i) s all at = doable_at level xs i s all.1 at
 
 all_more : (plan : DrillPlan) (steps : List Step) (i : ℕ) (s : Step) → AllDone plan steps i → slice_get steps i ≡ Some s → fault_behind plan (take i steps) s ≡ None
@@ -71,11 +72,11 @@ did_all plan steps i kept did over = record {
 
 -- ---- the steps that were drawn
 
-pub drawn_doable : {A E : Type 0} (items : A → List Step) (seed count : ℕ) (r : Result A E) → count ≤ 10000
+pub drawn_doable : {A E : Type 0} (items : A → List Step) (seed count : ℕ) (r : Result A E)
     → IfOk r (λ v. items v ≡ bulk_steps seed count) → IfOk r (λ v. AreDoable level.Full (items v))
 unfolding steps_of_bulk
-drawn_doable items seed count (Ok v) le is = steps_doable seed count (items v) le is
-drawn_doable items seed count (Err e) le is = tt
+drawn_doable items seed count (Ok v) is = steps_doable seed count (items v) is
+drawn_doable items seed count (Err e) is = tt
 
 pub planned : (plan : DrillPlan) (s : Settings) → plan ≡ record { level = level.Full; settings = s; show = false } → s ≡ usual_settings → plan ≡ bulk_plan
 planned plan s is same = is ∙ ap (λ (x : Settings). record { level = level.Full; settings = x; show = false }) same

@@ -14,10 +14,11 @@ use Rattle.er_scenario.specs.declared.level.Level.TheVariants as level
 use Rattle.er_scenario.specs.declared.step.Step.{Step}
 use Rattle.er_scenario.specs.declared.step.Step.TheVariants as does
 use Rattle.drill_model.specs.Steps.{FitsFields, AllFit}
+use Rattle.drill_model.specs.StepLevels.{IsOfLevel}
 use Rattle.drill_bulk.specs.Draws.{words_drawn, seeded}
 use Rattle.drill_bulk.specs.Turns.{kmac, sender, message, mishap, steps_of_bulk_turn, turns}
 use Rattle.er_program.specs.BulkTexts.{steps_of_bulk}
-use Rattle.er_program.specs.BulkRuns.{IsDoable, AreDoable}
+use Rattle.er_program.specs.BulkRuns.{AreDoable}
 
 -- ---- one step
 
@@ -75,21 +76,21 @@ good_fits most m (does.Release n s sub) good = absurd good
 good_fits most m (does.Tick moment) good = (tt, tt)
 good_fits most m (does.Drain n passes) good = (tt, tt)
 
-good_doable : (most m : ℕ) (s : Step) → most ≤ 1000000000000000 → IsGood most m s → IsDoable level.Full s
-good_doable most m (does.Fixed n engine rbc ke kr) le good = absurd good
-good_doable most m (does.Link n engine rbc ke kr ra rb) le good = absurd good
-good_doable most m (does.Wire n) le good = absurd good
-good_doable most m (does.Send n s text) le good = record { of_level = tt; numbers = tt; moment = tt }
-good_doable most m (does.Pass n s) le good = absurd good
-good_doable most m (does.Lose n s) le good = record { of_level = tt; numbers = tt; moment = tt }
-good_doable most m (does.Repeat n s) le good = record { of_level = tt; numbers = tt; moment = tt }
-good_doable most m (does.Alter n s place mask) le good = absurd good
-good_doable most m (does.Put n s text) le good = absurd good
-good_doable most m (does.Copy n s k t) le good = absurd good
-good_doable most m (does.Take n s) le good = record { of_level = tt; numbers = tt; moment = tt }
-good_doable most m (does.Release n s sub) le good = absurd good
-good_doable most m (does.Tick moment) le good = record { of_level = tt; numbers = tt; moment = omega (arith, le, good.1) }
-good_doable most m (does.Drain n passes) le good = record { of_level = tt; numbers = tt; moment = tt }
+good_doable : (most m : ℕ) (s : Step) → IsGood most m s → IsOfLevel level.Full s
+good_doable most m (does.Fixed n engine rbc ke kr) good = absurd good
+good_doable most m (does.Link n engine rbc ke kr ra rb) good = absurd good
+good_doable most m (does.Wire n) good = absurd good
+good_doable most m (does.Send n s text) good = tt
+good_doable most m (does.Pass n s) good = absurd good
+good_doable most m (does.Lose n s) good = tt
+good_doable most m (does.Repeat n s) good = tt
+good_doable most m (does.Alter n s place mask) good = absurd good
+good_doable most m (does.Put n s text) good = absurd good
+good_doable most m (does.Copy n s k t) good = absurd good
+good_doable most m (does.Take n s) good = tt
+good_doable most m (does.Release n s sub) good = absurd good
+good_doable most m (does.Tick moment) good = tt
+good_doable most m (does.Drain n passes) good = tt
 
 -- ---- the steps
 
@@ -156,9 +157,9 @@ all_fit : (most m : ℕ) (steps : List Step) → AreGood most m steps → AllFit
 all_fit most m [] good = tt
 all_fit most m (s ∷ steps) good = (good_fits most m s good.0, all_fit most (moment_after m s) steps good.1)
 
-all_doable : (most m : ℕ) (steps : List Step) → most ≤ 1000000000000000 → AreGood most m steps → AreDoable level.Full steps
-all_doable most m [] le good = tt
-all_doable most m (s ∷ steps) le good = (good_doable most m s le good.0, all_doable most (moment_after m s) steps le good.1)
+all_doable : (most m : ℕ) (steps : List Step) → AreGood most m steps → AreDoable level.Full steps
+all_doable most m [] good = tt
+all_doable most m (s ∷ steps) good = (good_doable most m s good.0, all_doable most (moment_after m s) steps good.1)
 
 -- all fit their fields
 pub bulk_fits : (seed count : ℕ) → AllFit (steps_of_bulk seed count)
@@ -168,12 +169,11 @@ bulk_fits seed count =
     subst AllFit (sym (steps_are seed count)) all
 
 -- a world of level full takes them
-pub steps_doable : (seed count : ℕ) (steps : List Step) → count ≤ 10000 → steps ≡ steps_of_bulk seed count → AreDoable level.Full steps
-steps_doable seed count steps le is =
-    let later : AreDoable level.Full (later_steps seed count) =
-    all_doable (1000 * count) 0 (later_steps seed count) (omega (arith, le)) (later_good seed count) in
-    let first : IsDoable level.Full first_step = record { of_level = tt; numbers = (omega arith, omega arith); moment = tt } in
-    subst (AreDoable level.Full) (sym (is ∙ steps_are seed count)) (first, later)
+pub steps_doable : (seed count : ℕ) (steps : List Step) → steps ≡ steps_of_bulk seed count → AreDoable level.Full steps
+steps_doable seed count steps is =
+    let later : AreDoable level.Full (later_steps seed count) = all_doable (1000 * count) 0 (later_steps seed count) (later_good seed count) in
+    let all : AreDoable level.Full (first_step ∷ later_steps seed count) = (tt, later) in
+    subst (AreDoable level.Full) (sym (is ∙ steps_are seed count)) all
 
 -- ---- lists
 

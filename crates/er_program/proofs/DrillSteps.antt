@@ -14,7 +14,7 @@ use Rattle.er_scenario.specs.StepRanges.{IsInRange}
 use Rattle.er_scenario.specs.Texts.{name_of, IsReadableStep, AreReadableSteps}
 use Rattle.drill_model.specs.declared.world_fault.WorldFault.{WorldFault}
 use Rattle.drill_model.specs.Steps.{HasEtcsNumbers}
-use Rattle.drill_model.specs.StepLevels.{IsOfLevel, HasMoment}
+use Rattle.drill_model.specs.StepLevels.{IsOfLevel}
 use Rattle.drill_model.specs.Worlds.{plan_of, steps_of}
 use Rattle.drill_model.specs.Texts.{step_lines, first_lines, last_lines, drill_text}
 use Rattle.drill_model.specs.Growth.{TextGrows}
@@ -70,22 +70,6 @@ etcs_numbers (does.Take n s) range = tt
 etcs_numbers (does.Release n s sub) range = tt
 etcs_numbers (does.Tick moment) range = tt
 etcs_numbers (does.Drain n most) range = tt
-
-pub has_moment : (s : Step) → IsInRange s → HasMoment s
-has_moment (does.Fixed n engine rbc ke kr) range = tt
-has_moment (does.Link n engine rbc ke kr ra rb) range = tt
-has_moment (does.Wire n) range = tt
-has_moment (does.Send n s text) range = tt
-has_moment (does.Pass n s) range = tt
-has_moment (does.Lose n s) range = tt
-has_moment (does.Repeat n s) range = tt
-has_moment (does.Alter n s place mask) range = tt
-has_moment (does.Put n s text) range = tt
-has_moment (does.Copy n s m t) range = tt
-has_moment (does.Take n s) range = tt
-has_moment (does.Release n s sub) range = tt
-has_moment (does.Tick moment) range = range
-has_moment (does.Drain n most) range = tt
 
 -- a step of the list is readable
 pub readable_at : (l : Level) (xs : List Numbered) (i : ℕ) (x : Numbered) → AreReadableSteps l xs → slice_get xs i ≡ Some x

@@ -4,7 +4,6 @@ use Rattle.std.proofs.lemmas.List.{drop_all}
 use Rattle.std.proofs.lemmas.Option.{same_Some, none-some}
 use Rattle.er_settings.specs.Values.{Settings}
 use Rattle.er_trace.specs.declared.entry.Entry.{Entry}
-use Rattle.er_trace.specs.Texts.{AreReadableEntries, IsReadableEntry}
 use Rattle.er_end_model.specs.Steps.{Finds}
 use Rattle.trace_model.specs.declared.replay_fault.ReplayFault.{ReplayFault}
 use Rattle.trace_model.specs.declared.replay_fault.ReplayFault.TheVariants.{NoConn, ConnTwice, MomentBack, NoKey, Many, Sink, NoMemory}
@@ -88,12 +87,6 @@ take_next : (xs : List Entry) (i : ℕ) (x : Entry) → slice_get xs i ≡ Some 
 take_next [] i x at = absurd (let u : ⊥ = cc in u)
 take_next (y ∷ ys) zero x at = ap (λ (z : Entry). z ∷ []) (same_Some y x at)
 take_next (y ∷ ys) (suc i) x at = ap (λ (l : List Entry). y ∷ l) (take_next ys i x at)
-
--- what can be read at an index
-pub readable_at : (xs : List Entry) (i : ℕ) (x : Entry) → AreReadableEntries xs → slice_get xs i ≡ Some x → IsReadableEntry x
-readable_at [] i x r at = absurd (let u : ⊥ = cc in u)
-readable_at (y ∷ ys) zero x r at = subst (λ (z : Entry). IsReadableEntry z) (same_Some y x at) r.0
-readable_at (y ∷ ys) (suc i) x r at = readable_at ys i x r.1 at
 
 -- ---- the loop
 

@@ -4,20 +4,14 @@ use Rattle.std.specs.List.{AllByRecursion}
 use Rattle.er_scenario.specs.declared.level.Level.{Level}
 use Rattle.er_scenario.specs.declared.step.Step.{Step}
 use Rattle.drill_model.specs.declared.world_fault.WorldFault.{WorldFault}
-use Rattle.drill_model.specs.Steps.{HasEtcsNumbers}
-use Rattle.drill_model.specs.StepLevels.{IsOfLevel, HasMoment}
+use Rattle.drill_model.specs.StepLevels.{IsOfLevel}
 use Rattle.drill_model.specs.Worlds.{DrillPlan}
 use Rattle.er_world.specs.Standing.{KeptWorld, Ran, IsFaultBehind}
 use Rattle.drill_model.specs.Faults.{AllDone}
 
--- a step that a world of this level takes
-pub record IsDoable (level : Level) (s : Step) : Type 0 where
-  pub of_level : IsOfLevel level s
-  pub numbers : HasEtcsNumbers s
-  pub moment : HasMoment s
-
+-- steps that a world of this level takes
 abbrev pub AreDoable : Level → List Step → Type 0
-AreDoable level steps = AllByRecursion (IsDoable level) steps
+AreDoable level steps = AllByRecursion (IsOfLevel level) steps
 
 -- so many steps of a list were done: where the world stands
 pub record DidFirst (plan : DrillPlan) (steps : List Step) (count : ℕ) (kept : KeptWorld) : Type 0 where

@@ -3,8 +3,7 @@
 ghost use Rattle.std.specs.Prelude.{◌≡◌, [], ◌∷◌, ◌++◌, List, None, OnOk, IfErr, IfOk, false};
 ghost use Rattle.er_scenario.specs.declared.step.Step.{Step as AnyStep};
 ghost use Rattle.drill_model.specs.Faults.{fault_behind};
-ghost use Rattle.drill_model.specs.Steps.{HasEtcsNumbers};
-ghost use Rattle.drill_model.specs.StepLevels.{IsOfLevel, HasMoment};
+ghost use Rattle.drill_model.specs.StepLevels.{IsOfLevel};
 ghost use Rattle.drill_model.specs.Worlds.{DrillPlan};
 ghost use Rattle.er_world.specs.Standing.{Ran, IsFaultBehind};
 ghost use Rattle.outside.specs.Scripts.{Does, says_last};
@@ -29,8 +28,6 @@ use std::alloc::Global;
 // Does a step, of which nothing is printed.
 fn do_unseen(alloc: Global, step: &Step, world: &mut World) -> Result<(), WorldFault>
     requires level { IsOfLevel world.old.plan.level step.now }
-    requires numbers { HasEtcsNumbers step.now }
-    requires moment { HasMoment step.now }
     requires unspent { world.old.spent ≡ false }
     ensures ran { OnOk result ((plan : DrillPlan) (before : List AnyStep) → Ran world.old plan before
         → Ran world.new plan (before ++ step.now ∷ [])) }

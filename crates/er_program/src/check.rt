@@ -3,7 +3,6 @@
 ghost use Rattle.std.specs.Prelude.{◌≡◌, IfOk};
 ghost use Rattle.safety_automaton.specs.Keys.{key_at};
 ghost use Rattle.er_trace.specs.Files.{trace_of};
-ghost use Rattle.er_trace.specs.Texts.{CanBeRead};
 ghost use Rattle.trace_model.specs.Recordings.{ended_part};
 ghost use Rattle.outside.specs.Scripts.{Does, says_last};
 ghost use Rattle.er_statuses.specs.FileScripts.{answers};
@@ -76,7 +75,6 @@ fn check_events<O: Outside>(
     trace: &Trace,
     outside: &mut O,
 ) -> Result<Status, Stop>
-    requires { CanBeRead trace.now }
     ensures does { Does (checks_events octets.now trace.now.settings (key_at store.now) trace.now.entries) (O.told outside.old) (O.told outside.new) (end_of_run result) }
 {
     match check(alloc, store, octets, trace) {

@@ -109,7 +109,8 @@ fn at_most(most: u64, number: Option<u64>) -> Option<u64>
     if number <= most { Some(number) } else { None }
 }
 
-fn etcs_number(word: &str) -> Option<EtcsNumber>
+/// The ETCS number that a word spells.
+pub fn etcs_number(word: &str) -> Option<EtcsNumber>
     ensures { result ≡ etcs_number word.now }
 {
     match at_most(MOST_ETCS_NUMBER as u64, decimal(word.as_bytes())) {
@@ -118,7 +119,8 @@ fn etcs_number(word: &str) -> Option<EtcsNumber>
     }
 }
 
-pub(crate) fn turns_number(word: &str) -> Option<u64>
+/// How many turns a word asks for: at most 10^9, or 2^64 - 1 where it asks for no bound.
+pub fn turns_number(word: &str) -> Option<u64>
     ensures { result ≡ turns_number word.now }
 {
     if word == "-" {

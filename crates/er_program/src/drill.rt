@@ -4,8 +4,7 @@ ghost use Rattle.std.specs.Prelude.{◌≡◌, List, [], false};
 ghost use Rattle.er_scenario.specs.declared.step.Step.{Step as AnyStep};
 ghost use Rattle.er_scenario.specs.Files.{scenario_of};
 ghost use Rattle.er_scenario.specs.Texts.{CanBeRead};
-ghost use Rattle.drill_model.specs.Steps.{HasEtcsNumbers};
-ghost use Rattle.drill_model.specs.StepLevels.{IsOfLevel, HasMoment};
+ghost use Rattle.drill_model.specs.StepLevels.{IsOfLevel};
 ghost use Rattle.drill_model.specs.Worlds.{DrillPlan, plan_of};
 ghost use Rattle.er_world.specs.Standing.{Ran};
 ghost use Rattle.outside.specs.Scripts.{Does};
@@ -32,8 +31,6 @@ fn step_once<O: Outside>(
     outside: &mut O,
 ) -> Result<(), Halt>
     requires level { IsOfLevel world.old.plan.level step.now }
-    requires numbers { HasEtcsNumbers step.now }
-    requires moment { HasMoment step.now }
     requires unspent { world.old.spent ≡ false }
     ensures steps { (plan : DrillPlan) (done : List AnyStep) → Ran world.old plan done
         → StepsOne plan done world.old step.now world.new (O.told outside.old) (O.told outside.new) result }

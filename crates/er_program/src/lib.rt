@@ -24,7 +24,7 @@ mod stdout_sink;
 mod top;
 mod work;
 
-pub use command::{Command, command_from};
+pub use command::{Command, command_from, etcs_number, turns_number};
 pub use er_serving::{LineCommand, MachineClock};
 pub use er_statuses::Status;
 pub use er_statuses::acting::out_of_memory;

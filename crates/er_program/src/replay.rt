@@ -4,7 +4,6 @@ ghost use Rattle.std.specs.Prelude.{[], List};
 ghost use Rattle.safety_automaton.specs.Keys.{key_at};
 ghost use Rattle.er_trace.specs.declared.entry.Entry.{Entry as TraceEntry};
 ghost use Rattle.er_trace.specs.Files.{trace_of};
-ghost use Rattle.er_trace.specs.Texts.{CanBeRead, IsReadableEntry};
 ghost use Rattle.trace_replay.specs.Standing.{StandsBehind};
 ghost use Rattle.outside.specs.Scripts.{Does};
 ghost use Rattle.er_statuses.specs.ScriptEnds.{end_of_run};
@@ -49,7 +48,6 @@ fn replay_once<O: Outside>(
     text: &mut Vec<u8>,
     outside: &mut O,
 ) -> Result<(), ReplayFault>
-    requires { IsReadableEntry entry.now }
     ensures replays { (before : List TraceEntry) → StandsBehind settings.now (key_at store.now) before replaying.old
         → ReplaysEvent settings.now (key_at store.now) before entry.now replaying.new (O.told outside.old) (O.told outside.new) result }
 {
@@ -69,8 +67,7 @@ fn replay_each<O: Outside>(
     text: &mut Vec<u8>,
     outside: &mut O,
 ) -> Result<(), ReplayFault>
-    requires read { CanBeRead trace.now }
-    requires begins { StandsBehind trace.now.settings (key_at store.now) [] replaying.old }
+    requires { StandsBehind trace.now.settings (key_at store.now) [] replaying.old }
     ensures replays { ReplaysEvents trace.now.settings (key_at store.now) trace.now.entries (O.told outside.old) (O.told outside.new) result }
 {
     for entry in trace.entries.as_slice() {
@@ -87,7 +84,6 @@ fn replay_events<O: Outside>(
     text: &mut Vec<u8>,
     outside: &mut O,
 ) -> Result<Status, Stop>
-    requires { CanBeRead trace.now }
     ensures does { Does (replays_events trace.now.settings (key_at store.now) [] trace.now.entries) (O.told outside.old) (O.told outside.new) (end_of_run result) }
 {
     let mut replaying = Replaying::new(alloc);
@@ -107,7 +103,6 @@ fn replay_trace<O: Outside>(
     trace: &Trace,
     outside: &mut O,
 ) -> Result<Status, Stop>
-    requires { CanBeRead trace.now }
     ensures does { Does (replays_trace trace.now.settings (key_at store.now) trace.now.entries) (O.told outside.old) (O.told outside.new) (end_of_run result) }
 {
     let mut text = Vec::new(alloc);

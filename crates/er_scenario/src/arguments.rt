@@ -4,12 +4,13 @@ ghost use Rattle.std.specs.Prelude.{◌≡◌, ◌<◌, ◌≤◌, IfOk};
 ghost use Rattle.er_base.specs.Rows.{AnswersAsWordsSay};
 ghost use Rattle.er_scenario.specs.Table.{three_keys, key_argument, optional_key_argument, mask_from, mask_argument};
 ghost use Rattle.er_scenario.specs.StepRanges.{IsLink, IsKey, IsOptionalKey, IsStepText};
-ghost use Rattle.er_scenario.specs.StepNumbers.{IsEtcsNumber};
+ghost use Rattle.er_scenario.specs.StepNumbers.{IsEtcsNumber, IsMoment};
 ghost use Rattle.er_base.specs.Arguments.{number_argument, text_argument};
 
 use des_block::TripleKey;
 use er_base::{
-    LineFault, MOST_ETCS_NUMBER, Octets, Why, number_of, read_exact, read_number, read_text,
+    EtcsNumber, LineFault, MOST_ETCS_NUMBER, MOST_MOMENT, Moment, Octets, Why, number_of,
+    read_exact, read_number, read_text,
 };
 use std::alloc::Global;
 
@@ -28,12 +29,21 @@ pub fn read_link(word: &[u8]) -> Result<u8, Why>
     Ok(read_number(word, 1, MOST_LINKS)? as u8)
 }
 
-/// An ETCS number, below 2^24.
-pub fn read_etcs_number(word: &[u8]) -> Result<u32, Why>
+/// An ETCS number.
+pub fn read_etcs_number(word: &[u8]) -> Result<EtcsNumber, Why>
     ensures value { result ≡ number_argument 0 16777215 word.now }
     ensures range { IfOk result (λ n. IsEtcsNumber n) }
 {
-    Ok(read_number(word, 0, MOST_ETCS_NUMBER as u64)? as u32)
+    let number = read_number(word, 0, MOST_ETCS_NUMBER as u64)?;
+    Ok(EtcsNumber::new(number as u32))
+}
+
+/// A moment in milliseconds.
+pub fn read_moment(word: &[u8]) -> Result<Moment, Why>
+    ensures value { result ≡ number_argument 0 1000000000000000 word.now }
+    ensures range { IfOk result (λ n. IsMoment n) }
+{
+    Ok(Moment::new(read_number(word, 0, MOST_MOMENT)?))
 }
 
 /// The octets of a message or a frame, at most 4,096.

@@ -3,7 +3,7 @@
 use crate::step::Step;
 
 /// A step and the line of its file.
-#[derive(Debug, Drop)]
+#[derive(Drop)]
 pub struct Numbered {
     /// The line, from 1.
     pub line: usize,

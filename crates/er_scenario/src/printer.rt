@@ -19,7 +19,7 @@ use crate::step::Step;
 use crate::step_name::StepName;
 use des_block::TripleKey;
 use er_base::PrintedWord::{Decimal, Hexadecimal, Plain};
-use er_base::{NoMemory, PrintedWord, Side, eight_of, put_line};
+use er_base::{EtcsNumber, NoMemory, PrintedWord, Side, eight_of, put_line};
 use er_settings::{SettingName, Settings};
 use std::alloc::Global;
 
@@ -58,8 +58,8 @@ fn put(name: StepName, words: &[PrintedWord<'_>], out: &mut Vec<u8>) -> Result<(
 fn put_fixed(
     alloc: Global,
     link: u8,
-    engine: u32,
-    rbc: u32,
+    engine: EtcsNumber,
+    rbc: EtcsNumber,
     ke: &TripleKey,
     kr: &TripleKey,
     out: &mut Vec<u8>,
@@ -71,8 +71,8 @@ fn put_fixed(
     let kr = key_octets(alloc, kr)?;
     let words = [
         Decimal(link as u64),
-        Decimal(engine as u64),
-        Decimal(rbc as u64),
+        Decimal(engine.get() as u64),
+        Decimal(rbc.get() as u64),
         Hexadecimal(ke.as_slice()),
         Hexadecimal(kr.as_slice()),
     ];
@@ -83,7 +83,7 @@ fn put_fixed(
 fn put_link(
     alloc: Global,
     link: u8,
-    ends: (u32, u32),
+    ends: (EtcsNumber, EtcsNumber),
     ke: &TripleKey,
     kr: &Option<TripleKey>,
     randoms: (u64, u64),
@@ -97,8 +97,8 @@ fn put_link(
     let kr = optional_key_octets(alloc, kr)?;
     let words = [
         Decimal(link as u64),
-        Decimal(ends.0 as u64),
-        Decimal(ends.1 as u64),
+        Decimal(ends.0.get() as u64),
+        Decimal(ends.1.get() as u64),
         Hexadecimal(ke.as_slice()),
         Hexadecimal(kr.as_slice()),
         Hexadecimal(&eight_of(randoms.0)),
@@ -228,7 +228,7 @@ fn put_step(alloc: Global, step: &Step, out: &mut Vec<u8>) -> Result<(), NoMemor
         } => put_copy(*link, *side, *to_link, *to_side, out),
         Step::Take { link, side } => put_side(StepName::Take, *link, *side, out),
         Step::Release { link, side, sub } => put_release(*link, *side, *sub, out),
-        Step::Tick { moment } => put(StepName::Tick, &[Decimal(*moment)], out),
+        Step::Tick { moment } => put(StepName::Tick, &[Decimal(moment.get())], out),
         Step::Drain { link, most } => {
             let words = [Decimal(*link as u64), Decimal(*most as u64)];
             put(StepName::Drain, &words, out)

@@ -5,7 +5,7 @@ use crate::step_list::StepList;
 use er_settings::Settings;
 
 /// What a drill file says.
-#[derive(Debug, Drop)]
+#[derive(Drop)]
 pub struct Scenario {
     /// How much of the stack runs.
     pub level: Level,

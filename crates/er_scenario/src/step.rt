@@ -1,19 +1,19 @@
 //! The steps of a scenario.
 
 use des_block::TripleKey;
-use er_base::{Octets, Side};
+use er_base::{EtcsNumber, Moment, Octets, Side};
 
 /// A step of a drill. Links are numbered from 1 to 64.
-#[derive(Debug, Drop)]
+#[derive(Drop)]
 pub enum Step {
     /// Opens a link between two ends that are connected already.
     Fixed {
         /// The link, 1 to 64.
         link: u8,
-        /// The engine's ETCS number, below 2^24.
-        engine: u32,
-        /// The radio block centre's ETCS number, below 2^24.
-        rbc: u32,
+        /// The engine.
+        engine: EtcsNumber,
+        /// The radio block centre.
+        rbc: EtcsNumber,
         /// The engine's session keys.
         ke: TripleKey,
         /// The radio block centre's session keys.
@@ -23,10 +23,10 @@ pub enum Step {
     Link {
         /// The link, 1 to 64.
         link: u8,
-        /// The engine's ETCS number, below 2^24.
-        engine: u32,
-        /// The radio block centre's ETCS number, below 2^24.
-        rbc: u32,
+        /// The engine.
+        engine: EtcsNumber,
+        /// The radio block centre.
+        rbc: EtcsNumber,
         /// The engine's KMAC.
         ke: TripleKey,
         /// The radio block centre's KMAC for this engine, or None where it has none.
@@ -120,8 +120,8 @@ pub enum Step {
     },
     /// The moment is set, and every end is told of it.
     Tick {
-        /// The moment in milliseconds, at most 10^15.
-        moment: u64,
+        /// The moment.
+        moment: Moment,
     },
     /// Waiting frames are passed until none is left or as many as named were passed.
     Drain {

@@ -6,7 +6,7 @@ use crate::numbered::Numbered;
 use std::marker::Model;
 
 /// Steps in their order, which contracts see as the list itself.
-#[derive(Debug, Drop)]
+#[derive(Drop)]
 pub struct StepList {
     list: Vec<Numbered>,
 }

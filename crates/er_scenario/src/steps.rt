@@ -6,12 +6,12 @@ ghost use Rattle.er_scenario.specs.Readings.{step_of};
 ghost use Rattle.er_scenario.specs.Texts.{IsReadableStep};
 
 use crate::arguments::{
-    read_etcs_number, read_key, read_link, read_mask, read_octets, read_optional_key,
+    read_etcs_number, read_key, read_link, read_mask, read_moment, read_octets, read_optional_key,
 };
 use crate::level::Level;
 use crate::step::Step;
 use crate::step_name::StepName;
-use er_base::{LineFault, MOST_MOMENT, Why, read_number, read_number16, read_side};
+use er_base::{LineFault, Why, read_number, read_number16, read_side};
 use std::alloc::Global;
 
 /// The most passes of a drain.
@@ -208,7 +208,7 @@ fn tick(level: Level, words: &[&[u8]]) -> Result<Step, LineFault>
     };
     StepName::Tick.check(level)?;
     Ok(Step::Tick {
-        moment: read_number(moment, 0, MOST_MOMENT)?,
+        moment: read_moment(moment)?,
     })
 }
 

@@ -11,7 +11,7 @@ use Rattle.key_store.specs.declared.key_file_fault.KeyFileFault.{KeyFileFault}
 use Rattle.key_store.specs.KeyFiles.{keys_of}
 use Rattle.link_trait.specs.Outside.{Grew, GrewPart, Rose, HasFile}
 use Rattle.readiness_loop.specs.declared.line_plan.LinePlan.{LinePlan}
-use Rattle.readiness_loop.specs.declared.line_plan.Stop.{Stop}
+use Rattle.readiness_loop.specs.declared.line_plan.LoopStop.{LoopStop}
 use Rattle.readiness_loop.specs.Claims.{serving, dialling, halt_for, HasServed, FailsToServe, BreaksOffServing, HasDialled, FailsToDial, BreaksOffDialling}
 use Rattle.er_serving.specs.LineCommands.{LineCommand, Serve, Call, key_file_of, AsksClock}
 use Rattle.er_serving.specs.Outsides.{Outside, Traffic, traffic_of, of_loop, IsLeftAlone}
@@ -85,9 +85,9 @@ pub record IsKeyed (entries : List KmacEntry) (engine rbc : ℕ) (before : Traff
   pub loop : Loop kmac (with_clock before clock)
 
 -- the loop answered that it served: so many turns, and why it stopped
-pub record HasLoopStopped (HasLooped : ℕ → Stop → Type 0) : Type 0 where
+pub record HasLoopStopped (HasLooped : ℕ → LoopStop → Type 0) : Type 0 where
   pub turns : ℕ
-  pub why : Stop
+  pub why : LoopStop
   pub has : HasLooped turns why
 
 abbrev pub Looped : LineCommand → List KmacEntry → GivenToLoop → Traffic → Traffic → Type 0

@@ -13,9 +13,8 @@ ghost use Rattle.er_serving.specs.OutsideViews.{KeepsCabinet};
 ghost use Rattle.er_serving.specs.Outsides.{traffic_at};
 
 use crate::pair::Pair;
-use des_block::TripleKey;
-use er_base::EtcsNumber;
 use er_base::PrintedWord::{Decimal, Plain};
+use er_base::{EtcsNumber, Moment};
 use er_settings::Settings;
 use er_statuses::acting::{say, say_keys};
 use er_statuses::{Status, Stop};
@@ -69,7 +68,7 @@ pub(crate) fn serve_with<O: Journal>(
         settings: Settings::usual(),
         turns,
     };
-    let served = serve(alloc, store, &plan, address, rbc.get(), users, outside);
+    let served = serve(alloc, store, &plan, address, rbc, users, outside);
     ended(served, outside)
 }
 
@@ -89,7 +88,7 @@ fn no_key<O: Outside>(alloc: Global, pair: Pair, outside: &mut O) -> Result<Stat
 // Dials the address, with the key of the pair. The clock was asked for the moment at which it holds, and answered so `before` that.
 fn dial_with<O: Journal>(
     alloc: Global,
-    kmac: TripleKey,
+    kmac: Kmac,
     pair: Pair,
     address: &str,
     turns: u64,
@@ -106,7 +105,7 @@ fn dial_with<O: Journal>(
         settings: Settings::usual(),
         turns,
     };
-    let pair = PairKey::new(pair.engine, pair.rbc, Kmac::new(kmac));
+    let pair = PairKey::new(pair.engine, pair.rbc, kmac);
     let served = dial(alloc, &pair, &plan, address, users, outside);
     ended(served, outside)
 }
@@ -125,8 +124,8 @@ pub(crate) fn call_with<O: Journal>(
         (given_to_loop (length users.items) (map mind users.items) (O.told outside.old).words) (traffic_at (O.told outside.old)) (traffic_at (O.told outside.new)) result }
     ensures keeps { KeepsCabinet (O.told outside.old) (O.told outside.new) }
 {
-    let now = outside.moment();
-    match store.find(pair.engine.get(), pair.rbc.get(), now) {
+    let now = Moment::new(outside.moment());
+    match store.find(pair.engine, pair.rbc, now) {
         Some(kmac) => dial_with(alloc, kmac, pair, address, turns, users, outside),
         None => no_key(alloc, pair, outside),
     }

@@ -6,7 +6,9 @@ ghost use Rattle.er_base.specs.Rows.{AnswersAsWordsSay};
 ghost use Rattle.er_trace.specs.Ranges.{IsMoment, IsEtcsNumber, IsOctet, IsEventText};
 ghost use Rattle.er_trace.specs.Table.{releaser_argument};
 
-use er_base::{LineFault, MOST_ETCS_NUMBER, MOST_MOMENT, Octets, Why, read_number, read_text};
+use er_base::{
+    EtcsNumber, LineFault, MOST_ETCS_NUMBER, MOST_MOMENT, Octets, Why, read_number, read_text,
+};
 use std::alloc::Global;
 
 /// The most octets of a HEX word.
@@ -28,12 +30,13 @@ pub fn read_any_number(word: &[u8]) -> Result<u64, Why>
     read_number(word, 0, u64::MAX)
 }
 
-/// An ETCS number, below 2^24.
-pub fn read_etcs_number(word: &[u8]) -> Result<u32, Why>
+/// An ETCS number.
+pub fn read_etcs_number(word: &[u8]) -> Result<EtcsNumber, Why>
     ensures value { result ≡ number_argument 0 16777215 word.now }
     ensures range { IfOk result (λ n. IsEtcsNumber n) }
 {
-    Ok(read_number(word, 0, MOST_ETCS_NUMBER as u64)? as u32)
+    let number = read_number(word, 0, MOST_ETCS_NUMBER as u64)?;
+    Ok(EtcsNumber::new(number as u32))
 }
 
 /// An octet: a reason or a sub-reason.

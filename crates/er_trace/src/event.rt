@@ -1,23 +1,23 @@
 //! The events of a trace.
 
-use er_base::Octets;
+use er_base::{EtcsNumber, Octets};
 
 /// What came at the end of a connection.
 #[derive(Debug, Drop)]
 pub enum Event {
     /// A calling end was made, and started.
     Call {
-        /// The ETCS number of the engine, the end's own, below 2^24.
-        engine: u32,
-        /// The ETCS number of the radio block centre that is called, below 2^24.
-        rbc: u32,
+        /// The engine, the end's own.
+        engine: EtcsNumber,
+        /// The radio block centre that is called.
+        rbc: EtcsNumber,
         /// The engine's random number.
         rb: u64,
     },
     /// An answering end was made.
     Answer {
-        /// The ETCS number of the radio block centre, the end's own, below 2^24.
-        rbc: u32,
+        /// The radio block centre, the end's own.
+        rbc: EtcsNumber,
         /// Its random number.
         ra: u64,
     },

@@ -17,7 +17,7 @@ use crate::outcome::Outcome;
 use crate::outcome_name::OutcomeName;
 use crate::refusal_name::RefusalName;
 use er_base::PrintedWord::{Decimal, Hexadecimal, Plain};
-use er_base::{NoMemory, Release, eight_of, put_line};
+use er_base::{EtcsNumber, Moment, NoMemory, Release, eight_of, put_line};
 use er_settings::Settings;
 
 /// Appends the header of a trace of ends of these settings. After want of memory `out` is as it was.
@@ -38,17 +38,17 @@ pub fn print_header(settings: &Settings, out: &mut Vec<u8>) -> Result<(), NoMemo
 }
 
 // Appends the line of an event that has no argument.
-fn put_event(moment: u64, conn: u64, name: EventName, out: &mut Vec<u8>) -> Result<(), NoMemory>
+fn put_event(moment: Moment, conn: u64, name: EventName, out: &mut Vec<u8>) -> Result<(), NoMemory>
     ensures ok { OnOk result (out.new.items ≡ out.old.items ++ line_text (event_words moment conn (event_word name ∷ []))) }
     ensures err { OnErr result (out.new.items ≡ out.old.items) }
 {
-    let words = [Decimal(moment), Decimal(conn), Plain(name.word())];
+    let words = [Decimal(moment.get()), Decimal(conn), Plain(name.word())];
     put_line(&Plain(b">"), &words, out)
 }
 
 // Appends the line of an event that has a number.
 fn put_number(
-    moment: u64,
+    moment: Moment,
     conn: u64,
     name: EventName,
     number: u64,
@@ -59,7 +59,7 @@ fn put_number(
     ensures err { OnErr result (out.new.items ≡ out.old.items) }
 {
     let words = [
-        Decimal(moment),
+        Decimal(moment.get()),
         Decimal(conn),
         Plain(name.word()),
         Decimal(number),
@@ -69,7 +69,7 @@ fn put_number(
 
 // Appends the line of an event that has octets.
 fn put_octets(
-    moment: u64,
+    moment: Moment,
     conn: u64,
     name: EventName,
     octets: &[u8],
@@ -80,7 +80,7 @@ fn put_octets(
     ensures err { OnErr result (out.new.items ≡ out.old.items) }
 {
     let words = [
-        Decimal(moment),
+        Decimal(moment.get()),
         Decimal(conn),
         Plain(name.word()),
         Hexadecimal(octets),
@@ -90,10 +90,10 @@ fn put_octets(
 
 // Appends the line of a call.
 fn put_call(
-    moment: u64,
+    moment: Moment,
     conn: u64,
-    engine: u32,
-    rbc: u32,
+    engine: EtcsNumber,
+    rbc: EtcsNumber,
     rb: u64,
     out: &mut Vec<u8>,
 ) -> Result<(), NoMemory>
@@ -101,26 +101,32 @@ fn put_call(
     ensures err { OnErr result (out.new.items ≡ out.old.items) }
 {
     let words = [
-        Decimal(moment),
+        Decimal(moment.get()),
         Decimal(conn),
         Plain(EventName::Call.word()),
-        Decimal(engine as u64),
-        Decimal(rbc as u64),
+        Decimal(engine.get() as u64),
+        Decimal(rbc.get() as u64),
         Hexadecimal(&eight_of(rb)),
     ];
     put_line(&Plain(b">"), &words, out)
 }
 
 // Appends the line of an answer.
-fn put_answer(moment: u64, conn: u64, rbc: u32, ra: u64, out: &mut Vec<u8>) -> Result<(), NoMemory>
+fn put_answer(
+    moment: Moment,
+    conn: u64,
+    rbc: EtcsNumber,
+    ra: u64,
+    out: &mut Vec<u8>,
+) -> Result<(), NoMemory>
     ensures ok { OnOk result (out.new.items ≡ out.old.items ++ line_text (entry_words moment conn (event.Answer rbc ra))) }
     ensures err { OnErr result (out.new.items ≡ out.old.items) }
 {
     let words = [
-        Decimal(moment),
+        Decimal(moment.get()),
         Decimal(conn),
         Plain(EventName::Answer.word()),
-        Decimal(rbc as u64),
+        Decimal(rbc.get() as u64),
         Hexadecimal(&eight_of(ra)),
     ];
     put_line(&Plain(b">"), &words, out)
@@ -154,7 +160,7 @@ pub fn print_entry(entry: &Entry, out: &mut Vec<u8>) -> Result<(), NoMemory>
 
 /// Appends the line of octets that came, as [`print_entry`] does, without an event that owns them.
 pub fn print_octets(
-    moment: u64,
+    moment: Moment,
     conn: u64,
     octets: &[u8],
     out: &mut Vec<u8>,
@@ -166,7 +172,7 @@ pub fn print_octets(
 }
 
 /// Appends the line of a message that the user sends, as [`print_entry`] does, without an event that owns it.
-pub fn print_send(moment: u64, conn: u64, text: &[u8], out: &mut Vec<u8>) -> Result<(), NoMemory>
+pub fn print_send(moment: Moment, conn: u64, text: &[u8], out: &mut Vec<u8>) -> Result<(), NoMemory>
     ensures ok { OnOk result (out.new.items ≡ out.old.items ++ line_text (entry_words moment conn (event.Send text.now))) }
     ensures err { OnErr result (out.new.items ≡ out.old.items) }
 {

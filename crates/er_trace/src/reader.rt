@@ -19,7 +19,7 @@ use crate::outcomes::check_arguments;
 use crate::refusal_name::RefusalName;
 use crate::said::Said;
 use crate::trace::Trace;
-use er_base::{LineFault, TextFault, Why, next_row};
+use er_base::{LineFault, Moment, TextFault, Why, next_row};
 use er_settings::Settings;
 use std::alloc::Global;
 
@@ -139,6 +139,7 @@ fn read_entries(alloc: Global, header: usize, text: &[u8]) -> Result<EntryList, 
                 },
             ) => {
                 let line = number;
+                let moment = Moment::new(moment);
                 entries.push(Entry {
                     line,
                     moment,

@@ -7,7 +7,7 @@ use crate::event::Event;
 pub enum Said {
     /// An event.
     Happens {
-        /// Its moment.
+        /// Its moment, at most 10^15 milliseconds.
         moment: u64,
         /// Its connection.
         conn: u64,

@@ -13,7 +13,7 @@ use Rattle.drill_model.specs.Waiting.{Put}
 use Rattle.drill_model.specs.Links.{Link, LinkOpening, LinkStep, Change, opened_link, waiting_of, link_step}
 use Rattle.drill_model.specs.Worlds.{DrillPlan, World, Came, On, Drained, Drain, drain, is_link, link_at, with_link, history_on, went_on, open_link, at_link, with_drain, drain_link, copy_frame, copy_between}
 use Rattle.drill_model.specs.Links.{OfStations}
-use Rattle.drill_ends.specs.EitherStations.{StationsPlan}
+use Rattle.drill_ends.specs.StationPlans.{StationsPlan}
 use Rattle.drill_model.specs.Faults.{wants, wants_closed, or_else}
 use Rattle.drill_model.specs.Marks.{marks_from}
 use Rattle.drill_model.specs.Texts.{lines, empty_line, passes_line}

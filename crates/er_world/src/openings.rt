@@ -16,6 +16,7 @@ use er_base::{EtcsNumber, Moment, NoMemory};
 use er_end::End;
 use er_settings::Settings;
 use safety_automaton::{Role, Safe};
+use session_keys::{Kmac, SessionKeys};
 use std::alloc::Global;
 
 // An end that is let go at a `?` has a prover read how each of its parts is let go, at every such place. So here ends are let go in calls of `drop`.
@@ -42,6 +43,16 @@ fn begun(
     }
 }
 
+// The KMAC that a radio block centre has, if it has one.
+fn kmac_of(keys: Option<TripleKey>) -> Option<Kmac>
+    ensures { result ≡ keys }
+{
+    match keys {
+        Some(keys) => Some(Kmac::new(keys)),
+        None => None,
+    }
+}
+
 /// A link between two ends that are connected under these session keys, the engine's first, opened at a moment.
 pub fn fixed(
     alloc: Global,
@@ -54,10 +65,8 @@ pub fn fixed(
     ensures { (settings : AnySettings) (now : ℕ) (show : Bool) (number : ℕ) (text : List ℕ) → moment ≡ now
         → LinkWent (opened_link settings now (OfPair (OfFixed engine rbc ke kr))) show number [] result text text }
 {
-    let engine = engine.get();
-    let rbc = rbc.get();
-    let e = DrillEnd::Safe(Safe::fixed(engine, rbc, Role::Initiator, ke));
-    let r = DrillEnd::Safe(Safe::fixed(rbc, engine, Role::Responder, kr));
+    let e = DrillEnd::Safe(Safe::fixed(engine, rbc, Role::Initiator, SessionKeys::new(ke)));
+    let r = DrillEnd::Safe(Safe::fixed(rbc, engine, Role::Responder, SessionKeys::new(kr)));
     Link::new(alloc, e, r, OneKey::new(engine, rbc, None), moment)
 }
 
@@ -78,16 +87,14 @@ pub fn called(
         → LinkWent (opened_link settings now (OfPair (OfKeys engine rbc ke kr ra rb))) place.show place.number [] link out.old.items out.new.items) }
 {
     drill_ends::laws::keys();
-    let engine = engine.get();
-    let rbc = rbc.get();
-    let e = DrillEnd::Safe(Safe::initiator(engine, rbc, ke, rb));
+    let e = DrillEnd::Safe(Safe::initiator(engine, rbc, Kmac::new(ke), rb));
     let r = DrillEnd::Safe(Safe::responder(rbc, ra));
     begun(
         alloc,
         place,
         e,
         r,
-        OneKey::new(engine, rbc, kr),
+        OneKey::new(engine, rbc, kmac_of(kr)),
         moment,
         out,
     )
@@ -113,12 +120,11 @@ pub fn stacked(
     drill_ends::laws::keys();
     er_end::laws::standing();
     drill_model::laws::stacks_report();
-    // a field that is read tells that the settings are in their ranges
+    // a field that is read tells that the settings are in their ranges, and a moment that is read the same of it
     let _ = &settings.window;
-    let engine = engine.get();
-    let rbc = rbc.get();
-    let e = End::call(alloc, settings, engine, rbc, ke, rb, moment.get())?;
-    let r = match End::answer(alloc, settings, rbc, ra, moment.get()) {
+    let _within = moment.get();
+    let e = End::call(alloc, settings, engine, rbc, Kmac::new(ke), rb, moment)?;
+    let r = match End::answer(alloc, settings, rbc, ra, moment) {
         Ok(r) => r,
         Err(refused) => {
             drop(e);
@@ -130,7 +136,7 @@ pub fn stacked(
         place,
         DrillEnd::Stack(e),
         DrillEnd::Stack(r),
-        OneKey::new(engine, rbc, kr),
+        OneKey::new(engine, rbc, kmac_of(kr)),
         moment,
         out,
     )
@@ -155,7 +161,8 @@ pub fn wired(
             return Err(refused);
         }
     };
-    let keys = OneKey::new(0, 0, None);
+    let nobody = EtcsNumber::new(0);
+    let keys = OneKey::new(nobody, nobody, None);
     begun(
         alloc,
         place,

@@ -5,8 +5,7 @@ ghost use Rattle.er_scenario.specs.Choices.{IsNarrow};
 ghost use Rattle.er_scenario.specs.declared.step.Step.{Step as AnyStep};
 ghost use Rattle.safety_pair_laws.specs.Marks.{MarksGrow};
 ghost use Rattle.drill_model.specs.Growth.{FactsGrow, HistoryGrows, HistoryOfOwn, HistoryOfOther, LinkMarksGrow, WorldMarksGrow, LinkText};
-ghost use Rattle.drill_model.specs.Steps.{HasEtcsNumbers};
-ghost use Rattle.drill_model.specs.StepLevels.{IsOfLevel, HasMoment};
+ghost use Rattle.drill_model.specs.StepLevels.{IsOfLevel};
 ghost use Rattle.drill_model.specs.Links.{OfStations, Tick};
 ghost use Rattle.drill_model.specs.Worlds.{DrillPlan, link_at, is_link, fixed_opening, link_opening, wire_opening, open_link, at_link, drain_link, copy_between, tick_each_link, tick_world, world_run, world_step};
 ghost use Rattle.drill_model.specs.Faults.{wants, wants_closed, wants_moment, or_else, refusal_of_step};
@@ -562,8 +561,6 @@ impl World {
 
     /// One step, but for the test that not too many frames wait.
     fn go(&mut self, alloc: Global, step: &Step, out: &mut Vec<u8>) -> Result<(), WorldFault>
-        requires numbers { HasEtcsNumbers step.now }
-        requires moment { HasMoment step.now }
         ensures does { DoesWorldStep (λ w. refusal_of_step w step.now) (λ w. world_step self.old.plan w step.now)
             self.old self.new out.old.items out.new.items result }
         ensures plan { self.new.plan ≡ self.old.plan }
@@ -576,11 +573,7 @@ impl World {
                 rbc,
                 ke,
                 kr,
-            } => {
-                let engine = EtcsNumber::new(*engine);
-                let rbc = EtcsNumber::new(*rbc);
-                self.open_fixed(alloc, *link, engine, rbc, *ke, *kr, out)
-            }
+            } => { self.open_fixed(alloc, *link, *engine, *rbc, *ke, *kr, out) }
             Step::Link {
                 link,
                 engine,
@@ -589,11 +582,7 @@ impl World {
                 kr,
                 ra,
                 rb,
-            } => {
-                let engine = EtcsNumber::new(*engine);
-                let rbc = EtcsNumber::new(*rbc);
-                self.open_called(alloc, *link, engine, rbc, *ke, *kr, *ra, *rb, out)
-            }
+            } => { self.open_called(alloc, *link, *engine, *rbc, *ke, *kr, *ra, *rb, out) }
             Step::Wire { link } => self.open_wire(alloc, *link, out),
             Step::Send { link, side, text } => {
                 self.at(alloc, *link, *side, &Action::Send(text.as_slice()), out)
@@ -637,7 +626,7 @@ impl World {
             Step::Release { link, side, sub } => {
                 self.at(alloc, *link, *side, &Action::Release(*sub), out)
             }
-            Step::Tick { moment } => self.tick(alloc, Moment::new(*moment), out),
+            Step::Tick { moment } => self.tick(alloc, *moment, out),
             Step::Drain { link, most } => self.drain(alloc, *link, *most, out),
         }
     }
@@ -686,8 +675,6 @@ impl World {
     /// After [`WorldFault::Overfull`] and want of memory the world is spent. After any fault nothing was printed.
     pub fn apply(&mut self, alloc: Global, step: &Step, out: &mut Vec<u8>) -> Result<(), WorldFault>
         requires level { IsOfLevel self.old.plan.level step.now }
-        requires numbers { HasEtcsNumbers step.now }
-        requires moment { HasMoment step.now }
         requires unspent { self.old.spent ≡ false }
         ensures ok { OnOk result ((plan : DrillPlan) (before : List AnyStep) → Ran self.old plan before
             → Applied plan before step.now self.new out.old.items out.new.items) }

@@ -9,4 +9,6 @@ pub(crate) struct Ended {
     pub(crate) status: Status,
     pub(crate) file: Option<FileFault>,
     pub(crate) wires: Option<WireFault>,
+    // Whether it was the socket of an application that couldn't be listened at.
+    pub(crate) has_no_socket: bool,
 }

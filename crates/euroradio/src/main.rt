@@ -1,6 +1,7 @@
 //! The program: it makes the real objects, lets the top call do what the words ask for, and ends with its status.
 #![tactic(auto)]
 
+mod beside;
 mod ended;
 mod listening_wires;
 mod objects;
@@ -11,13 +12,15 @@ mod system_words;
 mod telling_outside;
 mod told;
 
+use crate::beside::beside;
 use crate::ended::Ended;
 use crate::objects::position_reports;
 use crate::relaying::relay;
 use crate::streams::stand_ins;
 use crate::system_words::SystemWords;
 use crate::telling_outside::TellingOutside;
-use counted::{Counted, Counts};
+use application_command::application_from;
+use counted::JournalCounts;
 use er_base::{NoMemory, decimal};
 use er_program::{
     Clock, Command, FileCabinet, FileCommand, LineCommand, MachineClock, Sink, Status, StdoutSink,
@@ -63,9 +66,9 @@ fn radio_block_centre(words: &[String]) -> Option<u64> {
 
 // How a run over wires went, and what was counted of it.
 #[derive(Drop)]
-struct Ran {
-    ended: Ended,
-    counts: Counts,
+pub(crate) struct Ran {
+    pub(crate) ended: Ended,
+    pub(crate) counts: JournalCounts,
 }
 
 // A run over these sockets, whose recording goes first. None where there is no memory for the objects.
@@ -85,32 +88,17 @@ fn run_over<K: Sink>(
     let recorded = Recorded::new(rt.alloc(), parts).ok()?;
     let mut outside = TellingOutside::new(recorded, watch, rt);
     let status = run(rt.alloc(), words, users, &mut outside);
-    // Each part is let go by itself, since what is inside borrows the objects above.
-    let TellingOutside {
-        outside: counted,
-        watch,
-        ..
-    } = outside;
-    drop(watch);
-    let Counted {
-        outside: mut recorded,
-        counts,
-        recorded: history,
-        ..
-    } = counted;
-    drop(history);
-    // What the last turn told waits still.
-    let status = match recorded.write_out() {
-        Ok(()) => status,
-        Err(_) => Status(5),
-    };
-    drop(recorded);
+    let left = outside.end(status);
     let ended = Ended {
-        status,
+        status: left.status,
         file: cabinet.why(),
         wires: sockets.fault(),
+        has_no_socket: left.has_no_socket,
     };
-    Some(Ran { ended, counts })
+    Some(Ran {
+        ended,
+        counts: left.counts,
+    })
 }
 
 // A command that runs over wires, with these random words and users. None where there is no memory for the objects.
@@ -134,7 +122,7 @@ fn on_line<K: Sink>(
 // Has the C library keep the memory of connections that closed for those that come. glibc gives back to the system what is free at the end of
 // its heap, above 128 KiB at first, and takes it from there again, a page fault for each page. Once a block that it had from the system by
 // itself is let go, it keeps twice as much as that had. The block is never written to, so it costs no memory; without it all works as well.
-fn keep_memory(alloc: Global) {
+pub(crate) fn keep_memory(alloc: Global) {
     if let Ok(block) = Vec::<u8>::with_capacity(alloc, LARGEST_BLOCK) {
         drop(block);
     }
@@ -187,6 +175,7 @@ fn without_wires<K: Sink>(
         status,
         file: cabinet.why(),
         wires: None,
+        has_no_socket: false,
     }
 }
 
@@ -207,6 +196,10 @@ fn answered<K: Sink>(
     if let Some(command) = relay_from(words) {
         let mut randoms: SystemWords<ChaCha20Rng> = SystemWords::new(&rt).ok()?;
         return relay(rt, &command, &mut randoms, sink);
+    }
+    if let Some(command) = application_from(words) {
+        let mut randoms: SystemWords<ChaCha20Rng> = SystemWords::new(&rt).ok()?;
+        return beside(rt, words, &command, &mut randoms, sink);
     }
     match command_from(words) {
         Command::File(command) => Some(without_wires(rt, &command, ends, sink)),
@@ -231,6 +224,7 @@ fn status_of(rt: HostRuntime, words: &[String]) -> Status {
             status: unmade(rt, &mut sink),
             file: None,
             wires: None,
+            has_no_socket: false,
         },
     };
     told::ended(rt, words, &ended, sink.line());

@@ -50,6 +50,7 @@ pub(crate) fn relay<K: Sink, R: Rng>(
         status,
         file: cabinet.why(),
         wires: wires.wires.fault(),
+        has_no_socket: false,
     };
     wires.wires.finish(MOST_LINGER);
     Some(ended)

@@ -3,7 +3,8 @@
 ghost use Rattle.std.specs.Prelude.{◌≡◌};
 
 use crate::told;
-use counted::Counted;
+use counted::{Counted, JournalCounts};
+use er_program::Status;
 use journal::{EventTally, Journal};
 use link_trait::{
     Cabinet, Clock as LoopClock, Conn, Failed, FetchFault, Happening, ReadAnswer, Sink, WriteAnswer,
@@ -44,7 +45,20 @@ impl<'f, 'k, 'w, 'c, 'r, F: Cabinet, K: Sink, C: LoopClock, R: Rng> Peers
 pub(crate) struct TellingOutside<O: Journal + Peers + Drop> {
     pub(crate) outside: Counted<O>,
     pub(crate) watch: Watch,
+    // Whether the socket of an application couldn't be listened at.
+    has_no_socket: bool,
     rt: HostRuntime,
+}
+
+/// What is left of an outside at its end.
+#[derive(Drop)]
+pub(crate) struct Left {
+    /// The status of the run.
+    pub(crate) status: Status,
+    /// What was counted.
+    pub(crate) counts: JournalCounts,
+    /// Whether the socket of an application couldn't be listened at.
+    pub(crate) has_no_socket: bool,
 }
 
 impl<O: Journal + Peers + Drop> TellingOutside<O> {
@@ -54,6 +68,7 @@ impl<O: Journal + Peers + Drop> TellingOutside<O> {
         TellingOutside {
             outside: Counted::new(outside),
             watch,
+            has_no_socket: false,
             rt,
         }
     }
@@ -140,6 +155,39 @@ impl<O: Journal + Peers + Drop> TellingOutside<O> {
     }
 }
 
+impl<'f, 'k, 'w, 'c, 'r, F: Cabinet, K: Sink, C: LoopClock, R: Rng> TellingOutside<
+    Recorded<Parts<'f, 'k, 'w, 'c, 'r, F, K, MioWires<HostRuntime>, C, R>>,
+> {
+    /// Ends it behind a run of that status: what the last turn told waits still, and is written.
+    pub(crate) fn end(self, status: Status) -> Left {
+        // Each part is let go by itself, since what is inside borrows objects of the caller.
+        let TellingOutside {
+            outside: counted,
+            watch,
+            has_no_socket,
+            ..
+        } = self;
+        drop(watch);
+        let Counted {
+            outside: mut recorded,
+            counts,
+            recorded: history,
+            ..
+        } = counted;
+        drop(history);
+        let status = match recorded.write_out() {
+            Ok(()) => status,
+            Err(_) => Status(5),
+        };
+        drop(recorded);
+        Left {
+            status,
+            counts,
+            has_no_socket,
+        }
+    }
+}
+
 impl<O: Journal + Peers + Drop> Outside for TellingOutside<O> {
     ghost told = { λ t. O.told t.outside.outside };
 
@@ -157,7 +205,11 @@ impl<O: Journal + Peers + Drop> Outside for TellingOutside<O> {
 
     fn listen(&mut self, address: &str) -> Result<(), Failed> {
         let answer = self.outside.listen(address);
-        self.tell_address();
+        match address.strip_prefix("unix:") {
+            Some(name) if answer.is_ok() => told::awaits(self.rt, name),
+            Some(_) => self.has_no_socket = true,
+            None => self.tell_address(),
+        }
         answer
     }
 

@@ -1,7 +1,8 @@
 //! What is written to the standard error, for people. Nothing there is a key, a text or a random number, and no clause speaks of it.
 
 use crate::ended::Ended;
-use counted::Counts;
+use application_command::application_from;
+use counted::JournalCounts;
 use er_base::{NoMemory, Release};
 use er_program::{
     Command, FileCommand, FileFault, LineCommand, MOST_FILE_OCTETS, PlainCommand, StdoutSink, Work,
@@ -30,9 +31,12 @@ pub(crate) const USAGE: &str = "usage: euroradio COMMAND, one of
   migrate KEYS                          prints a key file as one of version 2
   serve KEYS ADDRESS RBC TURNS          serves trains at an IP address and port, as 127.0.0.1:4711
   call KEYS ADDRESS ENGINE RBC TURNS    calls as a train
+  serve KEYS ADDRESS RBC TURNS APPLICATION
+  call KEYS ADDRESS ENGINE RBC TURNS APPLICATION
+                                        the same, and a program that comes to the socket APPLICATION is the user of each session
   relay SCRIPT LISTEN DIAL TURNS        passes octets between two devices, but for what a script says
   --help, --version                     print this text, and which program this is
-ADDRESS, LISTEN and DIAL are an IP address and a port each. ENGINE and RBC are ETCS numbers, 0 to 16777215. TURNS is 0 to 1000000000, or - for no bound.
+ADDRESS, LISTEN and DIAL are an IP address and a port each. ENGINE and RBC are ETCS numbers, 0 to 16777215. TURNS is 0 to 1000000000, or - for no bound. APPLICATION is a file name.
 ";
 
 /// The standard output is closed.
@@ -140,12 +144,26 @@ fn kind_of(work: Work) -> FileKind {
     }
 }
 
+// The command over wires that these words ask for, whether with an application or not.
+fn line_of(words: &[String]) -> Option<LineCommand<'_>> {
+    if let Some(command) = application_from(words) {
+        return Some(command.line);
+    }
+    match command_from(words) {
+        Command::Line(command) => Some(command),
+        Command::File(_) => None,
+    }
+}
+
 // The key file of the command that these words ask for.
 fn keys_of(words: &[String]) -> Option<&str> {
+    if let Some(command) = line_of(words) {
+        return Some(command.key_file());
+    }
     match command_from(words) {
         Command::File(FileCommand::Plain(command)) => plain_keys_of(&command),
         Command::File(FileCommand::Keyed(command)) => Some(command.keys),
-        Command::Line(command) => Some(command.key_file()),
+        Command::Line(_) => None,
     }
 }
 
@@ -194,18 +212,11 @@ pub(crate) fn hints(rt: HostRuntime, words: &[String]) {
             }
         }
     }
-    if runs_over_wires(words) && is_read_by_others(rt, name) {
+    if line_of(words).is_some() && is_read_by_others(rt, name) {
         let mut line = String::new(rt.alloc());
         if put_text(&mut line, name).is_ok() {
             let _ = eprintln!(rt; "euroradio: warning: {line}: others than its owner may read it");
         }
-    }
-}
-
-fn runs_over_wires(words: &[String]) -> bool {
-    match command_from(words) {
-        Command::File(_) => false,
-        Command::Line(_) => true,
     }
 }
 
@@ -223,15 +234,15 @@ fn misused(alloc: Global, words: &[String]) -> Result<String, NoMemory> {
         line.push_str("a command is missing")?;
         return Ok(line);
     };
-    let Some((wanted, count)) = wanted_by(first.as_str()) else {
+    let Some((wanted, least, most)) = wanted_by(first.as_str()) else {
         line.push('\'')?;
         put_text(&mut line, first.as_str())?;
         line.push_str("' is no command")?;
         return Ok(line);
     };
     put_text(&mut line, first.as_str())?;
-    if arguments.len() != count {
-        let found = arguments.len();
+    let found = arguments.len();
+    if found < least || found > most {
         write!(line, " wants {wanted}, and {found} words stand behind it")?;
         return Ok(line);
     }
@@ -247,18 +258,23 @@ fn misused(alloc: Global, words: &[String]) -> Result<String, NoMemory> {
     Ok(line)
 }
 
-fn wanted_by(command: &str) -> Option<(&'static str, usize)> {
+// What a command wants, and how many words that are at the least and at the most.
+fn wanted_by(command: &str) -> Option<(&'static str, usize, usize)> {
     match command {
-        "drill" => Some(("SCENARIO", 1)),
-        "bits" => Some(("FILE", 1)),
-        "migrate" => Some(("KEYS", 1)),
-        "replay" => Some(("KEYS TRACE", 2)),
-        "check" => Some(("KEYS TRACE", 2)),
-        "audit" => Some(("KEYS TAP, and ends or nothing", 2)),
-        "bulk" => Some(("SEED COUNT", 2)),
-        "serve" => Some(("KEYS ADDRESS RBC TURNS", 4)),
-        "call" => Some(("KEYS ADDRESS ENGINE RBC TURNS", 5)),
-        "relay" => Some(("SCRIPT LISTEN DIAL TURNS", 4)),
+        "drill" => Some(("SCENARIO", 1, 1)),
+        "bits" => Some(("FILE", 1, 1)),
+        "migrate" => Some(("KEYS", 1, 1)),
+        "replay" => Some(("KEYS TRACE", 2, 2)),
+        "check" => Some(("KEYS TRACE", 2, 2)),
+        "audit" => Some(("KEYS TAP, and ends or nothing", 2, 2)),
+        "bulk" => Some(("SEED COUNT", 2, 2)),
+        "serve" => Some(("KEYS ADDRESS RBC TURNS, and APPLICATION or nothing", 4, 5)),
+        "call" => Some((
+            "KEYS ADDRESS ENGINE RBC TURNS, and APPLICATION or nothing",
+            5,
+            6,
+        )),
+        "relay" => Some(("SCRIPT LISTEN DIAL TURNS", 4, 4)),
         _ => None,
     }
 }
@@ -291,6 +307,22 @@ fn unfetched(alloc: Global, last: &[u8], why: Option<FileFault>) -> Result<Strin
     Ok(line)
 }
 
+// Where `serve` or `call` was to listen or to dial; nothing of other commands.
+fn place_of(words: &[String], of_application: bool) -> &str {
+    if of_application {
+        return match application_from(words) {
+            Some(command) => command.application,
+            None => "",
+        };
+    }
+    match line_of(words) {
+        Some(LineCommand::Serve { address, .. }) | Some(LineCommand::Call { address, .. }) => {
+            address
+        }
+        None => "",
+    }
+}
+
 // Why a listen, a dial or a turn failed.
 fn wires_failed(alloc: Global, words: &[String], ended: &Ended) -> Result<String, NoMemory> {
     let mut line = String::new(alloc);
@@ -303,13 +335,7 @@ fn wires_failed(alloc: Global, words: &[String], ended: &Ended) -> Result<String
             },
         )?;
     }
-    if let Command::Line(command) = command_from(words) {
-        match command {
-            LineCommand::Serve { address, .. } | LineCommand::Call { address, .. } => {
-                put_text(&mut line, address)?;
-            }
-        }
-    }
+    put_text(&mut line, place_of(words, ended.has_no_socket))?;
     match ended.wires {
         Some(why) => write!(line, ": {why}")?,
         // The address to dial was looked at before anything was asked of the wires.
@@ -320,12 +346,20 @@ fn wires_failed(alloc: Global, words: &[String], ended: &Ended) -> Result<String
 }
 
 /// What was counted, but for a run that failed before any connection.
-pub(crate) fn counted(rt: HostRuntime, ended: &Ended, counts: &Counts) {
+pub(crate) fn counted(rt: HostRuntime, ended: &Ended, counts: &JournalCounts) {
     if ended.status.0 != 0 && counts.opened == 0 && counts.turned_away == 0 {
         return;
     }
     if let Ok(line) = counts_line(rt.alloc(), counts) {
         let _ = rt.eprintln(line);
+    }
+}
+
+/// Where an application may come.
+pub(crate) fn awaits(rt: HostRuntime, name: &str) {
+    let mut line = String::new(rt.alloc());
+    if put_text(&mut line, name).is_ok() {
+        let _ = eprintln!(rt; "euroradio: an application may come to {line}");
     }
 }
 
@@ -347,7 +381,7 @@ pub(crate) fn keys(rt: HostRuntime, rbc: u64, held: KeysHeld) {
 }
 
 /// What became of a call.
-pub(crate) fn called(rt: HostRuntime, words: &[String], counts: &Counts) {
+pub(crate) fn called(rt: HostRuntime, words: &[String], counts: &JournalCounts) {
     let Some(release) = counts.newest else {
         let _ = eprintln!(rt; "euroradio: the call was not released");
         return;

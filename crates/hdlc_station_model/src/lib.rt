@@ -2,7 +2,7 @@
 //! that it sends, and each rule of what it does at a frame that comes, at a payload handed to it, at a tick.
 //!
 //! The definitions stand in `specs/`, with whole lists and with numbers that have no bound; a frame shows them modulo 8
-//! or 128. `hdlc_balanced` is the code that does the same over a ring of payloads, and `hdlc_pair_laws` has what follows for
+//! or 128. `hdlc_station` is the code that does the same over a ring of payloads, and `hdlc_pair_laws` has what follows for
 //! two stations over two lines. Here stand the types that both share, and laws of one call.
 #![tactic(auto)]
 

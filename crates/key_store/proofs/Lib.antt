@@ -1,4 +1,5 @@
 pub mod Entries
+pub mod Holdings
 pub mod Twices
 pub mod Spans
 pub mod Tables

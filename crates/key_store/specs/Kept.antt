@@ -1,4 +1,4 @@
--- Representation: how the code keeps entries, and what the parts of the reader answer; no claim rests on it.
+-- Contract: how entries are kept, and what the parts of the reader answer.
 use Rattle.std.specs.Prelude.{◌≡◌, Result, Ok, Err}
 use Rattle.safety_automaton.specs.Keys.{KmacEntry}
 use Rattle.key_store.specs.declared.key_entry.KeyEntry.{KeyEntry}

@@ -7,3 +7,4 @@ pub mod Kept
 pub mod Written
 pub mod Lists
 pub mod Spans
+pub mod Holding

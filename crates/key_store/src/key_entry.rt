@@ -6,9 +6,10 @@ ghost use Rattle.key_store.specs.KeyFiles.{is_at_once};
 ghost use Rattle.key_store.specs.Kept.{key_entry_of};
 ghost use Rattle.key_store.specs.Ranges.{IsInRange};
 ghost use Rattle.key_store.specs.Lists.{is_in_range};
+ghost use Rattle.key_store.specs.Holding.{holds_at};
 
 use des_block::TripleKey;
-use er_base::{MOST_ETCS_NUMBER, MOST_MOMENT};
+use er_base::{EtcsNumber, MOST_ETCS_NUMBER, MOST_MOMENT, Moment};
 
 /// The KMAC of an engine and a radio block centre, with its first and its last moment in milliseconds.
 #[derive(Clone, Copy, Debug)]
@@ -48,10 +49,21 @@ impl KeyEntry {
     }
 
     /// Whether it is that of a pair and holds at a moment.
-    pub fn is_of(&self, engine: u32, rbc: u32, now: u64) -> bool
+    pub fn is_of(&self, engine: EtcsNumber, rbc: EtcsNumber, now: Moment) -> bool
         ensures { result ≡ is_of now engine rbc (key_entry_of self.now) }
     {
-        self.engine == engine && self.rbc == rbc && self.first <= now && now <= self.last
+        let now = now.get();
+        self.engine == engine.get()
+            && self.rbc == rbc.get()
+            && self.first <= now
+            && now <= self.last
+    }
+
+    /// Whether it holds at a moment.
+    pub fn holds_at(&self, now: u64) -> bool
+        ensures { result ≡ holds_at now (key_entry_of self.now) }
+    {
+        self.first <= now && now <= self.last
     }
 
     /// Whether another one is of the same pair and holds at a moment at which it holds.

@@ -1,9 +1,11 @@
 //! The entries of a key file, kept.
 
-ghost use Rattle.std.specs.Prelude.{◌≡◌, Ok, IfOk, map};
+ghost use Rattle.std.specs.Prelude.{◌≡◌, Ok, IfOk, map, count_by};
 ghost use Rattle.key_store.specs.KeyFiles.{keys_of};
 ghost use Rattle.key_store.specs.Answers.{AnswersAsKeyFileSays};
 ghost use Rattle.key_store.specs.Lists.{as_entry, listed_keys};
+ghost use Rattle.key_store.specs.Holding.{holds_at};
+ghost use Rattle.key_store.specs.Kept.{key_entry_of};
 
 use crate::document::{listed_keys, read_document, read_version};
 use crate::key_entry::KeyEntry;
@@ -12,9 +14,9 @@ use crate::key_reader::read_entries;
 use crate::key_writer::key_text;
 use crate::ranged_entries::RangedEntries;
 use crate::twice::{first_twice, has_none_twice};
-use des_block::TripleKey;
-use er_base::NoMemory;
+use er_base::{EtcsNumber, Moment, NoMemory};
 use safety_automaton::KeyFinder;
+use session_keys::Kmac;
 use std::alloc::Global;
 use std::marker::Model;
 
@@ -35,6 +37,13 @@ impl Model for KeyStore {
     ghost view = { λ s. map key_entry_of s.entries.items };
 
     ghost invariant = { λ s. AreKmacEntriesApart (map key_entry_of s.entries.items) × AreInRange (map key_entry_of s.entries.items) };
+}
+
+// How many of these entries hold at a moment.
+fn count_held(entries: &[KeyEntry], now: u64) -> usize
+    ensures { result ≡ count_by (λ entry. holds_at now (key_entry_of entry)) entries.now }
+{
+    entries.iter().filter(|entry| entry.holds_at(now)).count()
 }
 
 impl KeyStore {
@@ -67,6 +76,14 @@ impl KeyStore {
         Some(KeyStore { entries })
     }
 
+    /// How many entries hold at a moment.
+    #[tactic(auto, using(crate::proofs::Holdings::held_by_view))]
+    pub fn held_at(&self, now: u64) -> usize
+        ensures { result ≡ count_by (holds_at now) self.now }
+    {
+        count_held(self.entries.as_slice(), now)
+    }
+
     /// A key file of version 2 with these entries, one by one in their order.
     pub fn to_text(&self, alloc: Global) -> Result<Vec<u8>, NoMemory>
         ensures read_back { IfOk result (λ text. keys_of text.items ≡ Ok self.now) }
@@ -78,10 +95,10 @@ impl KeyStore {
 impl KeyFinder for KeyStore {
     ghost entries = { λ entries. entries };
 
-    fn find(&self, engine: u32, rbc: u32, now: u64) -> Option<TripleKey> {
+    fn find(&self, engine: EtcsNumber, rbc: EtcsNumber, now: Moment) -> Option<Kmac> {
         for entry in self.entries.as_slice() {
             if entry.is_of(engine, rbc, now) {
-                return Some(entry.kmac);
+                return Some(Kmac::new(entry.kmac));
             }
         }
         None

@@ -7,11 +7,10 @@ ghost use Rattle.tap_model.specs.Verdicts.{ra_in, rb_in, random_number_in_item, 
 
 use crate::items::Items;
 use crate::opening::Opening;
-use cbc_mac::MacKey;
 use er_base::EtcsNumber;
 use safety_automaton::KeyFinder;
 use sapdu::{SaPdu, read};
-use session_keys::derive;
+use session_keys::SessionKeys;
 use std::marker::Model;
 
 /// The random numbers of a session, and the keys that they give.
@@ -19,7 +18,7 @@ use std::marker::Model;
 pub struct Session {
     pub(crate) ra: u64,
     pub(crate) rb: u64,
-    pub(crate) keys: MacKey,
+    pub(crate) keys: SessionKeys,
 }
 
 impl Model for Session {
@@ -95,17 +94,13 @@ fn session_of<K: KeyFinder>(
 ) -> Option<Session>
     ensures { result ≡ session_with (key_at (K.entries keys.now) opening.now.moment opening.now.engine opening.now.rbc) ra rb }
 {
-    let kmac = keys.find(
-        opening.engine.get(),
-        opening.rbc.get(),
-        opening.moment.get(),
-    )?;
+    let kmac = keys.find(opening.engine, opening.rbc, opening.moment)?;
     let ra = ra?;
     let rb = rb?;
     Some(Session {
         ra,
         rb,
-        keys: MacKey::new(&derive(&kmac, ra, rb)),
+        keys: kmac.session_keys(ra, rb),
     })
 }
 

@@ -7,7 +7,7 @@ use Rattle.link_trait.specs.declared.wires.ReadAnswer.{ReadAnswer}
 use Rattle.link_trait.specs.declared.wires.ReadAnswer.TheVariants as read
 use Rattle.er_end.specs.KeptEnds.{KEnd, deadline_of}
 use Rattle.loop_model.specs.Outs.{next, prints, makes}
-use Rattle.loop_model.specs.Sessions.{Rules, Session, is_released, GivenToSession, Ticks, Ends, Faults, nothing_said, handled, pours}
+use Rattle.loop_model.specs.Sessions.{Rules, Session, is_released, GivenToSession, Ticks, Ends, Faults, nothing_said, handled, pours, made}
 use Rattle.loop_model.specs.Visits as visits
 use Rattle.loop_model.specs.Visits.{flowed, written_unless, session_behind_writing, fault_unless, writes, nothing_wrote, session_kept_or_closed, rests, Met, nothing_met, came, read_once, rests_behind, served, visited, is_due, most_read}
 use Rattle.outside.specs.Acts.{Called, Read}
@@ -237,7 +237,7 @@ pub reads_broke : (a b c : Told) (r : Rules) (m : ℕ) (s : Session KEnd) (numbe
     → ReadMade a b number waits reading → BrokeOff b c (came kept_ends reading r m s) fault → Stopped (seen a) (seen c) (session_behind_read r m s) fault
 unfolding session_behind_read
 reads_broke a b c r m s number waits reading fault same made p =
-    let x : Met = record { waits = waits; reading = reading; says = p.answers; wrote = nothing_wrote } in
+    let x : Met = record { waits = waits; reading = reading; says = p.answers; wrote = nothing_wrote; memory = true } in
     record {
       answers = x;
       breaks =
@@ -250,7 +250,7 @@ pub reads_stays : (a b c : Told) (r : Rules) (m : ℕ) (s t : Session KEnd) (num
     → ReadMade a b number waits reading → Chose b c t (came kept_ends reading r m s) → ActedSo (seen a) (seen c) (left true t) (session_behind_read r m s)
 unfolding session_behind_read
 reads_stays a b c r m s t number waits reading same none made p =
-    let x : Met = record { waits = waits; reading = reading; says = p.answers; wrote = nothing_wrote } in
+    let x : Met = record { waits = waits; reading = reading; says = p.answers; wrote = nothing_wrote; memory = true } in
     record {
       answers = x;
       is =
@@ -271,7 +271,7 @@ pub reads_rests : (a b c : Told) (e : Seen) (r : Rules) (m : ℕ) (s t new : Ses
     → Chose b c t (came kept_ends reading r m s) → Visits (seen c) e new (rests kept_ends r m t) res → Visits (seen a) e new (session_behind_read r m s) res
 unfolding session_behind_read
 reads_rests a b c e r m s t new number waits reading (Ok stay) same some made p q =
-    let x : Met = record { waits = waits; reading = reading; says = p.answers; wrote = q.answers } in
+    let x : Met = record { waits = waits; reading = reading; says = p.answers; wrote = q.answers; memory = true } in
     record {
       answers = x;
       is =
@@ -280,7 +280,7 @@ reads_rests a b c e r m s t new number waits reading (Ok stay) same some made p 
           (subst (λ z. Acted (seen c) e (left stay new) z) (sym (rests_as reading r m t q.answers some)) q.is);
     }
 reads_rests a b c e r m s t new number waits reading (Err fault) same some made p q =
-    let x : Met = record { waits = waits; reading = reading; says = p.answers; wrote = q.answers } in
+    let x : Met = record { waits = waits; reading = reading; says = p.answers; wrote = q.answers; memory = true } in
     record {
       answers = x;
       breaks =
@@ -295,15 +295,20 @@ pub visit_not_read : (a : Seen) (r : Rules) (m : ℕ) (s : Session KEnd) → is_
 unfolding visited
 visit_not_read a r m s p = record { answers = nothing_met; is = rw p (acted_still a (s ∷ [])) }
 
-pub visit_read : (a b : Seen) (r : Rules) (m : ℕ) (s new : Session KEnd) (res : Result Bool LoopFault) → is_released kept_ends s ≡ false → Visits a b new (session_behind_read r m s) res → Visits a b new (visited kept_ends r m visits.Read s) res
+noted_read : (a b : Seen) (r : Rules) (m : ℕ) (s new : Session KEnd) (res : Result Bool LoopFault) → is_released kept_ends s ≡ false → Visits a b new (session_behind_read r m (made s)) res → Visits a b new (visited kept_ends r m visits.Read s) res
 unfolding visited session_behind_read
-visit_read a b r m s new (Ok stay) p q = record { answers = q.answers; is = rw p q.is }
-visit_read a b r m s new (Err fault) p q = record { answers = q.answers; breaks = rw p q.breaks }
+noted_read a b r m s new (Ok stay) p q = record { answers = q.answers; is = rw p q.is }
+noted_read a b r m s new (Err fault) p q = record { answers = q.answers; breaks = rw p q.breaks }
 
-pub visit_write : (a b : Seen) (r : Rules) (m : ℕ) (s new : Session KEnd) (res : Result Bool LoopFault) → Visits a b new (rests kept_ends r m s) res → Visits a b new (visited kept_ends r m visits.Write s) res
+pub visit_read : (a b : Seen) (r : Rules) (m : ℕ) (s t new : Session KEnd) (res : Result Bool LoopFault) → is_released kept_ends s ≡ false → t ≡ made s → Visits a b new (session_behind_read r m t) res → Visits a b new (visited kept_ends r m visits.Read s) res
+visit_read a b r m s t new res p e q = noted_read a b r m s new res p (subst (λ z. Visits a b new (session_behind_read r m z) res) e q)
+
+pub visit_write : (a b : Seen) (r : Rules) (m : ℕ) (s t new : Session KEnd) (res : Result Bool LoopFault) → t ≡ made s → Visits a b new (rests kept_ends r m t) res → Visits a b new (visited kept_ends r m visits.Write s) res
 unfolding visited
-visit_write a b r m s new (Ok stay) q = record { answers = record nothing_met { wrote = q.answers }; is = q.is }
-visit_write a b r m s new (Err fault) q = record { answers = record nothing_met { wrote = q.answers }; breaks = q.breaks }
+visit_write a b r m s t new (Ok stay) e q =
+    record { answers = record nothing_met { wrote = q.answers }; is = subst (λ z. Acted a b (left stay new) (rests kept_ends r m z q.answers)) e q.is }
+visit_write a b r m s t new (Err fault) e q =
+    record { answers = record nothing_met { wrote = q.answers }; breaks = subst (λ z. BreaksAt a b (rests kept_ends r m z q.answers) fault) e q.breaks }
 
 pub visit_expire : (a b : Told) (r : Rules) (m : ℕ) (s : Session KEnd) (stay : Bool) → ClosesDueSession a b m s stay
     → ActedSo (seen a) (seen b) (left stay s) (visited kept_ends r m visits.Expire s)

@@ -1,14 +1,14 @@
 -- The output of a session, written call by call.
 use Rattle.er_end.specs.KeptEnds.{KEnd}
 use Rattle.loop_session.specs.Keeping.{kept_ends}
-use Rattle.std.proofs.Common.{◌≡◌, ◌≤◌, ◌<◌, ℕ, zero, suc, ◌+◌, ◌-◌, ◌==◌, true, false, ◌||◌, ◌&&◌, List, [], ◌∷◌, ◌++◌, length, drop, refl, sym, ◌∙◌, ap, subst, inl, inr, arith, eqb-true}
+use Rattle.std.proofs.Common.{◌≡◌, ◌≤◌, ◌<◌, ℕ, zero, suc, ◌+◌, ◌-◌, ◌==◌, true, false, ◌||◌, List, [], ◌∷◌, ◌++◌, length, drop, refl, sym, ◌∙◌, ap, subst, inl, inr, arith, eqb-true}
 use Rattle.std.proofs.lemmas.Bool.{cases_Bool}
 use Rattle.link_trait.specs.States.{WiresState}
 use Rattle.link_trait.specs.Wires.{Reading, Writes, Closes}
 use Rattle.link_trait.specs.declared.wires.WriteAnswer.{WriteAnswer}
 use Rattle.link_trait.specs.declared.wires.WriteAnswer.TheVariants as write
 use Rattle.loop_model.specs.Outs.{still, next, makes, acts, exactly}
-use Rattle.loop_model.specs.Sessions.{Session, is_released}
+use Rattle.loop_model.specs.Sessions.{Session, owes_nothing}
 use Rattle.loop_model.specs.Visits as visits
 use Rattle.loop_model.specs.Visits.{WritingState, after_write, writes_once, writes, session_kept_or_closed, is_due}
 use Rattle.outside.specs.Acts.{Called, Read, Sent, Closed}
@@ -160,7 +160,7 @@ wrote_failing c d e s t number piece p same_number same_piece some did =
 
 -- ---- closing
 
-pub settles_not : (c : Told) (s : Session KEnd) → (s.broken || (is_released kept_ends s && (length s.output == 0))) ≡ false → Settles c c s true
+pub settles_not : (c : Told) (s : Session KEnd) → (s.broken || owes_nothing kept_ends s) ≡ false → Settles c c s true
 unfolding session_kept_or_closed
 settles_not c s p = rw p (acted_still (seen c) (s ∷ []))
 
@@ -169,7 +169,7 @@ acted_close a b s number same did =
     subst (λ z. Acted {S = List (Session KEnd)} (seen a) (seen b) [] (makes (Closes z) [])) same
     (acted_makes {S = List (Session KEnd)} a b [] (Closes number) did (told_call a.wires.calls b.wires.calls (Closed number) (Closes number) refl did.wires.calls) tt)
 
-pub settles_closed : (a b : Told) (s : Session KEnd) (number : ℕ) → (s.broken || (is_released kept_ends s && (length s.output == 0))) ≡ true → number ≡ s.number
+pub settles_closed : (a b : Told) (s : Session KEnd) (number : ℕ) → (s.broken || owes_nothing kept_ends s) ≡ true → number ≡ s.number
     → Did a b (Called (Closed number) ∷ []) → Settles a b s false
 unfolding session_kept_or_closed
 settles_closed a b s number p same did = rw p (acted_close a b s number same did)

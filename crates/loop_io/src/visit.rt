@@ -90,9 +90,13 @@ pub fn visit_session<U: SafeUser, K: KeyFinder, O: Journal>(
             if session.is_released() {
                 return Ok(true);
             }
+            session.note_made();
             read(session, keys, when, workspace, outside)
         }
-        Visit::Write => rest(session, when, &mut workspace.scratch, outside),
+        Visit::Write => {
+            session.note_made();
+            rest(session, when, &mut workspace.scratch, outside)
+        }
         Visit::Expire => Ok(expire(session, when, outside)),
     }
 }

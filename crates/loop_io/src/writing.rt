@@ -1,8 +1,8 @@
 //! The output of a session is written, and what follows that.
 
-ghost use Rattle.std.specs.Prelude.{◌≡◌, ◌||◌, ◌&&◌, ◌==◌, List, length};
+ghost use Rattle.std.specs.Prelude.{◌≡◌, ◌||◌, List};
 ghost use Rattle.safety_automaton.specs.Keys as keys;
-ghost use Rattle.loop_model.specs.Sessions.{is_released};
+ghost use Rattle.loop_model.specs.Sessions.{owes_nothing};
 ghost use Rattle.loop_session.specs.Keeping.{kept_ends};
 ghost use Rattle.loop_io.specs.Visiting.{writing_by, rest_by, DoesOn, VisitsOn, Keep};
 ghost use Rattle.loop_io.specs.Writing.{HasSessionWritten, Settles};
@@ -67,7 +67,7 @@ fn write_out<U: SafeUser, O: Journal>(
     }
 }
 
-// Whether a session stays: it is closed as soon as it broke off, or once it is released and nothing waits.
+// Whether a session stays: it is closed as soon as it broke off, or once it is released and owes nothing.
 fn settle<U: SafeUser, O: Outside>(session: &Session<U>, outside: &mut O) -> bool
     ensures settles { Settles (O.told outside.old) (O.told outside.new) session.now result }
     ensures keep { Keep (O.told outside.old) (O.told outside.new) }
@@ -81,15 +81,12 @@ fn settle<U: SafeUser, O: Outside>(session: &Session<U>, outside: &mut O) -> boo
 
 // Whether the connection of a session is to be closed at once.
 fn is_done<U: SafeUser>(session: &Session<U>) -> bool
-    ensures { result ≡ (session.now.broken || (is_released kept_ends session.now && (length session.now.output == 0))) }
+    ensures { result ≡ (session.now.broken || owes_nothing kept_ends session.now) }
 {
     if session.is_broken() {
         return true;
     }
-    if !session.is_released() {
-        return false;
-    }
-    session.output().is_empty()
+    session.owes_nothing()
 }
 
 /// What follows the events of a happening: the output is written, and the session is closed where it is to be. Whether it stays.

@@ -7,7 +7,7 @@ use Rattle.er_trace.specs.declared.event.Event.{Event}
 use Rattle.er_trace.specs.declared.event.Event.TheVariants as event
 use Rattle.er_users.specs.Users.{Mind}
 use Rattle.rand_core.specs.Stream.{Stream, next_u64}
-use Rattle.trace_model.specs.Checks.{is_opening_role, role_of, most_live}
+use Rattle.trace_model.specs.Checks.{Belongs, is_opening_role, role_of, most_live}
 use Rattle.link_trait.specs.Wires.{Call, Turns, Closes}
 use Rattle.link_trait.specs.declared.wires.Conn.{Conn}
 use Rattle.link_trait.specs.declared.wires.Happening.{Happening}
@@ -17,11 +17,12 @@ use Rattle.loop_model.specs.Deeds.{LoopDeed, Printing, Calling, entries_in, call
 use Rattle.loop_model.specs.Outs.{Out, HasOrder, still, next, changed, makes, acts, exactly, first_answer_of}
 use Rattle.loop_model.specs.Sessions.{Rules, Session}
 use Rattle.loop_model.specs.Visits.{Met, nothing_met, Visit, Tick, Read, Write, Expire, visited}
-use Rattle.loop_model.specs.Loops.{Plan, rules_of, Loop, visit_at, numbers, swept, Sweeps, before, until, next_user, other_users, plain_event, begun, answering, answered_by, turned_away, accepted, visited_at, happened, Halt, OnClosed, Course, asks, halt_by, halt_behind, Turn, nothing_comes, readied, went, run}
+use Rattle.loop_model.specs.Loops.{Plan, rules_of, Loop, visit_at, numbers, swept, Sweeps, before, until, next_user, other_users, one_word_less, plain_event, begun, answering, answered_by, turned_away, accepted, visited_at, happened, Halt, OnClosed, Course, asks, halt_by, halt_behind, Turn, nothing_comes, readied, went, run}
 use Rattle.loop_model.specs.Parts.{session_of_connection, of, calls_at, opened_in, Rises, newest}
 use Rattle.loop_model.specs.Laws.{IsServing}
-use Rattle.loop_model.specs.Points.{user_of, AreDeclined}
+use Rattle.loop_model.specs.Points.{user_of}
 use Rattle.loop_model.specs.Told.{hearing}
+use Rattle.loop_model.specs.Turnings.{draws_word}
 use Rattle.loop_model.specs.Orderly.{order_run}
 use Rattle.loop_model.specs.Alone.{own_happening, own_met, own_ticks, own_turn, own_turns, own_users, own_words, Outside, own_outside, run_over, deeds_on, IsSameAt, IsNeverFull, ConnectionsStandAlone}
 use Rattle.loop_model.proofs.Projections.{opened_in-append, rises_first, rises_rest, newest_later}
@@ -45,19 +46,38 @@ solo n c us ws = record { loop = solo_loop n c.loop us ws; turns = c.turns; halt
 
 -- ---- what opens ends
 
-declined-append : (xs ys : List JournalEntry) → AreDeclined xs → AreDeclined ys → AreDeclined (xs ++ ys)
+-- these events open no end, and no random word is drawn for them
+abbrev AreIdle : List JournalEntry → Type 0
+AreIdle [] = Unit {0}
+AreIdle (x ∷ xs) = ((is_opening_role (role_of x.event) ≡ false) × (draws_word x.event ≡ false)) × AreIdle xs
+
+belongs_draws : (e : Event) → role_of e ≡ Belongs → draws_word e ≡ false
+belongs_draws (event.Call engine rbc rb) p = absurd (let x : ⊥ = cc in x)
+belongs_draws (event.Answer rbc ra) p = absurd (let x : ⊥ = cc in x)
+belongs_draws (event.Octets octets) p = refl
+belongs_draws (event.Send text) p = refl
+belongs_draws event.Take p = refl
+belongs_draws (event.Release sub) p = refl
+belongs_draws event.Tick p = refl
+belongs_draws event.Ended p = refl
+belongs_draws event.Fault p = refl
+belongs_draws event.Stalled p = refl
+belongs_draws (event.Full count) p = absurd (let x : ⊥ = cc in x)
+belongs_draws (event.Unserved count) p = absurd (let x : ⊥ = cc in x)
+
+declined-append : (xs ys : List JournalEntry) → AreIdle xs → AreIdle ys → AreIdle (xs ++ ys)
 declined-append [] ys p q = q
 declined-append (x ∷ xs) ys p q = (p.0, declined-append xs ys p.1 q)
 
-plain_declined : (m n : ℕ) (xs : List JournalEntry) → ArePlain m n xs → AreDeclined xs
+plain_declined : (m n : ℕ) (xs : List JournalEntry) → ArePlain m n xs → AreIdle xs
 plain_declined m n [] p = tt
-plain_declined m n (x ∷ xs) p = (ap is_opening_role p.0.role, plain_declined m n xs p.1)
+plain_declined m n (x ∷ xs) p = ((ap is_opening_role p.0.role, belongs_draws x.event p.0.role), plain_declined m n xs p.1)
 
-visit_declined : (r : Rules) (m : ℕ) (visit : Visit) (n : ℕ) (ss : List (Session ModelEnd)) (a : Met) → AreDeclined (visit_at (visited model_ends r m visit) n ss a).entries
+visit_declined : (r : Rules) (m : ℕ) (visit : Visit) (n : ℕ) (ss : List (Session ModelEnd)) (a : Met) → AreIdle (visit_at (visited model_ends r m visit) n ss a).entries
 visit_declined r m visit n ss a = plain_declined m n (visit_at (visited model_ends r m visit) n ss a).entries (plain_visit r m visit n ss a)
 
 swept_declined : (r : Rules) (m : ℕ) (visit : Visit) (ns : List ℕ) (ss : List (Session ModelEnd)) (answers : List Met)
-    → AreDeclined (swept (visited model_ends r m visit) ns ss answers).entries
+    → AreIdle (swept (visited model_ends r m visit) ns ss answers).entries
 unfolding swept
 swept_declined r m visit [] ss answers = tt
 swept_declined r m visit (n ∷ ns) ss answers =
@@ -65,7 +85,7 @@ swept_declined r m visit (n ∷ ns) ss answers =
     declined-append o.entries (swept (visited model_ends r m visit) ns o.state (drop 1 answers)).entries
     (visit_declined r m visit n ss (first_answer_of nothing_met answers)) (swept_declined r m visit ns o.state (drop 1 answers))
 
-readied_declined : (plan : Plan) (c : Course ModelEnd) (a : Turn) → AreDeclined (readied model_ends plan c a).entries
+readied_declined : (plan : Plan) (c : Course ModelEnd) (a : Turn) → AreIdle (readied model_ends plan c a).entries
 unfolding readied before
 readied_declined plan c a =
     let d = asks a.first c in
@@ -75,18 +95,18 @@ readied_declined plan c a =
     (swept_declined r d.loop.moment Tick (numbers d.loop.sessions) d.loop.sessions a.sweeps.ticks)
     (swept_declined r d.loop.moment Expire (numbers t.state) t.state a.sweeps.closings)
 
-declined_user : (n : ℕ) (xs ys : List JournalEntry) (users : List Mind) → AreDeclined xs → user_of n (xs ++ ys) users ≡ user_of n ys users
+declined_user : (n : ℕ) (xs ys : List JournalEntry) (users : List Mind) → AreIdle xs → user_of n (xs ++ ys) users ≡ user_of n ys users
 unfolding user_of
 declined_user n [] ys users p = refl
 declined_user n (x ∷ xs) ys users p =
-    if_not (is_opening_role (role_of x.event)) (if x.conn == n then next_user users else user_of n (xs ++ ys) (other_users users)) (user_of n (xs ++ ys) users) p.0
+    if_not (is_opening_role (role_of x.event)) (if x.conn == n then next_user users else user_of n (xs ++ ys) (other_users users)) (user_of n (xs ++ ys) users) p.0.0
     ∙ declined_user n xs ys users p.1
 
-declined_words : (n : ℕ) (xs ys : List JournalEntry) (words : Stream) → AreDeclined xs → own_words n (xs ++ ys) words ≡ own_words n ys words
+declined_words : (n : ℕ) (xs ys : List JournalEntry) (words : Stream) → AreIdle xs → own_words n (xs ++ ys) words ≡ own_words n ys words
 unfolding own_words
 declined_words n [] ys words p = refl
 declined_words n (x ∷ xs) ys words p =
-    if_not (is_opening_role (role_of x.event)) (if x.conn == n then words else own_words n (xs ++ ys) (next_u64 words).1) (own_words n (xs ++ ys) words) p.0
+    if_not (draws_word x.event) (if x.conn == n then words else own_words n (xs ++ ys) (next_u64 words).1) (own_words n (xs ++ ys) words) p.0.1
     ∙ declined_words n xs ys words p.1
 
 -- no end of this number is opened
@@ -98,9 +118,9 @@ no_opening-append : (n : ℕ) (xs ys : List JournalEntry) → NoOpening n xs →
 no_opening-append n [] ys p q = q
 no_opening-append n (x ∷ xs) ys p q = (p.0, no_opening-append n xs ys p.1 q)
 
-declined_no_opening : (n : ℕ) (xs : List JournalEntry) → AreDeclined xs → NoOpening n xs
+declined_no_opening : (n : ℕ) (xs : List JournalEntry) → AreIdle xs → NoOpening n xs
 declined_no_opening n [] p = tt
-declined_no_opening n (x ∷ xs) p = (λ e. absurd (true≢false (sym e ∙ p.0)), declined_no_opening n xs p.1)
+declined_no_opening n (x ∷ xs) p = (λ e. absurd (true≢false (sym e ∙ p.0.0)), declined_no_opening n xs p.1)
 
 no_user : (n : ℕ) (xs : List JournalEntry) (users : List Mind) → NoOpening n xs → user_of n xs users ≡ None
 unfolding user_of
@@ -149,7 +169,7 @@ unopened plan n = record {
       declined_no_opening n (visit_at (visited model_ends (rules_of plan) m visit) k ss a).entries (visit_declined (rules_of plan) m visit k ss a);
   turned = λ ss until happening none p. tt;
   opened = λ l until conn mind fits p. (λ e. p.0, tt);
-  full = λ ss m until conn fits p. (λ e. absurd (true≢false (sym e)), tt);
+  full = λ ss m live until conn most p. (λ e. absurd (true≢false (sym e)), tt);
   unserved = λ ss m handed until conn p. (λ e. absurd (true≢false (sym e)), tt);
 }
 
@@ -238,10 +258,11 @@ module _ (plan : Plan) (n : ℕ) where
     state = refl;
   }
 
-  answered_other : (user : Option Mind) (l : Loop ModelEnd) (us : List Mind) (ws : Stream) (k : ℕ) → (k == n) ≡ false
-      → Alike n us ws (answered_by model_ends user plan l k) (still (solo_loop n l us ws))
-  answered_other None l us ws k ne = away_other l us ws k (event.Unserved plan.handed) ne
-  answered_other (Some mind) l us ws k ne =
+  answered_other : (user : Option Mind) (memory : Bool) (l : Loop ModelEnd) (us : List Mind) (ws : Stream) (k : ℕ) → (k == n) ≡ false
+      → Alike n us ws (answered_by model_ends user memory plan l k) (still (solo_loop n l us ws))
+  answered_other None memory l us ws k ne = away_other l us ws k (event.Unserved plan.handed) ne
+  answered_other (Some mind) false l us ws k ne = away_other (one_word_less l) us ws k (event.Full (length l.sessions)) ne
+  answered_other (Some mind) true l us ws k ne =
       let b = begun k (answering model_ends plan l) mind in
       record {
         order = event_elsewhere n (plain_event l k (event.Answer plan.rbc (next_u64 l.words).0)) [] ne;
@@ -250,11 +271,12 @@ module _ (plan : Plan) (n : ℕ) where
             (sym (only-append n l.sessions (b ∷ []) ∙ ap (λ z. only n l.sessions ++ z) (only_skip n b [] ne ∙ only_none n) ∙ append-nil (only n l.sessions)));
       }
 
-  pub accepted_other : (l : Loop ModelEnd) (us : List Mind) (ws : Stream) (k : ℕ) → (k == n) ≡ false → Alike n us ws (accepted model_ends plan l k) (still (solo_loop n l us ws))
+  pub accepted_other : (l : Loop ModelEnd) (us : List Mind) (ws : Stream) (k : ℕ) (memory : Bool) → (k == n) ≡ false
+      → Alike n us ws (accepted model_ends plan l k memory) (still (solo_loop n l us ws))
   unfolding accepted
-  accepted_other l us ws k ne =
+  accepted_other l us ws k memory ne =
       elim (cases_Bool (nat_lt (length l.sessions) most_live)) [
-        | inl p ↦ rw p (answered_other (next_user l.users) l us ws k ne)
+        | inl p ↦ rw p (answered_other (next_user l.users) memory l us ws k ne)
         | inr p ↦ rw p (away_other l us ws k (event.Full most_live) ne)
       ]
 
@@ -296,8 +318,8 @@ module _ (plan : Plan) (n : ℕ) where
       → Alike n us ws (happened model_ends plan l what a) (happened model_ends plan (solo_loop n l us ws) (own_happening n what) (own_met n what a))
   unfolding happened
   happened_alike (happening.Accepted conn) l us ws a ne =
-      subst (λ (z : Happening). Alike n us ws (accepted model_ends plan l conn.0) (happened model_ends plan (solo_loop n l us ws) z nothing_met))
-      (sym (if_not (conn.0 == n) (happening.Accepted conn) happening.Quiet ne)) (accepted_other l us ws conn.0 ne)
+      subst (λ (z : Happening). Alike n us ws (accepted model_ends plan l conn.0 a.memory) (happened model_ends plan (solo_loop n l us ws) z (own_met n (happening.Accepted conn) a)))
+      (sym (if_not (conn.0 == n) (happening.Accepted conn) happening.Quiet ne)) (accepted_other l us ws conn.0 a.memory ne)
   happened_alike (happening.Readable conn) l us ws a ne = touched_alike Read l us ws conn a (happening.Readable conn) (λ k b. refl)
   happened_alike (happening.Writable conn) l us ws a ne = touched_alike Write l us ws conn a (happening.Writable conn) (λ k b. refl)
   happened_alike happening.Quiet l us ws a ne = quiet_alike l us ws
@@ -316,7 +338,7 @@ module _ (plan : Plan) (n : ℕ) where
     alike : Alike n users words o p
 
   served_joins : (mind : Mind) (l : Loop ModelEnd) (us : List Mind) (k : ℕ) → (k == n) ≡ true
-      → Joins (answered_by model_ends (Some mind) plan l k) (answered_by model_ends (Some mind) plan (solo_loop n l us l.words) k)
+      → Joins (answered_by model_ends (Some mind) true plan l k) (answered_by model_ends (Some mind) true plan (solo_loop n l us l.words) k)
   served_joins mind l us k is =
       let b = begun k (answering model_ends plan l) mind in
       record {
@@ -335,57 +357,68 @@ module _ (plan : Plan) (n : ℕ) where
   next_own (Some mind) = refl
 
   -- by the user that comes next
-  answered_joins : (user : Option Mind) (l : Loop ModelEnd) (us : List Mind) (ws : Stream) (k : ℕ) (ys : List JournalEntry) → next_user l.users ≡ user → (k == n) ≡ true
-      → RightBy ((answered_by model_ends user plan l k).entries ++ ys) l us ws
-      → Joins (answered_by model_ends user plan l k) (answered_by model_ends user plan (solo_loop n l us ws) k)
+  answered_joins : (user : Option Mind) (memory : Bool) (l : Loop ModelEnd) (us : List Mind) (ws : Stream) (k : ℕ) (ys : List JournalEntry) → next_user l.users ≡ user → (k == n) ≡ true
+      → IsNeverFull n (answered_by model_ends user memory plan l k).entries → RightBy ((answered_by model_ends user memory plan l k).entries ++ ys) l us ws
+      → Joins (answered_by model_ends user memory plan l k) (answered_by model_ends user memory plan (solo_loop n l us ws) k)
   unfolding own_words
-  answered_joins None l us ws k ys next is right = record { users = us; words = ws; alike = record { order = refl; state = refl } }
-  answered_joins (Some mind) l us ws k ys next is right =
+  answered_joins None memory l us ws k ys next is never right = record { users = us; words = ws; alike = record { order = refl; state = refl } }
+  answered_joins (Some mind) false l us ws k ys next is never right = absurd (true≢false (never.0 is))
+  answered_joins (Some mind) true l us ws k ys next is never right =
       let e : ws ≡ l.words = right.1 ∙ if_so (k == n) l.words (own_words n ys (next_u64 l.words).1) is in
-      subst (λ (z : Stream). Joins (answered_by model_ends (Some mind) plan l k) (answered_by model_ends (Some mind) plan (solo_loop n l us z) k)) (sym e)
+      subst (λ (z : Stream). Joins (answered_by model_ends (Some mind) true plan l k) (answered_by model_ends (Some mind) true plan (solo_loop n l us z) k)) (sym e)
       (served_joins mind l us k is)
 
   -- which one comes next
-  answered_user : (user : Option Mind) (l : Loop ModelEnd) (us : List Mind) (ws : Stream) (k : ℕ) (ys : List JournalEntry) → next_user l.users ≡ user → (k == n) ≡ true
-      → NoOpening n ys → RightBy ((answered_by model_ends user plan l k).entries ++ ys) l us ws → next_user us ≡ user
+  answered_user : (user : Option Mind) (memory : Bool) (l : Loop ModelEnd) (us : List Mind) (ws : Stream) (k : ℕ) (ys : List JournalEntry) → next_user l.users ≡ user → (k == n) ≡ true
+      → NoOpening n ys → IsNeverFull n (answered_by model_ends user memory plan l k).entries → RightBy ((answered_by model_ends user memory plan l k).entries ++ ys) l us ws
+      → next_user us ≡ user
   unfolding user_of
-  answered_user None l us ws k ys next is none right = ap next_user (right.0 ∙ ap own_users (no_user n ys l.users none)) ∙ next_own None
-  answered_user (Some mind) l us ws k ys next is none right =
+  answered_user None memory l us ws k ys next is none never right = ap next_user (right.0 ∙ ap own_users (no_user n ys l.users none)) ∙ next_own None
+  answered_user (Some mind) false l us ws k ys next is none never right = absurd (true≢false (never.0 is))
+  answered_user (Some mind) true l us ws k ys next is none never right =
       ap next_user (right.0 ∙ ap own_users (if_so (k == n) (next_user l.users) (user_of n ys (other_users l.users)) is ∙ next)) ∙ next_own (Some mind)
 
-  accepted_joins : (l : Loop ModelEnd) (us : List Mind) (ws : Stream) (k : ℕ) (ys : List JournalEntry) → (k == n) ≡ true → only n l.sessions ≡ [] → NoOpening n ys
-      → IsNeverFull n (accepted model_ends plan l k).entries → RightBy ((accepted model_ends plan l k).entries ++ ys) l us ws
-      → Joins (accepted model_ends plan l k) (accepted model_ends plan (solo_loop n l us ws) k)
+  accepted_joins : (l : Loop ModelEnd) (us : List Mind) (ws : Stream) (k : ℕ) (memory : Bool) (ys : List JournalEntry) → (k == n) ≡ true → only n l.sessions ≡ [] → NoOpening n ys
+      → IsNeverFull n (accepted model_ends plan l k memory).entries → RightBy ((accepted model_ends plan l k memory).entries ++ ys) l us ws
+      → Joins (accepted model_ends plan l k memory) (accepted model_ends plan (solo_loop n l us ws) k memory)
   unfolding accepted
-  accepted_joins l us ws k ys is new none never right =
+  accepted_joins l us ws k memory ys is new none never right =
       elim (cases_Bool (nat_lt (length l.sessions) most_live)) [
         | inl p ↦
             let user = next_user l.users in
-            let here : accepted model_ends plan l k ≡ answered_by model_ends user plan l k =
-            if_so (nat_lt (length l.sessions) most_live) (answered_by model_ends user plan l k) (turned_away l k (event.Full most_live)) p in
-            let right_now : RightBy ((answered_by model_ends user plan l k).entries ++ ys) l us ws =
+            let here : accepted model_ends plan l k memory ≡ answered_by model_ends user memory plan l k =
+            if_so (nat_lt (length l.sessions) most_live) (answered_by model_ends user memory plan l k) (turned_away l k (event.Full most_live)) p in
+            let never_now : IsNeverFull n (answered_by model_ends user memory plan l k).entries = subst (λ (z : Out (Loop ModelEnd)). IsNeverFull n z.entries) here never in
+            let right_now : RightBy ((answered_by model_ends user memory plan l k).entries ++ ys) l us ws =
             subst (λ (z : Out (Loop ModelEnd)). RightBy (z.entries ++ ys) l us ws) here right in
             let fits : nat_lt (length (only n l.sessions)) most_live ≡ true = subst (λ z. nat_lt (length z) most_live ≡ true) (sym new) refl in
-            let there : accepted model_ends plan (solo_loop n l us ws) k ≡ answered_by model_ends user plan (solo_loop n l us ws) k =
-            if_so (nat_lt (length (only n l.sessions)) most_live) (answered_by model_ends (next_user us) plan (solo_loop n l us ws) k)
+            let there : accepted model_ends plan (solo_loop n l us ws) k memory ≡ answered_by model_ends user memory plan (solo_loop n l us ws) k =
+            if_so (nat_lt (length (only n l.sessions)) most_live) (answered_by model_ends (next_user us) memory plan (solo_loop n l us ws) k)
             (turned_away (solo_loop n l us ws) k (event.Full most_live)) fits
-            ∙ ap (λ (z : Option Mind). answered_by model_ends z plan (solo_loop n l us ws) k) (answered_user user l us ws k ys refl is none right_now) in
-            subst (λ z. Joins (accepted model_ends plan l k) z) (sym there)
-            (subst (λ z. Joins z (answered_by model_ends user plan (solo_loop n l us ws) k)) (sym here) (answered_joins user l us ws k ys refl is right_now))
+            ∙ ap (λ (z : Option Mind). answered_by model_ends z memory plan (solo_loop n l us ws) k) (answered_user user memory l us ws k ys refl is none never_now right_now) in
+            subst (λ z. Joins (accepted model_ends plan l k memory) z) (sym there)
+            (subst (λ z. Joins z (answered_by model_ends user memory plan (solo_loop n l us ws) k)) (sym here)
+            (answered_joins user memory l us ws k ys refl is never_now right_now))
         | inr p ↦
-            let here : accepted model_ends plan l k ≡ turned_away l k (event.Full most_live) =
-            if_not (nat_lt (length l.sessions) most_live) (answered_by model_ends (next_user l.users) plan l k) (turned_away l k (event.Full most_live)) p in
+            let here : accepted model_ends plan l k memory ≡ turned_away l k (event.Full most_live) =
+            if_not (nat_lt (length l.sessions) most_live) (answered_by model_ends (next_user l.users) memory plan l k) (turned_away l k (event.Full most_live)) p in
             let never_now : IsNeverFull n (turned_away l k (event.Full most_live)).entries = subst (λ (z : Out (Loop ModelEnd)). IsNeverFull n z.entries) here never in
             absurd (true≢false (never_now.0 is))
       ]
 
   -- ---- what is left of the events, for those behind
 
-  answered_passes : (user : Option Mind) (l : Loop ModelEnd) (us : List Mind) (ws : Stream) (k : ℕ) (ys : List JournalEntry) → (k == n) ≡ false
-      → RightBy ((answered_by model_ends user plan l k).entries ++ ys) l us ws → RightBy ys (answered_by model_ends user plan l k).state us ws
+  answered_passes : (user : Option Mind) (memory : Bool) (l : Loop ModelEnd) (us : List Mind) (ws : Stream) (k : ℕ) (ys : List JournalEntry)
+      → nat_lt (length l.sessions) most_live ≡ true → (k == n) ≡ false
+      → RightBy ((answered_by model_ends user memory plan l k).entries ++ ys) l us ws → RightBy ys (answered_by model_ends user memory plan l k).state us ws
   unfolding user_of own_words
-  answered_passes None l us ws k ys ne right = right
-  answered_passes (Some mind) l us ws k ys ne right = (
+  answered_passes None memory l us ws k ys fits ne right = right
+  answered_passes (Some mind) false l us ws k ys fits ne right =
+      let behind = own_words n ys (next_u64 l.words).1 in (
+        right.0,
+        right.1 ∙ if_so (nat_lt (length l.sessions) most_live) (if k == n then l.words else behind) (own_words n ys l.words) fits ∙ if_not (k == n) l.words behind ne,
+      )
+  answered_passes (Some mind) true l us ws k ys fits ne right = (
     right.0 ∙ ap own_users (if_not (k == n) (next_user l.users) (user_of n ys (other_users l.users)) ne),
     right.1 ∙ if_not (k == n) l.words (own_words n ys (next_u64 l.words).1) ne,
   )
@@ -395,12 +428,12 @@ module _ (plan : Plan) (n : ℕ) where
   unfolding user_of own_words
   full_passes l us ws k ys right = right
 
-  accepted_passes : (l : Loop ModelEnd) (us : List Mind) (ws : Stream) (k : ℕ) (ys : List JournalEntry) → (k == n) ≡ false
-      → RightBy ((accepted model_ends plan l k).entries ++ ys) l us ws → RightBy ys (accepted model_ends plan l k).state us ws
+  accepted_passes : (l : Loop ModelEnd) (us : List Mind) (ws : Stream) (k : ℕ) (memory : Bool) (ys : List JournalEntry) → (k == n) ≡ false
+      → RightBy ((accepted model_ends plan l k memory).entries ++ ys) l us ws → RightBy ys (accepted model_ends plan l k memory).state us ws
   unfolding accepted
-  accepted_passes l us ws k ys ne =
+  accepted_passes l us ws k memory ys ne =
       elim (cases_Bool (nat_lt (length l.sessions) most_live)) [
-        | inl p ↦ rw p (λ right. answered_passes (next_user l.users) l us ws k ys ne right)
+        | inl p ↦ rw p (λ right. answered_passes (next_user l.users) memory l us ws k ys p ne right)
         | inr p ↦ rw p (λ right. full_passes l us ws k ys right)
       ]
 
@@ -414,7 +447,7 @@ module _ (plan : Plan) (n : ℕ) where
   happened_passes : (what : Happening) (l : Loop ModelEnd) (us : List Mind) (ws : Stream) (a : Met) (ys : List JournalEntry) → accepts n what ≡ false
       → RightBy ((happened model_ends plan l what a).entries ++ ys) l us ws → RightBy ys (happened model_ends plan l what a).state us ws
   unfolding happened
-  happened_passes (happening.Accepted conn) l us ws a ys ne right = accepted_passes l us ws conn.0 ys ne right
+  happened_passes (happening.Accepted conn) l us ws a ys ne right = accepted_passes l us ws conn.0 a.memory ys ne right
   happened_passes (happening.Readable conn) l us ws a ys ne right = visit_passes Read l us ws conn.0 a ys right
   happened_passes (happening.Writable conn) l us ws a ys ne right = visit_passes Write l us ws conn.0 a ys right
   happened_passes happening.Quiet l us ws a ys ne right = right
@@ -576,14 +609,17 @@ module _ (plan : Plan) (n : ℕ) where
         let le : n ≤ newest top (opened_in o.calls) =
         subst (λ z. n ≤ newest top z) (sym opens) (subst (λ z. z ≤ newest conn.0 (opened_in h.calls)) num upto) in
         let new : only n l.sessions ≡ [] = readied_none c us ws a known.ordered.rises (only_above n top c.loop.sessions known.ordered.up_to above) in
-        let j = accepted_joins l us ws conn.0 ys is new (known.later le) (never_rest n d.entries h.entries known.never) (readied_passes c a us ws h.entries ys (known.right above)) in
-        let alike : Alike n j.users j.words h (happened model_ends plan (solo_loop n l us ws) (own_happening n (happening.Accepted conn)) nothing_met) =
-        subst (λ (z : Happening). Alike n j.users j.words h (happened model_ends plan (solo_loop n l us ws) z nothing_met))
-        (sym (if_so (conn.0 == n) (happening.Accepted conn) happening.Quiet is)) j.alike in
+        let j = accepted_joins l us ws conn.0 met.memory ys is new (known.later le) (never_rest n d.entries h.entries known.never) (readied_passes c a us ws h.entries ys (known.right above)) in
+        let own = own_met n (happening.Accepted conn) met in
+        let alike : Alike n j.users j.words h (happened model_ends plan (solo_loop n l us ws) (own_happening n (happening.Accepted conn)) own) =
+        subst (λ (z : Happening). Alike n j.users j.words h (happened model_ends plan (solo_loop n l us ws) z own))
+        (sym (if_so (conn.0 == n) (happening.Accepted conn) happening.Quiet is))
+        (subst (λ (z : Met). Alike n j.users j.words h (happened model_ends plan (solo_loop n l us ws) (happening.Accepted conn) z))
+        (sym (if_so (conn.0 == n) met nothing_met is)) j.alike) in
         record {
           users = j.users;
           words = j.words;
-          stepped = went_steps c us j.users ws j.words a (happening.Accepted conn) met nothing_met known.ordered.rises alike;
+          stepped = went_steps c us j.users ws j.words a (happening.Accepted conn) met own known.ordered.rises alike;
           right = λ lt zs right. absurd (no_both (newest top (opened_in o.calls)) n lt le);
         }
 

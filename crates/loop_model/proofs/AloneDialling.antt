@@ -13,7 +13,7 @@ use Rattle.loop_model.specs.Journals.{JournalEntry}
 use Rattle.loop_model.specs.Outs.{Out, still, next, acts, exactly, first_answer_of}
 use Rattle.loop_model.specs.Sessions.{Rules, Session, GivenToSession, Begins, nothing_said}
 use Rattle.loop_model.specs.Visits.{Met, Visit, Read, Write, visited, served}
-use Rattle.loop_model.specs.Loops.{Plan, rules_of, Loop, visit_at, numbers, swept, Sweeps, before, until, next_user, begun, Caller, calling, called_by, called, happened, visited_at, Halt, OnClosed, Course, asks, halt_by, halt_behind, Turn, nothing_comes, readied, turned_unless, went, run, Dialled, opens, dials_to, dials}
+use Rattle.loop_model.specs.Loops.{Plan, rules_of, Loop, visit_at, numbers, swept, Sweeps, before, until, next_user, Caller, calling, called_by, called, happened, visited_at, Halt, OnClosed, Course, asks, halt_by, halt_behind, Turn, nothing_comes, readied, turned_unless, went, run, Dialled, opens, dials_to, dials, begun_dial}
 use Rattle.loop_model.specs.Parts.{opened_in, Rises, newest}
 use Rattle.loop_model.specs.Laws.{IsDialling}
 use Rattle.loop_model.specs.Orderly.{order_dials}
@@ -79,7 +79,7 @@ module _ (plan : Plan) (n : ℕ) where
 
   happened_silent : (what : Happening) (l : Loop ModelEnd) (a : Met) → accepts n what ≡ false → only n l.sessions ≡ [] → NothingHappens n (happened model_ends plan l what a)
   unfolding happened deeds_on
-  happened_silent (happening.Accepted conn) l a ne none = other_silent l (happened model_ends plan l (happening.Accepted conn) a) (accepted_other plan n l l.users l.words conn.0 ne) none
+  happened_silent (happening.Accepted conn) l a ne none = other_silent l (happened model_ends plan l (happening.Accepted conn) a) (accepted_other plan n l l.users l.words conn.0 a.memory ne) none
   happened_silent (happening.Readable conn) l a ne none = visited_silent Read l conn a none
   happened_silent (happening.Writable conn) l a ne none = visited_silent Write l conn a none
   happened_silent happening.Quiet l a ne none = record { order = refl; sessions = none }
@@ -392,7 +392,7 @@ called_opened plan caller None l conn a up none = record {
   own = subst (λ z. only conn z ≡ z) (sym none) (only_none conn);
 }
 called_opened plan caller (Some mind) l conn a up none =
-    let s = begun conn (calling model_ends plan caller l) mind in
+    let s = begun_dial conn (calling model_ends plan caller l) mind in
     let g = Begins caller.engine plan.rbc (next_u64 l.words).0 in
     let o = served model_ends (rules_of plan) l.moment s g a in
     let left = served_own (rules_of plan) l.moment s g a in

@@ -1,6 +1,6 @@
 -- Nothing is written to a session that broke off.
 use Rattle.loop_model.specs.Ends.{ModelEnd, model_ends}
-use Rattle.std.proofs.Common.{◌≡◌, ℕ, inl, inr, Bool, true, false, ◌&&◌, ◌||◌, List, [], ◌∷◌, ◌++◌, length, drop, refl, sym, ◌∙◌, ap, subst, append-nil, true≢false}
+use Rattle.std.proofs.Common.{◌≡◌, ℕ, inl, inr, Bool, true, false, ◌||◌, List, [], ◌∷◌, ◌++◌, length, drop, refl, sym, ◌∙◌, ap, subst, append-nil, true≢false}
 use Rattle.std.specs.Prelude.{◌==◌}
 use Rattle.std.proofs.lemmas.Bool.{cases_Bool}
 use Rattle.loop_model.proofs.EndKeepings.{ReleaseStays, BreaksRelease}
@@ -12,7 +12,7 @@ use Rattle.link_trait.specs.declared.wires.WriteAnswer.{WriteAnswer}
 use Rattle.link_trait.specs.declared.wires.WriteAnswer.TheVariants as write
 use Rattle.loop_model.specs.Journals.{JournalEntry}
 use Rattle.loop_model.specs.Outs.{acts, exactly, first_answer_of}
-use Rattle.loop_model.specs.Sessions.{Rules, Session, Ticks, is_released, Says, nothing_said, handled}
+use Rattle.loop_model.specs.Sessions.{Rules, Session, Ticks, is_released, Says, nothing_said, handled, owes_nothing, made}
 use Rattle.loop_model.specs.Visits.{most_read, WritingState, Going, PutOff, Failing, after_write, writes_once, writes, Wrote, flowed, written_unless, session_behind_writing, session_kept_or_closed, rests, rests_behind, Visit, Tick, Read, Write, Expire, Met, is_due, came, read_once, served, visited}
 use Rattle.loop_model.specs.Points.{is_stalled}
 use Rattle.loop_model.specs.Turnings.{is_ended}
@@ -40,7 +40,7 @@ ends-append (call ∷ cs) ds p q = (λ e. none-append cs ds (p.0 e) q, ends-appe
 
 settled_none : (s : Session ModelEnd) → WriteNone (session_kept_or_closed model_ends s).calls
 unfolding session_kept_or_closed
-settled_none s = elim (cases_Bool (s.broken || (is_released model_ends s && (length s.output == 0)))) [ inl p ↦ rw p (tt, tt) | inr p ↦ rw p tt ]
+settled_none s = elim (cases_Bool (s.broken || owes_nothing model_ends s)) [ inl p ↦ rw p (tt, tt) | inr p ↦ rw p tt ]
 
 -- ---- writing
 
@@ -110,8 +110,8 @@ module _ (r : Rules) (m : ℕ) where
   unfolding visited served read_once
   visit_ends Tick s a =
       elim (cases_Bool (is_due m (model_ends.deadline s.end))) [ inl p ↦ rw p (rests_ends (handled model_ends r m s Ticks (first_answer_of nothing_said a.says)).0 a.wrote) | inr p ↦ rw p tt ]
-  visit_ends Read s a = elim (cases_Bool (is_released model_ends s)) [ inl p ↦ rw p tt | inr p ↦ rw p (behind_ends a.waits a.reading s a.says a.wrote) ]
-  visit_ends Write s a = rests_ends s a.wrote
+  visit_ends Read s a = elim (cases_Bool (is_released model_ends s)) [ inl p ↦ rw p tt | inr p ↦ rw p (behind_ends a.waits a.reading (made s) a.says a.wrote) ]
+  visit_ends Write s a = rests_ends (made s) a.wrote
   visit_ends Expire s a = elim (cases_Bool (is_due m s.closing)) [ inl p ↦ rw p (λ e. tt, tt) | inr p ↦ rw p tt ]
 
 -- ---- events
@@ -184,8 +184,8 @@ module _ (stays : ReleaseStays) (breaks_release : BreaksRelease) (r : Rules) (m 
   visit_stopped Tick s a b stopped =
       elim (cases_Bool (is_due m (model_ends.deadline s.end))) [ inl p ↦ rw p (stopped_ticked s a b (rw p at stopped)) | inr p ↦ rw p tt ]
   visit_stopped Read s a b stopped =
-      elim (cases_Bool (is_released model_ends s)) [ inl p ↦ rw p tt | inr p ↦ rw p (stopped_behind a.waits a.reading s a.says a.wrote b (rw p at stopped)) ]
-  visit_stopped Write s a b stopped = stopped_rests s s a.wrote [] [] (nothing_off s) tt b stopped
+      elim (cases_Bool (is_released model_ends s)) [ inl p ↦ rw p tt | inr p ↦ rw p (stopped_behind a.waits a.reading (made s) a.says a.wrote b (rw p at stopped)) ]
+  visit_stopped Write s a b stopped = stopped_rests (made s) (made s) a.wrote [] [] (nothing_off (made s)) tt b stopped
   visit_stopped Expire s a b stopped = elim (cases_Bool (is_due m s.closing)) [ inl p ↦ rw p (tt, tt) | inr p ↦ rw p tt ]
 
 pub broken_are_left : ReleaseStays → BreaksRelease → BrokenAreLeft

@@ -50,6 +50,7 @@ unfolding Opens
 bare = record {
   wrote = λ s n whole. (refl, tt);
   put_off = λ s. (refl, tt);
+  noted = λ s. tt;
   failed = λ s. (refl, tt);
   breaks = λ s gone. tt;
 }
@@ -86,7 +87,7 @@ keeps plan = record {
   close = λ s t xs ys cs ds over h q. subst EndAtClose (append_assoc cs ds (Closes t.number ∷ [])) (closed_ends (cs ++ ds) t.number (no_close-append cs ds h q.1));
   open_ = λ l conn mind. tt;
   never = tt;
-  full = λ m conn. (λ e. refl, tt);
+  full = λ m conn live most. (λ e. refl, tt);
   unserved = λ m conn handed. (λ e. refl, tt);
 }
 

@@ -1,7 +1,7 @@
 -- Turns are counted, a loop halts by its last turn, and its moment is the greatest that the clock answered.
 use Rattle.trace_model.specs.Checks.{most_live}
 use Rattle.loop_model.specs.Ends.{ModelEnd, model_ends}
-use Rattle.std.proofs.Common.{◌≡◌, ℕ, zero, suc, ◌+◌, ◌≤◌, max, inl, inr, ◌&&◌, List, [], ◌∷◌, ◌++◌, length, drop, Option, Some, None, refl, sym, ◌∙◌, ap, subst, append-nil, append_assoc, arith, length-append}
+use Rattle.std.proofs.Common.{◌≡◌, ℕ, zero, suc, ◌+◌, ◌≤◌, max, inl, inr, Bool, true, false, ◌&&◌, List, [], ◌∷◌, ◌++◌, length, drop, Option, Some, None, refl, sym, ◌∙◌, ap, subst, append-nil, append_assoc, arith, length-append}
 use Rattle.std.specs.Prelude.{◌==◌, nat_lt}
 use Rattle.std.proofs.lemmas.Bool.{cases_Bool}
 use Rattle.er_users.specs.Users.{Mind}
@@ -40,7 +40,7 @@ steady r = record {
 
 bare : Bare NoTurn
 unfolding NoTurn turns_of
-bare = record { wrote = λ s n whole. refl; put_off = λ s. refl; failed = λ s. refl; breaks = λ s gone. refl }
+bare = record { wrote = λ s n whole. refl; put_off = λ s. refl; failed = λ s. refl; breaks = λ s gone. refl; noted = λ s. refl }
 
 all_given : AllGiven (λ g. Unit {0})
 all_given = record { usual = record { sends = λ text. tt; leaves = λ sub. tt; takes = tt }; hears = λ octets. tt; ticks = tt; ends = tt; faults = tt }
@@ -92,16 +92,17 @@ record Brings (l : Loop ModelEnd) (o : Out (Loop ModelEnd)) : Type 0 where
   none : turns_of o.calls ≡ []
   moment : o.state.moment ≡ l.moment
 
-answered_brings : (user : Option Mind) (plan : Plan) (l : Loop ModelEnd) (conn : ℕ) → Brings l (answered_by model_ends user plan l conn)
+answered_brings : (user : Option Mind) (memory : Bool) (plan : Plan) (l : Loop ModelEnd) (conn : ℕ) → Brings l (answered_by model_ends user memory plan l conn)
 unfolding turns_of
-answered_brings None plan l conn = record { none = refl; moment = refl }
-answered_brings (Some mind) plan l conn = record { none = refl; moment = refl }
+answered_brings None memory plan l conn = record { none = refl; moment = refl }
+answered_brings (Some mind) true plan l conn = record { none = refl; moment = refl }
+answered_brings (Some mind) false plan l conn = record { none = refl; moment = refl }
 
 happened_brings : (plan : Plan) (l : Loop ModelEnd) (what : Happening) (a : Met) → Brings l (happened model_ends plan l what a)
 unfolding happened accepted turns_of
 happened_brings plan l (happening.Accepted conn) a =
     elim (cases_Bool (nat_lt (length l.sessions) most_live)) [
-      | inl p ↦ rw p (answered_brings (next_user l.users) plan l conn.0)
+      | inl p ↦ rw p (answered_brings (next_user l.users) a.memory plan l conn.0)
       | inr p ↦ rw p (record { none = refl; moment = refl })
     ]
 happened_brings plan l (happening.Readable conn) a = record { none = visit_none (rules_of plan) l.moment Read conn.0 l.sessions a; moment = refl }

@@ -17,9 +17,9 @@ use Rattle.link_trait.specs.declared.wires.Happening.{Happening}
 use Rattle.link_trait.specs.declared.wires.Happening.TheVariants as happening
 use Rattle.loop_model.specs.Journals.{JournalEntry}
 use Rattle.loop_model.specs.Outs.{Out, part_for_each_answer, exactly, first_answer_of}
-use Rattle.loop_model.specs.Sessions.{Rules, Session, GivenToSession, Begins, Hears, Sends, Takes, Leaves, Ticks, Ends, Faults, Stalls, journal_event_of_given as written_as, is_released, most_output, end_after, outcomes_of_given_event, entry_of, octets_in, breaks, joined, fed, Says, nothing_said, handled, poured, pours}
+use Rattle.loop_model.specs.Sessions.{Rules, Session, GivenToSession, Begins, Hears, Sends, Takes, Leaves, Ticks, Ends, Faults, Stalls, journal_event_of_given as written_as, is_released, most_output, end_after, outcomes_of_given_event, entry_of, octets_in, breaks, joined, fed, Says, nothing_said, handled, poured, pours, made}
 use Rattle.loop_model.specs.Visits.{most_read, Met, nothing_met, Wrote, Visit, Tick, Read, Write, Expire, came, rests, rests_behind, read_once, visited}
-use Rattle.loop_model.specs.Loops.{Plan, rules_of, Loop, visit_at, numbers, swept, Sweeps, before, next_user, begun, answered_by, accepted, happened, Caller, calling, Halt, Course, asks, Turn, readied, turned_unless, went_unless, went, run, Dialled, dials}
+use Rattle.loop_model.specs.Loops.{Plan, rules_of, Loop, visit_at, numbers, swept, Sweeps, before, next_user, answered_by, accepted, happened, Caller, calling, Halt, Course, asks, Turn, readied, turned_unless, went_unless, went, run, Dialled, dials, begun_dial}
 use Rattle.loop_model.specs.Parts.{session_of_connection, of, calls_at, Rises}
 use Rattle.loop_model.specs.Cuts.{IsCut, EventsAreCut, is_left_over, is_octets, has_octets_event, LeftOverIsLast, end_of, TurnsCut, EndAtStall, AreDropped, RestsAreDropped}
 use Rattle.loop_model.specs.Laws.{IsServing, IsDialling}
@@ -33,7 +33,7 @@ use Rattle.loop_model.proofs.Owns.{Bare, Both, calls_both, usual_calls}
 use Rattle.loop_model.proofs.Printings.{behind, behind-append, IsOfEnd, all_of_end}
 use Rattle.loop_model.proofs.Replaying.{ArePlain, plain_visit}
 use Rattle.loop_model.proofs.Walking.{walked_serving, walked_dialling}
-use Rattle.loop_model.proofs.UsedOctets.{none_follow, comes, fitting}
+use Rattle.loop_model.proofs.UsedOctets.{none_follow, fitting}
 
 -- ---- events without octets
 
@@ -127,6 +127,7 @@ quiet r = record {
   then_ = (unheard r).then_;
   wrote = λ s n whole. refl;
   put_off = λ s. refl;
+  noted = λ s. refl;
   failed = λ m s says live. steady_handled r IsUnheard Unheard (unheard r) usual m s Faults says tt;
   failed_released = λ s gone. refl;
   ticked = λ m s says due. steady_handled r IsUnheard Unheard (unheard r) usual m s Ticks says tt;
@@ -218,7 +219,7 @@ module _ (plan : Plan) where
 
   leads_bare : Bare Leads
   unfolding Leads behind
-  leads_bare = record { wrote = λ s n whole. refl; put_off = λ s. refl; failed = λ s. refl; breaks = λ s gone. refl }
+  leads_bare = record { wrote = λ s n whole. refl; put_off = λ s. refl; failed = λ s. refl; breaks = λ s gone. refl; noted = λ s. refl }
 
   leads_read : (s : Session ModelEnd) (waits : ℕ) (reading : Reading) → Leads s s [] (Reads s.number most_read waits reading ∷ [])
   unfolding Leads behind
@@ -336,12 +337,12 @@ module _ (plan : Plan) where
   read_last : (m : ℕ) (s : Session ModelEnd) (a : Met) → IsLast (Some s.end) (visited model_ends r m Read s a).entries
   unfolding visited read_once
   read_last m s a =
-      let b = came model_ends a.reading r m s a.says in
+      let b = came model_ends a.reading r m (made s) a.says in
       elim (cases_Bool (is_released model_ends s)) [
         | inl p ↦ rw p tt
         | inr p ↦
             rw p
-            (last_then (Some s.end) b.1 (rests_behind model_ends a.reading r m b.0 a.wrote).entries (came_last m a.reading s a.says) (behind_none m a.reading b.0 a.wrote))
+            (last_then (Some s.end) b.1 (rests_behind model_ends a.reading r m b.0 a.wrote).entries (came_last m a.reading (made s) a.says) (behind_none m a.reading b.0 a.wrote))
       ]
 
   visit_last : (m n : ℕ) (ss : List (Session ModelEnd)) (a : Met) (k : Option Ended_at) → ((s : Session ModelEnd) → session_of_connection n ss ≡ Some s → k ≡ Some s.end)
@@ -366,21 +367,22 @@ module _ (plan : Plan) where
   other_of m n k [] q p = refl
   other_of m n k (x ∷ xs) q p = rw (subst (λ z. (z == k) ≡ false) (sym p.0.conn) q) (other_of m n k xs q p.1)
 
-  answered_none : (user : Option Mind) (l : Loop ModelEnd) (conn : ℕ) → has_octets_event (answered_by model_ends user plan l conn).entries ≡ false
+  answered_none : (user : Option Mind) (memory : Bool) (l : Loop ModelEnd) (conn : ℕ) → has_octets_event (answered_by model_ends user memory plan l conn).entries ≡ false
   unfolding has_octets_event
-  answered_none None l conn = refl
-  answered_none (Some mind) l conn = refl
+  answered_none None memory l conn = refl
+  answered_none (Some mind) true l conn = refl
+  answered_none (Some mind) false l conn = refl
 
-  accepted_none : (l : Loop ModelEnd) (conn : ℕ) → has_octets_event (accepted model_ends plan l conn).entries ≡ false
+  accepted_none : (l : Loop ModelEnd) (conn : ℕ) (memory : Bool) → has_octets_event (accepted model_ends plan l conn memory).entries ≡ false
   unfolding accepted has_octets_event
-  accepted_none l conn =
-      elim (cases_Bool (nat_lt (length l.sessions) most_live)) [ inl p ↦ rw p (answered_none (next_user l.users) l conn) | inr p ↦ rw p refl ]
+  accepted_none l conn memory =
+      elim (cases_Bool (nat_lt (length l.sessions) most_live)) [ inl p ↦ rw p (answered_none (next_user l.users) memory l conn) | inr p ↦ rw p refl ]
 
   happened_last : (l : Loop ModelEnd) (what : Happening) (a : Met) (n : ℕ) (k : Option Ended_at) → ((s : Session ModelEnd) → session_of_connection n l.sessions ≡ Some s → k ≡ Some s.end)
       → IsLast k (of n (happened model_ends plan l what a).entries)
   unfolding happened of
   happened_last l (happening.Accepted conn) a n k led =
-      last_none k (of n (accepted model_ends plan l conn.0).entries) (none_of n (accepted model_ends plan l conn.0).entries (accepted_none l conn.0))
+      last_none k (of n (accepted model_ends plan l conn.0 a.memory).entries) (none_of n (accepted model_ends plan l conn.0 a.memory).entries (accepted_none l conn.0 a.memory))
   happened_last l (happening.Readable conn) a n k led =
       elim (cases_Bool (conn.0 == n)) [
         | inl p ↦
@@ -421,7 +423,7 @@ module _ (plan : Plan) where
     close = λ s t xs ys cs ds over h q. tt;
     open_ = λ l conn mind. tt;
     never = tt;
-    full = λ m conn. tt;
+    full = λ m conn live most. tt;
     unserved = λ m conn handed. tt;
   }
 
@@ -693,6 +695,7 @@ module _ (r : Rules) where
       then_ = λ s t u xs ys cs ds p q. drops_then s t u xs ys p q;
       wrote = λ s n whole. drops_same s _ (λ e. e);
       put_off = λ s. drops_same s _ (λ e. e);
+      noted = λ s. drops_same s _ (λ e. e);
       failed = λ m s says live. drops_handled m s Faults says (λ e. refl);
       failed_released = λ s gone. drops_same s _ (λ e. refl);
       ticked = λ m s says due. drops_handled m s Ticks says (λ e. refl);
@@ -735,7 +738,7 @@ module _ (plan : Plan) where
     close = λ s t xs ys cs ds over h q. (dropped_more s t xs ys cs ds h q).ends;
     open_ = λ l conn mind. record { stall = λ e. absurd (true≢false (sym e)); ends = (λ e. refl, tt) };
     never = tt;
-    full = λ m conn. (λ e. refl, tt);
+    full = λ m conn live most. (λ e. refl, tt);
     unserved = λ m conn handed. (λ e. refl, tt);
   }
 
@@ -748,10 +751,10 @@ module _ (plan : Plan) where
   all_dropped_in o k conn = dropped_in (session_of_connection conn o.state.loop.sessions) conn (of conn o.entries) (calls_at conn o.calls) (k.fits conn)
 
   first_dropped : (caller : Caller) (at : ℕ) (l : Loop ModelEnd) (conn : ℕ) (mind : Mind) (says : Says) → l.moment ≡ at
-      → Dropped (handled model_ends (rules_of plan) l.moment (begun conn (calling model_ends plan caller l) mind) (Begins caller.engine plan.rbc (next_u64 l.words).0) says).0
-      (handled model_ends (rules_of plan) l.moment (begun conn (calling model_ends plan caller l) mind) (Begins caller.engine plan.rbc (next_u64 l.words).0) says).1 []
+      → Dropped (handled model_ends (rules_of plan) l.moment (begun_dial conn (calling model_ends plan caller l) mind) (Begins caller.engine plan.rbc (next_u64 l.words).0) says).0
+      (handled model_ends (rules_of plan) l.moment (begun_dial conn (calling model_ends plan caller l) mind) (Begins caller.engine plan.rbc (next_u64 l.words).0) says).1 []
   first_dropped caller at l conn mind says now =
-      let d = drops_handled (rules_of plan) l.moment (begun conn (calling model_ends plan caller l) mind) (Begins caller.engine plan.rbc (next_u64 l.words).0) says (λ e. refl) in
+      let d = drops_handled (rules_of plan) l.moment (begun_dial conn (calling model_ends plan caller l) mind) (Begins caller.engine plan.rbc (next_u64 l.words).0) says (λ e. refl) in
       record { stall = d.stall; ends = d.ends }
 
   serving_dropped : (c : Course ModelEnd) (turns : List Turn) → IsServing plan c turns → AreDropped plan (run model_ends plan c turns)

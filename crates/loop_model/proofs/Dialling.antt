@@ -11,7 +11,7 @@ use Rattle.loop_model.specs.Journals.{JournalEntry}
 use Rattle.loop_model.specs.Outs.{first_answer_of}
 use Rattle.loop_model.specs.Sessions.{Session, GivenToSession, Begins, Says, fed, nothing_said, handled}
 use Rattle.loop_model.specs.Visits.{Met, rests, served}
-use Rattle.loop_model.specs.Loops.{Plan, rules_of, Loop, next_user, begun, Caller, calling, called_by, called, Course, asks, Turn, run, Dialled, opens, dials_to, dials}
+use Rattle.loop_model.specs.Loops.{Plan, rules_of, Loop, next_user, Caller, calling, called_by, called, Course, asks, Turn, run, Dialled, opens, dials_to, dials, begun_dial}
 use Rattle.loop_model.specs.Parts.{session_of_connection, of, calls_at, opened_in, Rises, newest}
 use Rattle.loop_model.proofs.Projections.{of-append, opened_in-append, rises_rest}
 use Rattle.loop_model.proofs.Steadies.{Steady, Usual, Left, Stays, Closed, AllLeft, steady_handled, follows_handled}
@@ -141,15 +141,15 @@ module _ (plan : Plan) (caller : Caller) (Q : Session ModelEnd → Session Model
 
     -- where it holds behind the events of the opening
     module _ (at : ℕ) (first : (l : Loop ModelEnd) (conn : ℕ) (mind : Mind) (says : Says) → l.moment ≡ at
-        → K (handled model_ends (rules_of plan) l.moment (begun conn (calling model_ends plan caller l) mind) (Begins caller.engine plan.rbc (next_u64 l.words).0) says).0
-        (handled model_ends (rules_of plan) l.moment (begun conn (calling model_ends plan caller l) mind) (Begins caller.engine plan.rbc (next_u64 l.words).0) says).1 [])
+        → K (handled model_ends (rules_of plan) l.moment (begun_dial conn (calling model_ends plan caller l) mind) (Begins caller.engine plan.rbc (next_u64 l.words).0) says).0
+        (handled model_ends (rules_of plan) l.moment (begun_dial conn (calling model_ends plan caller l) mind) (Begins caller.engine plan.rbc (next_u64 l.words).0) says).1 [])
       where
         begins_handled : KnowsFirst at
         unfolding served
         begins_handled mind l conn address a none now =
             let r = rules_of plan in
             let m = l.moment in
-            let s = begun conn (calling model_ends plan caller l) mind in
+            let s = begun_dial conn (calling model_ends plan caller l) mind in
             let g = Begins caller.engine plan.rbc (next_u64 l.words).0 in
             let says = first_answer_of nothing_said a.says in
             let h = handled model_ends r m s g says in
@@ -167,7 +167,7 @@ module _ (plan : Plan) (caller : Caller) (Q : Session ModelEnd → Session Model
         knows_dial_of d address a none now rises = knows_from at begins_handled d address a none now rises
 
     -- where it holds before the opening, of no events and no calls, and the opening is as a visit
-    module _ (new : (l : Loop ModelEnd) (conn : ℕ) (mind : Mind) → K (begun conn (calling model_ends plan caller l) mind) [] [])
+    module _ (new : (l : Loop ModelEnd) (conn : ℕ) (mind : Mind) → K (begun_dial conn (calling model_ends plan caller l) mind) [] [])
         (opening : (m : ℕ) (s : Session ModelEnd) (g : GivenToSession) (a : Met) → Left Q s (served model_ends (rules_of plan) m s g a).state (served model_ends (rules_of plan) m s g a).entries (served model_ends (rules_of plan) m s g a).calls)
       where
         none_of : (conn n : ℕ) → of n [] ≡ (if conn == n then [] else [])
@@ -177,7 +177,7 @@ module _ (plan : Plan) (caller : Caller) (Q : Session ModelEnd → Session Model
         begins_served : (at : ℕ) → KnowsFirst at
         begins_served at mind l conn address a none now =
             let r = rules_of plan in
-            let s = begun conn (calling model_ends plan caller l) mind in
+            let s = begun_dial conn (calling model_ends plan caller l) mind in
             let g = Begins caller.engine plan.rbc (next_u64 l.words).0 in
             let o = served model_ends r l.moment s g a in
             left_of conn address s o.state [] o.entries o.calls refl (none_of conn) (new l conn mind) (opening l.moment s g a)
@@ -192,16 +192,16 @@ module _ (plan : Plan) (caller : Caller) (Allowed : GivenToSession → Type 0) (
     (c : AllLeft (rules_of plan) Q) (own : (s t : Session ModelEnd) (xs : List JournalEntry) (cs : List Call) → Q s t xs cs → Own s t xs cs)
     (K : Session ModelEnd → List JournalEntry → List Call → Type 0) (E : List JournalEntry → List Call → Type 0) (k : Keeps plan Q K E)
     (at : ℕ) (first : (l : Loop ModelEnd) (conn : ℕ) (mind : Mind) → l.moment ≡ at
-    → K (fed model_ends (rules_of plan) l.moment (begun conn (calling model_ends plan caller l) mind) (Begins caller.engine plan.rbc (next_u64 l.words).0)).0
-    (fed model_ends (rules_of plan) l.moment (begun conn (calling model_ends plan caller l) mind) (Begins caller.engine plan.rbc (next_u64 l.words).0)).1 [])
+    → K (fed model_ends (rules_of plan) l.moment (begun_dial conn (calling model_ends plan caller l) mind) (Begins caller.engine plan.rbc (next_u64 l.words).0)).0
+    (fed model_ends (rules_of plan) l.moment (begun_dial conn (calling model_ends plan caller l) mind) (Begins caller.engine plan.rbc (next_u64 l.words).0)).1 [])
   where
     pub first_handled : (l : Loop ModelEnd) (conn : ℕ) (mind : Mind) (says : Says) → l.moment ≡ at
-        → K (handled model_ends (rules_of plan) l.moment (begun conn (calling model_ends plan caller l) mind) (Begins caller.engine plan.rbc (next_u64 l.words).0) says).0
-        (handled model_ends (rules_of plan) l.moment (begun conn (calling model_ends plan caller l) mind) (Begins caller.engine plan.rbc (next_u64 l.words).0) says).1 []
+        → K (handled model_ends (rules_of plan) l.moment (begun_dial conn (calling model_ends plan caller l) mind) (Begins caller.engine plan.rbc (next_u64 l.words).0) says).0
+        (handled model_ends (rules_of plan) l.moment (begun_dial conn (calling model_ends plan caller l) mind) (Begins caller.engine plan.rbc (next_u64 l.words).0) says).1 []
     first_handled l conn mind says now =
         let r = rules_of plan in
         let m = l.moment in
-        let s = begun conn (calling model_ends plan caller l) mind in
+        let s = begun_dial conn (calling model_ends plan caller l) mind in
         let g = Begins caller.engine plan.rbc (next_u64 l.words).0 in
         let h = handled model_ends r m s g says in
         let f = follows_handled r Allowed Q q usual m s g says in

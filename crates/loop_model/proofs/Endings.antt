@@ -10,7 +10,7 @@ use Rattle.loop_model.specs.Journals.{JournalEntry}
 use Rattle.loop_model.specs.Outs.{first_answer_of}
 use Rattle.loop_model.specs.Sessions.{Rules, Session, GivenToSession, Begins, Hears, Sends, Takes, Leaves, Ticks, Ends, Faults, Stalls, most_output, journal_event_of_given, outcomes_of_given_event, octets_in, joined, fed, Says, nothing_said, handled}
 use Rattle.loop_model.specs.Visits.{most_read, Met, Visit, came, visited}
-use Rattle.loop_model.specs.Loops.{Plan, rules_of, Loop, visit_at, next_user, begun, Caller, calling, called_by, called, Course, asks, Turn, run, Dialled, opens, dials_to, dials}
+use Rattle.loop_model.specs.Loops.{Plan, rules_of, Loop, visit_at, next_user, Caller, calling, called_by, called, Course, asks, Turn, run, Dialled, opens, dials_to, dials, begun_dial}
 use Rattle.loop_model.specs.Turnings.{is_ended, ended, ended_by, ends_of, EndsAreTold}
 use Rattle.loop_model.proofs.Steadies.{Steady, Usual, Quiet, Calls, steady_handled, steady_pours, follows_handled, Left, Stays, Closed, left_served, left_visited}
 use Rattle.loop_model.proofs.Loopwise.{Loopwise, wise_run}
@@ -95,6 +95,7 @@ quiet r = record {
   then_ = (steady r).then_;
   wrote = λ s n whole. refl;
   put_off = λ s. refl;
+  noted = λ s. refl;
   failed = λ m s says live. steady_handled r IsNoEnd Tells (steady r) usual m s Faults says tt;
   failed_released = λ s gone. refl;
   ticked = λ m s says due. steady_handled r IsNoEnd Tells (steady r) usual m s Ticks says tt;
@@ -130,7 +131,7 @@ wise plan = record {
   visit = λ m visit n ss a. visit_told (rules_of plan) m visit n ss a;
   turned = λ ss until happening none. refl;
   opened = λ l until conn mind fits. refl;
-  full = λ ss m until conn fits. refl;
+  full = λ ss m live until conn most. refl;
   unserved = λ ss m handed until conn. refl;
 }
 
@@ -144,7 +145,7 @@ unfolding Tells ended ends_of
 called_told None plan caller l conn a = refl
 called_told (Some mind) plan caller l conn a =
     let r = rules_of plan in
-    let s = begun conn (calling model_ends plan caller l) mind in
+    let s = begun_dial conn (calling model_ends plan caller l) mind in
     let g = Begins caller.engine plan.rbc (next_u64 l.words).0 in
     left_told s _ _ _ (left_served r Tells (quiet r) l.moment s g a (steady_handled r IsNoEnd Tells (steady r) usual l.moment s g (first_answer_of nothing_said a.says) tt))
 

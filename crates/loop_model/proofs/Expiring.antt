@@ -18,8 +18,9 @@ use Rattle.link_trait.specs.declared.wires.WriteAnswer.TheVariants as write
 use Rattle.loop_model.specs.Journals.{JournalEntry}
 use Rattle.loop_model.specs.Outs.{Out, part_for_each_answer, acts, exactly, first_answer_of}
 use Rattle.loop_model.specs.Sessions.{Rules, Session, GivenToSession, Begins, Hears, Sends, Takes, Leaves, Ticks, Ends, Faults, Stalls, is_released, most_output, end_after, outcomes_of_given_event, entry_of, octets_in, joined, fed, replied, refused_in, refusal_heard, notes, heard_by_user, user_after_hearing, silent_answer, dealt, count_waiting_in_session, takes_all, parts, Says, nothing_said, handled, poured, pours}
+use Rattle.loop_model.specs.Sessions as sessions
 use Rattle.loop_model.specs.Visits.{most_read, WritingState, Going, PutOff, Failing, after_write, writes_if, writes_once, writes, Wrote, fault_unless, flowed, written_unless, session_behind_writing, session_kept_or_closed, rests, rests_behind, Visit, Tick, Read, Write, Expire, Met, is_due, came, read_once, served, visited}
-use Rattle.loop_model.specs.Loops.{Plan, rules_of, Loop, begun, answering, Caller, calling, Course, Turn, run, Dialled, dials}
+use Rattle.loop_model.specs.Loops.{Plan, rules_of, Loop, begun, answering, Caller, calling, Course, Turn, run, Dialled, dials, begun_dial}
 use Rattle.loop_model.specs.Parts.{of, calls_at}
 use Rattle.loop_model.specs.Laws.{IsServing, IsDialling}
 use Rattle.loop_model.specs.Faulted.{is_gone}
@@ -375,6 +376,7 @@ module _ (steps : StepsAlike) (made : MadeStands) (shows : ShowsAlike) (stays : 
       usual_calls rules IsOfEnd Marks marks all_of_end (record {
         wrote = λ s n whole. marks_nothing s (record s { output = drop n s.output }) refl;
         put_off = λ s. marks_nothing s s refl;
+        noted = λ s. marks_nothing s _ refl;
         failed = λ s. marks_nothing s s refl;
         breaks = λ s gone. marks_nothing s (record s { broken = true }) refl;
       }) (λ s waits reading. marks_nothing s s refl)
@@ -438,6 +440,19 @@ module _ (steps : StepsAlike) (made : MadeStands) (shows : ShowsAlike) (stays : 
     left_behind Failed s waits says a each plain =
         left_rests s (came model_ends Failed rules m s says).0 a (came model_ends Failed rules m s says).1 (Reads s.number most_read waits Failed ∷ []) each plain (came_so rules m stay s Failed says)
 
+    -- what is left of a session whose connection was noted as made
+    noted_first : (s : Session ModelEnd) {t : Session ModelEnd} {xs : List JournalEntry} {cs : List Call} → Visited (sessions.made s) t xs cs → Visited s t xs cs
+    noted_first s {t} {xs} {cs} p = record {
+      each = each_calls.then_ s (sessions.made s) t [] xs [] cs (each_calls.noted s) p.each;
+      moment = p.moment;
+      plain = (plain_calls rules p.moment).then_ s (sessions.made s) t [] xs [] cs ((plain_calls rules p.moment).noted s) p.plain;
+      so = so_then rules p.moment s (sessions.made s) t (same_so rules p.moment s (sessions.made s) refl refl refl) p.so;
+    }
+
+    from_made : (s : Session ModelEnd) {ts : List (Session ModelEnd)} {xs : List JournalEntry} {cs : List Call} → Left Visited (sessions.made s) ts xs cs → Left Visited s ts xs cs
+    from_made s (Stays t e p) = Stays t e (noted_first s p)
+    from_made s (Closed t ds over e f p) = Closed t ds over e f (noted_first s p)
+
     left_at_rest : (s : Session ModelEnd) (a : Wrote) → Left Visited s (rests model_ends rules m s a).state (rests model_ends rules m s a).entries (rests model_ends rules m s a).calls
     left_at_rest s a = left_rests s s a [] [] (each_steady.none s) ((plainly rules m).none s) (same_so rules m s s refl refl refl)
 
@@ -448,9 +463,10 @@ module _ (steps : StepsAlike) (made : MadeStands) (shows : ShowsAlike) (stays : 
     left_at Read s a =
         elim (cases_Bool (is_released model_ends s)) [
           | inl p ↦ rw p (Stays s refl (nothing s))
-          | inr p ↦ rw p (left_behind a.reading s a.waits a.says a.wrote (each_calls.read m s a p) ((plain_calls rules m).read s a p))
+          | inr p ↦
+              rw p (from_made s (left_behind a.reading (sessions.made s) a.waits a.says a.wrote (each_calls.read m (sessions.made s) a p) ((plain_calls rules m).read (sessions.made s) a p)))
         ]
-    left_at Write s a = left_at_rest s a.wrote
+    left_at Write s a = from_made s (left_at_rest (sessions.made s) a.wrote)
     left_at Expire s a =
         elim (cases_Bool (is_due m s.closing)) [
           | inl p ↦ rw p (Closed s [] (over_due m s.closing (s.broken || is_released model_ends s) p) refl refl (nothing s))
@@ -502,7 +518,7 @@ module _ (steps : StepsAlike) (made : MadeStands) (shows : ShowsAlike) (stays : 
   opened_live : (l : Loop ModelEnd) (conn : ℕ) (mind : Mind) → is_released model_ends (begun conn (answering model_ends plan l) mind) ≡ false
   opened_live l conn mind = refl
 
-  called_live : (caller : Caller) (l : Loop ModelEnd) (conn : ℕ) (mind : Mind) → is_released model_ends (begun conn (calling model_ends plan caller l) mind) ≡ false
+  called_live : (caller : Caller) (l : Loop ModelEnd) (conn : ℕ) (mind : Mind) → is_released model_ends (begun_dial conn (calling model_ends plan caller l) mind) ≡ false
   called_live caller l conn mind = refl
 
   keeps : Keeps plan Visited Known_so Gone
@@ -519,7 +535,7 @@ module _ (steps : StepsAlike) (made : MadeStands) (shows : ShowsAlike) (stays : 
           closing = ap (λ z. closing_at plan.settings.setup z) (sym (none_of _ (mark ∙ opened_live l conn mind)));
         };
     never = tt;
-    full = λ m conn. tt;
+    full = λ m conn live most. tt;
     unserved = λ m conn handed. tt;
   }
 
@@ -550,12 +566,12 @@ module _ (steps : StepsAlike) (made : MadeStands) (shows : ShowsAlike) (stays : 
 
   first : (caller : Caller) (at : ℕ) → key_at plan.keys at caller.engine plan.rbc ≡ Some caller.kmac
       → (l : Loop ModelEnd) (conn : ℕ) (mind : Mind) (says : Says) → l.moment ≡ at
-      → Known_so (handled model_ends rules l.moment (begun conn (calling model_ends plan caller l) mind) (Begins caller.engine plan.rbc (next_u64 l.words).0) says).0
-      (handled model_ends rules l.moment (begun conn (calling model_ends plan caller l) mind) (Begins caller.engine plan.rbc (next_u64 l.words).0) says).1 []
+      → Known_so (handled model_ends rules l.moment (begun_dial conn (calling model_ends plan caller l) mind) (Begins caller.engine plan.rbc (next_u64 l.words).0) says).0
+      (handled model_ends rules l.moment (begun_dial conn (calling model_ends plan caller l) mind) (Begins caller.engine plan.rbc (next_u64 l.words).0) says).1 []
   unfolding Marks
   first caller at key l conn mind says now =
       let m = l.moment in
-      let s = begun conn (calling model_ends plan caller l) mind in
+      let s = begun_dial conn (calling model_ends plan caller l) mind in
       let g = Begins caller.engine plan.rbc (next_u64 l.words).0 in
       let h = handled model_ends rules m s g says in
       let told = printings.first_told steps made plan allowed caller at key l conn mind now in

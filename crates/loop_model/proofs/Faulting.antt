@@ -15,7 +15,7 @@ use Rattle.loop_model.specs.Journals.{JournalEntry}
 use Rattle.loop_model.specs.Outs.{Out, first_answer_of}
 use Rattle.loop_model.specs.Sessions.{Rules, Session, GivenToSession, Begins, Hears, Sends, Takes, Leaves, Ticks, Ends, Faults, Stalls, is_released, most_output, journal_event_of_given, end_after, outcomes_of_given_event, entry_of, octets_in, joined, fed, Says, nothing_said, handled}
 use Rattle.loop_model.specs.Visits.{most_read, came}
-use Rattle.loop_model.specs.Loops.{Plan, rules_of, Loop, begun, Caller, calling, Course, Turn, run, Dialled, dials}
+use Rattle.loop_model.specs.Loops.{Plan, rules_of, Loop, Caller, calling, Course, Turn, run, Dialled, dials, begun_dial}
 use Rattle.loop_model.specs.Parts.{session_of_connection, of, calls_at}
 use Rattle.loop_model.specs.Laws.{IsServing, IsDialling, is_fault, one_if, faults, is_failed}
 use Rattle.loop_model.specs.Faulted.{has_failed, before_fault, is_gone, AreFaultsTold, FaultsAreTold}
@@ -308,6 +308,7 @@ module _ (steps : StepsAlike) (made : MadeStands) (shows : ShowsAlike) (stays : 
       then_ = keeping_then;
       wrote = λ s n whole. bare s _ (Writes s.number s.output (write.Some n)) refl refl;
       put_off = λ s. bare s s (Writes s.number s.output write.NotNow) refl refl;
+      noted = λ s. nothing s _ refl;
       failed = λ m s says live. faulted m s says (Writes s.number s.output write.Failed) refl live;
       failed_released = λ s over. failed_gone s (record s { broken = true }) (Writes s.number s.output write.Failed) refl refl over;
       ticked = λ m s says due. steady_handled r IsNoFault Keeping steady usual m s Ticks says tt;
@@ -341,7 +342,7 @@ module _ (steps : StepsAlike) (made : MadeStands) (shows : ShowsAlike) (stays : 
       over = λ p. absurd (true≢false (sym p));
     };
     never = refl;
-    full = λ m conn. refl;
+    full = λ m conn live most. refl;
     unserved = λ m conn handed. refl;
   }
 
@@ -352,12 +353,12 @@ module _ (steps : StepsAlike) (made : MadeStands) (shows : ShowsAlike) (stays : 
 
   first : (caller : Caller) (at : ℕ) → key_at plan.keys at caller.engine plan.rbc ≡ Some caller.kmac
       → (l : Loop ModelEnd) (conn : ℕ) (mind : Mind) → l.moment ≡ at
-      → Sees (fed model_ends r l.moment (begun conn (calling model_ends plan caller l) mind) (Begins caller.engine plan.rbc (next_u64 l.words).0)).0
-      (fed model_ends r l.moment (begun conn (calling model_ends plan caller l) mind) (Begins caller.engine plan.rbc (next_u64 l.words).0)).1 []
+      → Sees (fed model_ends r l.moment (begun_dial conn (calling model_ends plan caller l) mind) (Begins caller.engine plan.rbc (next_u64 l.words).0)).0
+      (fed model_ends r l.moment (begun_dial conn (calling model_ends plan caller l) mind) (Begins caller.engine plan.rbc (next_u64 l.words).0)).1 []
   unfolding has_failed
   first caller at key l conn mind now = record {
     told = printings.first_told steps made plan allowed caller at key l conn mind now;
-    fault = begins_none l.moment (begun conn (calling model_ends plan caller l) mind) caller.engine plan.rbc (next_u64 l.words).0;
+    fault = begins_none l.moment (begun_dial conn (calling model_ends plan caller l) mind) caller.engine plan.rbc (next_u64 l.words).0;
     over = λ p. absurd (true≢false (sym p));
   }
 

@@ -11,7 +11,7 @@ use Rattle.loop_model.specs.Journals.{JournalEntry}
 use Rattle.loop_model.specs.Outs.{Out}
 use Rattle.loop_model.specs.Sessions.{Rules, Session, Begins, Stalls, fed, breaks, end_after, outcomes_of_given_event, entry_of, octets_in}
 use Rattle.loop_model.specs.Visits.{most_read}
-use Rattle.loop_model.specs.Loops.{Plan, rules_of, Loop, begun, Caller, calling, Course, run, dials}
+use Rattle.loop_model.specs.Loops.{Plan, rules_of, Loop, Caller, calling, Course, run, dials, begun_dial}
 use Rattle.loop_model.specs.Parts.{session_of_connection, of, calls_at}
 use Rattle.loop_model.specs.Laws.{AreAccounted, octets_of_entries, IsBeginning, OctetsAreAccounted}
 use Rattle.loop_model.proofs.Steadies.{Steady, Calls, AllLeft, all_left_of, steady_fed}
@@ -157,6 +157,7 @@ bare = record {
     silent = λ p. absurd (true≢false (sym p ∙ whole));
   };
   put_off = λ s. bare_call s (Writes s.number s.output write.NotNow) refl;
+  noted = λ s. waits s _ [] (sym (append-nil s.output)) (λ p. p);
   failed = λ s. bare_call s (Writes s.number s.output write.Failed) refl;
   breaks = λ s gone. breaks_off s (record s { broken = true }) [] refl;
 }
@@ -228,7 +229,7 @@ keeps plan = record {
       record { rest = m.rest; is = ap (λ z. z ++ m.rest) (closed_given cs ds t.number) ∙ m.is };
   open_ = λ l conn mind. record { rest = []; is = refl; whole = λ p. refl };
   never = record { rest = []; is = refl };
-  full = λ m conn. record { rest = []; is = refl };
+  full = λ m conn live most. record { rest = []; is = refl };
   unserved = λ m conn handed. record { rest = []; is = refl };
 }
 
@@ -240,12 +241,12 @@ given_so plan (Some s) conn xs cs h = record { rest = h.1.rest; is = h.1.is }
 
 -- the session that a dial opens
 pub first : (plan : Plan) (caller : Caller) (l : Loop ModelEnd) (conn : ℕ) (mind : Mind)
-    → Given_so (fed model_ends (rules_of plan) l.moment (begun conn (calling model_ends plan caller l) mind) (Begins caller.engine plan.rbc (next_u64 l.words).0)).0
-    (fed model_ends (rules_of plan) l.moment (begun conn (calling model_ends plan caller l) mind) (Begins caller.engine plan.rbc (next_u64 l.words).0)).1 []
+    → Given_so (fed model_ends (rules_of plan) l.moment (begun_dial conn (calling model_ends plan caller l) mind) (Begins caller.engine plan.rbc (next_u64 l.words).0)).0
+    (fed model_ends (rules_of plan) l.moment (begun_dial conn (calling model_ends plan caller l) mind) (Begins caller.engine plan.rbc (next_u64 l.words).0)).1 []
 unfolding given_in octets_of_entries
 first plan caller l conn mind =
     let r = rules_of plan in
-    let s = begun conn (calling model_ends plan caller l) mind in
+    let s = begun_dial conn (calling model_ends plan caller l) mind in
     let g = Begins caller.engine plan.rbc (next_u64 l.words).0 in
     let f = fed model_ends r l.moment s g in
     more s f.0 [] f.1 [] [] (record { rest = []; is = refl; whole = λ p. refl }) (steady_fed r (λ g. Unit {0}) Gives (steady r) all_given.usual l.moment s g tt)

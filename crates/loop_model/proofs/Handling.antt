@@ -1,6 +1,6 @@
 -- Each happening is handled in its turn.
 use Rattle.loop_model.specs.Ends.{ModelEnd, model_ends}
-use Rattle.std.proofs.Common.{◌≡◌, ℕ, inl, inr, List, [], ◌∷◌, ◌++◌, length, Option, Some, None, refl, sym, ◌∙◌, ap, append-nil, append_assoc}
+use Rattle.std.proofs.Common.{◌≡◌, ℕ, inl, inr, Bool, true, false, List, [], ◌∷◌, ◌++◌, length, Option, Some, None, refl, sym, ◌∙◌, ap, append-nil, append_assoc}
 use Rattle.std.specs.Prelude.{◌==◌, nat_lt}
 use Rattle.std.proofs.lemmas.Bool.{cases_Bool}
 use Rattle.trace_model.specs.Checks.{most_live}
@@ -47,7 +47,7 @@ steady r = record {
 
 bare : Bare NoTurn
 unfolding NoTurn turns_of
-bare = record { wrote = λ s n whole. refl; put_off = λ s. refl; failed = λ s. refl; breaks = λ s gone. refl }
+bare = record { wrote = λ s n whole. refl; put_off = λ s. refl; failed = λ s. refl; breaks = λ s gone. refl; noted = λ s. refl }
 
 read_no_turn : (s : Session ModelEnd) (waits : ℕ) (reading : Reading) → NoTurn s s [] (Reads s.number most_read waits reading ∷ [])
 unfolding NoTurn turns_of
@@ -70,15 +70,16 @@ visit_none r m visit n (s ∷ ss) a =
       | inr p ↦ rw p (visit_none r m visit n ss a)
     ]
 
-answered_none : (user : Option Mind) (plan : Plan) (l : Loop ModelEnd) (conn : ℕ) → turns_of (answered_by model_ends user plan l conn).calls ≡ []
+answered_none : (user : Option Mind) (memory : Bool) (plan : Plan) (l : Loop ModelEnd) (conn : ℕ) → turns_of (answered_by model_ends user memory plan l conn).calls ≡ []
 unfolding turns_of
-answered_none None plan l conn = refl
-answered_none (Some mind) plan l conn = refl
+answered_none None memory plan l conn = refl
+answered_none (Some mind) true plan l conn = refl
+answered_none (Some mind) false plan l conn = refl
 
 happened_none : (plan : Plan) (l : Loop ModelEnd) (what : Happening) (a : Met) → turns_of (happened model_ends plan l what a).calls ≡ []
 unfolding happened accepted turns_of
 happened_none plan l (happening.Accepted conn) a =
-    elim (cases_Bool (nat_lt (length l.sessions) most_live)) [ inl p ↦ rw p (answered_none (next_user l.users) plan l conn.0) | inr p ↦ rw p refl ]
+    elim (cases_Bool (nat_lt (length l.sessions) most_live)) [ inl p ↦ rw p (answered_none (next_user l.users) a.memory plan l conn.0) | inr p ↦ rw p refl ]
 happened_none plan l (happening.Readable conn) a = visit_none (rules_of plan) l.moment Read conn.0 l.sessions a
 happened_none plan l (happening.Writable conn) a = visit_none (rules_of plan) l.moment Write conn.0 l.sessions a
 happened_none plan l happening.Quiet a = refl
@@ -174,7 +175,7 @@ is_handled plan c turns before a rest split going on =
       visited = turns_visit.behind plan now.state a going on;
       opened =
           openings_are_told.events plan now.state a going
-          ∙ ap (λ (z : Option Halt). openings_unless z a.happening (event_of_accepted_connection plan (readied model_ends plan now.state a).state.loop)) on;
+          ∙ ap (λ (z : Option Halt). openings_unless z a.happening (event_of_accepted_connection plan (readied model_ends plan now.state a).state.loop a.met.memory)) on;
       between = ap (λ (z : List Turn). (acts (went model_ends plan) c z).order) split ∙ order-append plan before (a ∷ rest) c;
     }
 

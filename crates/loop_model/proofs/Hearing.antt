@@ -10,9 +10,9 @@ use Rattle.link_trait.specs.Wires.{Call, Listens, Dials, Turns, Reads, Writes, C
 use Rattle.link_trait.specs.declared.wires.WriteAnswer.TheVariants as write
 use Rattle.loop_model.specs.Journals.{JournalEntry}
 use Rattle.loop_model.specs.Outs.{Out, part_for_each_answer, exactly, first_answer_of}
-use Rattle.loop_model.specs.Sessions.{Rules, Session, GivenToSession, Begins, Hears, Sends, Takes, Leaves, Ticks, Ends, Faults, Stalls, journal_event_of_given, is_released, end_after, outcomes_of_given_event, most_output, octets_in, breaks, joined, fed, Says, nothing_said, handled, poured, pours}
+use Rattle.loop_model.specs.Sessions.{Rules, Session, made, GivenToSession, Begins, Hears, Sends, Takes, Leaves, Ticks, Ends, Faults, Stalls, journal_event_of_given, is_released, end_after, outcomes_of_given_event, most_output, octets_in, breaks, joined, fed, Says, nothing_said, handled, poured, pours}
 use Rattle.loop_model.specs.Visits.{most_read, came}
-use Rattle.loop_model.specs.Loops.{Plan, rules_of, Loop, begun, answering, Caller, calling, Course, run, dials}
+use Rattle.loop_model.specs.Loops.{Plan, rules_of, Loop, begun, answering, Caller, calling, Course, run, dials, begun_dial}
 use Rattle.loop_model.specs.Parts.{session_of_connection, of, calls_at}
 use Rattle.loop_model.specs.Points.{octets_heard_in_event, octets_heard_in_entries, is_stalled, has_stalled, AreHeard, OctetsAreHeard}
 use Rattle.loop_model.proofs.Steadies.{Steady, Usual, Quiet, Calls, AllLeft, all_left_of, steady_handled, steady_pours, follows_handled, runs_lift}
@@ -372,6 +372,7 @@ module _ (stays : ReleaseStays) (breaks_release : BreaksRelease) (uses : Uses) (
     wrote = λ s n whole sound.
         silently s (record s { output = drop n s.output }) [] (Writes s.number s.output (write.Some n) ∷ []) (still_sound s (drop n s.output) sound) refl refl (λ p. (p, refl));
     put_off = λ s sound. silently s s [] (Writes s.number s.output write.NotNow ∷ []) sound refl refl (λ p. (p, refl));
+    noted = λ s sound. silently s (made s) [] [] (record { broken = sound.broken; closing = sound.closing }) refl refl (λ p. (p, refl));
     failed = λ m s says live sound. handled_silent m s Faults says (Writes s.number s.output write.Failed) tt refl sound;
     failed_released = λ s over sound.
         silently s (record s { broken = true }) [] (Writes s.number s.output write.Failed ∷ []) (record { broken = λ p. over; closing = sound.closing }) refl refl (λ p. (p, refl));
@@ -446,6 +447,9 @@ module _ (stays : ReleaseStays) (breaks_release : BreaksRelease) (uses : Uses) (
 new_sound : (conn : ℕ) (k : ModelEnd) (mind : Mind) → Sound (begun conn k mind)
 new_sound conn k mind = record { broken = λ p. absurd (true≢false (sym p)); closing = λ p. absurd (true≢false (sym p)) }
 
+new_sound_dial : (conn : ℕ) (k : ModelEnd) (mind : Mind) → Sound (begun_dial conn k mind)
+new_sound_dial conn k mind = record { broken = λ p. absurd (true≢false (sym p)); closing = λ p. absurd (true≢false (sym p)) }
+
 module _ (stays : ReleaseStays) (breaks_release : BreaksRelease) (uses : Uses) (plan : Plan) where
   abbrev P : Session ModelEnd → Session ModelEnd → List JournalEntry → List Call → Type 0
   P = Q stays breaks_release uses (rules_of plan)
@@ -477,7 +481,7 @@ module _ (stays : ReleaseStays) (breaks_release : BreaksRelease) (uses : Uses) (
       gone = λ p. refl;
     };
     never = record { rest = []; is = refl; whole = λ p. refl };
-    full = λ m conn. record { rest = []; is = refl; whole = λ p. refl };
+    full = λ m conn live most. record { rest = []; is = refl; whole = λ p. refl };
     unserved = λ m conn handed. record { rest = []; is = refl; whole = λ p. refl };
   }
 
@@ -485,16 +489,16 @@ module _ (stays : ReleaseStays) (breaks_release : BreaksRelease) (uses : Uses) (
   begins caller l = Begins caller.engine plan.rbc (next_u64 l.words).0
 
   first : (caller : Caller) (l : Loop ModelEnd) (conn : ℕ) (mind : Mind) (says : Says)
-      → To (handled model_ends (rules_of plan) l.moment (begun conn (calling model_ends plan caller l) mind) (begins caller l) says).0
-      (handled model_ends (rules_of plan) l.moment (begun conn (calling model_ends plan caller l) mind) (begins caller l) says).1 []
+      → To (handled model_ends (rules_of plan) l.moment (begun_dial conn (calling model_ends plan caller l) mind) (begins caller l) says).0
+      (handled model_ends (rules_of plan) l.moment (begun_dial conn (calling model_ends plan caller l) mind) (begins caller l) says).1 []
   unfolding taken_in Unheard Gone Sounds
   first caller l conn mind says =
       let r = rules_of plan in
       let m = l.moment in
-      let s = begun conn (calling model_ends plan caller l) mind in
+      let s = begun_dial conn (calling model_ends plan caller l) mind in
       let g = begins caller l in
       record {
-        sound = steady_handled r (λ g. Unit {0}) Sounds (sounds_steadily stays breaks_release r) (any_usual stays breaks_release uses r) m s g says tt (new_sound conn (calling model_ends plan caller l) mind);
+        sound = steady_handled r (λ g. Unit {0}) Sounds (sounds_steadily stays breaks_release r) (any_usual stays breaks_release uses r) m s g says tt (new_sound_dial conn (calling model_ends plan caller l) mind);
         rest = [];
         is = append-nil (octets_heard_in_entries (handled model_ends r m s g says).1) ∙ steady_handled r IsUnheard Unheard (unheard r) usual_unheard m s g says tt;
         whole = λ p. refl;

@@ -8,7 +8,7 @@ use Rattle.loop_model.specs.Journals.{JournalEntry}
 use Rattle.loop_model.specs.Outs.{Out, first_answer_of}
 use Rattle.loop_model.specs.Sessions.{Rules, Session, GivenToSession, Begins, nothing_said}
 use Rattle.loop_model.specs.Visits.{Met, served}
-use Rattle.loop_model.specs.Loops.{Plan, rules_of, numbers, Loop, next_user, begun, Caller, calling, called_by, called, Course, asks, Turn, run, Dialled, opens, dials_to, dials}
+use Rattle.loop_model.specs.Loops.{Plan, rules_of, numbers, Loop, next_user, Caller, calling, called_by, called, Course, asks, Turn, run, Dialled, opens, dials_to, dials, begun_dial}
 use Rattle.loop_model.specs.Parts.{opened_in, Rises}
 use Rattle.loop_model.specs.Laws.{IsServing, IsDialling, IsFew}
 use Rattle.loop_model.specs.Lawful.{HasOrderlySessions, TurnsAreLawful, JournalsAreLawful}
@@ -88,7 +88,7 @@ called_opened plan caller None l conn a up none = record {
   opens = refl;
 }
 called_opened plan caller (Some mind) l conn a up none =
-    let s = begun conn (calling model_ends plan caller l) mind in
+    let s = begun_dial conn (calling model_ends plan caller l) mind in
     let g = Begins caller.engine plan.rbc (next_u64 l.words).0 in
     let o = served model_ends (rules_of plan) l.moment s g a in
     let left = served_own (rules_of plan) l.moment s g a in

@@ -52,3 +52,4 @@ pub mod Alone
 pub mod AloneDialling
 pub mod Sizing
 pub mod Placing
+pub mod Unmade

@@ -2,7 +2,7 @@
 -- live session throughout, and what it comes to at a close holds of each connection that is no longer live.
 use Rattle.trace_model.specs.Checks.{most_live}
 use Rattle.loop_model.specs.Ends.{ModelEnd, model_ends}
-use Rattle.std.proofs.Common.{if◌then◌else◌, ◌≡◌, ℕ, ◌<◌, inl, inr, true, false, List, [], ◌∷◌, ◌++◌, Option, Some, None, refl, sym, ◌∙◌, ap, subst, append-nil, append_assoc, arith, eqb-true, eq-eqb, ne_eqb}
+use Rattle.std.proofs.Common.{if◌then◌else◌, ◌≡◌, ℕ, ◌<◌, ◌≤◌, inl, inr, true, false, List, [], ◌∷◌, ◌++◌, Option, Some, None, refl, sym, ◌∙◌, ap, subst, append-nil, append_assoc, arith, eqb-true, eq-eqb, ne_eqb}
 use Rattle.std.specs.Prelude.{◌==◌}
 use Rattle.std.proofs.lemmas.Bool.{cases_Bool, eqb-false}
 use Rattle.er_trace.specs.declared.event.Event.{Event}
@@ -46,7 +46,7 @@ pub record Keeps (plan : Plan) (Q : Session ModelEnd → Session ModelEnd → Li
   pub open_ : (l : Loop ModelEnd) (conn : ℕ) (mind : Mind)
       → K (begun conn (answering model_ends plan l) mind) (record { moment = l.moment; conn = conn; event = event.Answer plan.rbc (next_u64 l.words).0; outcomes = [] } ∷ []) []
   pub never : E [] []
-  pub full : (m conn : ℕ) → E (record { moment = m; conn = conn; event = event.Full most_live; outcomes = [] } ∷ []) (Closes conn ∷ [])
+  pub full : (m conn live : ℕ) → live ≤ most_live → E (record { moment = m; conn = conn; event = event.Full live; outcomes = [] } ∷ []) (Closes conn ∷ [])
   pub unserved : (m conn handed : ℕ) → E (record { moment = m; conn = conn; event = event.Unserved handed; outcomes = [] } ∷ []) (Closes conn ∷ [])
 
 module _ (plan : Plan) (Q : Session ModelEnd → Session ModelEnd → List JournalEntry → List Call → Type 0) (c : AllLeft (rules_of plan) Q) (own : (s t : Session ModelEnd) (xs : List JournalEntry) (cs : List Call) → Q s t xs cs → Own s t xs cs)
@@ -330,8 +330,8 @@ module _ (plan : Plan) (Q : Session ModelEnd → Session ModelEnd → List Journ
     visit = λ m visit n ss a js bs rises h. knows_moved n js _ bs _ ss _ h (moved m visit n ss a h.apart);
     turned = λ ss until happening none js bs rises h. knows_turned js bs ss until happening none h;
     opened = λ l until conn mind fits js bs rises h. knows_opened js bs l until conn mind (accepted_above bs [] until conn rises) h;
-    full = λ ss m until conn fits js bs rises h.
-        knows_away js bs ss m (event.Full most_live) until conn (accepted_above bs (Closes conn.0 ∷ []) until conn rises) (k.full m conn.0) h;
+    full = λ ss m live until conn most js bs rises h.
+        knows_away js bs ss m (event.Full live) until conn (accepted_above bs (Closes conn.0 ∷ []) until conn rises) (k.full m conn.0 live most) h;
     unserved = λ ss m handed until conn js bs rises h.
         knows_away js bs ss m (event.Unserved handed) until conn (accepted_above bs (Closes conn.0 ∷ []) until conn rises) (k.unserved m conn.0 handed) h;
   }

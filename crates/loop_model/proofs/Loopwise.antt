@@ -2,9 +2,10 @@
 -- visit, each turn and each opening.
 use Rattle.trace_model.specs.Checks.{most_live}
 use Rattle.loop_model.specs.Ends.{ModelEnd, model_ends}
-use Rattle.std.proofs.Common.{◌≡◌, ℕ, inl, inr, true, false, List, [], ◌∷◌, ◌++◌, length, drop, Option, Some, None, refl}
+use Rattle.std.proofs.Common.{◌≡◌, ℕ, ◌≤◌, inl, inr, Bool, true, false, List, [], ◌∷◌, ◌++◌, length, drop, Option, Some, None, refl, arith}
 use Rattle.std.specs.Prelude.{nat_lt}
 use Rattle.std.proofs.lemmas.Bool.{cases_Bool}
+use Rattle.std.proofs.lemmas.Bool.Decides.{nat_tests}
 use Rattle.er_trace.specs.declared.event.Event.TheVariants as event
 use Rattle.er_users.specs.Users.{Mind}
 use Rattle.rand_core.specs.Stream.{next_u64}
@@ -20,6 +21,10 @@ use Rattle.loop_model.specs.Loops.{Plan, rules_of, Loop, visit_at, numbers, swep
 use Rattle.loop_model.specs.Parts.{opened_by}
 use Rattle.loop_model.proofs.Steadies.{acts_lift}
 
+-- fewer connections are live than may be
+pub below_most : (n : ℕ) → nat_lt n most_live ≡ true → n ≤ most_live
+below_most n p = grind (arith, nat_tests, p)
+
 pub record Loopwise (plan : Plan) (R : List (Session ModelEnd) → List (Session ModelEnd) → List JournalEntry → List Call → Type 0) : Type 0 where
   pub none : (ss : List (Session ModelEnd)) → R ss ss [] []
   pub then_ : (ss ts us : List (Session ModelEnd)) (xs ys : List JournalEntry) (cs ds : List Call) → R ss ts xs cs → R ts us ys ds → R ss us (xs ++ ys) (cs ++ ds)
@@ -30,8 +35,8 @@ pub record Loopwise (plan : Plan) (R : List (Session ModelEnd) → List (Session
       → R l.sessions (l.sessions ++ begun conn.0 (answering model_ends plan l) mind ∷ [])
       (record { moment = l.moment; conn = conn.0; event = event.Answer plan.rbc (next_u64 l.words).0; outcomes = [] } ∷ [])
       (Turns until (happening.Accepted conn) ∷ [])
-  pub full : (ss : List (Session ModelEnd)) (m : ℕ) (until : Option ℕ) (conn : Conn) → nat_lt (length ss) most_live ≡ false
-      → R ss ss (record { moment = m; conn = conn.0; event = event.Full most_live; outcomes = [] } ∷ []) (Turns until (happening.Accepted conn) ∷ Closes conn.0 ∷ [])
+  pub full : (ss : List (Session ModelEnd)) (m live : ℕ) (until : Option ℕ) (conn : Conn) → live ≤ most_live
+      → R ss ss (record { moment = m; conn = conn.0; event = event.Full live; outcomes = [] } ∷ []) (Turns until (happening.Accepted conn) ∷ Closes conn.0 ∷ [])
   pub unserved : (ss : List (Session ModelEnd)) (m handed : ℕ) (until : Option ℕ) (conn : Conn)
       → R ss ss (record { moment = m; conn = conn.0; event = event.Unserved handed; outcomes = [] } ∷ []) (Turns until (happening.Accepted conn) ∷ Closes conn.0 ∷ [])
 
@@ -54,18 +59,19 @@ module _ (plan : Plan) (R : List (Session ModelEnd) → List (Session ModelEnd) 
   abbrev Behind : Loop ModelEnd → Option ℕ → Happening → Out (Loop ModelEnd) → Type 0
   Behind l until happening o = R l.sessions o.state.sessions o.entries (Turns until happening ∷ o.calls)
 
-  wise_answered : (user : Option Mind) (l : Loop ModelEnd) (until : Option ℕ) (conn : Conn) → nat_lt (length l.sessions) most_live ≡ true
-      → Behind l until (happening.Accepted conn) (answered_by model_ends user plan l conn.0)
-  wise_answered None l until conn fits = w.unserved l.sessions l.moment plan.handed until conn
-  wise_answered (Some mind) l until conn fits = w.opened l until conn mind fits
+  wise_answered : (user : Option Mind) (memory : Bool) (l : Loop ModelEnd) (until : Option ℕ) (conn : Conn) → nat_lt (length l.sessions) most_live ≡ true
+      → Behind l until (happening.Accepted conn) (answered_by model_ends user memory plan l conn.0)
+  wise_answered None memory l until conn fits = w.unserved l.sessions l.moment plan.handed until conn
+  wise_answered (Some mind) true l until conn fits = w.opened l until conn mind fits
+  wise_answered (Some mind) false l until conn fits = w.full l.sessions l.moment (length l.sessions) until conn (below_most (length l.sessions) fits)
 
-  wise_accepted : (l : Loop ModelEnd) (until : Option ℕ) (conn : Conn)
-      → Behind l until (happening.Accepted conn) (accepted model_ends plan l conn.0)
+  wise_accepted : (l : Loop ModelEnd) (until : Option ℕ) (conn : Conn) (memory : Bool)
+      → Behind l until (happening.Accepted conn) (accepted model_ends plan l conn.0 memory)
   unfolding accepted
-  wise_accepted l until conn =
+  wise_accepted l until conn memory =
       elim (cases_Bool (nat_lt (length l.sessions) most_live)) [
-        | inl p ↦ rw p (wise_answered (next_user l.users) l until conn p)
-        | inr p ↦ rw p (w.full l.sessions l.moment until conn p)
+        | inl p ↦ rw p (wise_answered (next_user l.users) memory l until conn p)
+        | inr p ↦ rw p (w.full l.sessions l.moment most_live until conn (omega arith))
       ]
 
   wise_visit : (l : Loop ModelEnd) (until : Option ℕ) (happening : Happening) (visit : Visit) (n : ℕ) (a : Met) → opened_by happening ≡ []
@@ -76,7 +82,7 @@ module _ (plan : Plan) (R : List (Session ModelEnd) → List (Session ModelEnd) 
   pub wise_happened : (l : Loop ModelEnd) (until : Option ℕ) (happening : Happening) (a : Met)
       → Behind l until happening (happened model_ends plan l happening a)
   unfolding happened
-  wise_happened l until (happening.Accepted conn) a = wise_accepted l until conn
+  wise_happened l until (happening.Accepted conn) a = wise_accepted l until conn a.memory
   wise_happened l until (happening.Readable conn) a = wise_visit l until (happening.Readable conn) Read conn.0 a refl
   wise_happened l until (happening.Writable conn) a = wise_visit l until (happening.Writable conn) Write conn.0 a refl
   wise_happened l until happening.Quiet a = w.turned l.sessions until happening.Quiet refl

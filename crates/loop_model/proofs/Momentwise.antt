@@ -2,7 +2,7 @@
 -- each visit at the loop's moment, each turn, each opening, and each answer of the clock.
 use Rattle.trace_model.specs.Checks.{most_live}
 use Rattle.loop_model.specs.Ends.{ModelEnd, model_ends}
-use Rattle.std.proofs.Common.{◌≡◌, ℕ, max, inl, inr, true, false, List, [], ◌∷◌, ◌++◌, length, drop, Option, Some, None, refl}
+use Rattle.std.proofs.Common.{◌≡◌, ℕ, max, inl, inr, Bool, true, false, List, [], ◌∷◌, ◌++◌, length, drop, Option, Some, None, refl}
 use Rattle.std.specs.Prelude.{nat_lt}
 use Rattle.std.proofs.lemmas.Bool.{cases_Bool}
 use Rattle.er_trace.specs.declared.event.Event.TheVariants as event
@@ -15,7 +15,7 @@ use Rattle.link_trait.specs.declared.wires.Happening.TheVariants as happening
 use Rattle.loop_model.specs.Journals.{JournalEntry}
 use Rattle.loop_model.specs.Outs.{Out, exactly, first_answer_of}
 use Rattle.loop_model.specs.Visits.{Met, nothing_met, Visit, Tick, Read, Write, Expire, visited}
-use Rattle.loop_model.specs.Loops.{Plan, rules_of, Loop, with_sessions, visit_at, numbers, swept, Sweeps, before, until, next_user, one_less, begun, answering, answered_by, accepted, visited_at, happened, Halt, Course, asks, Turn, readied, turned_unless, went_unless, went, nothing_comes, run}
+use Rattle.loop_model.specs.Loops.{Plan, rules_of, Loop, with_sessions, visit_at, numbers, swept, Sweeps, before, until, next_user, one_word_less, one_less, begun, answering, answered_by, accepted, visited_at, happened, Halt, Course, asks, Turn, readied, turned_unless, went_unless, went, nothing_comes, run}
 use Rattle.loop_model.specs.Parts.{opened_by}
 use Rattle.loop_model.proofs.Steadies.{acts_lift}
 
@@ -33,6 +33,9 @@ pub record Momentwise (plan : Plan) (R : Loop ModelEnd → Loop ModelEnd → Lis
       (Turns until (happening.Accepted conn) ∷ [])
   pub full : (l : Loop ModelEnd) (until : Option ℕ) (conn : Conn) → nat_lt (length l.sessions) most_live ≡ false
       → R l l (record { moment = l.moment; conn = conn.0; event = event.Full most_live; outcomes = [] } ∷ []) (Turns until (happening.Accepted conn) ∷ Closes conn.0 ∷ [])
+  pub wanted : (l : Loop ModelEnd) (until : Option ℕ) (conn : Conn) (mind : Mind) → nat_lt (length l.sessions) most_live ≡ true → next_user l.users ≡ Some mind
+      → R l (one_word_less l) (record { moment = l.moment; conn = conn.0; event = event.Full (length l.sessions); outcomes = [] } ∷ [])
+      (Turns until (happening.Accepted conn) ∷ Closes conn.0 ∷ [])
   pub unserved : (l : Loop ModelEnd) (until : Option ℕ) (conn : Conn) → nat_lt (length l.sessions) most_live ≡ true → next_user l.users ≡ None
       → R l l (record { moment = l.moment; conn = conn.0; event = event.Unserved plan.handed; outcomes = [] } ∷ []) (Turns until (happening.Accepted conn) ∷ Closes conn.0 ∷ [])
 
@@ -57,16 +60,17 @@ module _ (plan : Plan) (R : Loop ModelEnd → Loop ModelEnd → List JournalEntr
   abbrev Behind : Loop ModelEnd → Option ℕ → Happening → Out (Loop ModelEnd) → Type 0
   Behind l until happening o = R l o.state o.entries (Turns until happening ∷ o.calls)
 
-  moment_answered : (user : Option Mind) (l : Loop ModelEnd) (until : Option ℕ) (conn : Conn) → nat_lt (length l.sessions) most_live ≡ true → next_user l.users ≡ user
-      → Behind l until (happening.Accepted conn) (answered_by model_ends user plan l conn.0)
-  moment_answered None l until conn fits is = w.unserved l until conn fits is
-  moment_answered (Some mind) l until conn fits is = w.opened l until conn mind fits is
+  moment_answered : (user : Option Mind) (memory : Bool) (l : Loop ModelEnd) (until : Option ℕ) (conn : Conn) → nat_lt (length l.sessions) most_live ≡ true
+      → next_user l.users ≡ user → Behind l until (happening.Accepted conn) (answered_by model_ends user memory plan l conn.0)
+  moment_answered None memory l until conn fits is = w.unserved l until conn fits is
+  moment_answered (Some mind) true l until conn fits is = w.opened l until conn mind fits is
+  moment_answered (Some mind) false l until conn fits is = w.wanted l until conn mind fits is
 
-  moment_accepted : (l : Loop ModelEnd) (until : Option ℕ) (conn : Conn) → Behind l until (happening.Accepted conn) (accepted model_ends plan l conn.0)
+  moment_accepted : (l : Loop ModelEnd) (until : Option ℕ) (conn : Conn) (memory : Bool) → Behind l until (happening.Accepted conn) (accepted model_ends plan l conn.0 memory)
   unfolding accepted
-  moment_accepted l until conn =
+  moment_accepted l until conn memory =
       elim (cases_Bool (nat_lt (length l.sessions) most_live)) [
-        | inl p ↦ rw p (moment_answered (next_user l.users) l until conn p refl)
+        | inl p ↦ rw p (moment_answered (next_user l.users) memory l until conn p refl)
         | inr p ↦ rw p (w.full l until conn p)
       ]
 
@@ -76,7 +80,7 @@ module _ (plan : Plan) (R : Loop ModelEnd → Loop ModelEnd → List JournalEntr
 
   moment_happened : (l : Loop ModelEnd) (until : Option ℕ) (happening : Happening) (a : Met) → Behind l until happening (happened model_ends plan l happening a)
   unfolding happened
-  moment_happened l until (happening.Accepted conn) a = moment_accepted l until conn
+  moment_happened l until (happening.Accepted conn) a = moment_accepted l until conn a.memory
   moment_happened l until (happening.Readable conn) a = moment_visit l until (happening.Readable conn) Read conn.0 a refl
   moment_happened l until (happening.Writable conn) a = moment_visit l until (happening.Writable conn) Write conn.0 a refl
   moment_happened l until happening.Quiet a = w.turned l until happening.Quiet refl

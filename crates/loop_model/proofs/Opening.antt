@@ -1,6 +1,6 @@
 -- What comes of a connection that is accepted or dialled.
 use Rattle.loop_model.specs.Ends.{ModelEnd, model_ends}
-use Rattle.std.proofs.Common.{◌≡◌, ℕ, inl, inr, List, [], ◌∷◌, ◌++◌, length, drop, Option, Some, None, refl, sym, ◌∙◌, ap, subst}
+use Rattle.std.proofs.Common.{◌≡◌, ℕ, inl, inr, Bool, true, false, List, [], ◌∷◌, ◌++◌, length, drop, Option, Some, None, refl, sym, ◌∙◌, ap, subst}
 use Rattle.std.specs.Prelude.{nat_lt}
 use Rattle.std.proofs.lemmas.Bool.{cases_Bool}
 use Rattle.er_users.specs.Users.{Mind}
@@ -58,26 +58,29 @@ module _ (r : Rules) (m : ℕ) where
 
 -- ---- a turn
 
-answered_so : (user : Option Mind) (plan : Plan) (l : Loop ModelEnd) (conn : ℕ) → openings (answered_by model_ends user plan l conn).entries ≡ (conn, answer_or_unserved user plan (next_u64 l.words).0) ∷ []
+answered_so : (user : Option Mind) (memory : Bool) (plan : Plan) (l : Loop ModelEnd) (conn : ℕ)
+    → openings (answered_by model_ends user memory plan l conn).entries ≡ (conn, answer_or_unserved user memory plan (length l.sessions) (next_u64 l.words).0) ∷ []
 unfolding openings
-answered_so None plan l conn = refl
-answered_so (Some mind) plan l conn = refl
+answered_so None memory plan l conn = refl
+answered_so (Some mind) true plan l conn = refl
+answered_so (Some mind) false plan l conn = refl
 
-accepted_so : (plan : Plan) (l : Loop ModelEnd) (conn : ℕ) → openings (accepted model_ends plan l conn).entries ≡ (conn, event_of_accepted_connection plan l) ∷ []
+accepted_so : (plan : Plan) (l : Loop ModelEnd) (conn : ℕ) (memory : Bool)
+    → openings (accepted model_ends plan l conn memory).entries ≡ (conn, event_of_accepted_connection plan l memory) ∷ []
 unfolding accepted openings
-accepted_so plan l conn =
-    elim (cases_Bool (nat_lt (length l.sessions) most_live)) [ inl p ↦ rw p (answered_so (next_user l.users) plan l conn) | inr p ↦ rw p refl ]
+accepted_so plan l conn memory =
+    elim (cases_Bool (nat_lt (length l.sessions) most_live)) [ inl p ↦ rw p (answered_so (next_user l.users) memory plan l conn) | inr p ↦ rw p refl ]
 
-happened_so : (plan : Plan) (l : Loop ModelEnd) (what : Happening) (a : Met) → openings (happened model_ends plan l what a).entries ≡ openings_due what (event_of_accepted_connection plan l)
+happened_so : (plan : Plan) (l : Loop ModelEnd) (what : Happening) (a : Met) → openings (happened model_ends plan l what a).entries ≡ openings_due what (event_of_accepted_connection plan l a.memory)
 unfolding happened openings
-happened_so plan l (happening.Accepted conn) a = accepted_so plan l conn.0
+happened_so plan l (happening.Accepted conn) a = accepted_so plan l conn.0 a.memory
 happened_so plan l (happening.Readable conn) a = visit_none (rules_of plan) l.moment Read conn.0 l.sessions a
 happened_so plan l (happening.Writable conn) a = visit_none (rules_of plan) l.moment Write conn.0 l.sessions a
 happened_so plan l happening.Quiet a = refl
 happened_so plan l happening.Ended a = refl
 happened_so plan l happening.Failed a = refl
 
-turned_so : (halt : Option Halt) (plan : Plan) (d : Course ModelEnd) (a : Turn) → openings (turned_unless model_ends halt plan d a).entries ≡ openings_unless halt a.happening (event_of_accepted_connection plan d.loop)
+turned_so : (halt : Option Halt) (plan : Plan) (d : Course ModelEnd) (a : Turn) → openings (turned_unless model_ends halt plan d a).entries ≡ openings_unless halt a.happening (event_of_accepted_connection plan d.loop a.met.memory)
 unfolding openings
 turned_so (Some halt) plan d a = refl
 turned_so None plan d a = happened_so plan (asks a.second d).loop a.happening a.met
@@ -87,7 +90,7 @@ unfolding readied
 readied_none plan c a = let d = asks a.first c in before_none (rules_of plan) d.loop.moment d.loop.sessions a.sweeps
 
 went_so : (halt : Option Halt) (plan : Plan) (c : Course ModelEnd) (a : Turn) → halt ≡ None
-    → openings (went_unless model_ends halt plan c a).entries ≡ openings_unless (readied model_ends plan c a).state.halt a.happening (event_of_accepted_connection plan (readied model_ends plan c a).state.loop)
+    → openings (went_unless model_ends halt plan c a).entries ≡ openings_unless (readied model_ends plan c a).state.halt a.happening (event_of_accepted_connection plan (readied model_ends plan c a).state.loop a.met.memory)
 went_so (Some halt) plan c a p = absurd (let q : ⊥ = cc in q)
 went_so None plan c a p =
     let d = readied model_ends plan c a in
@@ -96,29 +99,32 @@ went_so None plan c a p =
 
 -- ---- calls
 
-answered_calls : (user : Option Mind) (plan : Plan) (l : Loop ModelEnd) (conn : ℕ) → (answered_by model_ends user plan l conn).calls ≡ closed_by (role_of (answer_or_unserved user plan (next_u64 l.words).0)) conn
-answered_calls None plan l conn = refl
-answered_calls (Some mind) plan l conn = refl
+answered_calls : (user : Option Mind) (memory : Bool) (plan : Plan) (l : Loop ModelEnd) (conn : ℕ)
+    → (answered_by model_ends user memory plan l conn).calls ≡ closed_by (role_of (answer_or_unserved user memory plan (length l.sessions) (next_u64 l.words).0)) conn
+answered_calls None memory plan l conn = refl
+answered_calls (Some mind) true plan l conn = refl
+answered_calls (Some mind) false plan l conn = refl
 
-accepted_calls : (plan : Plan) (l : Loop ModelEnd) (conn : ℕ) → (accepted model_ends plan l conn).calls ≡ closed_by (role_of (event_of_accepted_connection plan l)) conn
+accepted_calls : (plan : Plan) (l : Loop ModelEnd) (conn : ℕ) (memory : Bool)
+    → (accepted model_ends plan l conn memory).calls ≡ closed_by (role_of (event_of_accepted_connection plan l memory)) conn
 unfolding accepted
-accepted_calls plan l conn =
-    elim (cases_Bool (nat_lt (length l.sessions) most_live)) [ inl p ↦ rw p (answered_calls (next_user l.users) plan l conn) | inr p ↦ rw p refl ]
+accepted_calls plan l conn memory =
+    elim (cases_Bool (nat_lt (length l.sessions) most_live)) [ inl p ↦ rw p (answered_calls (next_user l.users) memory plan l conn) | inr p ↦ rw p refl ]
 
 happened_calls : (plan : Plan) (l : Loop ModelEnd) (what : Happening) (a : Met) (conn : Conn) → what ≡ happening.Accepted conn
-    → (happened model_ends plan l what a).calls ≡ closed_by (role_of (event_of_accepted_connection plan l)) conn.0
+    → (happened model_ends plan l what a).calls ≡ closed_by (role_of (event_of_accepted_connection plan l a.memory)) conn.0
 unfolding happened
-happened_calls plan l what a conn p = ap (λ z. (happened model_ends plan l z a).calls) p ∙ accepted_calls plan l conn.0
+happened_calls plan l what a conn p = ap (λ z. (happened model_ends plan l z a).calls) p ∙ accepted_calls plan l conn.0 a.memory
 
 turned_calls : (halt : Option Halt) (plan : Plan) (d : Course ModelEnd) (a : Turn) (conn : Conn) → halt ≡ None → a.happening ≡ happening.Accepted conn
-    → (turned_unless model_ends halt plan d a).calls ≡ Turns (until model_ends d.loop.sessions) a.happening ∷ closed_by (role_of (event_of_accepted_connection plan d.loop)) conn.0
+    → (turned_unless model_ends halt plan d a).calls ≡ Turns (until model_ends d.loop.sessions) a.happening ∷ closed_by (role_of (event_of_accepted_connection plan d.loop a.met.memory)) conn.0
 turned_calls (Some halt) plan d a conn p q = absurd (let x : ⊥ = cc in x)
 turned_calls None plan d a conn p q =
     ap (λ z. Turns (until model_ends d.loop.sessions) a.happening ∷ z) (happened_calls plan (asks a.second d).loop a.happening a.met conn q)
 
 went_calls : (halt : Option Halt) (plan : Plan) (c : Course ModelEnd) (a : Turn) (conn : Conn) → halt ≡ None → (readied model_ends plan c a).state.halt ≡ None → a.happening ≡ happening.Accepted conn
     → (went_unless model_ends halt plan c a).calls
-    ≡ (readied model_ends plan c a).calls ++ Turns (until model_ends (readied model_ends plan c a).state.loop.sessions) a.happening ∷ closed_by (role_of (event_of_accepted_connection plan (readied model_ends plan c a).state.loop)) conn.0
+    ≡ (readied model_ends plan c a).calls ++ Turns (until model_ends (readied model_ends plan c a).state.loop.sessions) a.happening ∷ closed_by (role_of (event_of_accepted_connection plan (readied model_ends plan c a).state.loop a.met.memory)) conn.0
 went_calls (Some halt) plan c a conn p q e = absurd (let x : ⊥ = cc in x)
 went_calls None plan c a conn p q e =
     let d = readied model_ends plan c a in ap (λ z. d.calls ++ z) (turned_calls d.state.halt plan d.state a conn q e)

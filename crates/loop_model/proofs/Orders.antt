@@ -55,7 +55,7 @@ few plan = record {
   opened = λ l until conn mind fits f.
       (let lt : length l.sessions < most_live = ltb-true (length l.sessions) most_live fits in
       rw (length-append {A = Session ModelEnd}) (omega arith));
-  full = λ ss m until conn fits f. f;
+  full = λ ss m live until conn most f. f;
   unserved = λ ss m handed until conn f. f;
 }
 
@@ -167,7 +167,7 @@ in_order plan = record {
     rises = rw numbers-last (rises_last 0 top conn.0 (numbers l.sessions) o.rises o.up_to (omega arith) r.0);
     up_to = rw numbers-last (up_to_last top conn.0 (numbers l.sessions) o.up_to r.0);
   };
-  full = λ ss m until conn fits top r o. ordered_more top conn.0 ss (let x : top < conn.0 = r.0 in omega arith) o;
+  full = λ ss m live until conn most top r o. ordered_more top conn.0 ss (let x : top < conn.0 = r.0 in omega arith) o;
   unserved = λ ss m handed until conn top r o. ordered_more top conn.0 ss (let x : top < conn.0 = r.0 in omega arith) o;
 }
 

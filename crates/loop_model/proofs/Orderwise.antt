@@ -2,7 +2,7 @@
 -- turn and each opening.
 use Rattle.trace_model.specs.Checks.{most_live}
 use Rattle.loop_model.specs.Ends.{ModelEnd, model_ends}
-use Rattle.std.proofs.Common.{◌≡◌, ℕ, inl, inr, List, [], ◌∷◌, ◌++◌, length, drop, Option, Some, None, refl}
+use Rattle.std.proofs.Common.{◌≡◌, ℕ, ◌≤◌, inl, inr, Bool, true, false, List, [], ◌∷◌, ◌++◌, length, drop, Option, Some, None, refl, arith}
 use Rattle.std.specs.Prelude.{nat_lt}
 use Rattle.std.proofs.lemmas.Bool.{cases_Bool}
 use Rattle.er_trace.specs.declared.event.Event.TheVariants as event
@@ -19,6 +19,7 @@ use Rattle.loop_model.specs.Sessions.{Session}
 use Rattle.loop_model.specs.Visits.{Met, nothing_met, Visit, Tick, Read, Write, Expire, visited}
 use Rattle.loop_model.specs.Loops.{Plan, rules_of, Loop, visit_at, numbers, swept, Sweeps, before, until, next_user, begun, answering, answered_by, accepted, visited_at, happened, Halt, Course, asks, Turn, readied, turned_unless, went_unless, went, nothing_comes, run}
 use Rattle.loop_model.specs.Parts.{opened_by}
+use Rattle.loop_model.proofs.Loopwise.{below_most}
 
 -- what is done where a connection is turned away
 abbrev pub away : Option ℕ → Conn → JournalEntry → List LoopDeed
@@ -33,8 +34,8 @@ pub record Orderwise (plan : Plan) (R : List (Session ModelEnd) → List (Sessio
   pub opened : (l : Loop ModelEnd) (until : Option ℕ) (conn : Conn) (mind : Mind)
       → R l.sessions (l.sessions ++ begun conn.0 (answering model_ends plan l) mind ∷ [])
       (Calling (Turns until (happening.Accepted conn)) ∷ Printing (record { moment = l.moment; conn = conn.0; event = event.Answer plan.rbc (next_u64 l.words).0; outcomes = [] }) ∷ [])
-  pub full : (ss : List (Session ModelEnd)) (m : ℕ) (until : Option ℕ) (conn : Conn)
-      → R ss ss (away until conn (record { moment = m; conn = conn.0; event = event.Full most_live; outcomes = [] }))
+  pub full : (ss : List (Session ModelEnd)) (m live : ℕ) (until : Option ℕ) (conn : Conn) → live ≤ most_live
+      → R ss ss (away until conn (record { moment = m; conn = conn.0; event = event.Full live; outcomes = [] }))
   pub unserved : (ss : List (Session ModelEnd)) (m handed : ℕ) (until : Option ℕ) (conn : Conn)
       → R ss ss (away until conn (record { moment = m; conn = conn.0; event = event.Unserved handed; outcomes = [] }))
 
@@ -57,16 +58,18 @@ module _ (plan : Plan) (R : List (Session ModelEnd) → List (Session ModelEnd) 
   abbrev Behind : Loop ModelEnd → Option ℕ → Happening → Out (Loop ModelEnd) → Type 0
   Behind l until happening o = R l.sessions o.state.sessions (Calling (Turns until happening) ∷ o.order)
 
-  answered_wise : (user : Option Mind) (l : Loop ModelEnd) (until : Option ℕ) (conn : Conn) → Behind l until (happening.Accepted conn) (answered_by model_ends user plan l conn.0)
-  answered_wise None l until conn = w.unserved l.sessions l.moment plan.handed until conn
-  answered_wise (Some mind) l until conn = w.opened l until conn mind
+  answered_wise : (user : Option Mind) (memory : Bool) (l : Loop ModelEnd) (until : Option ℕ) (conn : Conn) → nat_lt (length l.sessions) most_live ≡ true
+      → Behind l until (happening.Accepted conn) (answered_by model_ends user memory plan l conn.0)
+  answered_wise None memory l until conn fits = w.unserved l.sessions l.moment plan.handed until conn
+  answered_wise (Some mind) true l until conn fits = w.opened l until conn mind
+  answered_wise (Some mind) false l until conn fits = w.full l.sessions l.moment (length l.sessions) until conn (below_most (length l.sessions) fits)
 
-  accepted_wise : (l : Loop ModelEnd) (until : Option ℕ) (conn : Conn) → Behind l until (happening.Accepted conn) (accepted model_ends plan l conn.0)
+  accepted_wise : (l : Loop ModelEnd) (until : Option ℕ) (conn : Conn) (memory : Bool) → Behind l until (happening.Accepted conn) (accepted model_ends plan l conn.0 memory)
   unfolding accepted
-  accepted_wise l until conn =
+  accepted_wise l until conn memory =
       elim (cases_Bool (nat_lt (length l.sessions) most_live)) [
-        | inl p ↦ rw p (answered_wise (next_user l.users) l until conn)
-        | inr p ↦ rw p (w.full l.sessions l.moment until conn)
+        | inl p ↦ rw p (answered_wise (next_user l.users) memory l until conn p)
+        | inr p ↦ rw p (w.full l.sessions l.moment most_live until conn (omega arith))
       ]
 
   at_wise : (l : Loop ModelEnd) (until : Option ℕ) (happening : Happening) (visit : Visit) (n : ℕ) (a : Met) → opened_by happening ≡ []
@@ -75,7 +78,7 @@ module _ (plan : Plan) (R : List (Session ModelEnd) → List (Session ModelEnd) 
 
   happened_wise : (l : Loop ModelEnd) (until : Option ℕ) (happening : Happening) (a : Met) → Behind l until happening (happened model_ends plan l happening a)
   unfolding happened
-  happened_wise l until (happening.Accepted conn) a = accepted_wise l until conn
+  happened_wise l until (happening.Accepted conn) a = accepted_wise l until conn a.memory
   happened_wise l until (happening.Readable conn) a = at_wise l until (happening.Readable conn) Read conn.0 a refl
   happened_wise l until (happening.Writable conn) a = at_wise l until (happening.Writable conn) Write conn.0 a refl
   happened_wise l until happening.Quiet a = w.turned l.sessions until happening.Quiet refl

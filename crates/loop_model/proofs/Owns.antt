@@ -6,7 +6,7 @@ use Rattle.link_trait.specs.Wires.{Call, Reading, Gave, NotNow, End, Failed, Rea
 use Rattle.link_trait.specs.declared.wires.WriteAnswer.TheVariants as write
 use Rattle.loop_model.specs.Journals.{JournalEntry}
 use Rattle.loop_model.specs.Outs.{first_answer_of}
-use Rattle.loop_model.specs.Sessions.{Rules, Session, is_released, GivenToSession, Hears, Ticks, Ends, Faults, Stalls, end_after, outcomes_of_given_event, entry_of, octets_in, breaks, Says, nothing_said}
+use Rattle.loop_model.specs.Sessions.{Rules, Session, is_released, GivenToSession, Hears, Ticks, Ends, Faults, Stalls, end_after, outcomes_of_given_event, entry_of, octets_in, breaks, Says, nothing_said, made}
 use Rattle.loop_model.specs.Visits.{most_read, came}
 use Rattle.loop_model.specs.Parts.{of, calls_at, opened_in}
 use Rattle.loop_model.proofs.Projections.{of-append, calls_at-append, opened_in-append, split_if}
@@ -17,6 +17,7 @@ use Rattle.loop_model.proofs.Lives.{Own}
 pub record Bare (Q : Session ModelEnd → Session ModelEnd → List JournalEntry → List Call → Type 0) : Type 0 where
   pub wrote : (s : Session ModelEnd) (n : ℕ) → s.broken ≡ false → Q s (record s { output = drop n s.output }) [] (Writes s.number s.output (write.Some n) ∷ [])
   pub put_off : (s : Session ModelEnd) → Q s s [] (Writes s.number s.output write.NotNow ∷ [])
+  pub noted : (s : Session ModelEnd) → Q s (made s) [] []
   pub failed : (s : Session ModelEnd) → Q s s [] (Writes s.number s.output write.Failed ∷ [])
   pub breaks : (s : Session ModelEnd) → is_released model_ends s ≡ true → Q s (record s { broken = true }) [] []
 
@@ -41,6 +42,7 @@ module _ (r : Rules) (m : ℕ) (Allowed : GivenToSession → Type 0) (Q : Sessio
     then_ = q.then_;
     wrote = b.wrote;
     put_off = b.put_off;
+    noted = b.noted;
     failed = λ s says live. q.then_ s s _ [] _ (Writes s.number s.output write.Failed ∷ []) [] (b.failed s) (handled_at r m Allowed Q q all.usual s Faults says all.faults);
     failed_released = λ s gone. q.then_ s s (record s { broken = true }) [] [] (Writes s.number s.output write.Failed ∷ []) [] (b.failed s) (b.breaks s gone);
     ticked = λ s says due. handled_at r m Allowed Q q all.usual s Ticks says all.ticks;
@@ -60,6 +62,7 @@ module _ (r : Rules) (Allowed : GivenToSession → Type 0) (Q : Session ModelEnd
     then_ = q.then_;
     wrote = b.wrote;
     put_off = b.put_off;
+    noted = b.noted;
     failed = λ m. (usual_quiet_at r m Allowed Q (steady_at r Allowed Q q m) all b).failed;
     failed_released = λ s gone. q.then_ s s (record s { broken = true }) [] [] (Writes s.number s.output write.Failed ∷ []) [] (b.failed s) (b.breaks s gone);
     ticked = λ m. (usual_quiet_at r m Allowed Q (steady_at r Allowed Q q m) all b).ticked;
@@ -91,6 +94,7 @@ calls_both r P Q p q = record {
     then_ = λ s t u xs ys cs ds a b. (p.then_ s t u xs ys cs ds a.0 b.0, q.then_ s t u xs ys cs ds a.1 b.1);
     wrote = λ s n whole. (p.wrote s n whole, q.wrote s n whole);
     put_off = λ s. (p.put_off s, q.put_off s);
+    noted = λ s. (p.noted s, q.noted s);
     failed = λ m s says live. (p.failed m s says live, q.failed m s says live);
     failed_released = λ s gone. (p.failed_released s gone, q.failed_released s gone);
     ticked = λ m s says due. (p.ticked m s says due, q.ticked m s says due);
@@ -102,6 +106,7 @@ pub bare_both : (P Q : Session ModelEnd → Session ModelEnd → List JournalEnt
 bare_both P Q p q = record {
   wrote = λ s n whole. (p.wrote s n whole, q.wrote s n whole);
   put_off = λ s. (p.put_off s, q.put_off s);
+  noted = λ s. (p.noted s, q.noted s);
   failed = λ s. (p.failed s, q.failed s);
   breaks = λ s gone. (p.breaks s gone, q.breaks s gone);
 }
@@ -176,6 +181,7 @@ unfolding of calls_at opened_in
 own_bare = record {
   wrote = λ s n whole. record { number = refl; entries = λ conn. if_nil (s.number == conn); calls = λ conn. refl; opens = refl };
   put_off = λ s. record { number = refl; entries = λ conn. if_nil (s.number == conn); calls = λ conn. refl; opens = refl };
+  noted = λ s. own_same s _ refl;
   failed = λ s. record { number = refl; entries = λ conn. if_nil (s.number == conn); calls = λ conn. refl; opens = refl };
   breaks = λ s gone. own_same s (record s { broken = true }) refl;
 }

@@ -1,6 +1,6 @@
 -- A fault is told directly behind the read or the write that failed.
 use Rattle.loop_model.specs.Ends.{ModelEnd, model_ends}
-use Rattle.std.proofs.Common.{◌≡◌, ℕ, ◌+◌, inl, inr, Bool, true, false, ◌&&◌, ◌||◌, List, [], ◌∷◌, ◌++◌, length, drop, Option, Some, None, refl, sym, subst}
+use Rattle.std.proofs.Common.{◌≡◌, ℕ, ◌+◌, inl, inr, Bool, true, false, ◌||◌, List, [], ◌∷◌, ◌++◌, length, drop, Option, Some, None, refl, sym, subst}
 use Rattle.std.specs.Prelude.{◌==◌, nat_lt}
 use Rattle.std.proofs.lemmas.Bool.{cases_Bool}
 use Rattle.er_users.specs.Users.{Mind}
@@ -11,9 +11,9 @@ use Rattle.link_trait.specs.declared.wires.WriteAnswer.TheVariants as write
 use Rattle.loop_model.specs.Journals.{JournalEntry}
 use Rattle.loop_model.specs.Deeds.{LoopDeed, Printing, Calling, printings}
 use Rattle.loop_model.specs.Outs.{Out, still, next, makes, acts, exactly, first_answer_of}
-use Rattle.loop_model.specs.Sessions.{Rules, Session, GivenToSession, Begins, Hears, Sends, Takes, Leaves, Ticks, Ends, Faults, Stalls, is_released, most_output, journal_event_of_given, end_after, outcomes_of_given_event, entry_of, octets_in, joined, fed, Says, nothing_said, handled}
+use Rattle.loop_model.specs.Sessions.{Rules, Session, GivenToSession, Begins, Hears, Sends, Takes, Leaves, Ticks, Ends, Faults, Stalls, is_released, most_output, journal_event_of_given, end_after, outcomes_of_given_event, entry_of, octets_in, joined, fed, Says, nothing_said, handled, owes_nothing, made}
 use Rattle.loop_model.specs.Visits.{WritingState, Going, PutOff, Failing, after_write, writes_once, writes, Wrote, fault_unless, flowed, written_unless, session_behind_writing, session_kept_or_closed, rests, rests_behind, Visit, Tick, Read, Write, Expire, Met, is_due, came, read_once, served, visited}
-use Rattle.loop_model.specs.Loops.{Plan, rules_of, Loop, visit_at, next_user, begun, Caller, calling, called_by, called, Course, asks, Turn, run, Dialled, opens, dials_to, dials}
+use Rattle.loop_model.specs.Loops.{Plan, rules_of, Loop, visit_at, next_user, Caller, calling, called_by, called, Course, asks, Turn, run, Dialled, opens, dials_to, dials, begun_dial}
 use Rattle.loop_model.specs.Laws.{is_fault}
 use Rattle.loop_model.specs.Failures.{Before, Other, ReadFailed, WriteFailed, AreInPlace, FaultsAreInPlace}
 use Rattle.loop_model.proofs.Steadies.{Steady, Usual, steady_handled, steady_pours, follows_handled}
@@ -128,7 +128,7 @@ module _ (r : Rules) (m : ℕ) where
 
   settled_placed : (s : Session ModelEnd) → AreInPlace (session_kept_or_closed model_ends s).order Other
   unfolding session_kept_or_closed
-  settled_placed s = elim (cases_Bool (s.broken || (is_released model_ends s && (length s.output == 0)))) [ inl p ↦ rw p (tt, tt) | inr p ↦ rw p tt ]
+  settled_placed s = elim (cases_Bool (s.broken || owes_nothing model_ends s)) [ inl p ↦ rw p (tt, tt) | inr p ↦ rw p tt ]
 
   -- ---- writing
 
@@ -210,8 +210,8 @@ module _ (r : Rules) (m : ℕ) where
   visited_placed : (visit : Visit) (s : Session ModelEnd) (a : Met) → AreInPlace (visited model_ends r m visit s a).order Other
   unfolding visited read_once
   visited_placed Tick s a = elim (cases_Bool (is_due m (model_ends.deadline s.end))) [ inl p ↦ rw p (served_placed s Ticks a tt) | inr p ↦ rw p tt ]
-  visited_placed Read s a = elim (cases_Bool (is_released model_ends s)) [ inl p ↦ rw p tt | inr p ↦ rw p (came_placed a.reading s a.waits a.says a.wrote) ]
-  visited_placed Write s a = rests_placed s a.wrote
+  visited_placed Read s a = elim (cases_Bool (is_released model_ends s)) [ inl p ↦ rw p tt | inr p ↦ rw p (came_placed a.reading (made s) a.waits a.says a.wrote) ]
+  visited_placed Write s a = rests_placed (made s) a.wrote
   visited_placed Expire s a = elim (cases_Bool (is_due m s.closing)) [ inl p ↦ rw p (tt, tt) | inr p ↦ rw p tt ]
 
   visit_placed : (visit : Visit) (n : ℕ) (ss : List (Session ModelEnd)) (a : Met) → AreInPlace (visit_at (visited model_ends r m visit) n ss a).order Other
@@ -233,7 +233,7 @@ goes plan = record {
   visit = λ m visit n ss a. visit_placed (rules_of plan) m visit n ss a;
   turned = λ ss until happening none. (tt, tt);
   opened = λ l until conn mind. (tt, (refl, tt));
-  full = λ ss m until conn. (tt, (refl, (tt, tt)));
+  full = λ ss m live until conn most. (tt, (refl, (tt, tt)));
   unserved = λ ss m handed until conn. (tt, (refl, (tt, tt)));
 }
 
@@ -244,7 +244,7 @@ run_placed plan c turns = run_wise plan Goes (goes plan) c turns
 called_placed : (user : Option Mind) (plan : Plan) (caller : Caller) (l : Loop ModelEnd) (conn : ℕ) (a : Met) → AreInPlace (called_by model_ends user plan caller l conn a).order Other
 called_placed None plan caller l conn a = (refl, (tt, tt))
 called_placed (Some mind) plan caller l conn a =
-    served_placed (rules_of plan) l.moment (begun conn (calling model_ends plan caller l) mind) (Begins caller.engine plan.rbc (next_u64 l.words).0) a tt
+    served_placed (rules_of plan) l.moment (begun_dial conn (calling model_ends plan caller l) mind) (Begins caller.engine plan.rbc (next_u64 l.words).0) a tt
 
 dialled_placed : (at : Option ℕ) (plan : Plan) (caller : Caller) (c : Course ModelEnd) (address : List ℕ) (a : Dialled) → AreInPlace (dials_to model_ends at plan caller c address a).order Other
 unfolding called

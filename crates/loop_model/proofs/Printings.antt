@@ -22,7 +22,7 @@ use Rattle.link_trait.specs.Wires.{Call, Reading, Reads}
 use Rattle.loop_model.specs.Journals.{JournalEntry, entry_text, text, trace_line_of, trace_lines_of}
 use Rattle.loop_model.specs.Sessions.{Rules, Session, GivenToSession, Begins, Hears, Sends, Takes, Leaves, Ticks, Ends, Faults, Stalls, event_of, journal_event_of_given, end_after, outcomes_of_given_event, entry_of, most_output, octets_in, joined, fed}
 use Rattle.loop_model.specs.Visits.{most_read}
-use Rattle.loop_model.specs.Loops.{Plan, rules_of, Loop, begun, Caller, calling, Course, Turn, run, Dialled, dials}
+use Rattle.loop_model.specs.Loops.{Plan, rules_of, Loop, begun, Caller, calling, Course, Turn, run, Dialled, dials, begun_dial}
 use Rattle.loop_model.specs.Parts.{session_of_connection, of, calls_at}
 use Rattle.loop_model.specs.Laws.{IsServing, IsDialling, HaveModelOutcomes, ConnectionsAreIsolated, JournalIsPrinted}
 use Rattle.loop_model.proofs.Projections.{of-append}
@@ -159,6 +159,7 @@ module _ (steps : StepsAlike) (made : MadeStands) (plan : Plan) (allowed : AllAl
   bare = record {
     wrote = λ s n whole. stays s.end;
     put_off = λ s. stays s.end;
+    noted = λ s. stays s.end;
     failed = λ s. stays s.end;
     breaks = λ s gone. stays s.end;
   }
@@ -217,7 +218,7 @@ module _ (steps : StepsAlike) (made : MadeStands) (plan : Plan) (allowed : AllAl
       stands = made (AnswersWith plan.settings plan.rbc (next_u64 l.words).0 l.moment);
     };
     never = tt;
-    full = λ m conn. (refl, tt);
+    full = λ m conn live most. (refl, tt);
     unserved = λ m conn handed. (refl, tt);
   }
 
@@ -303,8 +304,8 @@ module _ (steps : StepsAlike) (made : MadeStands) (plan : Plan) (allowed : AllAl
 
   pub first_told : (caller : Caller) (at : ℕ) → key_at plan.keys at caller.engine plan.rbc ≡ Some caller.kmac
       → (l : Loop ModelEnd) (conn : ℕ) (mind : Mind) → l.moment ≡ at
-      → ToldTo (fed model_ends (rules_of plan) l.moment (begun conn (calling model_ends plan caller l) mind) (begins caller l)).0.end
-      (fed model_ends (rules_of plan) l.moment (begun conn (calling model_ends plan caller l) mind) (begins caller l)).1
+      → ToldTo (fed model_ends (rules_of plan) l.moment (begun_dial conn (calling model_ends plan caller l) mind) (begins caller l)).0.end
+      (fed model_ends (rules_of plan) l.moment (begun_dial conn (calling model_ends plan caller l) mind) (begins caller l)).1
   unfolding fed joined
   first_told caller at key l conn mind now =
       let r = rules_of plan in

@@ -7,7 +7,7 @@ use Rattle.link_trait.specs.Wires.{Call, Reading, Gave, NotNow, End, Failed, Rea
 use Rattle.link_trait.specs.declared.wires.Conn.{Conn}
 use Rattle.link_trait.specs.declared.wires.Happening.{Happening}
 use Rattle.link_trait.specs.declared.wires.Happening.TheVariants as happening
-use Rattle.loop_model.specs.Sessions.{Rules, Session, is_released}
+use Rattle.loop_model.specs.Sessions.{Rules, Session, is_released, made}
 use Rattle.loop_model.specs.Visits.{most_read, Met, Read, came, rests_behind, visited, read_once}
 use Rattle.loop_model.specs.Loops.{Plan, rules_of, until, visit_at, happened, Halt, Course, asks, Turn, readied, turned_unless, went_unless, went}
 use Rattle.loop_model.specs.Parts.{session_of_connection}
@@ -32,7 +32,7 @@ among_visit r m n (t ∷ ss) s a e live =
           let f : Some t ≡ Some s = rw p at e in
           let g : is_released model_ends t ≡ false = subst (λ z. is_released model_ends z ≡ false) (let h : s ≡ t = cc in h) live in
           rw (p, g)
-          (let rest = (rests_behind model_ends a.reading r m (came model_ends a.reading r m t a.says).0 a.wrote).calls in
+          (let rest = (rests_behind model_ends a.reading r m (came model_ends a.reading r m (made t) a.says).0 a.wrote).calls in
           record { first = []; rest = rest; is = ap (λ z. Reads z most_read a.waits a.reading ∷ rest) (eqb-true t.number n p) })
       | inr p ↦ rw p (among_visit r m n ss s a (rw p at e) live)
     ]

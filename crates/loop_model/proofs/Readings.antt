@@ -1,7 +1,7 @@
 -- One read a readable turn, and none elsewhere.
 use Rattle.trace_model.specs.Checks.{most_live}
 use Rattle.loop_model.specs.Ends.{ModelEnd, model_ends}
-use Rattle.std.proofs.Common.{if◌then◌else◌, ◌≡◌, ℕ, inl, inr, List, [], ◌∷◌, ◌++◌, length, drop, Option, Some, None, refl, sym, ◌∙◌, ap, subst, append-nil, append_assoc, eqb-true}
+use Rattle.std.proofs.Common.{if◌then◌else◌, ◌≡◌, ℕ, inl, inr, Bool, true, false, List, [], ◌∷◌, ◌++◌, length, drop, Option, Some, None, refl, sym, ◌∙◌, ap, subst, append-nil, append_assoc, eqb-true}
 use Rattle.std.specs.Prelude.{◌==◌, nat_lt}
 use Rattle.std.proofs.lemmas.Bool.{cases_Bool}
 use Rattle.er_users.specs.Users.{Mind}
@@ -10,7 +10,7 @@ use Rattle.link_trait.specs.declared.wires.Happening.{Happening}
 use Rattle.link_trait.specs.declared.wires.Happening.TheVariants as happening
 use Rattle.loop_model.specs.Journals.{JournalEntry}
 use Rattle.loop_model.specs.Outs.{Out, first_answer_of}
-use Rattle.loop_model.specs.Sessions.{Rules, Session, is_released}
+use Rattle.loop_model.specs.Sessions.{Rules, Session, is_released, made}
 use Rattle.loop_model.specs.Visits.{Wrote, rests_behind, Met, nothing_met, Tick, Read, Write, Expire, came, read_once, visited}
 use Rattle.loop_model.specs.Loops.{Plan, rules_of, Loop, visit_at, numbers, swept, Sweeps, before, next_user, answered_by, accepted, happened, Halt, Course, asks, Turn, readied, turned_unless, went_unless, went}
 use Rattle.loop_model.specs.Parts.{session_of_connection}
@@ -39,7 +39,7 @@ steady r = record {
 
 bare : Bare NoRead
 unfolding NoRead reads_of
-bare = record { wrote = λ s n whole. refl; put_off = λ s. refl; failed = λ s. refl; breaks = λ s gone. refl }
+bare = record { wrote = λ s n whole. refl; put_off = λ s. refl; failed = λ s. refl; breaks = λ s gone. refl; noted = λ s. refl }
 
 all_given : AllGiven (λ g. Unit {0})
 all_given = record { usual = record { sends = λ text. tt; leaves = λ sub. tt; takes = tt }; hears = λ octets. tt; ticks = tt; ends = tt; faults = tt }
@@ -95,7 +95,7 @@ unfolding visited read_once reads_of
 one_read r m s a =
     elim (cases_Bool (is_released model_ends s)) [
       | inl p ↦ rw p refl
-      | inr p ↦ rw p (ap (λ z. s.number ∷ z) (behind_none r m a.reading (came model_ends a.reading r m s a.says).0 a.wrote))
+      | inr p ↦ rw p (ap (λ z. s.number ∷ z) (behind_none r m a.reading (came model_ends a.reading r m (made s) a.says).0 a.wrote))
     ]
 
 read_at : (r : Rules) (m n : ℕ) (ss : List (Session ModelEnd)) (a : Met) → reads_of (visit_at (visited model_ends r m Read) n ss a).calls ≡ to_be_read_of n (session_of_connection n ss)
@@ -107,16 +107,17 @@ read_at r m n (s ∷ ss) a =
       | inr p ↦ rw p (read_at r m n ss a)
     ]
 
-answered_none : (user : Option Mind) (plan : Plan) (l : Loop ModelEnd) (conn : ℕ) → reads_of (answered_by model_ends user plan l conn).calls ≡ []
+answered_none : (user : Option Mind) (memory : Bool) (plan : Plan) (l : Loop ModelEnd) (conn : ℕ) → reads_of (answered_by model_ends user memory plan l conn).calls ≡ []
 unfolding reads_of
-answered_none None plan l conn = refl
-answered_none (Some mind) plan l conn = refl
+answered_none None memory plan l conn = refl
+answered_none (Some mind) true plan l conn = refl
+answered_none (Some mind) false plan l conn = refl
 
 happened_reads : (plan : Plan) (l : Loop ModelEnd) (what : Happening) (a : Met) → reads_of (happened model_ends plan l what a).calls ≡ to_be_read what l.sessions
 unfolding happened accepted reads_of
 happened_reads plan l (happening.Accepted conn) a =
     elim (cases_Bool (nat_lt (length l.sessions) most_live)) [
-      | inl p ↦ rw p (answered_none (next_user l.users) plan l conn.0)
+      | inl p ↦ rw p (answered_none (next_user l.users) a.memory plan l conn.0)
       | inr p ↦ rw p refl
     ]
 happened_reads plan l (happening.Readable conn) a = read_at (rules_of plan) l.moment conn.0 l.sessions a

@@ -13,13 +13,13 @@ use Rattle.loop_model.specs.Journals.{JournalEntry}
 use Rattle.loop_model.specs.Outs.{Out, still, next, acts, exactly, first_answer_of}
 use Rattle.loop_model.specs.Sessions.{Rules, Session, Begins, nothing_said}
 use Rattle.loop_model.specs.Visits.{most_read, Met, nothing_met, Visit, Tick, Read, Write, Expire, visited}
-use Rattle.loop_model.specs.Loops.{Plan, rules_of, Loop, visit_at, numbers, swept, before, next_user, begun, answered_by, accepted, happened, Caller, calling, called_by, called, Halt, OnEnded, OnClosed, OnFailed, Course, asks, halt_by, halt_behind, Turn, readied, turned_unless, went_unless, went, nothing_comes, run, serves, Dialled, opens, dials_to, dials}
+use Rattle.loop_model.specs.Loops.{Plan, rules_of, Loop, visit_at, numbers, swept, before, next_user, answered_by, accepted, happened, Caller, calling, called_by, called, Halt, OnEnded, OnClosed, OnFailed, Course, asks, halt_by, halt_behind, Turn, readied, turned_unless, went_unless, went, nothing_comes, run, serves, Dialled, opens, dials_to, dials, begun_dial}
 use Rattle.loop_model.specs.Laws.{happenings_in_call, turns_of, GoesOn, AllGoOn}
 use Rattle.loop_model.specs.Records.{listen_or_dial_in, openings_of, BeginsOnly, FailsAtOnce, RecordsBegin, HaltsClosed, ClosedExactly, HaltsRest}
 use Rattle.loop_model.proofs.Steadies.{Steady, Calls, Left, Stays, Closed, left_served, left_visited, steady_handled}
 use Rattle.loop_model.proofs.Owns.{Bare, AllGiven, usual_calls}
 
-turns_of-append : (cs ds : List Call) → turns_of (cs ++ ds) ≡ turns_of cs ++ turns_of ds
+pub turns_of-append : (cs ds : List Call) → turns_of (cs ++ ds) ≡ turns_of cs ++ turns_of ds
 unfolding turns_of
 turns_of-append [] ds = refl
 turns_of-append (call ∷ cs) ds = ap (λ z. happenings_in_call call ++ z) (turns_of-append cs ds) ∙ sym (append_assoc (happenings_in_call call) (turns_of cs) (turns_of ds))
@@ -65,7 +65,7 @@ steady r = record {
 
 bare : Bare Calm
 unfolding Calm
-bare = record { wrote = λ s n whole. calm_one _ refl refl; put_off = λ s. calm_one _ refl refl; failed = λ s. calm_one _ refl refl; breaks = λ s gone. calm_none }
+bare = record { wrote = λ s n whole. calm_one _ refl refl; put_off = λ s. calm_one _ refl refl; failed = λ s. calm_one _ refl refl; breaks = λ s gone. calm_none; noted = λ s. calm_none }
 
 all_given : AllGiven (λ g. Unit {0})
 all_given = record { usual = record { sends = λ text. tt; leaves = λ sub. tt; takes = tt }; hears = λ octets. tt; ticks = tt; ends = tt; faults = tt }
@@ -110,15 +110,16 @@ readied_calm plan c a =
     calm_two t.calls u.calls (swept_calm r m Tick (numbers d.loop.sessions) d.loop.sessions a.sweeps.ticks)
     (swept_calm r m Expire (numbers t.state) t.state a.sweeps.closings)
 
-answered_calm : (user : Option Mind) (plan : Plan) (l : Loop ModelEnd) (conn : ℕ) → AreCalm (answered_by model_ends user plan l conn).calls
-answered_calm None plan l conn = calm_one (Closes conn) refl refl
-answered_calm (Some mind) plan l conn = calm_none
+answered_calm : (user : Option Mind) (memory : Bool) (plan : Plan) (l : Loop ModelEnd) (conn : ℕ) → AreCalm (answered_by model_ends user memory plan l conn).calls
+answered_calm None memory plan l conn = calm_one (Closes conn) refl refl
+answered_calm (Some mind) true plan l conn = calm_none
+answered_calm (Some mind) false plan l conn = calm_one (Closes conn) refl refl
 
 happened_calm : (plan : Plan) (l : Loop ModelEnd) (what : Happening) (a : Met) → AreCalm (happened model_ends plan l what a).calls
 unfolding happened accepted
 happened_calm plan l (happening.Accepted conn) a =
     elim (cases_Bool (nat_lt (length l.sessions) most_live)) [
-      | inl p ↦ rw p (answered_calm (next_user l.users) plan l conn.0)
+      | inl p ↦ rw p (answered_calm (next_user l.users) a.memory plan l conn.0)
       | inr p ↦ rw p (calm_one (Closes conn.0) refl refl)
     ]
 happened_calm plan l (happening.Readable conn) a = visit_calm (rules_of plan) l.moment Read conn.0 l.sessions a
@@ -132,7 +133,7 @@ unfolding Calm
 called_calm None plan caller l conn a = calm_one (Closes conn) refl refl
 called_calm (Some mind) plan caller l conn a =
     let r = rules_of plan in
-    let s = begun conn (calling model_ends plan caller l) mind in
+    let s = begun_dial conn (calling model_ends plan caller l) mind in
     let g = Begins caller.engine plan.rbc (next_u64 l.words).0 in
     left_calm s _ _ _ (left_served r Calm (calls r).quiet l.moment s g a (steady_handled r (λ g. Unit {0}) Calm (steady r) all_given.usual l.moment s g (first_answer_of nothing_said a.says) tt))
 

@@ -27,7 +27,7 @@ use Rattle.loop_model.specs.Journals.{JournalEntry, trace_header, text, trace_li
 use Rattle.loop_model.specs.Outs.{first_answer_of}
 use Rattle.loop_model.specs.Sessions.{Rules, Session, GivenToSession, Begins, Hears, Sends, Takes, Leaves, Ticks, Ends, Faults, Stalls, journal_event_of_given, is_released, entry_of, end_after, outcomes_of_given_event, most_output, octets_in, breaks, joined, fed, Says, nothing_said, handled}
 use Rattle.loop_model.specs.Visits.{most_read, Met, Visit, visited, rests, served}
-use Rattle.loop_model.specs.Loops.{Plan, rules_of, Loop, with_sessions, visit_at, next_user, begun, answering, Caller, calling, called_by, called, Course, asks, Turn, run, Dialled, opens, dials_to, dials}
+use Rattle.loop_model.specs.Loops.{Plan, rules_of, Loop, with_sessions, visit_at, next_user, answering, Caller, calling, called_by, called, Course, asks, Turn, run, Dialled, opens, dials_to, dials, begun_dial}
 use Rattle.loop_model.specs.Parts.{session_of_connection, of, opened_in, Rises, newest}
 use Rattle.loop_model.specs.Laws.{IsServing, IsDialling}
 use Rattle.loop_model.specs.Recordings.{AreEvents, ReplaysTo, RecordingsReplay}
@@ -36,6 +36,7 @@ use Rattle.loop_model.proofs.Steadies.{SteadyAt, Steady, Usual, steady_handled, 
 use Rattle.loop_model.proofs.Lives.{Own, Keeps, Fits, Knows, knows_none, moved, knows_moved, knows_turned, accepted_above, knows_opened, knows_away, same}
 use Rattle.loop_model.proofs.Dialling.{first_handled, knows_called}
 use Rattle.loop_model.proofs.Owns.{Bare, Both, calls_both, usual_calls, usual_calls_at}
+use Rattle.loop_model.proofs.Loopwise.{below_most}
 use Rattle.loop_model.proofs.Momentwise.{Momentwise, moment_run}
 use Rattle.loop_model.proofs.Printings as printings
 use Rattle.loop_model.proofs.Printings.{IsOfEnd, all_of_end}
@@ -88,7 +89,7 @@ plainly r m = record {
 
 plain_bare : (m : ℕ) → Bare (Plainly m)
 unfolding Plainly
-plain_bare m = record { wrote = λ s n whole. (refl, tt); put_off = λ s. (refl, tt); failed = λ s. (refl, tt); breaks = λ s gone. (refl, tt) }
+plain_bare m = record { wrote = λ s n whole. (refl, tt); put_off = λ s. (refl, tt); failed = λ s. (refl, tt); breaks = λ s gone. (refl, tt); noted = λ s. (refl, tt) }
 
 plain_reads : (m : ℕ) (s : Session ModelEnd) (waits : ℕ) (reading : Reading) → Plainly m s s [] (Reads s.number most_read waits reading ∷ [])
 unfolding Plainly
@@ -166,7 +167,7 @@ belonging r = record {
 
 belonging_bare : Bare Belonging
 unfolding Belonging named_in
-belonging_bare = record { wrote = λ s n whole. refl; put_off = λ s. refl; failed = λ s. refl; breaks = λ s gone. refl }
+belonging_bare = record { wrote = λ s n whole. refl; put_off = λ s. refl; failed = λ s. refl; breaks = λ s gone. refl; noted = λ s. refl }
 
 belonging_calls : (r : Rules) → Calls r Belonging
 unfolding Belonging named_in
@@ -208,18 +209,18 @@ module _ (plan : Plan) where
   -- a call, and events of its end
   pub record CallsSo (caller : Caller) (l : Loop ModelEnd) (conn : ℕ) (mind : Mind) (xs : List JournalEntry) : Type 0 where
     pub rest : List JournalEntry
-    pub is : xs ≡ entry_of model_ends (rules_of plan) l.moment (begun conn (calling model_ends plan caller l) mind) (begins caller l) ∷ rest
+    pub is : xs ≡ entry_of model_ends (rules_of plan) l.moment (begun_dial conn (calling model_ends plan caller l) mind) (begins caller l) ∷ rest
     pub plain : ArePlain l.moment conn rest
 
   pub record Handled (caller : Caller) (l : Loop ModelEnd) (conn : ℕ) (mind : Mind) (says : Says) : Type 0 where
-    pub calls : CallsSo caller l conn mind (handled model_ends (rules_of plan) l.moment (begun conn (calling model_ends plan caller l) mind) (begins caller l) says).1
-    pub number : (handled model_ends (rules_of plan) l.moment (begun conn (calling model_ends plan caller l) mind) (begins caller l) says).0.number ≡ conn
+    pub calls : CallsSo caller l conn mind (handled model_ends (rules_of plan) l.moment (begun_dial conn (calling model_ends plan caller l) mind) (begins caller l) says).1
+    pub number : (handled model_ends (rules_of plan) l.moment (begun_dial conn (calling model_ends plan caller l) mind) (begins caller l) says).0.number ≡ conn
 
   pub handled_so : (caller : Caller) (l : Loop ModelEnd) (conn : ℕ) (mind : Mind) (says : Says) → Handled caller l conn mind says
   unfolding Plainly fed
   handled_so caller l conn mind says =
       let m = l.moment in
-      let s = begun conn (calling model_ends plan caller l) mind in
+      let s = begun_dial conn (calling model_ends plan caller l) mind in
       let g = begins caller l in
       let f = follows_handled_at (rules_of plan) m IsOfEnd (Plainly m) (plainly (rules_of plan) m) all_of_end.usual s g says in
       let j = joined_so m (record s { end = end_after model_ends (rules_of plan) m s.end g; broken = s.broken || breaks g }) (octets_in (outcomes_of_given_event model_ends (rules_of plan) m s.end g)) in
@@ -232,11 +233,11 @@ module _ (plan : Plan) where
         number = f.holds.0 ∙ j.0;
       }
 
-  pub served_so : (caller : Caller) (l : Loop ModelEnd) (conn : ℕ) (mind : Mind) (a : Met) → CallsSo caller l conn mind (served model_ends (rules_of plan) l.moment (begun conn (calling model_ends plan caller l) mind) (begins caller l) a).entries
+  pub served_so : (caller : Caller) (l : Loop ModelEnd) (conn : ℕ) (mind : Mind) (a : Met) → CallsSo caller l conn mind (served model_ends (rules_of plan) l.moment (begun_dial conn (calling model_ends plan caller l) mind) (begins caller l) a).entries
   unfolding served Plainly
   served_so caller l conn mind a =
       let m = l.moment in
-      let s = begun conn (calling model_ends plan caller l) mind in
+      let s = begun_dial conn (calling model_ends plan caller l) mind in
       let g = begins caller l in
       let says = first_answer_of nothing_said a.says in
       let h = handled_so caller l conn mind says in
@@ -331,7 +332,7 @@ module _ (steps : StepsAlike) (made : MadeStands) (shows : ShowsAlike) (waits : 
         none = made_none plan l;
       };
       never = record { dead = refl; once = omega arith };
-      full = λ m conn. record { dead = refl; once = omega arith };
+      full = λ m conn live most. record { dead = refl; once = omega arith };
       unserved = λ m conn handed. record { dead = refl; once = omega arith };
     }
 
@@ -460,7 +461,11 @@ module _ (steps : StepsAlike) (made : MadeStands) (shows : ShowsAlike) (waits : 
               tt,
             );
           };
-      full = λ l until conn fits. goes_away l (event.Full most_live) until conn refl (λ m. keeps.full m conn.0);
+      full = λ l until conn fits. goes_away l (event.Full most_live) until conn refl (λ m. keeps.full m conn.0 most_live (omega arith));
+      wanted = λ l until conn mind fits is js bs rises known up.
+          let g =
+          goes_away l (event.Full (length l.sessions)) until conn refl (λ m. keeps.full m conn.0 (length l.sessions) (below_most (length l.sessions) fits)) js bs rises known up in
+          record { known = g.known; up_to = g.up_to; pass = g.pass };
       unserved = λ l until conn fits is. goes_away l (event.Unserved plan.handed) until conn refl (λ m. keeps.unserved m conn.0 plan.handed);
     }
 
@@ -484,12 +489,12 @@ module _ (steps : StepsAlike) (made : MadeStands) (shows : ShowsAlike) (waits : 
 
     first : (caller : Caller) (at : ℕ) → key_at plan.keys at caller.engine plan.rbc ≡ Some caller.kmac
         → (l : Loop ModelEnd) (conn : ℕ) (mind : Mind) (says : Says) → l.moment ≡ at
-        → Lives (handled model_ends r l.moment (begun conn (calling model_ends plan caller l) mind) (begins plan caller l) says).0
-        (handled model_ends r l.moment (begun conn (calling model_ends plan caller l) mind) (begins plan caller l) says).1
+        → Lives (handled model_ends r l.moment (begun_dial conn (calling model_ends plan caller l) mind) (begins plan caller l) says).0
+        (handled model_ends r l.moment (begun_dial conn (calling model_ends plan caller l) mind) (begins plan caller l) says).1
     unfolding Sounds
     first caller at key l conn mind says now =
         let m = l.moment in
-        let s = begun conn (calling model_ends plan caller l) mind in
+        let s = begun_dial conn (calling model_ends plan caller l) mind in
         let g = begins plan caller l in
         let h = handled_so plan caller l conn mind says in
         record {
@@ -515,7 +520,7 @@ module _ (steps : StepsAlike) (made : MadeStands) (shows : ShowsAlike) (waits : 
     unfolding is_named live_count named_in is_opened
     calls_pass caller l conn mind xs key c =
         let m = l.moment in
-        let x = entry_of model_ends r m (begun conn (calling model_ends plan caller l) mind) (begins plan caller l) in
+        let x = entry_of model_ends r m (begun_dial conn (calling model_ends plan caller l) mind) (begins plan caller l) in
         let up : UpTo m (x ∷ []) = (omega arith, tt) in
         subst (λ z. OpensSo m z) (sym c.is) (record {
           up_to = up_to-append m (x ∷ []) c.rest up (up_to_plain m conn c.rest c.plain);
@@ -533,7 +538,7 @@ module _ (steps : StepsAlike) (made : MadeStands) (shows : ShowsAlike) (waits : 
       pass = (record { moment = not_before l.moment [] tt; role = refl }, tt);
     }
     called_pass (Some mind) caller l conn a key =
-        calls_pass caller l conn mind (served model_ends r l.moment (begun conn (calling model_ends plan caller l) mind) (begins plan caller l) a).entries key (served_so plan caller l conn mind a)
+        calls_pass caller l conn mind (served model_ends r l.moment (begun_dial conn (calling model_ends plan caller l) mind) (begins plan caller l) a).entries key (served_so plan caller l conn mind a)
 
     called_moment : (user : Option Mind) (caller : Caller) (l : Loop ModelEnd) (conn : ℕ) (a : Met) → (called_by model_ends user plan caller l conn a).state.moment ≡ l.moment
     called_moment None caller l conn a = refl

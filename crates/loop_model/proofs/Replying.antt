@@ -1,6 +1,6 @@
 -- The users of all connections: each connection took the last user that was left, and its user speaks from that mind on.
 use Rattle.loop_model.specs.Ends.{ModelEnd, model_ends}
-use Rattle.std.proofs.Common.{if◌then◌else◌, ◌≡◌, ℕ, ◌<◌, inl, inr, Bool, true, false, List, [], ◌∷◌, ◌++◌, Option, Some, None, refl, sym, ◌∙◌, ap, subst, append-nil, append_assoc, eqb-true}
+use Rattle.std.proofs.Common.{if◌then◌else◌, ◌≡◌, ℕ, ◌<◌, inl, inr, Bool, true, false, List, [], ◌∷◌, ◌++◌, Option, Some, None, refl, sym, ◌∙◌, ap, subst, append-nil, append_assoc, eqb-true, length}
 use Rattle.std.specs.Prelude.{◌==◌}
 use Rattle.std.proofs.lemmas.Bool.{cases_Bool}
 use Rattle.loop_model.proofs.EndKeepings.{WaitsMove, OctetsBring, ReleaseStays, BreaksRelease, ReleasedWantNone, ReleasedTellNone}
@@ -16,7 +16,7 @@ use Rattle.loop_model.specs.Journals.{JournalEntry}
 use Rattle.loop_model.specs.Outs.{first_answer_of}
 use Rattle.loop_model.specs.Sessions.{Session, nothing_said, handled}
 use Rattle.loop_model.specs.Visits.{Met, Visit, visited, served}
-use Rattle.loop_model.specs.Loops.{Plan, rules_of, Loop, with_sessions, visit_at, next_user, other_users, begun, answering, Caller, calling, called_by, called, Course, asks, Turn, run, Dialled, opens, dials_to, dials}
+use Rattle.loop_model.specs.Loops.{Plan, rules_of, Loop, with_sessions, visit_at, next_user, other_users, begun, answering, Caller, calling, called_by, called, Course, asks, Turn, run, Dialled, opens, dials_to, dials, begun_dial}
 use Rattle.loop_model.specs.Parts.{session_of_connection, of, opened_in, Rises, newest}
 use Rattle.loop_model.specs.Laws.{IsServing, IsDialling}
 use Rattle.loop_model.specs.Points.{speech_of, user_of, AreDeclined, IsSpoken, UsersReply}
@@ -122,7 +122,7 @@ new_ready plan l conn mind = record { waits = refl; gone = λ e. absurd (no mind
     no : (mind : Mind) → Some mind ≡ None → ⊥
     no mind e = cc
 
-call_ready : (plan : Plan) (caller : Caller) (l : Loop ModelEnd) (conn : ℕ) (mind : Mind) → Ready (begun conn (calling model_ends plan caller l) mind)
+call_ready : (plan : Plan) (caller : Caller) (l : Loop ModelEnd) (conn : ℕ) (mind : Mind) → Ready (begun_dial conn (calling model_ends plan caller l) mind)
 call_ready plan caller l conn mind = record { waits = refl; gone = λ e. absurd (no mind e); there = λ k e. refl }
   where
     no : (mind : Mind) → Some mind ≡ None → ⊥
@@ -155,7 +155,7 @@ module _ (waits : WaitsMove) (bring : OctetsBring) (stays : ReleaseStays) (break
       close = λ s t xs ys cs ds over h q. tt;
       open_ = λ l conn mind. tt;
       never = tt;
-      full = λ m conn. tt;
+      full = λ m conn live most. tt;
       unserved = λ m conn handed. tt;
     }
 
@@ -288,6 +288,8 @@ module _ (waits : WaitsMove) (bring : OctetsBring) (stays : ReleaseStays) (break
                 ]);
           };
       full = λ l until conn fits. goes_away l (event.Full most_live) until conn refl;
+      wanted = λ l until conn mind fits is js bs rises h.
+          let g = goes_away l (event.Full (length l.sessions)) until conn refl js bs rises h in record { known = g.known; left = g.left; said = g.said };
       unserved = λ l until conn fits is. goes_away l (event.Unserved plan.handed) until conn refl;
     }
 
@@ -358,7 +360,7 @@ module _ (waits : WaitsMove) (bring : OctetsBring) (stays : ReleaseStays) (break
     none_if false = refl
 
     first_left_by : (caller : Caller) (l : Loop ModelEnd) (conn : ℕ) (mind : Mind) (ts : List (Session ModelEnd)) (xs : List JournalEntry) (cs : List Call) → CallsSo plan caller l conn mind xs
-        → next_user users ≡ Some mind → LeftBy Q (begun conn (calling model_ends plan caller l) mind) ts xs cs
+        → next_user users ≡ Some mind → LeftBy Q (begun_dial conn (calling model_ends plan caller l) mind) ts xs cs
         → (n : ℕ) → SaidBy (session_of_connection n ts) (user_of n xs users) (of n xs)
     unfolding Speaks SaidBy session_of_connection
     first_left_by caller l conn mind ts xs cs c is (Stays t p q) n =
@@ -387,7 +389,7 @@ module _ (waits : WaitsMove) (bring : OctetsBring) (stays : ReleaseStays) (break
     called_said (Some mind) caller l conn a none e is =
         let r = rules_of plan in
         let m = l.moment in
-        let s = begun conn (calling model_ends plan caller l) mind in
+        let s = begun_dial conn (calling model_ends plan caller l) mind in
         let g = begins plan caller l in
         let says = first_answer_of nothing_said a.says in
         let o = served model_ends r m s g a in

@@ -115,6 +115,7 @@ module _ (waits : WaitsMove) (bring : OctetsBring) (r : Rules) where
     then_ = λ s t u xs ys cs ds p q e. q (p e);
     wrote = λ s n whole e. e;
     put_off = λ s e. e;
+    noted = λ s e. e;
     failed = λ m s says live e. handled_none m s Faults says;
     failed_released = λ s gone e. e;
     ticked = λ m s says due e. handled_none m s Ticks says;
@@ -171,6 +172,7 @@ module _ (stays : ReleaseStays) (breaks_release : BreaksRelease) (r : Rules) whe
   sounds_bare = record {
     wrote = λ s n whole h. record { broken = h.broken; closing = h.closing };
     put_off = λ s h. h;
+    noted = λ s h. record { broken = h.broken; closing = h.closing };
     failed = λ s h. h;
     breaks = λ s gone h. record { broken = λ p. gone; closing = h.closing };
   }

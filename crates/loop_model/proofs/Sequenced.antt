@@ -1,5 +1,4 @@
 -- In which order a loop prints and calls.
-use Rattle.trace_model.specs.Checks.{most_live}
 use Rattle.loop_model.specs.Ends.{ModelEnd, model_ends}
 use Rattle.std.proofs.Common.{◌≡◌, ℕ, ◌<◌, ◌≤◌, inl, inr, Bool, true, false, if◌then◌else◌, List, [], ◌∷◌, ◌++◌, Option, Some, None, refl, sym, ◌∙◌, ap, subst, subst₂, append-nil, append_assoc, arith, eqb-true, ne_eqb, true≢false}
 use Rattle.std.specs.Prelude.{◌==◌, nat_le}
@@ -20,7 +19,7 @@ use Rattle.loop_model.specs.Signs.{entries_parts, calls_parts}
 use Rattle.loop_model.specs.Orderly.{order_visited, order_visit_at, order_served, order_run, order_dials, order_opens}
 use Rattle.loop_model.specs.Sessions.{Rules, Session, Begins, fed, nothing_said}
 use Rattle.loop_model.specs.Visits.{Met, Visit, visited, served}
-use Rattle.loop_model.specs.Loops.{Plan, rules_of, Loop, answering, visit_at, next_user, begun, Caller, calling, called_by, Course, asks, Turn, run, Dialled, opens, called, dials_to, dials}
+use Rattle.loop_model.specs.Loops.{Plan, rules_of, Loop, answering, visit_at, next_user, begun, Caller, calling, called_by, Course, asks, Turn, run, Dialled, opens, called, dials_to, dials, begun_dial}
 use Rattle.loop_model.specs.Parts.{session_of_connection, of, calls_at, is_at, opened_in, opened_by, Rises, newest}
 use Rattle.loop_model.specs.Laws.{octets_of_entries, IsBeginning}
 use Rattle.loop_model.specs.Orderings.{IsSilentOnConnection, IsSequenced, OrderIsKept, OpeningIsKept}
@@ -422,7 +421,7 @@ wise plan = record {
   visit = λ m visit k ss a. runs_visit plan m visit k ss a;
   turned = runs_turned plan;
   opened = runs_opened plan;
-  full = λ ss m until conn. runs_away plan ss m (event.Full most_live) until conn ((keeps plan).full m conn.0);
+  full = λ ss m live until conn most. runs_away plan ss m (event.Full live) until conn ((keeps plan).full m conn.0 live most);
   unserved = λ ss m handed until conn. runs_away plan ss m (event.Unserved handed) until conn ((keeps plan).unserved m conn.0 handed);
 }
 
@@ -459,7 +458,7 @@ module _ (plan : Plan) (caller : Caller) where
   )
   opening_so (Some mind) l conn a n =
       let r = rules_of plan in
-      let s = begun conn (calling model_ends plan caller l) mind in
+      let s = begun_dial conn (calling model_ends plan caller l) mind in
       let g = Begins caller.engine plan.rbc (next_u64 l.words).0 in
       let o = served model_ends r l.moment s g a in
       let has = order_served model_ends r l.moment s g a in
@@ -486,8 +485,8 @@ module _ (plan : Plan) (caller : Caller) where
       let so = opens_so c conn a n in ((record { rest = []; is = refl }, so.0), (λ z. absurd (let y : Dials address (Some conn) ≡ Closes n = z in cc y), so.1))
 
   first_known : (at : ℕ) (l : Loop ModelEnd) (conn : ℕ) (mind : Mind) → l.moment ≡ at
-      → K (fed model_ends (rules_of plan) l.moment (begun conn (calling model_ends plan caller l) mind) (Begins caller.engine plan.rbc (next_u64 l.words).0)).0
-      (fed model_ends (rules_of plan) l.moment (begun conn (calling model_ends plan caller l) mind) (Begins caller.engine plan.rbc (next_u64 l.words).0)).1 []
+      → K (fed model_ends (rules_of plan) l.moment (begun_dial conn (calling model_ends plan caller l) mind) (Begins caller.engine plan.rbc (next_u64 l.words).0)).0
+      (fed model_ends (rules_of plan) l.moment (begun_dial conn (calling model_ends plan caller l) mind) (Begins caller.engine plan.rbc (next_u64 l.words).0)).1 []
   unfolding K
   first_known at l conn mind now = (givings.first plan caller l conn mind, tt)
 

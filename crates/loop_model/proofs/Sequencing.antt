@@ -1,6 +1,6 @@
 -- In which order a visit prints and calls: what it gives was told before, and a close comes last.
 use Rattle.loop_model.specs.Ends.{ModelEnd, model_ends}
-use Rattle.std.proofs.Common.{◌≡◌, ℕ, inl, inr, Bool, true, false, ◌&&◌, ◌||◌, if◌then◌else◌, List, [], ◌∷◌, ◌++◌, length, take, drop, refl, sym, ◌∙◌, ap, subst, subst₂, append-nil, append_assoc, true≢false, take-append-drop, eq-eqb}
+use Rattle.std.proofs.Common.{◌≡◌, ℕ, inl, inr, Bool, true, false, ◌||◌, if◌then◌else◌, List, [], ◌∷◌, ◌++◌, length, take, drop, refl, sym, ◌∙◌, ap, subst, subst₂, append-nil, append_assoc, true≢false, take-append-drop, eq-eqb}
 use Rattle.std.specs.Prelude.{◌==◌}
 use Rattle.std.proofs.lemmas.Bool.{cases_Bool}
 use Rattle.link_trait.specs.Wires.{Call, Reading, Gave, NotNow, End, Failed, Reads, Writes, Closes, given_by, given_of}
@@ -10,7 +10,7 @@ use Rattle.loop_model.specs.Journals.{JournalEntry}
 use Rattle.loop_model.specs.Deeds.{LoopDeed, Printing, Calling, entries_in, calls_in, printings}
 use Rattle.loop_model.specs.Outs.{next, acts, exactly, first_answer_of}
 use Rattle.loop_model.specs.Signs.{entries_parts, calls_parts, printings_entries, printings_calls}
-use Rattle.loop_model.specs.Sessions.{Rules, Session, is_released, GivenToSession, Ticks, Ends, Faults, Says, nothing_said, handled}
+use Rattle.loop_model.specs.Sessions.{Rules, Session, is_released, GivenToSession, Ticks, Ends, Faults, Says, nothing_said, handled, owes_nothing, made}
 use Rattle.loop_model.specs.Visits.{most_read, WritingState, Going, PutOff, Failing, after_write, writes_once, writes, Wrote, closed, stays, Visit, Tick, Read, Write, Expire, Met, is_due, fault_unless, flowed, written_unless, session_behind_writing, session_kept_or_closed, rests, came, read_once, rests_behind, served, visited}
 use Rattle.loop_model.specs.Parts.{of}
 use Rattle.loop_model.specs.Laws.{octets_of_entries, IsBeginning, is_close}
@@ -159,6 +159,15 @@ works_none n s = record {
   closes = tt;
   goes = λ g u h. begins_held n s g u h;
   holds = λ g u h. holding_as n s g (g ++ []) u (u ++ []) (sym (append-nil g)) (sym (append-nil u)) h;
+}
+
+-- the connection is noted as made
+works_noted : (n : ℕ) (s : Session ModelEnd) → Works n s (made s) []
+unfolding NoClosing given_of calls_in octets_of_entries of entries_in
+works_noted n s = record {
+  closes = tt;
+  goes = λ g u h. begins_held n s g u h;
+  holds = λ g u h. holding_as n (made s) g (g ++ []) u (u ++ []) (sym (append-nil g)) (sym (append-nil u)) (record { number = h.number; rest = h.rest; is = h.is; whole = h.whole });
 }
 
 works_then : (n : ℕ) (s t v : Session ModelEnd) (ds es : List LoopDeed) → Works n s t ds → Works n t v es → Works n s v (ds ++ es)
@@ -318,7 +327,7 @@ module _ (r : Rules) (m : ℕ) where
 
   so_settled : (n : ℕ) (s : Session ModelEnd) → Goes_so n s (session_kept_or_closed model_ends s).order
   unfolding session_kept_or_closed
-  so_settled n s = so_if n s (s.broken || (is_released model_ends s && (length s.output == 0)))
+  so_settled n s = so_if n s (s.broken || owes_nothing model_ends s)
 
   so_rests : (n : ℕ) (s : Session ModelEnd) (a : Wrote) → s.number ≡ n → Goes_so n s (rests model_ends r m s a).order
   unfolding rests
@@ -358,6 +367,6 @@ module _ (r : Rules) (m : ℕ) where
   unfolding visited
   so_visited n Tick s a num =
       elim (cases_Bool (is_due m (model_ends.deadline s.end))) [ inl p ↦ rw p (so_served n s Ticks a num) | inr p ↦ rw p (so_stays n s) ]
-  so_visited n Read s a num = elim (cases_Bool (is_released model_ends s)) [ inl p ↦ rw p (so_stays n s) | inr p ↦ rw p (so_read n s a num) ]
-  so_visited n Write s a num = so_rests n s a.wrote num
+  so_visited n Read s a num = elim (cases_Bool (is_released model_ends s)) [ inl p ↦ rw p (so_stays n s) | inr p ↦ rw p (so_then n s (made s) [] _ (works_noted n s) (so_read n (made s) a num)) ]
+  so_visited n Write s a num = so_then n s (made s) [] _ (works_noted n s) (so_rests n (made s) a.wrote num)
   so_visited n Expire s a num = so_if n s (is_due m s.closing)

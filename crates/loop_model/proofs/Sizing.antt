@@ -10,7 +10,7 @@ use Rattle.loop_model.specs.Journals.{JournalEntry}
 use Rattle.loop_model.specs.Outs.{first_answer_of}
 use Rattle.loop_model.specs.Sessions.{Rules, Session, Begins, nothing_said}
 use Rattle.loop_model.specs.Visits.{most_read, Met, Visit, visited}
-use Rattle.loop_model.specs.Loops.{Plan, rules_of, Loop, visit_at, next_user, begun, Caller, calling, called_by, called, Course, asks, Turn, run, Dialled, opens, dials_to, dials}
+use Rattle.loop_model.specs.Loops.{Plan, rules_of, Loop, visit_at, next_user, Caller, calling, called_by, called, Course, asks, Turn, run, Dialled, opens, dials_to, dials, begun_dial}
 use Rattle.loop_model.specs.Sizes.{AreSized, ReadsAreSized}
 use Rattle.loop_model.proofs.Steadies.{Steady, Calls, Left, Stays, Closed, left_served, left_visited, steady_handled}
 use Rattle.loop_model.proofs.Owns.{Bare, usual_calls}
@@ -37,7 +37,7 @@ steady r = record {
 
 bare : Bare Sized
 unfolding Sized
-bare = record { wrote = λ s n whole. (tt, tt); put_off = λ s. (tt, tt); failed = λ s. (tt, tt); breaks = λ s gone. tt }
+bare = record { wrote = λ s n whole. (tt, tt); put_off = λ s. (tt, tt); failed = λ s. (tt, tt); breaks = λ s gone. tt; noted = λ s. tt }
 
 read_sized : (s : Session ModelEnd) (waits : ℕ) (reading : Reading) → Sized s s [] (Reads s.number most_read waits reading ∷ [])
 unfolding Sized
@@ -71,7 +71,7 @@ goes plan = record {
   visit = λ m visit n ss a. visit_sized (rules_of plan) m visit n ss a;
   turned = λ ss until happening none. (tt, tt);
   opened = λ l until conn mind fits. (tt, tt);
-  full = λ ss m until conn fits. (tt, (tt, tt));
+  full = λ ss m live until conn most. (tt, (tt, tt));
   unserved = λ ss m handed until conn. (tt, (tt, tt));
 }
 
@@ -84,7 +84,7 @@ unfolding Sized
 called_sized None plan caller l conn a = (tt, tt)
 called_sized (Some mind) plan caller l conn a =
     let r = rules_of plan in
-    let s = begun conn (calling model_ends plan caller l) mind in
+    let s = begun_dial conn (calling model_ends plan caller l) mind in
     let g = Begins caller.engine plan.rbc (next_u64 l.words).0 in
     left_sized s _ _ _ (left_served r Sized (each r).quiet l.moment s g a (steady_handled r (λ g. Unit {0}) Sized (steady r) all_given.usual l.moment s g (first_answer_of nothing_said a.says) tt))
 

@@ -11,7 +11,7 @@ use Rattle.safety_automaton.specs.Keys.{key_at}
 use Rattle.link_trait.specs.Wires.{Call, Reading, Gave, NotNow, End, Failed}
 use Rattle.loop_model.specs.Journals.{JournalEntry}
 use Rattle.loop_model.specs.Outs.{part_for_each_answer, exactly, first_answer_of}
-use Rattle.loop_model.specs.Sessions.{Rules, Session, GivenToSession, Begins, Hears, Takes, Ticks, Ends, Faults, Stalls, event_of, is_released, end_after, outcomes_of_given_event, most_output, octets_in, joined, fed, replied, heard_by_user, user_after_hearing, silent_answer, dealt, count_waiting_in_session, takes_all, parts, parted, Says, nothing_said, handled, poured, pours}
+use Rattle.loop_model.specs.Sessions.{Rules, Session, made, GivenToSession, Begins, Hears, Takes, Ticks, Ends, Faults, Stalls, event_of, is_released, end_after, outcomes_of_given_event, most_output, octets_in, joined, fed, replied, heard_by_user, user_after_hearing, silent_answer, dealt, count_waiting_in_session, takes_all, parts, parted, Says, nothing_said, handled, poured, pours}
 use Rattle.loop_model.specs.Visits.{is_due, came}
 use Rattle.loop_model.specs.Points.{speech_of, IsUserAnswer, LeadsToSpeech}
 use Rattle.loop_model.specs.Told.{IsLoops as IsOwn, HasTold}
@@ -234,6 +234,7 @@ module _ (waits : WaitsMove) (bring : OctetsBring) (stays : ReleaseStays) (break
       then_ = λ s t u xs ys cs ds p q ready. let a = p ready in speaks_then s t u xs ys a (q a.ready);
       wrote = λ s n whole ready. silent_to s (record s { output = drop n s.output }) (record { waits = ready.waits; gone = ready.gone; there = ready.there }) refl refl refl;
       put_off = λ s ready. silent_to s s ready refl refl refl;
+      noted = λ s ready. silent_to s (made s) (record { waits = ready.waits; gone = ready.gone; there = ready.there }) refl refl refl;
       failed = λ m s says live. live_speaks m s Faults says tt live;
       failed_released = λ s over ready. silent_to s (record s { broken = true }) (record { waits = ready.waits; gone = ready.gone; there = ready.there }) refl refl refl;
       ticked = λ m s says due. live_speaks m s Ticks says tt (due_live m s due);

@@ -13,7 +13,7 @@ use Rattle.link_trait.specs.declared.wires.WriteAnswer.{WriteAnswer}
 use Rattle.link_trait.specs.declared.wires.WriteAnswer.TheVariants as write
 use Rattle.loop_model.specs.Journals.{JournalEntry}
 use Rattle.loop_model.specs.Outs.{acts, exactly, first_answer_of}
-use Rattle.loop_model.specs.Sessions.{Rules, Session, GivenToSession, Begins, Hears, Sends, Takes, Leaves, Ticks, Ends, Faults, Stalls, is_released, most_output, outcomes_of_given_event, entry_of, end_after, octets_in, journal_event_of_given as written_as, joined, fed, Says, nothing_said, handled}
+use Rattle.loop_model.specs.Sessions.{Rules, Session, GivenToSession, Begins, Hears, Sends, Takes, Leaves, Ticks, Ends, Faults, Stalls, is_released, most_output, outcomes_of_given_event, entry_of, end_after, octets_in, journal_event_of_given as written_as, joined, fed, Says, nothing_said, handled, made}
 use Rattle.loop_model.specs.Visits.{WritingState, Going, PutOff, Failing, after_write, writes_if, writes_once, writes, Wrote, fault_unless, flowed, written_unless, session_behind_writing, rests, rests_behind, Visit, Tick, Read, Write, Expire, Met, is_due, came, read_once, served, visited}
 use Rattle.loop_model.specs.Loops.{Plan, rules_of, visit_at}
 use Rattle.loop_model.specs.Points.{is_stalled}
@@ -413,17 +413,20 @@ module _ (stays : ReleaseStays) (breaks_release : BreaksRelease) (r : Rules) whe
   quietly_told : (s : Session ModelEnd) (xs : List JournalEntry) → IsBounded s → Quietly xs → IsStalledSo s xs
   quietly_told s xs b q = record { first = q.first; rest = q.rest (length s.output) b }
 
+  from_made : (s : Session ModelEnd) {xs : List JournalEntry} → IsStalledSo (made s) xs → IsStalledSo s xs
+  from_made s p = record { first = p.first; rest = p.rest }
+
   visit_told : (m : ℕ) (visit : Visit) (s : Session ModelEnd) (a : Met) → IsBounded s → IsStalledSo s (visited model_ends r m visit s a).entries
   unfolding visited read_once
   visit_told m Tick s a b = elim (cases_Bool (is_due m (model_ends.deadline s.end))) [ inl p ↦ rw p (served_told m s Ticks a tt b) | inr p ↦ rw p (none_told s) ]
   visit_told m Read s a b =
-      let x = came_told m a.reading s a.says b in
-      let t = (came model_ends a.reading r m s a.says).0 in
+      let x = came_told m a.reading (made s) a.says b in
+      let t = (came model_ends a.reading r m (made s) a.says).0 in
       elim (cases_Bool (is_released model_ends s)) [
         | inl p ↦ rw p (none_told s)
-        | inr p ↦ rw p (then_quietly s t (came model_ends a.reading r m s a.says).1 (rests_behind model_ends a.reading r m t a.wrote).entries x (behind_quietly m a.reading t a.wrote x.bounded))
+        | inr p ↦ rw p (from_made s (then_quietly (made s) t (came model_ends a.reading r m (made s) a.says).1 (rests_behind model_ends a.reading r m t a.wrote).entries x (behind_quietly m a.reading t a.wrote x.bounded)))
       ]
-  visit_told m Write s a b = quietly_told s (rests model_ends r m s a.wrote).entries b (rests_quietly m s a.wrote b)
+  visit_told m Write s a b = quietly_told s (rests model_ends r m (made s) a.wrote).entries b (rests_quietly m (made s) a.wrote b)
   visit_told m Expire s a b = elim (cases_Bool (is_due m s.closing)) [ inl p ↦ rw p (none_told s) | inr p ↦ rw p (none_told s) ]
 
 -- ---- how much waits
@@ -449,7 +452,7 @@ less_few n xs p = subst (λ z. z ≤ most_output) (sym (length-drop n xs)) (omeg
 
 bounds_bare : Bare Bounds
 unfolding Bounds
-bounds_bare = record { wrote = λ s n whole b. less_few n s.output b; put_off = λ s b. b; failed = λ s b. b; breaks = λ s gone b. b }
+bounds_bare = record { wrote = λ s n whole b. less_few n s.output b; put_off = λ s b. b; failed = λ s b. b; breaks = λ s gone b. b; noted = λ s b. b }
 
 bounds_calls : (r : Rules) → Calls r Bounds
 unfolding Bounds
@@ -484,7 +487,7 @@ wise plan = record {
   visit = λ m visit n ss a p. visit_bounded (rules_of plan) m visit n ss a p;
   turned = λ ss until happening none p. p;
   opened = λ l until conn mind fits p. bounded_two l.sessions _ p ((omega arith), tt);
-  full = λ ss m until conn fits p. p;
+  full = λ ss m live until conn most p. p;
   unserved = λ ss m handed until conn p. p;
 }
 

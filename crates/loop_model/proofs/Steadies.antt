@@ -11,7 +11,7 @@ use Rattle.link_trait.specs.declared.wires.WriteAnswer.{WriteAnswer}
 use Rattle.link_trait.specs.declared.wires.WriteAnswer.TheVariants as write
 use Rattle.loop_model.specs.Journals.{JournalEntry}
 use Rattle.loop_model.specs.Outs.{Out, still, next, makes, part_for_each_answer, acts, exactly, first_answer_of}
-use Rattle.loop_model.specs.Sessions.{Rules, Session, GivenToSession, Hears, Sends, Takes, Leaves, Ticks, Faults, Stalls, most_output, is_released, end_after, outcomes_of_given_event, entry_of, octets_in, breaks, joined, fed, replied, refused_in, refusal_heard, notes, heard_by_user, leave_of, sends_of, user_after_hearing, silent_answer, dealt, count_waiting_in_session, takes_all, parts, parted, Says, nothing_said, handled, poured, pours}
+use Rattle.loop_model.specs.Sessions.{Rules, Session, GivenToSession, Hears, Sends, Takes, Leaves, Ticks, Faults, Stalls, most_output, is_released, end_after, outcomes_of_given_event, entry_of, octets_in, breaks, joined, fed, replied, refused_in, refusal_heard, notes, heard_by_user, leave_of, sends_of, user_after_hearing, silent_answer, dealt, count_waiting_in_session, takes_all, parts, parted, Says, nothing_said, handled, poured, pours, owes_nothing, made}
 use Rattle.loop_model.specs.Visits.{most_read, WritingState, Going, PutOff, Failing, after_write, writes_once, writes, Wrote, fault_unless, flowed, written_unless, session_behind_writing, session_kept_or_closed, rests, Visit, Tick, Read, Write, Expire, Met, is_due, came, read_once, rests_behind, served, visited}
 
 -- ---- parts that print, parts that act
@@ -224,6 +224,7 @@ pub record QuietAt (r : Rules) (m : ℕ) (Q : Session ModelEnd → Session Model
   pub then_ : (s t u : Session ModelEnd) (xs ys : List JournalEntry) (cs ds : List Call) → Q s t xs cs → Q t u ys ds → Q s u (xs ++ ys) (cs ++ ds)
   pub wrote : (s : Session ModelEnd) (n : ℕ) → s.broken ≡ false → Q s (record s { output = drop n s.output }) [] (Writes s.number s.output (write.Some n) ∷ [])
   pub put_off : (s : Session ModelEnd) → Q s s [] (Writes s.number s.output write.NotNow ∷ [])
+  pub noted : (s : Session ModelEnd) → Q s (made s) [] []
   pub failed : (s : Session ModelEnd) (says : Says) → is_released model_ends s ≡ false
       → Q s (handled model_ends r m s Faults says).0 (handled model_ends r m s Faults says).1 (Writes s.number s.output write.Failed ∷ [])
   pub failed_released : (s : Session ModelEnd) → is_released model_ends s ≡ true → Q s (record s { broken = true }) [] (Writes s.number s.output write.Failed ∷ [])
@@ -314,8 +315,8 @@ module _ (r : Rules) (m : ℕ) (Q : Session ModelEnd → Session ModelEnd → Li
       → Left Q s (session_kept_or_closed model_ends t).state (xs ++ (session_kept_or_closed model_ends t).entries) (cs ++ (session_kept_or_closed model_ends t).calls)
   unfolding session_kept_or_closed
   left_settled s t xs cs p =
-      elim (cases_Bool (t.broken || (is_released model_ends t && (length t.output == 0)))) [
-        | inl q ↦ rw (q, append-nil xs) (Closed t cs (over_settled t.broken (is_released model_ends t) (length t.output == 0) (is_some t.closing) q) refl refl p)
+      elim (cases_Bool (t.broken || owes_nothing model_ends t)) [
+        | inl q ↦ rw (q, append-nil xs) (Closed t cs (over_settled t.broken (is_released model_ends t) ((length t.output == 0) || t.unmade) (is_some t.closing) q) refl refl p)
         | inr q ↦ rw (q, append-nil xs, append-nil cs) (Stays t refl p)
       ]
 
@@ -354,7 +355,7 @@ module _ (r : Rules) (m : ℕ) (Q : Session ModelEnd → Session ModelEnd → Li
 
   pub left_write_at : (s : Session ModelEnd) (a : Met) → LeftBy s (visited model_ends r m Write s a)
   unfolding visited
-  left_write_at s a = left_rests_at s s a.wrote [] [] (c.none s)
+  left_write_at s a = left_rests_at s (made s) a.wrote [] [] (c.noted s)
 
   pub left_expire_at : (s : Session ModelEnd) (a : Met) → LeftBy s (visited model_ends r m Expire s a)
   unfolding visited
@@ -366,11 +367,12 @@ module _ (r : Rules) (m : ℕ) (Q : Session ModelEnd → Session ModelEnd → Li
   LeftOf s o = Left Q s o.state o.entries o.calls
 
   left_read_at : (s : Session ModelEnd) (a : Met) → is_released model_ends s ≡ false
-      → LeftOf s (next (read_once model_ends r m s a) (λ t. rests_behind model_ends a.reading r m t a.wrote))
+      → LeftOf s (next (read_once model_ends r m (made s) a) (λ t. rests_behind model_ends a.reading r m t a.wrote))
   unfolding read_once
   left_read_at s a live =
-      let b = came model_ends a.reading r m s a.says in
-      left_behind_at r m Q c.quiet a.reading s b.0 a.wrote b.1 (Reads s.number most_read a.waits a.reading ∷ []) (c.read s a live)
+      let b = came model_ends a.reading r m (made s) a.says in
+      let call = Reads s.number most_read a.waits a.reading ∷ [] in
+      left_behind_at r m Q c.quiet a.reading s b.0 a.wrote b.1 call (c.then_ s (made s) b.0 [] b.1 [] call (c.noted s) (c.read (made s) a live))
 
   pub left_visited_at : (visit : Visit) (s : Session ModelEnd) (a : Met) → LeftOf s (visited model_ends r m visit s a)
   unfolding visited
@@ -388,6 +390,7 @@ pub record Quiet (r : Rules) (Q : Session ModelEnd → Session ModelEnd → List
   pub then_ : (s t u : Session ModelEnd) (xs ys : List JournalEntry) (cs ds : List Call) → Q s t xs cs → Q t u ys ds → Q s u (xs ++ ys) (cs ++ ds)
   pub wrote : (s : Session ModelEnd) (n : ℕ) → s.broken ≡ false → Q s (record s { output = drop n s.output }) [] (Writes s.number s.output (write.Some n) ∷ [])
   pub put_off : (s : Session ModelEnd) → Q s s [] (Writes s.number s.output write.NotNow ∷ [])
+  pub noted : (s : Session ModelEnd) → Q s (made s) [] []
   pub failed : (m : ℕ) (s : Session ModelEnd) (says : Says) → is_released model_ends s ≡ false
       → Q s (handled model_ends r m s Faults says).0 (handled model_ends r m s Faults says).1 (Writes s.number s.output write.Failed ∷ [])
   pub failed_released : (s : Session ModelEnd) → is_released model_ends s ≡ true → Q s (record s { broken = true }) [] (Writes s.number s.output write.Failed ∷ [])
@@ -407,6 +410,7 @@ quiet_at r Q c m = record {
   then_ = c.then_;
   wrote = c.wrote;
   put_off = c.put_off;
+  noted = c.noted;
   failed = c.failed m;
   failed_released = c.failed_released;
   ticked = c.ticked m;

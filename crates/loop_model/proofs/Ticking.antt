@@ -1,7 +1,7 @@
 -- In each turn those are ticked whose deadline has come.
 use Rattle.trace_model.specs.Checks.{most_live}
 use Rattle.loop_model.specs.Ends.{ModelEnd, model_ends}
-use Rattle.std.proofs.Common.{if◌then◌else◌, ◌≡◌, ℕ, ◌+◌, ◌<◌, ◌≤◌, max, inl, inr, Bool, true, false, ◌&&◌, ◌||◌, List, [], ◌∷◌, ◌++◌, length, drop, Option, Some, None, refl, ◌∙◌, ap, subst, append-nil, append_assoc, arith, ne_eqb}
+use Rattle.std.proofs.Common.{if◌then◌else◌, ◌≡◌, ℕ, ◌+◌, ◌<◌, ◌≤◌, max, inl, inr, Bool, true, false, ◌||◌, List, [], ◌∷◌, ◌++◌, length, drop, Option, Some, None, refl, ◌∙◌, ap, subst, append-nil, append_assoc, arith, ne_eqb}
 use Rattle.std.specs.Prelude.{nat_lt, ◌==◌}
 use Rattle.std.proofs.lemmas.Bool.{cases_Bool}
 use Rattle.er_users.specs.Users.{Mind}
@@ -12,7 +12,7 @@ use Rattle.link_trait.specs.declared.wires.Happening.{Happening}
 use Rattle.link_trait.specs.declared.wires.Happening.TheVariants as happening
 use Rattle.loop_model.specs.Journals.{JournalEntry}
 use Rattle.loop_model.specs.Outs.{Out, changed, acts, exactly, first_answer_of}
-use Rattle.loop_model.specs.Sessions.{Rules, Session, GivenToSession, Begins, Hears, Sends, Takes, Leaves, Ticks, Ends, Faults, Stalls, is_released, most_output, journal_event_of_given as written_as, outcomes_of_given_event, octets_in, joined, fed, Says, nothing_said, handled}
+use Rattle.loop_model.specs.Sessions.{Rules, Session, GivenToSession, Begins, Hears, Sends, Takes, Leaves, Ticks, Ends, Faults, Stalls, is_released, most_output, journal_event_of_given as written_as, outcomes_of_given_event, octets_in, joined, fed, Says, nothing_said, handled, owes_nothing, made}
 use Rattle.loop_model.specs.Visits.{WritingState, Going, PutOff, Failing, writes_if, writes_once, writes, Wrote, fault_unless, flowed, written_unless, session_behind_writing, session_kept_or_closed, rests, rests_behind, Tick, Read, Write, Expire, Met, nothing_met, is_due, came, read_once, served, visited}
 use Rattle.loop_model.specs.Loops.{Plan, rules_of, Loop, visit_at, numbers, swept, Sweeps, before, next_user, answered_by, accepted, happened, Halt, Course, asks, Turn, readied, turned_unless, went_unless, went}
 use Rattle.loop_model.specs.Parts.{Rises}
@@ -123,7 +123,7 @@ module _ (r : Rules) (m : ℕ) where
 
   pub settled_none : (s : Session ModelEnd) → (session_kept_or_closed model_ends s).entries ≡ []
   unfolding session_kept_or_closed
-  settled_none s = elim (cases_Bool (s.broken || (is_released model_ends s && (length s.output == 0)))) [ inl p ↦ rw p refl | inr p ↦ rw p refl ]
+  settled_none s = elim (cases_Bool (s.broken || owes_nothing model_ends s)) [ inl p ↦ rw p refl | inr p ↦ rw p refl ]
 
   rests_none : (s : Session ModelEnd) (a : Wrote) → ticked (rests model_ends r m s a).entries ≡ []
   unfolding rests
@@ -163,15 +163,15 @@ module _ (r : Rules) (m : ℕ) where
   read_visit : (s : Session ModelEnd) (a : Met) → ticked (visited model_ends r m Read s a).entries ≡ []
   unfolding visited read_once ticked
   read_visit s a =
-      let b = came model_ends a.reading r m s a.says in
+      let b = came model_ends a.reading r m (made s) a.says in
       elim (cases_Bool (is_released model_ends s)) [
         | inl p ↦ rw p refl
-        | inr p ↦ rw p (none_two b.1 (rests_behind model_ends a.reading r m b.0 a.wrote).entries (came_none a.reading s a.says) (behind_none a.reading b.0 a.wrote))
+        | inr p ↦ rw p (none_two b.1 (rests_behind model_ends a.reading r m b.0 a.wrote).entries (came_none a.reading (made s) a.says) (behind_none a.reading b.0 a.wrote))
       ]
 
   write_visit : (s : Session ModelEnd) (a : Met) → ticked (visited model_ends r m Write s a).entries ≡ []
   unfolding visited
-  write_visit s a = rests_none s a.wrote
+  write_visit s a = rests_none (made s) a.wrote
 
   expire_visit : (s : Session ModelEnd) (a : Met) → ticked (visited model_ends r m Expire s a).entries ≡ []
   unfolding visited ticked
@@ -254,15 +254,16 @@ module _ (r : Rules) (m : ℕ) where
 
 -- ---- the turn
 
-answered_none : (user : Option Mind) (plan : Plan) (l : Loop ModelEnd) (conn : ℕ) → ticked (answered_by model_ends user plan l conn).entries ≡ []
+answered_none : (user : Option Mind) (memory : Bool) (plan : Plan) (l : Loop ModelEnd) (conn : ℕ) → ticked (answered_by model_ends user memory plan l conn).entries ≡ []
 unfolding ticked
-answered_none None plan l conn = refl
-answered_none (Some mind) plan l conn = refl
+answered_none None memory plan l conn = refl
+answered_none (Some mind) true plan l conn = refl
+answered_none (Some mind) false plan l conn = refl
 
 happened_none : (plan : Plan) (l : Loop ModelEnd) (what : Happening) (a : Met) → ticked (happened model_ends plan l what a).entries ≡ []
 unfolding happened accepted ticked
 happened_none plan l (happening.Accepted conn) a =
-    elim (cases_Bool (nat_lt (length l.sessions) most_live)) [ inl p ↦ rw p (answered_none (next_user l.users) plan l conn.0) | inr p ↦ rw p refl ]
+    elim (cases_Bool (nat_lt (length l.sessions) most_live)) [ inl p ↦ rw p (answered_none (next_user l.users) a.memory plan l conn.0) | inr p ↦ rw p refl ]
 happened_none plan l (happening.Readable conn) a = visit_none (visited model_ends (rules_of plan) l.moment Read) (read_visit (rules_of plan) l.moment) conn.0 l.sessions a
 happened_none plan l (happening.Writable conn) a = visit_none (visited model_ends (rules_of plan) l.moment Write) (write_visit (rules_of plan) l.moment) conn.0 l.sessions a
 happened_none plan l happening.Quiet a = refl

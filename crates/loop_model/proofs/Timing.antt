@@ -1,7 +1,7 @@
 -- Each event has the greatest of the moments that the clock answered so far.
 use Rattle.trace_model.specs.Checks.{most_live}
 use Rattle.loop_model.specs.Ends.{ModelEnd, model_ends}
-use Rattle.std.proofs.Common.{◌≡◌, ℕ, max, inl, inr, List, [], ◌∷◌, ◌++◌, length, drop, Option, Some, None, refl, sym, ◌∙◌, ap, subst, append_assoc}
+use Rattle.std.proofs.Common.{◌≡◌, ℕ, max, inl, inr, Bool, true, false, List, [], ◌∷◌, ◌++◌, length, drop, Option, Some, None, refl, sym, ◌∙◌, ap, subst, append_assoc}
 use Rattle.std.specs.Prelude.{nat_lt}
 use Rattle.std.proofs.lemmas.Bool.{cases_Bool}
 use Rattle.er_users.specs.Users.{Mind}
@@ -48,15 +48,16 @@ record Stands (l : Loop ModelEnd) (o : Out (Loop ModelEnd)) : Type 0 where
   events : AreAt l.moment o.entries
   moment : o.state.moment ≡ l.moment
 
-answered_stands : (user : Option Mind) (plan : Plan) (l : Loop ModelEnd) (conn : ℕ) → Stands l (answered_by model_ends user plan l conn)
-answered_stands None plan l conn = record { events = (refl, tt); moment = refl }
-answered_stands (Some mind) plan l conn = record { events = (refl, tt); moment = refl }
+answered_stands : (user : Option Mind) (memory : Bool) (plan : Plan) (l : Loop ModelEnd) (conn : ℕ) → Stands l (answered_by model_ends user memory plan l conn)
+answered_stands None memory plan l conn = record { events = (refl, tt); moment = refl }
+answered_stands (Some mind) true plan l conn = record { events = (refl, tt); moment = refl }
+answered_stands (Some mind) false plan l conn = record { events = (refl, tt); moment = refl }
 
 happened_stands : (plan : Plan) (l : Loop ModelEnd) (what : Happening) (a : Met) → Stands l (happened model_ends plan l what a)
 unfolding happened accepted
 happened_stands plan l (happening.Accepted conn) a =
     elim (cases_Bool (nat_lt (length l.sessions) most_live)) [
-      | inl p ↦ rw p (answered_stands (next_user l.users) plan l conn.0)
+      | inl p ↦ rw p (answered_stands (next_user l.users) a.memory plan l conn.0)
       | inr p ↦ rw p (record { events = (refl, tt); moment = refl })
     ]
 happened_stands plan l (happening.Readable conn) a = record { events = visit_at_moment (rules_of plan) l.moment Read conn.0 l.sessions a; moment = refl }

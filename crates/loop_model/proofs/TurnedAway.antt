@@ -1,6 +1,6 @@
 -- Of a connection that was turned away nothing else is told, and it is closed.
 use Rattle.loop_model.specs.Ends.{ModelEnd, model_ends}
-use Rattle.std.proofs.Common.{◌≡◌, ℕ, inl, inr, true, false, List, [], ◌∷◌, ◌++◌, Option, Some, None, refl, sym, ◌∙◌, subst, true≢false, eqb-true}
+use Rattle.std.proofs.Common.{◌≡◌, ℕ, ◌≤◌, inl, inr, true, false, List, [], ◌∷◌, ◌++◌, Option, Some, None, refl, sym, ◌∙◌, subst, true≢false, eqb-true}
 use Rattle.std.specs.Prelude.{◌==◌, ◌⊎◌}
 use Rattle.std.proofs.lemmas.Bool.{cases_Bool}
 use Rattle.er_trace.specs.declared.event.Event.TheVariants as event
@@ -56,7 +56,7 @@ steady r = record {
 
 bare : Bare Serves
 unfolding Serves
-bare = record { wrote = λ s n whole. tt; put_off = λ s. tt; failed = λ s. tt; breaks = λ s gone. tt }
+bare = record { wrote = λ s n whole. tt; put_off = λ s. tt; failed = λ s. tt; breaks = λ s gone. tt; noted = λ s. tt }
 
 reads : (s : Session ModelEnd) (waits : ℕ) (reading : Reading) → Serves s s [] (Reads s.number most_read waits reading ∷ [])
 unfolding Serves
@@ -72,7 +72,9 @@ q_left r = all_left_of r Q (calls_both r Own Serves (own_calls r) (usual_calls r
 record Turned (xs : List JournalEntry) (cs : List Call) : Type 0 where
   moment : ℕ
   conn : ℕ
-  entries : xs ≡ record { moment = moment; conn = conn; event = event.Full most_live; outcomes = [] } ∷ []
+  live : ℕ
+  most : live ≤ most_live
+  entries : xs ≡ record { moment = moment; conn = conn; event = event.Full live; outcomes = [] } ∷ []
   calls : cs ≡ Closes conn ∷ []
 
 abbrev Live : Session ModelEnd → List JournalEntry → List Call → Type 0
@@ -88,7 +90,7 @@ keeps plan = record {
   close = λ s t xs ys cs ds over h q. inl (none_full-append xs ys h q.1);
   open_ = λ l conn mind. (refl, tt);
   never = inl tt;
-  full = λ m conn. inr (record { moment = m; conn = conn; entries = refl; calls = refl });
+  full = λ m conn live most. inr (record { moment = m; conn = conn; live = live; most = most; entries = refl; calls = refl });
   unserved = λ m conn handed. inl (refl, tt);
 }
 
@@ -120,11 +122,13 @@ is_its_own n (x ∷ xs) ys y e =
 
 away_so : (n : ℕ) (o : Out (Course ModelEnd)) → Turned (of n o.entries) (calls_at n o.calls) → session_of_connection n o.state.loop.sessions ≡ None → IsOnlyTurnedAway n o
 away_so n o t none =
-    let x : JournalEntry = record { moment = t.moment; conn = t.conn; event = event.Full most_live; outcomes = [] } in
+    let x : JournalEntry = record { moment = t.moment; conn = t.conn; event = event.Full t.live; outcomes = [] } in
     let num : t.conn ≡ n = eqb-true t.conn n (is_its_own n o.entries [] x t.entries) in
     record {
       moment = t.moment;
-      entries = subst (λ z. of n o.entries ≡ record { moment = t.moment; conn = z; event = event.Full most_live; outcomes = [] } ∷ []) num t.entries;
+      live = t.live;
+      most = t.most;
+      entries = subst (λ z. of n o.entries ≡ record { moment = t.moment; conn = z; event = event.Full t.live; outcomes = [] } ∷ []) num t.entries;
       calls = subst (λ z. calls_at n o.calls ≡ Closes z ∷ []) num t.calls;
       session = none;
     }

@@ -1,6 +1,5 @@
 -- What holds of each event of a connection and the end before it, where it holds of the events that come while no message waits, of takes
 -- while one does, and of all replies.
-use Rattle.trace_model.specs.Checks.{most_live}
 use Rattle.loop_model.specs.Ends.{ModelEnd, model_ends}
 use Rattle.std.proofs.Common.{◌≡◌, ℕ, zero, suc, ◌+◌, ◌≤◌, max, inl, inr, true, ◌||◌, List, [], ◌∷◌, ◌++◌, length, length-drop, drop, Option, Some, None, refl, sym, ◌∙◌, ap, subst, append_assoc, arith}
 use Rattle.std.specs.Prelude.{nat_lt, ◌==◌}
@@ -20,7 +19,7 @@ use Rattle.loop_model.specs.Journals.{JournalEntry, trace_lines_of}
 use Rattle.loop_model.specs.Outs.{Out, part_for_each_answer, exactly, first_answer_of}
 use Rattle.loop_model.specs.Sessions.{Rules, Session, GivenToSession, Begins, Hears, Sends, Takes, Leaves, Ticks, Ends, Faults, Stalls, journal_event_of_given, most_output, end_after, outcomes_of_given_event, entry_of, octets_in, breaks, joined, fed, replied, heard_by_user, leave_of, sends_of, user_after_hearing, silent_answer, dealt, count_waiting_in_session, takes_all, Says, nothing_said, handled, poured, pours}
 use Rattle.loop_model.specs.Visits.{came}
-use Rattle.loop_model.specs.Loops.{Plan, rules_of, Loop, begun, Caller, calling, Course, Turn, run, Dialled, dials}
+use Rattle.loop_model.specs.Loops.{Plan, rules_of, Loop, Caller, calling, Course, Turn, run, Dialled, dials, begun_dial}
 use Rattle.loop_model.specs.Parts.{session_of_connection, of, calls_at}
 use Rattle.loop_model.specs.Laws.{IsServing, IsDialling}
 use Rattle.loop_model.specs.Walks.{EachAt}
@@ -303,6 +302,7 @@ module _ (P : Option Ended_at → Event → Type 0) (fitting : Fitting P) (plan 
       then_ = goes_then;
       wrote = λ s n whole. goes_same s (record s { output = drop n s.output }) _ refl;
       put_off = λ s. goes_same s s _ refl;
+      noted = λ s. goes_same s _ [] refl;
       failed = λ m s says live. goes_handled m s Faults says _ tt;
       failed_released = λ s gone. goes_same s (record s { broken = true }) _ refl;
       ticked = λ m s says due. goes_handled m s Ticks says [] tt;
@@ -345,7 +345,7 @@ module _ (P : Option Ended_at → Event → Type 0) (fitting : Fitting P) (plan 
     close = λ s t xs ys cs ds over h q. known_gone t (xs ++ ys) (cs ++ ds) _ (known_more s t xs ys cs ds h q);
     open_ = λ l conn mind. record { placed = record { each = (fitting.answer plan.rbc (next_u64 l.words).0, tt); is = refl }; none = refl };
     never = record { each = tt; none = refl };
-    full = λ m conn. record { each = (fitting.full most_live, tt); none = refl };
+    full = λ m conn live most. record { each = (fitting.full live, tt); none = refl };
     unserved = λ m conn handed. record { each = (fitting.unserved handed, tt); none = refl };
   }
 
@@ -356,7 +356,7 @@ module _ (P : Option Ended_at → Event → Type 0) (fitting : Fitting P) (plan 
 
   first_one : (caller : Caller) (l : Loop ModelEnd) (conn : ℕ) (mind : Mind) → key_at plan.keys l.moment caller.engine plan.rbc ≡ Some caller.kmac
       → Placed None (end_after model_ends r l.moment (calling model_ends plan caller l) (begins caller l))
-      (entry_of model_ends r l.moment (begun conn (calling model_ends plan caller l) mind) (begins caller l) ∷ [])
+      (entry_of model_ends r l.moment (begun_dial conn (calling model_ends plan caller l) mind) (begins caller l) ∷ [])
   unfolding behind end_after
   first_one caller l conn mind key =
       let word = (next_u64 l.words).0 in
@@ -366,13 +366,13 @@ module _ (P : Option Ended_at → Event → Type 0) (fitting : Fitting P) (plan 
       }
 
   first_fed : (caller : Caller) (l : Loop ModelEnd) (conn : ℕ) (mind : Mind) → key_at plan.keys l.moment caller.engine plan.rbc ≡ Some caller.kmac
-      → Placed None (fed model_ends r l.moment (begun conn (calling model_ends plan caller l) mind) (begins caller l)).0.end
-      (fed model_ends r l.moment (begun conn (calling model_ends plan caller l) mind) (begins caller l)).1
+      → Placed None (fed model_ends r l.moment (begun_dial conn (calling model_ends plan caller l) mind) (begins caller l)).0.end
+      (fed model_ends r l.moment (begun_dial conn (calling model_ends plan caller l) mind) (begins caller l)).1
   unfolding fed
   first_fed caller l conn mind key =
       let m = l.moment in
       let g = begins caller l in
-      let s = begun conn (calling model_ends plan caller l) mind in
+      let s = begun_dial conn (calling model_ends plan caller l) mind in
       let octets = octets_in (outcomes_of_given_event model_ends r m s.end g) in
       let t = fresh m s g in
       placed_then None t.end (joined model_ends r m t octets).0.end (entry_of model_ends r m s g ∷ []) (joined model_ends r m t octets).1
@@ -380,12 +380,12 @@ module _ (P : Option Ended_at → Event → Type 0) (fitting : Fitting P) (plan 
 
   first : (caller : Caller) (at : ℕ) → key_at plan.keys at caller.engine plan.rbc ≡ Some caller.kmac
       → (l : Loop ModelEnd) (conn : ℕ) (mind : Mind) (says : Says) → l.moment ≡ at
-      → Known (handled model_ends r l.moment (begun conn (calling model_ends plan caller l) mind) (begins caller l) says).0
-      (handled model_ends r l.moment (begun conn (calling model_ends plan caller l) mind) (begins caller l) says).1 []
+      → Known (handled model_ends r l.moment (begun_dial conn (calling model_ends plan caller l) mind) (begins caller l) says).0
+      (handled model_ends r l.moment (begun_dial conn (calling model_ends plan caller l) mind) (begins caller l) says).1 []
   first caller at key l conn mind says now =
       let m = l.moment in
       let g = begins caller l in
-      let s = begun conn (calling model_ends plan caller l) mind in
+      let s = begun_dial conn (calling model_ends plan caller l) mind in
       let a = fed model_ends r m s g in
       let h = handled model_ends r m s g says in
       let d = handled_rest m s g says in

@@ -1,7 +1,7 @@
 -- Output is written until nothing waits or there is no room; what waits is what was told and not given; and where a connection was closed
 -- in order, all was given.
 use Rattle.loop_model.specs.Ends.{ModelEnd, model_ends}
-use Rattle.std.proofs.Common.{◌≡◌, ℕ, zero, suc, ◌+◌, ◌-◌, ◌≤◌, ◌⊎◌, max, inl, inr, Bool, true, false, ◌&&◌, ◌||◌, List, [], ◌∷◌, ◌++◌, length, drop, Option, Some, None, refl, sym, ◌∙◌, ap, subst, append-nil, append_assoc, arith, true≢false, length-drop, eqb-true}
+use Rattle.std.proofs.Common.{◌≡◌, ℕ, zero, suc, ◌+◌, ◌-◌, ◌≤◌, ◌⊎◌, max, inl, inr, Bool, true, false, ◌||◌, List, [], ◌∷◌, ◌++◌, length, drop, Option, Some, None, refl, sym, ◌∙◌, ap, subst, append-nil, append_assoc, arith, true≢false, length-drop, eqb-true}
 use Rattle.std.specs.Prelude.{◌==◌, nat_lt, is_some}
 use Rattle.std.proofs.lemmas.Bool.{cases_Bool}
 use Rattle.link_trait.specs.Wires.{Call, Reading, Gave, NotNow, End, Failed, Reads, Writes, Closes}
@@ -9,9 +9,9 @@ use Rattle.link_trait.specs.declared.wires.WriteAnswer.{WriteAnswer}
 use Rattle.link_trait.specs.declared.wires.WriteAnswer.TheVariants as write
 use Rattle.loop_model.specs.Journals.{JournalEntry}
 use Rattle.loop_model.specs.Outs.{Out, still, next, makes, acts, exactly, first_answer_of}
-use Rattle.loop_model.specs.Sessions.{Rules, Session, GivenToSession, Begins, Hears, Sends, Takes, Leaves, Ticks, Ends, Faults, Stalls, is_released, most_output, outcomes_of_given_event, octets_in, breaks, journal_event_of_given as written_as, joined, fed, Says, nothing_said, handled}
+use Rattle.loop_model.specs.Sessions.{Rules, Session, GivenToSession, Begins, Hears, Sends, Takes, Leaves, Ticks, Ends, Faults, Stalls, is_released, most_output, outcomes_of_given_event, octets_in, breaks, journal_event_of_given as written_as, joined, fed, Says, nothing_said, handled, owes_nothing, made}
 use Rattle.loop_model.specs.Visits.{most_read, WritingState, Going, PutOff, Failing, after_write, writes_once, writes, Wrote, fault_unless, flowed, written_unless, session_behind_writing, session_kept_or_closed, rests, Visit, Tick, Read, Write, Expire, Met, is_due, came, read_once, rests_behind, served, visited}
-use Rattle.loop_model.specs.Loops.{Plan, rules_of, Loop, next_user, begun, answering, Caller, calling, called_by, called, Course, asks, Turn, run, Dialled, opens, dials_to, dials}
+use Rattle.loop_model.specs.Loops.{Plan, rules_of, Loop, next_user, begun, answering, Caller, calling, called_by, called, Course, asks, Turn, run, Dialled, opens, dials_to, dials, begun_dial}
 use Rattle.loop_model.specs.Parts.{session_of_connection, of, calls_at}
 use Rattle.loop_model.specs.Laws.{IsServing, IsDialling, octets_of_entries}
 use Rattle.loop_model.specs.Faulted.{has_failed}
@@ -273,6 +273,7 @@ off_calls r = record {
     then_ = off_then;
     wrote = λ s n whole. or_none s.broken;
     put_off = λ s. or_none s.broken;
+    noted = λ s. or_none s.broken;
     failed = λ m s says live. handled_broken r m s says ∙ or_top s.broken (has_broken (handled model_ends r m s Faults says).1);
     failed_released = λ s gone. or_top s.broken false;
     ticked = λ m s says due. steady_handled r (λ g. Unit {0}) Off (off_steady r) givings.all_given.usual m s Ticks says tt;
@@ -303,8 +304,8 @@ pub left_settled : (Q : Session ModelEnd → Session ModelEnd → List JournalEn
     → Left Q s (session_kept_or_closed model_ends t).state (xs ++ (session_kept_or_closed model_ends t).entries) (cs ++ (session_kept_or_closed model_ends t).calls)
 unfolding session_kept_or_closed
 left_settled Q s t xs cs p =
-    elim (cases_Bool (t.broken || (is_released model_ends t && (length t.output == 0)))) [
-      | inl q ↦ rw (q, append-nil xs) (Closed t cs (over_settled t.broken (is_released model_ends t) (length t.output == 0) (is_some t.closing) q) refl refl p)
+    elim (cases_Bool (t.broken || owes_nothing model_ends t)) [
+      | inl q ↦ rw (q, append-nil xs) (Closed t cs (over_settled t.broken (is_released model_ends t) ((length t.output == 0) || t.unmade) (is_some t.closing) q) refl refl p)
       | inr q ↦ rw (q, append-nil xs, append-nil cs) (Stays t refl p)
     ]
 
@@ -371,6 +372,17 @@ module _ (r : Rules) (m : ℕ) where
   left_behind Failed s waits says a each =
       left_rests s (came model_ends Failed r m s says).0 a (came model_ends Failed r m s says).1 (Reads s.number most_read waits Failed ∷ []) each (no_read s.number waits Failed) (emptied s _ _ _ each.0.1 refl)
 
+  noted_first : (s : Session ModelEnd) {t : Session ModelEnd} {xs : List JournalEntry} {cs : List Call} → Visits (made s) t xs cs → Visits s t xs cs
+  noted_first s {t} {xs} {cs} p = record {
+    each = (each_calls r).then_ s (made s) t [] xs [] cs ((each_calls r).noted s) p.each;
+    goes = record { left = p.goes.left; done = p.goes.done };
+  }
+
+  -- what is left of a session whose connection was noted as made
+  from_made : (s : Session ModelEnd) {ts : List (Session ModelEnd)} {xs : List JournalEntry} {cs : List Call} → Left Visits (made s) ts xs cs → Left Visits s ts xs cs
+  from_made s (Stays t e p) = Stays t e (noted_first s p)
+  from_made s (Closed t ds over e f p) = Closed t ds over e f (noted_first s p)
+
   left_at_rest : (s : Session ModelEnd) (a : Wrote) → Left Visits s (rests model_ends r m s a).state (rests model_ends r m s a).entries (rests model_ends r m s a).calls
   left_at_rest s a = left_rests s s a [] [] ((each_steady r).none s) no_call (λ p e. e)
 
@@ -381,9 +393,9 @@ module _ (r : Rules) (m : ℕ) where
   left_at Read s a =
       elim (cases_Bool (is_released model_ends s)) [
         | inl p ↦ rw p (Stays s refl (stands r s))
-        | inr p ↦ rw p (left_behind a.reading s a.waits a.says a.wrote ((each_calls r).read m s a p))
+        | inr p ↦ rw p (from_made s (left_behind a.reading (made s) a.waits a.says a.wrote ((each_calls r).read m (made s) a p)))
       ]
-  left_at Write s a = left_at_rest s a.wrote
+  left_at Write s a = from_made s (left_at_rest (made s) a.wrote)
   left_at Expire s a =
       elim (cases_Bool (is_due m s.closing)) [
         | inl p ↦ rw p (Closed s [] (over_due m s.closing (s.broken || is_released model_ends s) p) refl refl (stands r s))
@@ -485,7 +497,7 @@ keeps plan = record {
   close = λ s t xs ys cs ds over h v. over_of t (xs ++ ys) cs ds (more s t xs ys cs ds h v);
   open_ = λ l conn mind. new_so (begun conn (answering model_ends plan l) mind) _ refl refl refl refl;
   never = λ a b c. refl;
-  full = λ m conn a b c. refl;
+  full = λ m conn live most a b c. refl;
   unserved = λ m conn handed a b c. refl;
 }
 
@@ -493,7 +505,7 @@ some_same : (t s : Session ModelEnd) → Some t ≡ Some s → t ≡ s
 some_same t s e = cc
 
 -- the session of a number is one of those
-kept_of : (conn : ℕ) (ss : List (Session ModelEnd)) (s : Session ModelEnd) → AreKept ss → session_of_connection conn ss ≡ Some s → IsKeptSession s
+pub kept_of : (conn : ℕ) (ss : List (Session ModelEnd)) (s : Session ModelEnd) → AreKept ss → session_of_connection conn ss ≡ Some s → IsKeptSession s
 unfolding session_of_connection
 kept_of conn [] s p e = absurd (let q : ⊥ = cc in q)
 kept_of conn (t ∷ ss) s p e =
@@ -518,7 +530,7 @@ module _ (plan : Plan) where
   unfolding octets_of_entries has_broken
   dialling caller c address a h =
       knows_dial_served plan caller Visits (all_left (rules_of plan)) own Holds_so Over (keeps plan)
-      (λ l conn mind. new_so (begun conn (calling model_ends plan caller l) mind) [] refl refl refl refl) (λ m s g a. left_served (rules_of plan) m s g a)
+      (λ l conn mind. new_so (begun_dial conn (calling model_ends plan caller l) mind) [] refl refl refl refl) (λ m s g a. left_served (rules_of plan) m s g a)
       (max c.loop.moment a.first) c address a h.none refl h.rises
 
   -- one that is live
@@ -544,7 +556,7 @@ module _ (plan : Plan) where
       ∙ given_all (session_of_connection conn o.state.loop.sessions) conn (of conn o.entries) (calls_at conn o.calls) (k.fits conn) order.whole order.written order.left
 
   calm_of : (o : Out (Course ModelEnd)) (conn : ℕ) (s : Session ModelEnd) → AreKept o.state.loop.sessions → session_of_connection conn o.state.loop.sessions ≡ Some s → s.broken ≡ false
-  calm_of o conn s kept is = (neither s.broken (is_released model_ends s && (length s.output == 0)) (kept_of conn o.state.loop.sessions s kept is)).0
+  calm_of o conn s kept is = (neither s.broken (owes_nothing model_ends s) (kept_of conn o.state.loop.sessions s kept is)).0
 
   all_wait : (o : Out (Course ModelEnd)) → Known o → AreKept o.state.loop.sessions → AllWait plan o
   all_wait o k kept conn s is =
@@ -574,7 +586,7 @@ module _ (plan : Plan) where
   called_kept (Some mind) caller l conn a p =
       let r = rules_of plan in
       kept_rests r l.moment
-      (handled model_ends r l.moment (begun conn (calling model_ends plan caller l) mind) (Begins caller.engine plan.rbc (next_u64 l.words).0) (first_answer_of nothing_said a.says)).0 a.wrote
+      (handled model_ends r l.moment (begun_dial conn (calling model_ends plan caller l) mind) (Begins caller.engine plan.rbc (next_u64 l.words).0) (first_answer_of nothing_said a.says)).0 a.wrote
 
   dial_kept : (conn : Option ℕ) (caller : Caller) (c : Course ModelEnd) (address : List ℕ) (a : Dialled) → AreKept c.loop.sessions → AreKept (dials_to model_ends conn plan caller c address a).state.loop.sessions
   unfolding called

@@ -1,12 +1,12 @@
 -- Two runs of the loop (this profile): what a loop tells of a connection and does at it is what it tells and does where that connection comes alone, at
 -- the same moments, with the user and the random word that it found. So another connection changes nothing of it but the moments at which the loop turns
 -- to it, which user and which random word come next, and, where 256 others are live, that it is turned away.
-use Rattle.std.specs.Prelude.{ℕ, ◌≡◌, ◌==◌, ◌⊎◌, Bool, true, false, if◌then◌else◌, List, [], ◌∷◌, Option, Some, None}
+use Rattle.std.specs.Prelude.{ℕ, ◌≡◌, ◌≤◌, ◌==◌, ◌⊎◌, Bool, true, false, if◌then◌else◌, List, [], ◌∷◌, Option, Some, None}
 use Rattle.rand_core.specs.Stream.{Stream, next_u64}
 use Rattle.er_trace.specs.declared.event.Event.{Event}
 use Rattle.er_trace.specs.declared.event.Event.TheVariants.{Call, Answer, Octets, Send, Take, Release, Tick, Ended, Fault, Stalled, Full, Unserved}
 use Rattle.er_users.specs.Users.{Mind}
-use Rattle.trace_model.specs.Checks.{is_opening_role, role_of, most_live}
+use Rattle.trace_model.specs.Checks.{most_live}
 use Rattle.link_trait.specs.Wires.{Closes, given_of}
 use Rattle.link_trait.specs.declared.wires.Happening.{Happening}
 use Rattle.link_trait.specs.declared.wires.Happening.TheVariants as happening
@@ -19,6 +19,7 @@ use Rattle.loop_model.specs.Loops.{Plan, numbers, Caller, Course, asks, Turn, we
 use Rattle.loop_model.specs.Parts.{session_of_connection, of, is_at, calls_at}
 use Rattle.loop_model.specs.Laws.{IsServing, IsDialling}
 use Rattle.loop_model.specs.Points.{user_of}
+use Rattle.loop_model.specs.Turnings.{draws_word}
 use Rattle.loop_model.specs.Told.{hearing}
 
 -- ---- what of the outside is a connection's own
@@ -32,9 +33,9 @@ own_happening conn happening.Quiet = happening.Quiet
 own_happening conn happening.Ended = happening.Ended
 own_happening conn happening.Failed = happening.Failed
 
--- of what is met behind a turn: what is met where the connection is read from or written to
+-- of what is met behind a turn: what is met where the connection is accepted, read from or written to
 abbrev pub own_met : ℕ → Happening → Met → Met
-own_met conn (happening.Accepted other) met = nothing_met
+own_met conn (happening.Accepted other) met = if other.0 == conn then met else nothing_met
 own_met conn (happening.Readable other) met = if other.0 == conn then met else nothing_met
 own_met conn (happening.Writable other) met = if other.0 == conn then met else nothing_met
 own_met conn happening.Quiet met = nothing_met
@@ -67,11 +68,11 @@ abbrev pub own_users : Option Mind → List Mind
 own_users None = []
 own_users (Some mind) = mind ∷ []
 
--- of the random words: those from its own on. Each end that is opened before draws one
+-- of the random words: those from its own on. One is drawn for each end that is opened before, and for each that finds no memory
 unfoldable pub own_words : ℕ → List JournalEntry → Stream → Stream
 own_words conn [] words = words
 own_words conn (x ∷ xs) words =
-    if is_opening_role (role_of x.event) then if x.conn == conn then words else own_words conn xs (next_u64 words).1
+    if draws_word x.event then if x.conn == conn then words else own_words conn xs (next_u64 words).1
     else own_words conn xs words
 
 -- where a loop begins, and what comes of the outside
@@ -131,23 +132,26 @@ says_full Stalled = false
 says_full (Full count) = true
 says_full (Unserved count) = false
 
--- no event says that it was turned away since 256 connections were live
+-- no event says that it was turned away since 256 connections were live, or since there was no memory for its session
 abbrev pub IsNeverFull : ℕ → List JournalEntry → Type 0
 IsNeverFull conn [] = Unit {0}
 IsNeverFull conn (x ∷ xs) = ((x.conn == conn) ≡ true → says_full x.event ≡ false) × IsNeverFull conn xs
 
--- such an event is all that is told of a connection, and its close all that is done at it
+-- such an event is all that is told of a connection, and its close all that is done at it. It tells how many connections were live
 pub record IsOnlyTurnedAway (conn : ℕ) (o : Out (Course ModelEnd)) : Type 0 where
   pub moment : ℕ
-  pub entries : of conn o.entries ≡ record { moment = moment; conn = conn; event = Full most_live; outcomes = [] } ∷ []
+  pub live : ℕ
+  pub most : live ≤ most_live
+  pub entries : of conn o.entries ≡ record { moment = moment; conn = conn; event = Full live; outcomes = [] } ∷ []
   pub calls : calls_at conn o.calls ≡ Closes conn ∷ []
   pub session : session_of_connection conn o.state.loop.sessions ≡ None
 
 -- ---- the law
 
--- A loop that serves does of each connection what it does where that connection comes alone, but for those that it turned away since 256 were live. And two
--- loops do the same of it where what of the outside is its own is the same, whatever comes at others. A loop that gives one connection's octets to
--- another, that lets a tick at one move the moments of another, or that draws a random word for more than the opening of an end doesn't meet it.
+-- A loop that serves does of each connection what it does where that connection comes alone, but for those that it turned away since 256 were live or
+-- there was no memory for their sessions. And two loops do the same of it where what of the outside is its own is the same, whatever comes at others. A
+-- loop that gives one connection's octets to another, that lets a tick at one move the moments of another, that lets one that finds no memory take a user
+-- with it or end the others, or that draws a random word for more than an accepted connection that finds a user doesn't meet it.
 pub record ConnectionsStandAlone : Type 0 where
   pub each : (plan : Plan) (c : Course ModelEnd) (turns : List Turn) → IsServing plan c turns
       → (conn : ℕ) → IsNeverFull conn (run model_ends plan c turns).entries ⊎ IsOnlyTurnedAway conn (run model_ends plan c turns)

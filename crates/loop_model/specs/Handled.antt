@@ -40,7 +40,7 @@ pub record IsHandled (plan : Plan) (c : Course ModelEnd) (before : List Turn) (a
   -- in its turn the connection is visited, where it is live, or opened, where it was accepted; and no other is
   pub visited : FollowsSo plan (behind_turns plan c before).state a a.happening
   pub opened : openings (turn_behind plan c before a).entries
-      ≡ openings_due a.happening (event_of_accepted_connection plan (readied model_ends plan (behind_turns plan c before).state a).state.loop)
+      ≡ openings_due a.happening (event_of_accepted_connection plan (readied model_ends plan (behind_turns plan c before).state a).state.loop a.met.memory)
   -- what is done in its turn stands behind all that was done before, and before all that is done of those behind it
   pub between : o.order
       ≡ (behind_turns plan c before).order ++ ((turn_behind plan c before a).order ++ (behind_turns plan (turn_behind plan c before a).state rest).order)

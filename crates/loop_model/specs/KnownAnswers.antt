@@ -27,11 +27,12 @@ use Rattle.loop_model.specs.Sessions.{Sends, Leaves, replies, most_output, octet
 use Rattle.loop_model.specs.Sessions.{outcomes_of_given_event, joined, fed, dealt, takes_all, handled, poured, pours}
 use Rattle.loop_model.specs.Visits.{most_read, is_due, Met, nothing_met, writes_once, writes, session_behind_writing, session_kept_or_closed, rests, read_once}
 use Rattle.loop_model.specs.Visits.{served, visited}
-use Rattle.loop_model.specs.Loops.{Plan, next_user, other_users, begun, visit_at, swept, Course, Turn, beginning, before, until, accepted, happened, readied}
-use Rattle.loop_model.specs.Loops.{went, run}
+use Rattle.loop_model.specs.Loops.{Plan, Loop, next_user, other_users, begun, visit_at, swept, Course, Turn, beginning, before, until, accepted, happened}
+use Rattle.loop_model.specs.Loops.{readied, went, run}
 use Rattle.loop_model.specs.Parts.{session_of_connection, of, calls_at, opened_in}
 use Rattle.loop_model.specs.Points.{user_of}
 use Rattle.loop_model.specs.Alone.{own_happening, own_ticks, own_turns, own_users, own_words, deeds_on}
+use Rattle.loop_model.specs.Turnings.{random_words_of_entries}
 
 -- ---- the words
 
@@ -126,8 +127,8 @@ of_replies = refl
 abbrev opened : (conn word : ℕ) → JournalEntry
 opened conn word = record { moment = 0; conn = conn; event = event.Answer 9 word; outcomes = [] }
 
-abbrev declined : ℕ → JournalEntry
-declined conn = record { moment = 0; conn = conn; event = event.Full 256; outcomes = [] }
+abbrev declined : (conn live : ℕ) → JournalEntry
+declined conn live = record { moment = 0; conn = conn; event = event.Full live; outcomes = [] }
 
 pub of_own :
     (own_happening 2 (happening.Readable (record { 0 = 2 })) ≡ happening.Readable (record { 0 = 2 }))
@@ -135,10 +136,11 @@ pub of_own :
     × (own_happening 2 (happening.Accepted (record { 0 = 3 })) ≡ happening.Quiet)
     × (own_happening 2 happening.Ended ≡ happening.Ended)
     × (own_ticks 2 (nothing_met ∷ record nothing_met { waits = 5 } ∷ []) (1 ∷ 2 ∷ 3 ∷ []) ≡ record nothing_met { waits = 5 } ∷ [])
-    × (own_users (user_of 2 (opened 1 7 ∷ declined 3 ∷ opened 2 8 ∷ []) (listing 1 ∷ listing 2 ∷ listing 3 ∷ [])) ≡ listing 2 ∷ [])
-    × ((words : Stream) → own_words 2 (opened 1 7 ∷ declined 3 ∷ opened 2 8 ∷ opened 4 9 ∷ []) words ≡ (next_u64 words).1)
+    × (own_users (user_of 2 (opened 1 7 ∷ declined 3 1 ∷ opened 2 8 ∷ []) (listing 1 ∷ listing 2 ∷ listing 3 ∷ [])) ≡ listing 2 ∷ [])
+    × ((words : Stream) → own_words 2 (opened 1 7 ∷ declined 3 256 ∷ opened 2 8 ∷ opened 4 9 ∷ []) words ≡ (next_u64 words).1)
+    × ((words : Stream) → own_words 2 (opened 1 7 ∷ declined 3 1 ∷ opened 2 8 ∷ []) words ≡ (next_u64 (next_u64 words).1).1)
 unfolding own_ticks own_words user_of
-of_own = (refl, refl, refl, refl, refl, refl, λ words. refl)
+of_own = (refl, refl, refl, refl, refl, refl, λ words. refl, λ words. refl)
 
 -- its lines and the calls at it stand in their one order
 pub of_deeds :
@@ -203,6 +205,16 @@ unfolding run went readied happened accepted before until swept visit_at visited
     hand_waiting_tpdus eight frames_of between_flags all_but_last cut verdict_on verdict_on_content checked_part check_number unescaped ends_in_escape
     spelling escaped escaped_octet content_of control_of fcs_of fcs_bits dividend remainder divided_once add_front sent_bits low_bits low_number
 of_loop words = (refl, refl, refl)
+
+-- a connection that finds a user and no memory takes a random word and leaves the user
+pub of_want : (words : Stream)
+    → let l : Loop ModelEnd = (beginning (mind_of Echo [] ∷ []) words).loop in
+    ((accepted model_ends plan l 1 false).entries ≡ at 0 1 (event.Full 0) [] ∷ [])
+    × ((accepted model_ends plan l 1 false).calls ≡ Closes 1 ∷ [])
+    × ((accepted model_ends plan l 1 false).state ≡ record l { words = (next_u64 words).1 })
+    × (random_words_of_entries (declined 1 0 ∷ declined 2 256 ∷ opened 3 7 ∷ []) ≡ None ∷ Some 7 ∷ [])
+unfolding accepted random_words_of_entries
+of_want words = (refl, refl, refl, refl)
 
 -- what of it comes to a loop with the first connection alone, and with the second
 pub of_own_turns : (words : Stream)

@@ -29,7 +29,8 @@ pub record HasOrderlySessions (c : Course ModelEnd) : Type 0 where
 pub record IsLawfulTurn (plan : Plan) (c : Course ModelEnd) (a : Turn) : Type 0 where
   -- each connection that is accepted has one event that opens it, or says why it isn't opened, and no other has one
   pub openings : openings (went model_ends plan c a).entries
-      ≡ openings_unless (readied model_ends plan c a).state.halt a.happening (event_of_accepted_connection plan (readied model_ends plan c a).state.loop)
+      ≡ openings_unless (readied model_ends plan c a).state.halt a.happening
+      (event_of_accepted_connection plan (readied model_ends plan c a).state.loop a.met.memory)
   -- a connection is read from once exactly where it is readable, live and not released, and no other is
   pub reads : reads_of (went model_ends plan c a).calls
       ≡ to_be_read_unless (readied model_ends plan c a).state.halt a.happening (readied model_ends plan c a).state.loop.sessions

@@ -36,3 +36,4 @@ pub mod Handled
 pub mod Sizes
 pub mod Failures
 pub mod KnownAnswers
+pub mod Unmade

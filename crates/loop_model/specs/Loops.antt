@@ -87,9 +87,16 @@ other_users users = take (length users - 1) users
 
 -- a session that begins, with this user
 abbrev pub begun : {E : Type 0} → ℕ → E → Mind → Session E
-begun conn end mind = record { number = conn; end = end; mind = Some mind; told = None; output = []; broken = false; closing = None }
+begun conn end mind = record { number = conn; end = end; mind = Some mind; told = None; output = []; broken = false; closing = None; unmade = false }
 
--- the user and the random word that come next are no longer left
+-- that of a dial: the wires didn't tell of its connection yet
+abbrev pub begun_dial : {E : Type 0} → ℕ → E → Mind → Session E
+begun_dial conn end mind = record (begun conn end mind) { unmade = true }
+
+-- the random word that comes next is no longer left; and the user that does
+abbrev pub one_word_less : {E : Type 0} → Loop E → Loop E
+one_word_less l = record l { words = (next_u64 l.words).1 }
+
 abbrev pub one_less : {E : Type 0} → Loop E → Loop E
 one_less l = record l { users = other_users l.users; words = (next_u64 l.words).1 }
 
@@ -192,18 +199,24 @@ module _ {E : Type 0} (o : EndOps E) where
   abbrev pub answering : Plan → Loop E → E
   answering plan l = o.opens (AnswersWith plan.settings plan.rbc (next_u64 l.words).0 l.moment)
 
-  abbrev pub answered_by : Option Mind → Plan → Loop E → ℕ → Out (Loop E)
-  answered_by None plan l conn = turned_away l conn (event.Unserved plan.handed)
-  answered_by (Some mind) plan l conn =
+  -- where a random word was drawn: with memory for a session it begins, else the connection is turned away, and its user is left. The event tells how
+  -- many connections are live then
+  abbrev pub answered_where : Bool → Mind → Plan → Loop E → ℕ → Out (Loop E)
+  answered_where true mind plan l conn =
       prints (
         with_sessions (one_less l) (l.sessions ++ begun conn (answering plan l) mind ∷ []),
         plain_event l conn (event.Answer plan.rbc (next_u64 l.words).0) ∷ [],
       )
+  answered_where false mind plan l conn = turned_away (one_word_less l) conn (event.Full (length l.sessions))
 
-  -- a connection was accepted
-  unfoldable pub accepted : Plan → Loop E → ℕ → Out (Loop E)
-  accepted plan l conn =
-      if nat_lt (length l.sessions) most_live then answered_by (next_user l.users) plan l conn
+  abbrev pub answered_by : Option Mind → Bool → Plan → Loop E → ℕ → Out (Loop E)
+  answered_by None memory plan l conn = turned_away l conn (event.Unserved plan.handed)
+  answered_by (Some mind) memory plan l conn = answered_where memory mind plan l conn
+
+  -- a connection was accepted, and this says whether there is memory for its session
+  unfoldable pub accepted : Plan → Loop E → ℕ → Bool → Out (Loop E)
+  accepted plan l conn memory =
+      if nat_lt (length l.sessions) most_live then answered_by (next_user l.users) memory plan l conn
       else turned_away l conn (event.Full most_live)
 
   -- the end that calls, with the next random word
@@ -214,7 +227,7 @@ module _ {E : Type 0} (o : EndOps E) where
   called_by None plan caller l conn a = turned_away l conn (event.Unserved 0)
   called_by (Some mind) plan caller l conn a =
       changed (with_sessions (one_less l))
-      (served o (rules_of plan) l.moment (begun conn (calling plan caller l) mind) (Begins caller.engine plan.rbc (next_u64 l.words).0) a)
+      (served o (rules_of plan) l.moment (begun_dial conn (calling plan caller l) mind) (Begins caller.engine plan.rbc (next_u64 l.words).0) a)
 
   -- the one connection was dialled
   unfoldable pub called : Plan → Caller → Loop E → ℕ → Met → Out (Loop E)
@@ -226,7 +239,7 @@ module _ {E : Type 0} (o : EndOps E) where
   visited_at plan l visit conn a = changed (with_sessions l) (visit_at (visited o (rules_of plan) l.moment visit) conn l.sessions a)
 
   unfoldable pub happened : Plan → Loop E → Happening → Met → Out (Loop E)
-  happened plan l (happening.Accepted conn) a = accepted plan l conn.0
+  happened plan l (happening.Accepted conn) a = accepted plan l conn.0 a.memory
   happened plan l (happening.Readable conn) a = visited_at plan l Read conn.0 a
   happened plan l (happening.Writable conn) a = visited_at plan l Write conn.0 a
   happened plan l happening.Quiet a = still l

@@ -1,6 +1,6 @@
 -- What comes of a connection that is accepted or dialled: one event opens it, or says why it isn't opened, and then it is closed.
 use Rattle.loop_model.specs.Ends.{ModelEnd, model_ends}
-use Rattle.std.specs.Prelude.{ℕ, ◌≡◌, nat_lt, if◌then◌else◌, List, [], ◌∷◌, ◌++◌, length, Option, Some, None}
+use Rattle.std.specs.Prelude.{ℕ, ◌≡◌, nat_lt, Bool, true, false, if◌then◌else◌, List, [], ◌∷◌, ◌++◌, length, Option, Some, None}
 use Rattle.rand_core.specs.Stream.{next_u64}
 use Rattle.er_trace.specs.declared.event.Event.{Event}
 use Rattle.er_trace.specs.declared.event.Event.TheVariants.{Call, Answer, Full, Unserved}
@@ -27,14 +27,20 @@ closed_by Belongs conn = []
 
 -- ---- one that was accepted
 
--- `unserved` where no user is left, else `answer` with this random word
-abbrev pub answer_or_unserved : Option Mind → Plan → (word : ℕ) → Event
-answer_or_unserved None plan word = Unserved plan.handed
-answer_or_unserved (Some mind) plan word = Answer plan.rbc word
+-- `answer` with this random word where there is memory for a session, else `full` with the count of the connections that are live
+abbrev pub answer_or_full : Bool → Plan → (live word : ℕ) → Event
+answer_or_full true plan live word = Answer plan.rbc word
+answer_or_full false plan live word = Full live
 
--- `full` where 256 connections are live; else that, with the user and the random word that come next
-abbrev pub event_of_accepted_connection : Plan → Loop ModelEnd → Event
-event_of_accepted_connection plan l = if nat_lt (length l.sessions) most_live then answer_or_unserved (next_user l.users) plan (next_u64 l.words).0
+-- `unserved` where no user is left, else that
+abbrev pub answer_or_unserved : Option Mind → Bool → Plan → (live word : ℕ) → Event
+answer_or_unserved None memory plan live word = Unserved plan.handed
+answer_or_unserved (Some mind) memory plan live word = answer_or_full memory plan live word
+
+-- `full` where 256 connections are live; else that, with the user and the random word that come next, and as there is memory for a session
+abbrev pub event_of_accepted_connection : Plan → Loop ModelEnd → Bool → Event
+event_of_accepted_connection plan l memory =
+    if nat_lt (length l.sessions) most_live then answer_or_unserved (next_user l.users) memory plan (length l.sessions) (next_u64 l.words).0
     else Full most_live
 
 -- what is due behind a happening
@@ -55,12 +61,13 @@ openings_unless None happening event = openings_due happening event
 pub record OpeningsAreTold : Type 0 where
   pub events : (plan : Plan) (c : Course ModelEnd) (a : Turn) → c.halt ≡ None
       → openings (went model_ends plan c a).entries
-      ≡ openings_unless (readied model_ends plan c a).state.halt a.happening (event_of_accepted_connection plan (readied model_ends plan c a).state.loop)
+      ≡ openings_unless (readied model_ends plan c a).state.halt a.happening
+      (event_of_accepted_connection plan (readied model_ends plan c a).state.loop a.met.memory)
   pub closed : (plan : Plan) (c : Course ModelEnd) (a : Turn) (conn : Conn) → c.halt ≡ None → (readied model_ends plan c a).state.halt ≡ None
       → a.happening ≡ happening.Accepted conn
       → (went model_ends plan c a).calls
       ≡ (readied model_ends plan c a).calls ++ Turns (until model_ends (readied model_ends plan c a).state.loop.sessions) a.happening
-      ∷ closed_by (role_of (event_of_accepted_connection plan (readied model_ends plan c a).state.loop)) conn.0
+      ∷ closed_by (role_of (event_of_accepted_connection plan (readied model_ends plan c a).state.loop a.met.memory)) conn.0
 
 -- ---- the one that was dialled
 

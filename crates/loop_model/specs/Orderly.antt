@@ -1,7 +1,7 @@
 -- Lemmas: the events and the calls of each part of the loop are those of its one order; for the proofs of this crate and of those above.
 use Rattle.std.proofs.Common.{ℕ, Bool, true, false, if◌then◌else◌, List, [], ◌∷◌, ◌++◌, length, drop, Option, Some, None}
 use Rattle.trace_model.specs.Checks.{most_live}
-use Rattle.std.specs.Prelude.{◌==◌, ◌&&◌, ◌||◌, nat_lt}
+use Rattle.std.specs.Prelude.{◌==◌, ◌||◌, nat_lt, true, false}
 use Rattle.rand_core.specs.Stream.{next_u64}
 use Rattle.er_trace.specs.declared.event.Event.{Event}
 use Rattle.er_trace.specs.declared.event.Event.TheVariants as event
@@ -14,11 +14,12 @@ use Rattle.link_trait.specs.declared.wires.WriteAnswer.TheVariants as write
 use Rattle.loop_model.specs.Ends.{EndOps}
 use Rattle.loop_model.specs.Outs.{Out, HasOrder, still, next, changed, prints, makes, acts, exactly, first_answer_of}
 use Rattle.loop_model.specs.Signs.{order_still, order_next, order_changed, order_prints, order_makes}
-use Rattle.loop_model.specs.Sessions.{Rules, Session, is_released, GivenToSession, Begins, Ticks, Says, nothing_said, handled}
+use Rattle.loop_model.specs.Sessions.{Rules, Session, is_released, GivenToSession, Begins, Ticks, Says, nothing_said, handled, owes_nothing, made}
 use Rattle.loop_model.specs.Visits.{most_read, WritingState, Going, PutOff, Failing, after_write, writes_if, writes_once, writes, Wrote, closed, stays, Visit}
 use Rattle.loop_model.specs.Visits.{Tick, Read, Write, Expire, Met, nothing_met, is_due, fault_unless, flowed, written_unless, session_behind_writing}
 use Rattle.loop_model.specs.Visits.{session_kept_or_closed, rests, came, read_once, rests_behind, served, visited}
-use Rattle.loop_model.specs.Loops.{Plan, rules_of, Loop, plain_event, turned_away, visit_at, numbers, swept, Sweeps, next_user, begun, one_less, with_sessions}
+use Rattle.loop_model.specs.Loops.{Plan, rules_of, Loop, plain_event, turned_away, visit_at, numbers, swept, Sweeps, next_user, begun_dial}
+use Rattle.loop_model.specs.Loops.{one_word_less, one_less, with_sessions}
 use Rattle.loop_model.specs.Loops.{Caller, Halt, Course, asks, halts, OnFailed, Turn, nothing_comes, Dialled, before, until, answered_by, accepted, calling}
 use Rattle.loop_model.specs.Loops.{called_by, called, visited_at, happened, readied, turn, follows, turned_unless, went_unless, went, run, opens, dials_to}
 use Rattle.loop_model.specs.Loops.{dials}
@@ -84,7 +85,7 @@ module _ {E : Type 0} (o : EndOps E) where
 
   order_settled : (s : Session E) → HasOrder (session_kept_or_closed o s)
   unfolding session_kept_or_closed
-  order_settled s = order_if (s.broken || (is_released o s && (length s.output == 0))) (closed s) (stays s) (order_makes (Closes s.number) [])
+  order_settled s = order_if (s.broken || owes_nothing o s) (closed s) (stays s) (order_makes (Closes s.number) [])
       (order_still (s ∷ []))
 
   order_rests : (r : Rules) (m : ℕ) (s : Session E) (a : Wrote) → HasOrder (rests o r m s a)
@@ -115,10 +116,10 @@ module _ {E : Type 0} (o : EndOps E) where
   unfolding visited
   order_visited r m Tick s a = order_if (is_due m (o.deadline s.end)) (served o r m s Ticks a) (stays s) (order_served r m s Ticks a) (order_still (s ∷ []))
   order_visited r m Read s a =
-      let t = read_once o r m s a in
+      let t = read_once o r m (made s) a in
       order_if (is_released o s) (stays s) (next t (λ t. rests_behind o a.reading r m t a.wrote)) (order_still (s ∷ []))
-      (order_next t (λ t. rests_behind o a.reading r m t a.wrote) (order_read r m s a) (order_behind a.reading r m t.state a.wrote))
-  order_visited r m Write s a = order_rests r m s a.wrote
+      (order_next t (λ t. rests_behind o a.reading r m t a.wrote) (order_read r m (made s) a) (order_behind a.reading r m t.state a.wrote))
+  order_visited r m Write s a = order_rests r m (made s) a.wrote
   order_visited r m Expire s a = order_if (is_due m s.closing) (closed s) (stays s) (order_makes (Closes s.number) []) (order_still (s ∷ []))
 
   -- ---- turns
@@ -131,20 +132,21 @@ module _ {E : Type 0} (o : EndOps E) where
       (order_swept (visited o r m Tick) (order_visited r m Tick) (numbers ss) ss a.ticks)
       (order_swept (visited o r m Expire) (order_visited r m Expire) (numbers t.state) t.state a.closings)
 
-  order_answered : (user : Option Mind) (plan : Plan) (l : Loop E) (conn : ℕ) → HasOrder (answered_by o user plan l conn)
-  order_answered None plan l conn = order_away l conn (event.Unserved plan.handed)
-  order_answered (Some mind) plan l conn = order_prints _
+  order_answered : (user : Option Mind) (memory : Bool) (plan : Plan) (l : Loop E) (conn : ℕ) → HasOrder (answered_by o user memory plan l conn)
+  order_answered None memory plan l conn = order_away l conn (event.Unserved plan.handed)
+  order_answered (Some mind) true plan l conn = order_prints _
+  order_answered (Some mind) false plan l conn = order_away (one_word_less l) conn (event.Full (length l.sessions))
 
-  order_accepted : (plan : Plan) (l : Loop E) (conn : ℕ) → HasOrder (accepted o plan l conn)
+  order_accepted : (plan : Plan) (l : Loop E) (conn : ℕ) (memory : Bool) → HasOrder (accepted o plan l conn memory)
   unfolding accepted
-  order_accepted plan l conn =
-      order_if (nat_lt (length l.sessions) most_live) (answered_by o (next_user l.users) plan l conn) (turned_away l conn (event.Full most_live))
-      (order_answered (next_user l.users) plan l conn) (order_away l conn (event.Full most_live))
+  order_accepted plan l conn memory =
+      order_if (nat_lt (length l.sessions) most_live) (answered_by o (next_user l.users) memory plan l conn) (turned_away l conn (event.Full most_live))
+      (order_answered (next_user l.users) memory plan l conn) (order_away l conn (event.Full most_live))
 
   order_called_by : (user : Option Mind) (plan : Plan) (caller : Caller) (l : Loop E) (conn : ℕ) (a : Met) → HasOrder (called_by o user plan caller l conn a)
   order_called_by None plan caller l conn a = order_away l conn (event.Unserved 0)
   order_called_by (Some mind) plan caller l conn a =
-      let s = begun conn (calling o plan caller l) mind in
+      let s = begun_dial conn (calling o plan caller l) mind in
       let g = Begins caller.engine plan.rbc (next_u64 l.words).0 in
       order_changed (with_sessions (one_less l)) (served o (rules_of plan) l.moment s g a) (order_served (rules_of plan) l.moment s g a)
 
@@ -162,7 +164,7 @@ module _ {E : Type 0} (o : EndOps E) where
 
   order_happened : (plan : Plan) (l : Loop E) (what : Happening) (a : Met) → HasOrder (happened o plan l what a)
   unfolding happened
-  order_happened plan l (happening.Accepted conn) a = order_accepted plan l conn.0
+  order_happened plan l (happening.Accepted conn) a = order_accepted plan l conn.0 a.memory
   order_happened plan l (happening.Readable conn) a = order_at plan l Read conn.0 a
   order_happened plan l (happening.Writable conn) a = order_at plan l Write conn.0 a
   order_happened plan l happening.Quiet a = order_still l

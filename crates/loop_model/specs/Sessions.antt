@@ -1,7 +1,7 @@
 -- The session of one connection: its end, its user, and the octets that wait to be written (this profile). Each event is given to the
 -- end, its octets join those that wait, the user hears of it, and what the user says are events in their turn. All of it is said of any
 -- kind of end.
-use Rattle.std.specs.Prelude.{ℕ, ◌+◌, ◌==◌, nat_lt, Bool, true, false, ◌||◌, if◌then◌else◌, List, [], ◌∷◌, ◌++◌, length, take, drop, Option, Some, None}
+use Rattle.std.specs.Prelude.{ℕ, ◌+◌, ◌==◌, nat_lt, Bool, true, false, ◌&&◌, ◌||◌, if◌then◌else◌, List, [], ◌∷◌, ◌++◌, length, take, drop, Option, Some, None}
 use Rattle.std.specs.Prelude.{is_some}
 use Rattle.er_base.specs.declared.release.Release.{Release}
 use Rattle.safety_automaton.specs.Keys.{key_at}
@@ -35,6 +35,12 @@ pub record Session (E : Type 0) : Type 0 where
   pub broken : Bool
   -- the moment at which it is closed at the latest, once it was released
   pub closing : Option ℕ
+  -- it was dialled, and the wires didn't tell of it yet: its peer may never have been reached
+  pub unmade : Bool
+
+-- the wires told of its connection: it is made
+abbrev pub made : {E : Type 0} → Session E → Session E
+made s = record s { unmade = false }
 
 -- the most octets that may wait
 abbrev pub most_output : ℕ
@@ -169,6 +175,10 @@ nothing_said = record { first = silent_answer; rest = [] }
 module _ {E : Type 0} (o : EndOps E) where
   abbrev pub is_released : Session E → Bool
   is_released s = is_some (o.released s.end)
+
+  -- its end is released, and either nothing waits to be written, or its connection was never made: no peer is there to which it could be owed
+  abbrev pub owes_nothing : Session E → Bool
+  owes_nothing s = is_released s && ((length s.output == 0) || s.unmade)
 
   -- as the journal has it: of octets those that the end uses
   abbrev pub journal_event_of_given : E → GivenToSession → Event

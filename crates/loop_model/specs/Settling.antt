@@ -10,7 +10,7 @@ use Rattle.link_trait.specs.declared.wires.WriteAnswer.{WriteAnswer}
 use Rattle.link_trait.specs.declared.wires.WriteAnswer.TheVariants as write
 use Rattle.loop_model.specs.Journals.{trace_lines_of}
 use Rattle.loop_model.specs.Outs.{Out}
-use Rattle.loop_model.specs.Sessions.{Rules, Session}
+use Rattle.loop_model.specs.Sessions.{Rules, Session, made}
 use Rattle.loop_model.specs.Visits.{is_due, Visit, Tick, Read, Write, Expire, Met, visited}
 use Rattle.loop_model.specs.Loops.{Plan, rules_of}
 use Rattle.loop_model.specs.Laws.{octets_of_entries}
@@ -53,16 +53,26 @@ is_expiry Read = false
 is_expiry Write = false
 is_expiry Expire = true
 
+-- a visit that reads or writes comes of what the wires told of the connection
+abbrev pub as_told : Visit → Session ModelEnd → Session ModelEnd
+as_told Tick s = s
+as_told Read s = made s
+as_told Write s = made s
+as_told Expire s = s
+
 pub data WhyClosed (plan : Plan) (s : Session ModelEnd) (o : Out (List (Session ModelEnd))) : Type 0 where
   -- its line ended or failed, or it stalled, or a read or a write of it failed
   Broke : (has_broken o.entries || has_failed o.calls) ≡ true → WhyClosed plan s o
   -- its end is released, and all octets that waited and all that its events told were given
   Drained : is_gone (end_behind plan.settings (key_at plan.keys) s.number (Some s.end) (trace_lines_of o.entries)) ≡ true
       → given_of s.number o.calls ≡ s.output ++ octets_of_entries o.entries → WhyClosed plan s o
+  -- its end is released, and it was dialled and the wires never told of it: whatever waits, there is no peer that was reached
+  Unmade : s.unmade ≡ true → is_gone (end_behind plan.settings (key_at plan.keys) s.number (Some s.end) (trace_lines_of o.entries)) ≡ true
+      → WhyClosed plan s o
 
 -- a session that is ticked, read from or written to, and that didn't break off before, is closed for one of these reasons alone. (Closing
 -- moments close the others)
 abbrev pub ClosesHaveReasons : Type 0
 ClosesHaveReasons =
     (plan : Plan) (m : ℕ) (visit : Visit) (s : Session ModelEnd) (a : Met) → AllAllowed plan.settings → is_expiry visit ≡ false → s.broken ≡ false
-    → (visited model_ends (rules_of plan) m visit s a).state ≡ [] → WhyClosed plan s (visited model_ends (rules_of plan) m visit s a)
+    → (visited model_ends (rules_of plan) m visit s a).state ≡ [] → WhyClosed plan (as_told visit s) (visited model_ends (rules_of plan) m visit s a)

@@ -1,6 +1,7 @@
 -- What holds of the events of each turn: ticks, ends of lines, random words, and what is closed.
 use Rattle.loop_model.specs.Ends.{ModelEnd, model_ends}
-use Rattle.std.specs.Prelude.{ℕ, ◌≡◌, ◌≤◌, ◌==◌, max, Bool, true, false, ◌&&◌, ◌||◌, if◌then◌else◌, List, [], ◌∷◌, ◌++◌, length, Some, None}
+use Rattle.trace_model.specs.Checks.{most_live}
+use Rattle.std.specs.Prelude.{ℕ, ◌≡◌, ◌≤◌, nat_lt, max, Bool, true, false, ◌||◌, if◌then◌else◌, List, [], ◌∷◌, ◌++◌, length, Option, Some, None}
 use Rattle.rand_core.specs.Stream.{Stream, next_u64}
 use Rattle.er_trace.specs.declared.event.Event.{Event}
 use Rattle.er_trace.specs.declared.event.Event.TheVariants.{Call, Answer, Octets, Send, Take, Release, Tick, Ended, Fault, Stalled, Full, Unserved}
@@ -9,7 +10,7 @@ use Rattle.link_trait.specs.Wires.{Listens, Dials, Turns, Reads, Writes, Closes,
 use Rattle.link_trait.specs.declared.wires.Conn.{Conn}
 use Rattle.link_trait.specs.declared.wires.Happening.TheVariants as happening
 use Rattle.loop_model.specs.Journals.{JournalEntry}
-use Rattle.loop_model.specs.Sessions.{Session, is_released}
+use Rattle.loop_model.specs.Sessions.{Session, is_released, owes_nothing}
 use Rattle.loop_model.specs.Visits.{most_read, is_due}
 use Rattle.loop_model.specs.Loops.{Plan, numbers, Course, Caller, Turn, readied, went, run, Dialled, dials}
 use Rattle.loop_model.specs.Parts.{session_of_connection, Rises}
@@ -92,10 +93,26 @@ pub record EndsAreTold : Type 0 where
 
 -- ---- random words
 
--- the random word of an event that opens an end
-abbrev pub word_of : Event → List ℕ
-word_of (Call engine rbc rb) = rb ∷ []
-word_of (Answer rbc ra) = ra ∷ []
+-- a random word is drawn for an event that opens an end, and for a connection that is turned away while fewer than 256 are live: there was no memory
+-- for its session
+abbrev pub draws_word : Event → Bool
+draws_word (Call engine rbc rb) = true
+draws_word (Answer rbc ra) = true
+draws_word (Octets octets) = false
+draws_word (Send text) = false
+draws_word Take = false
+draws_word (Release sub) = false
+draws_word Tick = false
+draws_word Ended = false
+draws_word Fault = false
+draws_word Stalled = false
+draws_word (Full count) = nat_lt count most_live
+draws_word (Unserved count) = false
+
+-- the word that was drawn, where the event tells it: an end has it
+abbrev pub word_of : Event → List (Option ℕ)
+word_of (Call engine rbc rb) = Some rb ∷ []
+word_of (Answer rbc ra) = Some ra ∷ []
 word_of (Octets octets) = []
 word_of (Send text) = []
 word_of Take = []
@@ -104,35 +121,51 @@ word_of Tick = []
 word_of Ended = []
 word_of Fault = []
 word_of Stalled = []
-word_of (Full count) = []
+word_of (Full count) = if nat_lt count most_live then None ∷ [] else []
 word_of (Unserved count) = []
 
-unfoldable pub random_words_of_entries : List JournalEntry → List ℕ
+unfoldable pub random_words_of_entries : List JournalEntry → List (Option ℕ)
 random_words_of_entries [] = []
 random_words_of_entries (x ∷ xs) = word_of x.event ++ random_words_of_entries xs
 
--- words are the next of a stream, in order
-abbrev pub AreNext : List ℕ → Stream → Type 0
-AreNext [] stream = Unit {0}
-AreNext (word ∷ words) stream = (word ≡ (next_u64 stream).0) × AreNext words (next_u64 stream).1
+-- a word that is told is the one that was drawn
+abbrev pub IsWord : Option ℕ → (drawn : ℕ) → Type 0
+IsWord None drawn = Unit {0}
+IsWord (Some word) drawn = word ≡ drawn
 
--- each end that is opened has the next random word
+-- words are the next of a stream, in order
+abbrev pub AreNext : List (Option ℕ) → Stream → Type 0
+AreNext [] stream = Unit {0}
+AreNext (word ∷ words) stream = IsWord word (next_u64 stream).0 × AreNext words (next_u64 stream).1
+
+-- what is left of a stream behind them
+unfoldable pub words_behind : List (Option ℕ) → Stream → Stream
+words_behind [] stream = stream
+words_behind (word ∷ words) stream = words_behind words (next_u64 stream).1
+
+-- each end that is opened has the next random word, each connection that finds no memory uses one up, and no other is drawn. A loop that draws one for
+-- each connection that is accepted, also where 256 are live or no user is left, doesn't meet it
 pub record WordsAreNext : Type 0 where
   pub serving : (plan : Plan) (c : Course ModelEnd) (turns : List Turn) → AreNext (random_words_of_entries (run model_ends plan c turns).entries) c.loop.words
   pub dialling : (plan : Plan) (caller : Caller) (c : Course ModelEnd) (address : List ℕ) (a : Dialled)
       → AreNext (random_words_of_entries (dials model_ends plan caller c address a).entries) c.loop.words
+  pub left_of_serving : (plan : Plan) (c : Course ModelEnd) (turns : List Turn)
+      → (run model_ends plan c turns).state.loop.words ≡ words_behind (random_words_of_entries (run model_ends plan c turns).entries) c.loop.words
+  pub left_of_dialling : (plan : Plan) (caller : Caller) (c : Course ModelEnd) (address : List ℕ) (a : Dialled)
+      → (dials model_ends plan caller c address a).state.loop.words
+      ≡ words_behind (random_words_of_entries (dials model_ends plan caller c address a).entries) c.loop.words
 
 -- ---- closing
 
--- a session that neither broke off nor is released with nothing that waits to be written
+-- a session that neither broke off nor is released and owes nothing: nothing waits to be written, or its connection was never made
 abbrev pub IsKeptSession : Session ModelEnd → Type 0
-IsKeptSession s = (s.broken || (is_released model_ends s && (length s.output == 0))) ≡ false
+IsKeptSession s = (s.broken || owes_nothing model_ends s) ≡ false
 
 abbrev pub AreKept : List (Session ModelEnd) → Type 0
 AreKept [] = Unit {0}
 AreKept (s ∷ ss) = IsKeptSession s × AreKept ss
 
--- one that broke off is closed at once, and a released one as soon as nothing waits: none such is left behind a turn
+-- one that broke off is closed at once, and a released one as soon as it owes nothing: none such is left behind a turn
 abbrev pub OthersAreClosed : Type 0
 OthersAreClosed = (plan : Plan) (c : Course ModelEnd) (turns : List Turn) → AreKept c.loop.sessions → AreKept (run model_ends plan c turns).state.loop.sessions
 

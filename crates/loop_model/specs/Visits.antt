@@ -1,5 +1,5 @@
 -- What the loop does at one session (this profile): a tick, a read, a write, and what follows them, writing and closing.
-use Rattle.std.specs.Prelude.{ℕ, ◌==◌, nat_le, Bool, true, false, ◌&&◌, ◌||◌, if◌then◌else◌, List, [], ◌∷◌, length, drop, Option, Some, None}
+use Rattle.std.specs.Prelude.{ℕ, ◌==◌, nat_le, Bool, true, false, ◌||◌, if◌then◌else◌, List, [], ◌∷◌, length, drop, Option, Some, None}
 use Rattle.er_end_model.specs.Steps.{earlier_of_moments as first_moment}
 use Rattle.link_trait.specs.Wires.{Reading, Gave, NotNow, End, Failed, Reads, Writes, Closes}
 use Rattle.link_trait.specs.declared.wires.WriteAnswer.{WriteAnswer}
@@ -7,7 +7,7 @@ use Rattle.link_trait.specs.declared.wires.WriteAnswer.TheVariants as write
 use Rattle.loop_model.specs.Ends.{EndOps}
 use Rattle.loop_model.specs.Journals.{JournalEntry}
 use Rattle.loop_model.specs.Outs.{Out, still, next, prints, makes, acts, exactly, first_answer_of}
-use Rattle.loop_model.specs.Sessions.{Rules, Session, is_released, GivenToSession, Ticks, Ends, Faults, Says, nothing_said, handled, pours}
+use Rattle.loop_model.specs.Sessions.{Rules, Session, made, is_released, owes_nothing, GivenToSession, Ticks, Ends, Faults, Says, nothing_said, handled, pours}
 
 -- the octets that one read asks for
 abbrev pub most_read : ℕ
@@ -67,15 +67,16 @@ pub data Visit : Type 0 where
   Expire : Visit
 
 -- what a visit meets: how many octets wait, where that is told, and what a read gives; what the user says, event by event; what comes of
--- writing
+-- writing. And what an accepted connection meets: whether there is memory for its session
 pub record Met : Type 0 where
   pub waits : ℕ
   pub reading : Reading
   pub says : List Says
   pub wrote : Wrote
+  pub memory : Bool
 
 abbrev pub nothing_met : Met
-nothing_met = record { waits = 0; reading = NotNow; says = []; wrote = nothing_wrote }
+nothing_met = record { waits = 0; reading = NotNow; says = []; wrote = nothing_wrote; memory = true }
 
 -- the moment has come
 abbrev pub is_due : ℕ → Option ℕ → Bool
@@ -103,9 +104,9 @@ module _ {E : Type 0} (o : EndOps E) where
   unfoldable pub session_behind_writing : Rules → ℕ → Session E → Wrote → Out (Session E)
   session_behind_writing r m s a = written_unless s.broken r m s a
 
-  -- as soon as it broke off, or once it is released and nothing waits
+  -- as soon as it broke off, or once it is released and owes nothing
   unfoldable pub session_kept_or_closed : Session E → Out (List (Session E))
-  session_kept_or_closed s = if s.broken || (is_released o s && (length s.output == 0)) then closed s else stays s
+  session_kept_or_closed s = if s.broken || owes_nothing o s then closed s else stays s
 
   -- what follows the events of a happening
   unfoldable pub rests : Rules → ℕ → Session E → Wrote → Out (List (Session E))
@@ -134,11 +135,11 @@ module _ {E : Type 0} (o : EndOps E) where
   unfoldable pub served : Rules → ℕ → Session E → GivenToSession → Met → Out (List (Session E))
   served r m s g a = next (prints (handled o r m s g (first_answer_of nothing_said a.says))) (λ t. rests r m t a.wrote)
 
-  -- a tick comes where the deadline of the end has come; a read comes where the session isn't released
+  -- a tick comes where the deadline of the end has come; a read comes where the session isn't released. A connection of which the wires tell is made
   unfoldable pub visited : Rules → ℕ → Visit → Session E → Met → Out (List (Session E))
   visited r m Tick s a = if is_due m (o.deadline s.end) then served r m s Ticks a else stays s
-  visited r m Read s a = if is_released o s then stays s else next (read_once r m s a) (λ t. rests_behind a.reading r m t a.wrote)
-  visited r m Write s a = rests r m s a.wrote
+  visited r m Read s a = if is_released o s then stays s else next (read_once r m (made s) a) (λ t. rests_behind a.reading r m t a.wrote)
+  visited r m Write s a = rests r m (made s) a.wrote
   visited r m Expire s a = if is_due m s.closing then closed s else stays s
 
   -- when a session is to be visited next: the deadline of its end, and once it is released its closing moment

@@ -22,6 +22,7 @@ ghost use Rattle.loop_model.specs.Ends.{model_ends};
 ghost use Rattle.loop_model.specs.Told.{EventsAreHeard, SpeechIsHeard, UsersHear};
 ghost use Rattle.loop_model.specs.Settling.{WritableIsWritten, VisitsWrite, ClosesHaveReasons};
 ghost use Rattle.loop_model.specs.Stalls.{StallsAreTold};
+ghost use Rattle.loop_model.specs.Unmade.{UnmadeIsClosed};
 ghost use Rattle.loop_model.specs.Turnings.{EndsAreTold, OthersAreClosed, ReadableProgress, TicksAreDue, WordsAreNext};
 ghost use Rattle.loop_model.specs.Writings.{AllAreGiven, BrokenAreLeft, ExpiredAreClosed, LiveAreWhole, OutputIsWritten, RestWaits, TurnsWait};
 ghost use Rattle.loop_model.specs.Laws.{ConnectionsAreIsolated, JournalIsPrinted, OctetsAreAccounted, CallsAreOnOpen, FaultsHaveFailed, OneReadATurn, TurnsAreCounted, FewAreLive, SessionsRise};
@@ -137,14 +138,21 @@ pub fn broken()
     ensures { BrokenAreLeft }
 {}
 
-/// Each end that is opened has the next random word.
+/// Each end that is opened has the next random word; a connection that is turned away since there is no memory for its session uses one up, and no other word
+/// is drawn.
 pub fn words()
     ensures { WordsAreNext }
 {}
 
-/// Behind a turn no session is left that broke off, and none that is released with nothing that waits to be written.
+/// Behind a turn no session is left that broke off, and none that is released and owes nothing: nothing waits to be written, or its connection was dialled
+/// and the wires never told of it.
 pub fn closings()
     ensures { OthersAreClosed }
+{}
+
+/// Where no turn tells of the connection that was dialled, its live session isn't released: it was closed in the visit in which it was.
+pub fn unmade()
+    ensures { UnmadeIsClosed }
 {}
 
 /// Where each read gives an octet at least, and gives none only where none waits or where it fails, as wires promise: a turn in which a
@@ -153,8 +161,8 @@ pub fn progress()
     ensures { ReadableProgress }
 {}
 
-/// Each connection that is accepted has one event that opens it with the next random word, or says why it isn't opened: 256 are live, or no
-/// user is left; it is closed then. The one that is dialled begins with such an event.
+/// Each connection that is accepted has one event that opens it with the next random word, or says why it isn't opened: 256 are live, no user is left, or
+/// there is no memory for its session; it is closed then. The one that is dialled begins with such an event.
 pub fn openings()
     ensures accepted { OpeningsAreTold }
     ensures dialled { DialIsOpened }
@@ -249,7 +257,7 @@ pub fn order()
 
 /// What a loop that serves prints of a connection and does at it is what a loop does to which that connection comes alone, at the same moments: its
 /// lines, the octets that it is given, what its user hears. All that others change is which user and which random word it finds, and whether it is turned
-/// away since 256 are live. So two loops do the same of it where what of the outside is its own is the same.
+/// away since 256 are live or there is no memory for its session. So two loops do the same of it where what of the outside is its own is the same.
 pub fn alone()
     ensures serving { ConnectionsStandAlone }
     ensures dialling { DialStandsAlone }

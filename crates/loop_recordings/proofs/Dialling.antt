@@ -21,7 +21,7 @@ use Rattle.loop_model.specs.Journals.{JournalEntry, trace_lines_of}
 use Rattle.loop_model.specs.Outs.{acts, exactly}
 use Rattle.loop_model.specs.Sessions.{Begins, entry_of}
 use Rattle.loop_model.specs.Visits.{Met, served}
-use Rattle.loop_model.specs.Loops.{Plan, rules_of, Loop, until, next_user, begun, Caller, calling, called_by, called, Halt, Course, asks, Turn, nothing_comes, readied, went_unless, went, run, Dialled, opens, dials_to, dials}
+use Rattle.loop_model.specs.Loops.{Plan, rules_of, Loop, until, next_user, begun, Caller, calling, called_by, called, Halt, Course, asks, Turn, nothing_comes, readied, went_unless, went, run, Dialled, opens, dials_to, dials, begun_dial}
 use Rattle.loop_model.specs.Parts.{opened_in}
 use Rattle.loop_model.specs.Parts as parts
 use Rattle.loop_model.specs.Laws.{ConnectionsAreIsolated}
@@ -68,7 +68,7 @@ module _ (told : OpeningsAreTold) (plan : Plan) where
   unfolding opened_in
   accepts_none c a conn on ready accepted none =
       let d = readied model_ends plan c a in
-      let rest = closed_by (role_of (event_of_accepted_connection plan d.state.loop)) conn.0 in
+      let rest = closed_by (role_of (event_of_accepted_connection plan d.state.loop a.met.memory)) conn.0 in
       let calls = told.closed plan c a conn on ready accepted in
       let turns : opened_in (Turns (until model_ends d.state.loop.sessions) a.happening ∷ rest) ≡ [] =
       opened_rest d.calls (Turns (until model_ends d.state.loop.sessions) a.happening ∷ rest) (ap opened_in (sym calls) ∙ none) in
@@ -97,7 +97,7 @@ module _ (told : OpeningsAreTold) (plan : Plan) where
   went_none c a (Some halt) is none = halted_none c a halt is
   went_none c a None is none =
       let d = readied model_ends plan c a in
-      told.events plan c a is ∙ unless_none c a d.state.halt (event_of_accepted_connection plan d.state.loop) is refl none
+      told.events plan c a is ∙ unless_none c a d.state.halt (event_of_accepted_connection plan d.state.loop a.met.memory) is refl none
 
   turns_none : (c : Course ModelEnd) (turns : List Turn) → opened_in (acts (went model_ends plan) c turns).calls ≡ [] → openings (acts (went model_ends plan) c turns).entries ≡ []
   unfolding acts openings
@@ -154,7 +154,7 @@ module _ (f g : Finds) where
       → FindsToo f g l.moment caller.engine plan.rbc → AreFoundToo f g (trace_lines_of (called_by model_ends user plan caller l conn a).entries)
   called_found None plan caller l conn a key = (tt, tt)
   called_found (Some mind) plan caller l conn a key =
-      let s = begun conn (calling model_ends plan caller l) mind in
+      let s = begun_dial conn (calling model_ends plan caller l) mind in
       let given = Begins caller.engine plan.rbc (next_u64 l.words).0 in
       found_first (entry_of model_ends (rules_of plan) l.moment s given) (served model_ends (rules_of plan) l.moment s given a).entries (served_first (rules_of plan) l.moment s given a) key
 

@@ -8,7 +8,7 @@ use Rattle.link_trait.specs.declared.wires.WriteAnswer.{WriteAnswer}
 use Rattle.trace_model.specs.Checks.{names, role_of}
 use Rattle.loop_model.specs.Journals.{JournalEntry}
 use Rattle.loop_model.specs.Outs.{Out, part_for_each_answer, acts, exactly, first_answer_of}
-use Rattle.loop_model.specs.Sessions.{Rules, Session, is_released, most_output, GivenToSession, Begins, Hears, Sends, Takes, Leaves, Ticks, Ends, Faults, Stalls, journal_event_of_given, breaks, end_after, outcomes_of_given_event, entry_of, octets_in, joined, fed, replied, heard_by_user, leave_of, sends_of, user_after_hearing, silent_answer, dealt, count_waiting_in_session, takes_all, Says, nothing_said, handled}
+use Rattle.loop_model.specs.Sessions.{Rules, Session, is_released, most_output, GivenToSession, Begins, Hears, Sends, Takes, Leaves, Ticks, Ends, Faults, Stalls, journal_event_of_given, breaks, end_after, outcomes_of_given_event, entry_of, octets_in, joined, fed, replied, heard_by_user, leave_of, sends_of, user_after_hearing, silent_answer, dealt, count_waiting_in_session, takes_all, Says, nothing_said, handled, owes_nothing}
 use Rattle.loop_model.specs.Visits.{WritingState, Going, PutOff, Failing, writes_if, writes_once, writes, fault_unless, flowed, written_unless, Wrote, session_kept_or_closed, rests, Met, served}
 use Rattle.loop_model.specs.Visits as visits
 use Rattle.loop_model.specs.Openings.{openings}
@@ -192,7 +192,7 @@ module _ (r : Rules) (m : ℕ) where
 
   settled_none : (s : Session ModelEnd) → openings (session_kept_or_closed model_ends s).entries ≡ []
   unfolding session_kept_or_closed openings
-  settled_none s = elim (cases_Bool (s.broken || (is_released model_ends s && (length s.output == 0)))) [ inl p ↦ rw p refl | inr p ↦ rw p refl ]
+  settled_none s = elim (cases_Bool (s.broken || owes_nothing model_ends s)) [ inl p ↦ rw p refl | inr p ↦ rw p refl ]
 
   rests_none : (s : Session ModelEnd) (a : Wrote) → openings (rests model_ends r m s a).entries ≡ []
   unfolding rests visits.session_behind_writing

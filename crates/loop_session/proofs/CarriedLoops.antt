@@ -13,7 +13,7 @@ use Rattle.loop_model.specs.Outs.{Out, next, changed, prints, makes, exactly, fi
 use Rattle.loop_model.specs.Sessions.{Rules, Session, Begins}
 use Rattle.loop_model.specs.Visits.{Met, nothing_met, Visit, Tick, Read, Write, Expire, visited, served}
 use Rattle.trace_model.specs.Checks.{most_live}
-use Rattle.loop_model.specs.Loops.{Plan, rules_of, Loop, with_sessions, visit_at, numbers, swept, Sweeps, plain_event, turned_away, next_user, begun, one_less, Caller, Halt, OnClosed, Course, asks, halt_by, halt_behind, Turn, nothing_comes, Dialled, before, until, answering, answered_by, accepted, calling, called_by, called, visited_at, happened, readied, turn, follows, turned_unless, went_unless, went, run, serves, opens, dials_to, dials}
+use Rattle.loop_model.specs.Loops.{Plan, rules_of, Loop, with_sessions, visit_at, numbers, swept, Sweeps, plain_event, turned_away, next_user, begun, one_word_less, one_less, Caller, Halt, OnClosed, Course, asks, halt_by, halt_behind, Turn, nothing_comes, Dialled, before, until, answering, answered_by, accepted, calling, called_by, called, visited_at, happened, readied, turn, follows, turned_unless, went_unless, went, run, serves, opens, dials_to, dials, begun_dial}
 use Rattle.loop_session.proofs.Carrying.{Carries, carried, all_carried, loop_carried, course_carried, if_carried, next_carried, changed_carried, acts_carried}
 use Rattle.loop_session.proofs.CarriedVisits.{served_same, visited_same, wakes_same}
 
@@ -99,21 +99,23 @@ module _ {E F : Type 0} (plan : Plan) (o : EndOps E) (p : EndOps F) (h : E → F
 
   -- ---- openings
 
-  answered_by_same : (user : Option Mind) (l : Loop E) (conn : ℕ) → answered_by p user plan (loop_carried h l) conn ≡ changed (loop_carried h) (answered_by o user plan l conn)
-  answered_by_same None l conn = refl
-  answered_by_same (Some mind) l conn =
+  answered_by_same : (user : Option Mind) (memory : Bool) (l : Loop E) (conn : ℕ)
+      → answered_by p user memory plan (loop_carried h l) conn ≡ changed (loop_carried h) (answered_by o user memory plan l conn)
+  answered_by_same None memory l conn = refl
+  answered_by_same (Some mind) false l conn = ap (λ (n : ℕ). turned_away (one_word_less (loop_carried h l)) conn (event.Full n)) (length_same h l.sessions)
+  answered_by_same (Some mind) true l conn =
       let answers : List (Session F) → Out (Loop F) = λ ss.
       prints (with_sessions (one_less (loop_carried h l)) ss, plain_event l conn (event.Answer plan.rbc (next_u64 l.words).0) ∷ []) in
       ap (λ (k : F). answers (all_carried h l.sessions ++ begun conn k mind ∷ [])) (c.answers plan.rbc (next_u64 l.words).0 l.moment)
       ∙ ap answers (joined_same h l.sessions (begun conn (answering o plan l) mind ∷ []))
 
-  accepted_same : (l : Loop E) (conn : ℕ) → accepted p plan (loop_carried h l) conn ≡ changed (loop_carried h) (accepted o plan l conn)
+  accepted_same : (l : Loop E) (conn : ℕ) (memory : Bool) → accepted p plan (loop_carried h l) conn memory ≡ changed (loop_carried h) (accepted o plan l conn memory)
   unfolding accepted
-  accepted_same l conn =
+  accepted_same l conn memory =
       if_carried (changed (loop_carried h)) (nat_lt (length l.sessions) most_live) (nat_lt (length (all_carried h l.sessions)) most_live)
-      (answered_by o (next_user l.users) plan l conn) (turned_away l conn (event.Full most_live))
-      (answered_by p (next_user l.users) plan (loop_carried h l) conn) (turned_away (loop_carried h l) conn (event.Full most_live))
-      (ap (λ (n : ℕ). nat_lt n most_live) (length_same h l.sessions)) (answered_by_same (next_user l.users) l conn) refl
+      (answered_by o (next_user l.users) memory plan l conn) (turned_away l conn (event.Full most_live))
+      (answered_by p (next_user l.users) memory plan (loop_carried h l) conn) (turned_away (loop_carried h l) conn (event.Full most_live))
+      (ap (λ (n : ℕ). nat_lt n most_live) (length_same h l.sessions)) (answered_by_same (next_user l.users) memory l conn) refl
 
   called_by_same : (user : Option Mind) (caller : Caller) (l : Loop E) (conn : ℕ) (a : Met)
       → called_by p user plan caller (loop_carried h l) conn a ≡ changed (loop_carried h) (called_by o user plan caller l conn a)
@@ -121,10 +123,10 @@ module _ {E F : Type 0} (plan : Plan) (o : EndOps E) (p : EndOps F) (h : E → F
   called_by_same (Some mind) caller l conn a =
       let r = rules_of plan in
       let g = Begins caller.engine plan.rbc (next_u64 l.words).0 in
-      let s = begun conn (calling o plan caller l) mind in
-      changed_carried (all_carried h) (loop_carried h) (served o r l.moment s g a) (served p r l.moment (begun conn (calling p plan caller (loop_carried h l)) mind) g a)
+      let s = begun_dial conn (calling o plan caller l) mind in
+      changed_carried (all_carried h) (loop_carried h) (served o r l.moment s g a) (served p r l.moment (begun_dial conn (calling p plan caller (loop_carried h l)) mind) g a)
       (with_sessions (one_less l)) (with_sessions (one_less (loop_carried h l)))
-      (ap (λ (k : F). served p r l.moment (begun conn k mind) g a) (c.calls caller.engine plan.rbc caller.kmac (next_u64 l.words).0 l.moment)
+      (ap (λ (k : F). served p r l.moment (begun_dial conn k mind) g a) (c.calls caller.engine plan.rbc caller.kmac (next_u64 l.words).0 l.moment)
       ∙ served_same plan.settings o p h c r l.moment s g a) refl
 
   called_same : (caller : Caller) (l : Loop E) (conn : ℕ) (a : Met) → called p plan caller (loop_carried h l) conn a ≡ changed (loop_carried h) (called o plan caller l conn a)
@@ -143,7 +145,7 @@ module _ {E F : Type 0} (plan : Plan) (o : EndOps E) (p : EndOps F) (h : E → F
 
   happened_same : (l : Loop E) (what : Happening) (a : Met) → happened p plan (loop_carried h l) what a ≡ changed (loop_carried h) (happened o plan l what a)
   unfolding happened
-  happened_same l (happening.Accepted conn) a = accepted_same l conn.0
+  happened_same l (happening.Accepted conn) a = accepted_same l conn.0 a.memory
   happened_same l (happening.Readable conn) a = visited_at_same l Read conn.0 a
   happened_same l (happening.Writable conn) a = visited_at_same l Write conn.0 a
   happened_same l happening.Quiet a = refl

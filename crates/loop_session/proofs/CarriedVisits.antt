@@ -9,7 +9,7 @@ use Rattle.link_trait.specs.declared.wires.WriteAnswer.TheVariants as write
 use Rattle.loop_model.specs.Ends.{EndOps}
 use Rattle.loop_model.specs.Journals.{JournalEntry}
 use Rattle.loop_model.specs.Outs.{still, next, changed, prints, makes, exactly, first_answer_of}
-use Rattle.loop_model.specs.Sessions.{Rules, Session, is_released, GivenToSession, Ticks, Ends, Faults, Says, nothing_said, handled}
+use Rattle.loop_model.specs.Sessions.{Rules, Session, is_released, GivenToSession, Ticks, Ends, Faults, Says, nothing_said, handled, made}
 use Rattle.loop_model.specs.Visits.{most_read, WritingState, Going, PutOff, Failing, after_write, writes_if, writes_once, writes, Wrote, closed, stays, Visit, Tick, Read, Write, Expire, Met, is_due, fault_unless, flowed, written_unless, session_behind_writing, session_kept_or_closed, rests, came, read_once, rests_behind, served, visited, wakes}
 use Rattle.loop_session.proofs.Carrying.{Carries, carried, all_carried, flow_carried, first_carried, if_carried, next_carried, acts_carried}
 use Rattle.loop_session.proofs.CarriedSessions.{handled_same, pours_same}
@@ -72,7 +72,7 @@ module _ {E F : Type 0} (settings : Settings) (o : EndOps E) (p : EndOps F) (h :
   settled_same : (s : Session E) → session_kept_or_closed p (carried h s) ≡ changed (all_carried h) (session_kept_or_closed o s)
   unfolding session_kept_or_closed
   settled_same s =
-      let due : Bool → Bool = λ b. s.broken || (b && (length s.output == 0)) in
+      let due : Bool → Bool = λ b. s.broken || (b && ((length s.output == 0) || s.unmade)) in
       if_carried (changed (all_carried h)) (due (is_released o s)) (due (is_released p (carried h s))) (closed s) (stays s) (closed (carried h s)) (stays (carried h s))
       (ap due (released_same s)) refl refl
 
@@ -123,9 +123,9 @@ module _ {E F : Type 0} (settings : Settings) (o : EndOps E) (p : EndOps F) (h :
       if_carried (changed (all_carried h)) (is_due m (o.deadline s.end)) (is_due m (p.deadline (h s.end))) (served o r m s Ticks a) (stays s)
       (served p r m (carried h s) Ticks a) (stays (carried h s)) (ap (λ (d : Option ℕ). is_due m d) (c.deadline s.end)) (served_same r m s Ticks a) refl
   visited_same r m Read s a =
-      if_carried (changed (all_carried h)) (is_released o s) (is_released p (carried h s)) (stays s) (next (read_once o r m s a) (λ t. rests_behind o a.reading r m t a.wrote))
-      (stays (carried h s)) (next (read_once p r m (carried h s) a) (λ t. rests_behind p a.reading r m t a.wrote)) (released_same s) refl (read_same r m s a)
-  visited_same r m Write s a = rests_same r m s a.wrote
+      if_carried (changed (all_carried h)) (is_released o s) (is_released p (carried h s)) (stays s) (next (read_once o r m (made s) a) (λ t. rests_behind o a.reading r m t a.wrote))
+      (stays (carried h s)) (next (read_once p r m (made (carried h s)) a) (λ t. rests_behind p a.reading r m t a.wrote)) (released_same s) refl (read_same r m (made s) a)
+  visited_same r m Write s a = rests_same r m (made s) a.wrote
   visited_same r m Expire s a =
       if_carried (changed (all_carried h)) (is_due m s.closing) (is_due m s.closing) (closed s) (stays s) (closed (carried h s)) (stays (carried h s)) refl refl refl
 

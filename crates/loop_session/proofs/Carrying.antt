@@ -26,7 +26,7 @@ pub record Carries {E F : Type 0} (settings : Settings) (o : EndOps E) (p : EndO
 -- ---- what is carried
 
 abbrev pub carried : {E F : Type 0} → (E → F) → Session E → Session F
-carried h s = record { number = s.number; end = h s.end; mind = s.mind; told = s.told; output = s.output; broken = s.broken; closing = s.closing }
+carried h s = record { number = s.number; end = h s.end; mind = s.mind; told = s.told; output = s.output; broken = s.broken; closing = s.closing; unmade = s.unmade }
 
 abbrev pub all_carried : {E F : Type 0} → (E → F) → List (Session E) → List (Session F)
 all_carried h [] = []

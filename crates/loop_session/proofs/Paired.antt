@@ -168,7 +168,7 @@ module _ (w : Lower) where
 
 twins : (ss : List (Session Both)) → AreTwins (all_carried kept_in ss) (all_carried model_in ss)
 twins [] = tt
-twins (s ∷ ss) = (record { end = s.end.stands; number = refl; mind = refl; told = refl; output = refl; broken = refl; closing = refl }, twins ss)
+twins (s ∷ ss) = (record { end = s.end.stands; number = refl; mind = refl; told = refl; output = refl; broken = refl; closing = refl; unmade = refl }, twins ss)
 
 both_alike : (x : Out (Course Both)) → AreAlike (changed (course_carried kept_in) x) (changed (course_carried model_in) x)
 both_alike x = record {

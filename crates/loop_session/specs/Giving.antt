@@ -1,5 +1,4 @@
--- Representation: what the code makes of an event at an end: lines, octets that join those that wait, what the user hears; no claim rests
--- on it.
+-- Contract: what the loop makes of an event at an end: lines, octets that join those that wait, what the user hears.
 use Rattle.er_end.specs.KeptEnds.{KEnd, used_of}
 use Rattle.er_end.specs.Shown.{refusal_view}
 use Rattle.loop_session.specs.Keeping.{kept_ends}

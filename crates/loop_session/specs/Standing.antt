@@ -20,6 +20,7 @@ pub record Twins (s : Session KEnd) (t : Session ModelEnd) : Type 0 where
   pub output : s.output ≡ t.output
   pub broken : s.broken ≡ t.broken
   pub closing : s.closing ≡ t.closing
+  pub unmade : s.unmade ≡ t.unmade
 
 -- sessions of both, one by one
 abbrev pub AreTwins : List (Session KEnd) → List (Session ModelEnd) → Type 0

@@ -8,6 +8,7 @@ ghost use Rattle.journal.specs.Tallies.{IsTallyOf};
 ghost use Rattle.loop_session.specs.Parts.{writes_of_entries, OnlyPrints, Puts};
 
 use crate::loop_fault::LoopFault;
+use crate::ranges::see_moment;
 use crate::scratch::Scratch;
 use er_base::{Moment, NoMemory};
 use er_trace::{Entry, Event, print_entry};
@@ -29,9 +30,9 @@ pub fn write_lines<O: Outside>(lines: &[u8], outside: &mut O) -> Result<(), Loop
     }
 }
 
-// Writes the lines of an event, which counts this.
+/// Writes the lines of an event, which counts this.
 #[tactic(auto, using(crate::proofs::Written::some_lines, crate::proofs::Written::all_put, crate::proofs::Written::put_broke))]
-pub(crate) fn record_lines<O: Journal>(
+pub fn record_lines<O: Journal>(
     lines: &[u8],
     tally: &EventTally,
     outside: &mut O,
@@ -59,9 +60,10 @@ pub(crate) fn put(
     ensures text { OnOk result (line.new.items ≡ line.old.items ++ line_text (entry_words moment conn event)) }
     ensures within { moment ≤ 1000000000000000 }
 {
+    see_moment(moment);
     let entry = Entry {
         line: 0,
-        moment: moment.get(),
+        moment,
         conn,
         event,
     };

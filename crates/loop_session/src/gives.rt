@@ -23,23 +23,23 @@ use journal::EventTally;
 use safety_automaton::{KeyFinder, PairKey};
 use trace_lines::tell_effects;
 
-// What came of an event.
+/// What came of an event.
 #[derive(Clone, Copy)]
-pub(crate) struct Came {
-    // How many octets the end used.
-    pub(crate) used: usize,
-    // Why a message wasn't sent, where it wasn't.
-    pub(crate) refused: Option<SendRefused>,
-    // Whether the octets that the end gave joined those that wait.
-    pub(crate) fits: bool,
+pub struct Came {
+    /// How many octets the end used.
+    pub used: usize,
+    /// Why a message wasn't sent, where it wasn't.
+    pub refused: Option<SendRefused>,
+    /// Whether the octets that the end gave joined those that wait.
+    pub fits: bool,
     // What its lines count.
     counts: EventTally,
     // How many frames the station had ignored before it.
     ignored_before: u64,
 }
 
-// How many frames its station ignored so far, of any kind.
-fn ignored_by(end: &End) -> u64 {
+/// How many frames the station of an end ignored so far, of any kind.
+pub fn ignored_by(end: &End) -> u64 {
     let counts = end.counts();
     counts
         .bad_fcs
@@ -50,8 +50,8 @@ fn ignored_by(end: &End) -> u64 {
 }
 
 impl Came {
-    // What its lines count, with the frames that the station ignored in it: the end stands behind it.
-    pub(crate) fn tally(&self, end: &End) -> EventTally
+    /// What its lines count, with the frames that the station ignored in it: the end stands behind it.
+    pub fn tally(&self, end: &End) -> EventTally
         ensures { (lines : List ℕ) → IsTallyOf lines self.now.counts → IsTallyOf lines result }
     {
         self.counts
@@ -59,9 +59,9 @@ impl Came {
     }
 }
 
-// The lines of an event are printed, and the octets that the end gave join those that wait.
+/// The lines of an event are printed, and the octets that the end gave join those that wait. The station had ignored so many frames before it.
 #[tactic(auto, using(crate::proofs::Givings::octets_told, crate::proofs::Givings::refused_told, crate::proofs::Grammars::tells_so))]
-fn conclude(
+pub fn conclude(
     event: &SessionEvent<'_>,
     effects: &Effects<'_>,
     ignored_before: u64,
@@ -111,9 +111,7 @@ impl<U: SafeUser> Session<U> {
     {
         self.broken |= event.breaks();
         let ignored_before = ignored_by(&self.end);
-        let effects = self
-            .end
-            .apply(&None::<PairKey>, moment.get(), &event.at_end());
+        let effects = self.end.apply(&None::<PairKey>, moment, &event.at_end());
         conclude(
             event,
             &effects,
@@ -144,7 +142,7 @@ impl<U: SafeUser> Session<U> {
     {
         self.broken |= event.breaks();
         let ignored_before = ignored_by(&self.end);
-        let effects = self.end.apply(keys, moment.get(), &event.at_end());
+        let effects = self.end.apply(keys, moment, &event.at_end());
         hear(&mut self.user, &effects, &mut scratch.replies);
         conclude(
             event,

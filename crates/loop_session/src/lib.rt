@@ -20,10 +20,11 @@ mod session;
 mod session_event;
 mod when;
 
-pub use event_lines::{write_event, write_lines};
+pub use event_lines::{record_lines, write_event, write_lines};
+pub use gives::{Came, conclude, ignored_by};
 pub use join::MOST_OUTPUT;
 pub use loop_fault::LoopFault;
 pub use scratch::Scratch;
 pub use session::Session;
-pub use session_event::Called;
+pub use session_event::{Called, SessionEvent};
 pub use when::When;

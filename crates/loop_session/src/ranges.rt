@@ -1,14 +1,28 @@
-//! What the types of an event and of what came of it say of them, as facts: all calls but `front` do nothing.
+//! What the types of an event and of what came of it say of them, as facts: no call but `front` does anything.
 
 ghost use Rattle.std.specs.Prelude.{◌≡◌, ◌≤◌, ◌<◌, ◌^◌, length, take, option_map};
 ghost use Rattle.er_base.specs.Octets.{AreOctets};
-ghost use Rattle.er_trace.specs.Ranges.{IsOctet};
+ghost use Rattle.er_trace.specs.Ranges.{IsEtcsNumber, IsOctet};
 ghost use Rattle.er_end_model.specs.Steps.{if_accepted, if_released, if_octets};
 ghost use Rattle.er_end.specs.Given.{if_refused, taking_told, outcomes_of_deeds, outcomes_in};
 ghost use Rattle.loop_model.specs.Grammar.{HaveOctets};
 
-use er_base::Release;
+use er_base::{EtcsNumber, Moment, Release};
 use er_end::{Deeds, Effects, SendRefused, Taking};
+
+/// A moment is at most 10^15 milliseconds.
+pub fn see_moment(moment: Moment)
+    ensures { moment ≤ 1000000000000000 }
+{
+    let _within = moment.get();
+}
+
+/// An ETCS number is below 2^24.
+pub fn see_number(number: EtcsNumber)
+    ensures { IsEtcsNumber number }
+{
+    let _within = number.get();
+}
 
 /// A word has 64 bits.
 pub fn see_word(word: u64)

@@ -3,9 +3,9 @@
 ghost use Rattle.std.specs.Prelude.{◌≡◌, ◌≤◌, drop, length, true, IfOk};
 ghost use Rattle.er_end_model.specs.Steps.{earlier_of_moments as first_moment};
 ghost use Rattle.er_end.specs.KeptEnds.{deadline_of};
-ghost use Rattle.loop_model.specs.Sessions.{is_released};
+ghost use Rattle.loop_model.specs.Sessions.{is_released, owes_nothing, made};
 ghost use Rattle.loop_model.specs.Visits.{wakes};
-ghost use Rattle.loop_model.specs.Loops.{begun};
+ghost use Rattle.loop_model.specs.Loops.{begun, begun_dial};
 ghost use Rattle.loop_session.specs.Keeping.{kept_ends};
 
 use crate::gone::Gone;
@@ -25,6 +25,8 @@ pub struct Session<U: SafeUser> {
     pub(crate) output: BytesMut,
     pub(crate) broken: bool,
     pub(crate) closing: Option<u64>,
+    // It was dialled, and the wires didn't tell of it yet.
+    pub(crate) unmade: bool,
     // On the heap: eight thousand octets, which would be copied each time that a session is moved.
     pub(crate) end: Box<End>,
 }
@@ -37,7 +39,7 @@ impl<U: SafeUser> Model for Session<U> {
 
     ghost Value = { LoopSession KEnd };
 
-    ghost view = { λ s. record { number = s.number; end = s.end.value; mind = option_map U.mind s.user; told = told_then (option_map (λ g. U.mind g.user) s.gone); output = s.output.items; broken = s.broken; closing = s.closing } };
+    ghost view = { λ s. record { number = s.number; end = s.end.value; mind = option_map U.mind s.user; told = told_then (option_map (λ g. U.mind g.user) s.gone); output = s.output.items; broken = s.broken; closing = s.closing; unmade = s.unmade } };
 }
 
 // The first of two moments.
@@ -65,8 +67,18 @@ impl<U: SafeUser> Session<U> {
             output: BytesMut::new(alloc),
             broken: false,
             closing: None,
+            unmade: false,
             end,
         }
+    }
+
+    /// The session of a connection that was dialled, and of which the wires told nothing yet.
+    pub fn begin_dial(alloc: Global, number: u64, end: Box<End>, user: U) -> Session<U>
+        ensures { result ≡ begun_dial number end.value (U.mind user) }
+    {
+        let mut session = Session::begin(alloc, number, end, user);
+        session.unmade = true;
+        session
     }
 
     /// Its end, where it stands: the session is over.
@@ -102,6 +114,26 @@ impl<U: SafeUser> Session<U> {
         ensures { result ≡ is_released kept_ends self.now }
     {
         self.end.released().is_some()
+    }
+
+    /// Whether its end was released and nothing is owed to its peer: nothing waits to be written, or its connection was never made.
+    pub fn owes_nothing(&self) -> bool
+        ensures { result ≡ owes_nothing kept_ends self.now }
+    {
+        if !self.is_released() {
+            return false;
+        }
+        if self.output.is_empty() {
+            return true;
+        }
+        self.unmade
+    }
+
+    /// The wires told of its connection.
+    pub fn note_made(&mut self)
+        ensures { self.new ≡ made self.old }
+    {
+        self.unmade = false;
     }
 
     /// The moment at which its end wants a tick.

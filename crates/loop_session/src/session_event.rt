@@ -12,7 +12,7 @@ ghost use Rattle.loop_session.specs.Giving.{event_given_to_session, HasFewOctets
 ghost use Rattle.loop_session.specs.Keeping.{kept_ends};
 
 use crate::event_lines::put;
-use crate::ranges::{front, see_octet, see_octets, see_word};
+use crate::ranges::{front, see_moment, see_number, see_octet, see_octets, see_word};
 use er_base::{EtcsNumber, Moment, NoMemory};
 use er_end::{Effects, Event};
 use er_trace::{Event as LineEvent, print_octets, print_send};
@@ -29,32 +29,32 @@ pub struct Called {
     pub rb: u64,
 }
 
-// What is given to the end of a session.
+/// What is given to the end of a session.
 #[derive(Clone, Copy)]
-pub(crate) enum SessionEvent<'a> {
-    // The end of an engine begins: its station sends the set-up frame.
+pub enum SessionEvent<'a> {
+    /// The end of an engine begins: its station sends the set-up frame.
     Call(&'a Called),
-    // Octets come, and the end uses them up to the first closed frame.
+    /// Octets come, and the end uses them up to the first closed frame.
     Octets(&'a [u8]),
-    // The user sends a message.
+    /// The user sends a message.
     Send(&'a [u8]),
-    // The user takes the oldest message that waits.
+    /// The user takes the oldest message that waits.
     Take,
-    // The user releases, with this sub-reason.
+    /// The user releases, with this sub-reason.
     Release(u8),
-    // A moment has come.
+    /// A moment has come.
     Tick,
-    // The line ended.
+    /// The line ended.
     Ended,
-    // The line failed.
+    /// The line failed.
     Fault,
-    // The line stalled.
+    /// The line stalled.
     Stalled,
 }
 
 impl<'a> SessionEvent<'a> {
-    // As the end takes it.
-    pub(crate) fn at_end(&self) -> Event<'a>
+    /// As the end takes it.
+    pub fn at_end(&self) -> Event<'a>
         ensures event { (r : Rules) → model_event_of (key_at r.keys) result ≡ event_of r (event_given_to_session self.now) }
         ensures used { (k : KEnd) → used_by k result ≡ used_in k (event_given_to_session self.now) }
     {
@@ -71,8 +71,8 @@ impl<'a> SessionEvent<'a> {
         }
     }
 
-    // Whether the connection is to be closed behind it.
-    pub(crate) fn breaks(&self) -> bool
+    /// Whether the connection is to be closed behind it.
+    pub fn breaks(&self) -> bool
         ensures { result ≡ breaks (event_given_to_session self.now) }
     {
         matches!(
@@ -137,21 +137,23 @@ impl<'a> SessionEvent<'a> {
         ensures readable { (k : KEnd) → used ≡ used_in k (event_given_to_session self.now)
             → IsReadableEntry (record { line = 0; moment = moment; conn = conn; event = journal_event_of_given kept_ends k (event_given_to_session self.now) }) }
     {
-        let at = moment.get();
+        see_moment(moment);
         match *self {
             SessionEvent::Call(call) => {
+                see_number(call.engine);
+                see_number(call.rbc);
                 see_word(call.rb);
                 let event = LineEvent::Call {
-                    engine: call.engine.get(),
-                    rbc: call.rbc.get(),
+                    engine: call.engine,
+                    rbc: call.rbc,
                     rb: call.rb,
                 };
                 put(moment, conn, event, line)
             }
-            SessionEvent::Octets(octets) => print_octets(at, conn, front(octets, used), line),
+            SessionEvent::Octets(octets) => print_octets(moment, conn, front(octets, used), line),
             SessionEvent::Send(text) => {
                 see_octets(text);
-                print_send(at, conn, text, line)
+                print_send(moment, conn, text, line)
             }
             SessionEvent::Take => put(moment, conn, LineEvent::Take, line),
             SessionEvent::Release(sub) => {

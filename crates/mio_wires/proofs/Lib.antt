@@ -1,2 +1,3 @@
 pub mod AllTold
+pub mod Attaching
 pub mod Rising

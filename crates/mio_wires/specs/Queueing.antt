@@ -13,6 +13,7 @@ pub data Act : Type 0 where
 -- whether a happening is of the connection of this number
 abbrev pub is_seen_at : ℕ → Seen → Bool
 is_seen_at number seen.Listener = false
+is_seen_at number seen.Door = false
 is_seen_at number (seen.Readable at) = at == number
 is_seen_at number (seen.Writable at) = at == number
 

@@ -31,8 +31,9 @@ HasSlot places number slot = (place : Place) × Contains places place × (place.
 abbrev pub IsClosed : List Place → ℕ → Type 0
 IsClosed places number = All (λ place. place.number ≢ number) places
 
--- a happening is the listener's, or of a connection that is open
+-- a happening is the listener's, of where the application comes, or of a connection that is open
 abbrev pub IsOfOpen : List Place → Seen → Type 0
 IsOfOpen places seen.Listener = Unit {0}
+IsOfOpen places seen.Door = Unit {0}
 IsOfOpen places (seen.Readable number) = IsConnectionOpen places number
 IsOfOpen places (seen.Writable number) = IsConnectionOpen places number

@@ -7,6 +7,10 @@ use std::{fmt, io};
 pub enum WireFault {
     /// The text is no IP address and port.
     NoAddress,
+    /// The application's file name has no octet, or more than 107.
+    NoFileName,
+    /// A file that is no socket stands at the application's file name.
+    OtherFile,
     /// As many connections are open as can be, or all numbers are used.
     Full,
     /// The system refused it.
@@ -23,6 +27,8 @@ impl fmt::Display for WireFault {
     fn fmt<W: fmt::Write>(&self, f: &mut fmt::Formatter<W>) -> fmt::Result {
         match self {
             WireFault::NoAddress => f.write_str("no IP address and port"),
+            WireFault::NoFileName => f.write_str("no file name of 1 to 107 octets"),
+            WireFault::OtherFile => f.write_str("a file that is no socket stands there"),
             WireFault::Full => f.write_str("no further connection can be open"),
             WireFault::System(error) => error.fmt(f),
         }

@@ -11,15 +11,16 @@ ghost use Rattle.mio_wires.specs.Awaiting.{LeavesNothing, AwaitsRoom};
 
 use crate::leavers::Leavers;
 use crate::queue::{Queue, Seen};
+use crate::stream::Stream;
 use er_base::NoMemory;
 use mio::event::Event;
-use mio::net::TcpStream;
+use mio::net::{TcpStream, UnixStream};
 use mio::{Events, Token};
 use slab::Slab;
 use std::alloc::Global;
 use std::io;
-use std::io::{ErrorKind, Read, Write};
-use std::net::{Shutdown, SocketAddr};
+use std::io::ErrorKind;
+use std::net::SocketAddr;
 
 /// The most connections that are open at once: 256 that are live, and one that is accepted to be closed.
 pub const MOST_CONNECTIONS: usize = 257;
@@ -27,13 +28,19 @@ pub const MOST_CONNECTIONS: usize = 257;
 /// The same where each of the 256 has another one dialled for it.
 pub const MOST_PAIRED: usize = 2 * 256 + 1;
 
+// The application, which is beside the most of connections: theirs begin at 1.
+pub const APPLICATION: u64 = 0;
+
 // The most connections that leave at once.
 pub const MOST_LEAVING: usize = 256;
 
-// Each connection has a slot, below this, which is its token.
-const SLOTS: usize = MOST_PAIRED + MOST_LEAVING;
+// Each connection has a slot, below this, which is its token, and so has the application.
+const SLOTS: usize = MOST_PAIRED + MOST_LEAVING + 1;
 
 pub const LISTENER: Token = Token(SLOTS);
+
+// Where the application comes.
+pub const DOOR: Token = Token(SLOTS + 1);
 
 // How many octets are read away from one that leaves.
 const MOST_READ_AWAY: usize = 262_144;
@@ -55,7 +62,7 @@ pub enum Start {
 #[derive(Drop)]
 pub struct Line {
     number: u64,
-    stream: TcpStream,
+    stream: Stream,
     is_dead: bool,
     is_readable: bool,
     is_writable: bool,
@@ -69,7 +76,7 @@ impl Line {
     // Says that no more is sent, where the peer may have more to say, and whether it may. Else closing the socket says it.
     fn shuts(&mut self) -> bool {
         self.left = Some(MOST_READ_AWAY);
-        !self.is_dead && !self.has_ended() && self.stream.shutdown(Shutdown::Write).is_ok()
+        !self.is_dead && !self.has_ended() && self.stream.shuts()
     }
 
     // Reads, and writes.
@@ -80,8 +87,7 @@ impl Line {
         if self.is_dead {
             return Err(gone());
         }
-        let mut stream = &self.stream;
-        stream.read(into)
+        self.stream.read(into)
     }
 
     fn write(&self, piece: &[u8]) -> io::Result<usize>
@@ -90,8 +96,7 @@ impl Line {
         if self.is_dead {
             return Err(gone());
         }
-        let mut stream = &self.stream;
-        stream.write(piece)
+        self.stream.write(piece)
     }
 
     // Reads away what waits, and whether this is the end: the peer has closed, the connection failed, or too much came.
@@ -128,30 +133,41 @@ pub struct Lines {
     // The most connections that are open at once.
     most: usize,
     slots: Slab<Line>,
-    // The open connections by their numbers, which rise: the newest stands last.
+    // The open connections by their numbers, which rise: the application stands first, and the newest last.
     places: Vec<Place>,
     leaving: Leavers,
     queue: Queue,
 }
 
 impl Lines {
-    // No connection, with the memory for all that can be: at most so many that are open, and those that leave. In the queue stand a listener, and two
-    // happenings a connection.
+    // No connection, with the memory for all that can be: at most so many that are open, the application, and those that leave. In the queue stand the two
+    // where peers and the application come, and two happenings a connection.
     pub fn new(alloc: Global, most: usize) -> Result<Lines, NoMemory>
         requires { most ≤ 513 }
     {
         Ok(Lines {
             most,
-            slots: Slab::with_capacity(alloc, most + MOST_LEAVING)?,
-            places: Vec::with_capacity(alloc, most)?,
+            slots: Slab::with_capacity(alloc, most + 1 + MOST_LEAVING)?,
+            places: Vec::with_capacity(alloc, most + 1)?,
             leaving: Leavers::with_capacity(alloc, MOST_LEAVING)?,
-            queue: Queue::with_capacity(alloc, 2 * most + 1)?,
+            queue: Queue::with_capacity(alloc, 2 * (most + 1) + 2)?,
         })
     }
 
-    // Whether as many connections are open as can be.
+    // Whether as many connections are open as can be. The application is none of them.
     pub fn is_full(&self) -> bool {
-        self.places.len() >= self.most
+        let connections = self
+            .places
+            .len()
+            .saturating_sub(usize::from(self.is_attached()));
+        connections >= self.most
+    }
+
+    // Whether the application is there.
+    pub fn is_attached(&self) -> bool
+        ensures { result ≡ true → IsConnectionOpen self.now.places.items 0 }
+    {
+        self.slot_of(APPLICATION).is_some()
     }
 
     // Whether no happening stands in the queue.
@@ -179,7 +195,7 @@ impl Lines {
         let is_dead = start == Start::Dead;
         let line = Line {
             number,
-            stream,
+            stream: Stream::Tcp(stream),
             is_dead,
             is_readable: is_dead,
             is_writable: false,
@@ -195,6 +211,30 @@ impl Lines {
         self.places.push(Place { number, slot }).is_ok()
     }
 
+    // Keeps the application's socket, under a number that is below all others. False where there is no memory for it.
+    pub fn attach(&mut self, stream: UnixStream) -> bool
+        ensures open { result ≡ true → IsConnectionOpen self.new.places.items 0 }
+        ensures queue { self.new.queue ≡ self.old.queue }
+    {
+        let line = Line {
+            number: APPLICATION,
+            stream: Stream::Unix(stream),
+            is_dead: false,
+            is_readable: false,
+            is_writable: false,
+            awaits_room: false,
+            left: None,
+        };
+        let Ok(slot) = self.slots.insert(line) else {
+            return false;
+        };
+        let place = Place {
+            number: APPLICATION,
+            slot,
+        };
+        self.places.insert(0, place).is_ok()
+    }
+
     // The listener is to be tried.
     pub fn try_listener(&mut self)
         ensures stands { HasRoomForHappening self.old.queue → StandsIn self.new.queue Seen.Listener }
@@ -204,6 +244,16 @@ impl Lines {
         self.queue.add_listener();
     }
 
+    // It is to be tried whether the application comes.
+    pub fn try_door(&mut self)
+        ensures stands { HasRoomForHappening self.old.queue → StandsIn self.new.queue Seen.Door }
+        ensures order { HasRoomForHappening self.old.queue → IsAdded self.old.queue.seen.items Seen.Door self.new.queue.seen.items }
+        ensures stay { (what : Seen) → StandsIn self.old.queue what → StandsIn self.new.queue what }
+        ensures places { self.new.places ≡ self.old.places }
+    {
+        self.queue.add(Seen::Door, true);
+    }
+
     // All that the system tells of the listener and of connections.
     pub fn hear_all(&mut self, events: &Events)
         ensures { self.new.places ≡ self.old.places }
@@ -211,6 +261,8 @@ impl Lines {
         for event in events.iter() {
             if event.token() == LISTENER {
                 self.try_listener();
+            } else if event.token() == DOOR {
+                self.try_door();
             } else {
                 self.hear(event);
             }
@@ -292,7 +344,7 @@ impl Lines {
     {
         let seen = self.queue.next()?;
         match seen {
-            Seen::Listener => Some(seen),
+            Seen::Listener | Seen::Door => Some(seen),
             Seen::Readable(number) => {
                 let slot = self.slot_of(number)?;
                 self.slots.get_mut(slot)?.is_readable = false;
@@ -308,7 +360,7 @@ impl Lines {
 
     // The address of the peer of the connection of this number.
     pub fn peer(&self, number: u64) -> Option<SocketAddr> {
-        self.line_of(number)?.1.stream.peer_addr().ok()
+        self.line_of(number)?.1.stream.peer()
     }
 
     // Reads from the connection of this number.

@@ -9,10 +9,11 @@ use er_base::NoMemory;
 use std::alloc::Global;
 use std::collections::VecDeque;
 
-// What happened and wasn't answered yet: at the listener, or at the connection of this number.
+// What happened and wasn't answered yet: at the listener, where the application comes, or at the connection of this number.
 #[derive(Clone, Copy, Debug, PartialEq, Eq)]
 pub enum Seen {
     Listener,
+    Door,
     Readable(u64),
     Writable(u64),
 }
@@ -23,7 +24,7 @@ impl Seen {
         ensures { result ≡ is_seen_at number self }
     {
         match self {
-            Seen::Listener => false,
+            Seen::Listener | Seen::Door => false,
             Seen::Readable(at) | Seen::Writable(at) => at == number,
         }
     }
@@ -73,6 +74,7 @@ impl Queue {
     pub fn add(&mut self, seen: Seen, may_stand: bool)
         ensures stands { HasRoomForHappening self.old → StandsIn self.new seen }
         ensures order { HasRoomForHappening self.old → IsAdded self.old.seen.items seen self.new.seen.items }
+        ensures stay { (what : Seen) → StandsIn self.old what → StandsIn self.new what }
     {
         if may_stand && self.stands(seen) {
             return;

@@ -3,23 +3,26 @@
 ghost use Rattle.std.specs.Prelude.{◌≡◌, ◌<◌, ◌≤◌, ◌+◌, ◌⊎◌, ℕ, [], length, IfOk, IfSome, IsSome, IsSomeAnd, true, false};
 ghost use Rattle.std.specs.Duration.{as_nanos};
 ghost use Rattle.std.specs.IoError.{error_kind};
-ghost use Rattle.mio_wires.specs.Standing.{HasRoomForHappening, StandsIn, IsClosed, count};
+ghost use Rattle.mio_wires.specs.Standing.{HasRoomForHappening, StandsIn, IsConnectionOpen, IsClosed, count};
 ghost use Rattle.mio_wires.specs.Awaiting.{AwaitsRoom};
 ghost use Rattle.mio_wires.specs.Leaving.{first_until};
 ghost use Rattle.mio_wires.specs.Moments.{wires_moment};
 ghost use Rattle.mio_wires.specs.Waiting.{WaitsUntil, earlier};
 
 use crate::accepting::accept;
+use crate::door::Door;
 use crate::faults::WireFault;
-use crate::lines::{LISTENER, Lines, MOST_LEAVING, Start};
+use crate::lines::{DOOR, LISTENER, Lines, MOST_LEAVING, Start};
 use crate::moments::Moments;
 use crate::options::set_for_frames;
 use crate::queue::Seen;
 use er_base::NoMemory;
 use link_trait::{ReadAnswer, WriteAnswer};
-use mio::net::{TcpListener, TcpStream};
+use mio::event::Source;
+use mio::net::{TcpListener, TcpStream, UnixStream};
 use mio::{Events, Interest, Poll, Token};
 use std::alloc::Global;
+use std::fs::Files;
 use std::io;
 use std::io::{ErrorKind, Read, Write};
 use std::net::{Net, SocketAddr};
@@ -42,12 +45,18 @@ const MOST_HEARD: u32 = 1_000_000;
 // ENONET, EPROTO, ENOPROTOOPT, EOPNOTSUPP, ENETDOWN, ENETUNREACH, ECONNABORTED, EHOSTDOWN, EHOSTUNREACH.
 const OF_CONNECTION: [i32; 9] = [64, 71, 92, 95, 100, 101, 103, 112, 113];
 
+// What an address begins with that is the application's: its file name follows.
+const OF_APPLICATION: &str = "unix:";
+
 #[derive(Drop)]
-pub struct Sockets<R: Net + Clock + Drop> {
+pub struct Sockets<R: Net + Clock + Files + Drop> {
     rt: R,
     poll: io::Result<Poll>,
     events: Events,
     listener: Option<TcpListener>,
+    // Where the application comes, and whether one may.
+    door: Option<Door>,
+    has_door: bool,
     lines: Lines,
     // Whether peers may wait at the listener until a connection is closed.
     is_held_back: bool,
@@ -60,9 +69,9 @@ pub struct Sockets<R: Net + Clock + Drop> {
     moments: Moments,
 }
 
-impl<R: Net + Clock + Drop> Sockets<R> {
-    // No socket yet, with the memory for all that can be opened, at most so many at once.
-    pub fn new(alloc: Global, rt: R, most: usize) -> Result<Sockets<R>, NoMemory>
+impl<R: Net + Clock + Files + Drop> Sockets<R> {
+    // No socket yet, with the memory for all that can be opened, at most so many at once, and whether an application may come.
+    pub fn new(alloc: Global, rt: R, most: usize, has_door: bool) -> Result<Sockets<R>, NoMemory>
         requires { most ≤ 513 }
     {
         let poll = Poll::new(&rt);
@@ -70,8 +79,10 @@ impl<R: Net + Clock + Drop> Sockets<R> {
         Ok(Sockets {
             rt,
             poll,
-            events: Events::with_capacity(alloc, most + MOST_LEAVING + 1)?,
+            events: Events::with_capacity(alloc, most + MOST_LEAVING + 3)?,
             listener: None,
+            door: None,
+            has_door,
             lines: Lines::new(alloc, most)?,
             is_held_back: false,
             again_at: None,
@@ -86,8 +97,16 @@ impl<R: Net + Clock + Drop> Sockets<R> {
         self.moments = Moments::from(&self.rt, now);
     }
 
-    // Listens at an IP address and a port. The connections that are accepted are set as the listener is.
+    // Listens for peers, or for the application.
     pub fn listen(&mut self, address: &str) -> Result<(), WireFault> {
+        match address.strip_prefix(OF_APPLICATION) {
+            Some(name) if self.has_door => self.listen_for_application(name),
+            _ => self.listen_for_peers(address),
+        }
+    }
+
+    // Listens at an IP address and a port. The connections that are accepted are set as the listener is.
+    fn listen_for_peers(&mut self, address: &str) -> Result<(), WireFault> {
         let poll = made(&self.poll)?;
         let Ok(address) = address.parse::<SocketAddr>() else {
             return Err(WireFault::NoAddress);
@@ -98,6 +117,77 @@ impl<R: Net + Clock + Drop> Sockets<R> {
             .register(&mut listener, LISTENER, Interest::READABLE)?;
         self.listener = Some(listener);
         Ok(())
+    }
+
+    // Listens at a file name. One at which it listened before is gone then.
+    fn listen_for_application(&mut self, name: &str) -> Result<(), WireFault> {
+        let poll = made(&self.poll)?;
+        let mut door = Door::open(&self.rt, name)?;
+        let registered = poll
+            .registry()
+            .register(&mut door.listener, DOOR, Interest::READABLE);
+        if let Err(error) = registered {
+            door.remove(&self.rt);
+            return Err(error.into());
+        }
+        self.remove_door();
+        self.door = Some(door);
+        Ok(())
+    }
+
+    // No application comes any more, and the file is gone.
+    fn remove_door(&mut self)
+        ensures { self.new.lines ≡ self.old.lines }
+    {
+        if let Some(door) = self.door.take() {
+            door.remove(&self.rt);
+        }
+    }
+
+    // Accepts the application, where one waits, and whether it came. While another one is there it is closed at once.
+    pub fn attach(&mut self) -> bool
+        ensures { result ≡ true → IsConnectionOpen self.new.lines.places.items 0 }
+    {
+        let Some(door) = &self.door else {
+            return false;
+        };
+        match door.accept() {
+            Ok(stream) => {
+                // More may wait.
+                self.lines.try_door();
+                self.keep_application(stream)
+            }
+            Err(error) => {
+                self.put_door_off(&error);
+                false
+            }
+        }
+    }
+
+    // Keeps the application's socket, where no other one is kept.
+    fn keep_application(&mut self, stream: UnixStream) -> bool
+        ensures open { result ≡ true → IsConnectionOpen self.new.lines.places.items 0 }
+        ensures queue { self.new.lines.queue ≡ self.old.lines.queue }
+    {
+        let mut stream = stream;
+        if self.lines.is_attached() {
+            return false;
+        }
+        if self.register(&mut stream).is_err() {
+            return false;
+        }
+        self.lines.attach(stream)
+    }
+
+    // Sees to it that an application that couldn't be accepted is accepted later.
+    fn put_door_off(&mut self, error: &io::Error)
+        ensures again { (error_kind error.now ≡ ErrorKind.WouldBlock) ⊎ IsSome self.new.again_at }
+        ensures lines { self.new.lines ≡ self.old.lines }
+    {
+        if error.kind() != ErrorKind::WouldBlock {
+            let again_at = self.now().saturating_add(ACCEPT_AGAIN);
+            self.again_at = earlier(self.again_at, Some(again_at));
+        }
     }
 
     // Where it listens.
@@ -190,7 +280,7 @@ impl<R: Net + Clock + Drop> Sockets<R> {
     }
 
     // Has the socket reported under the slot that it gets.
-    fn register(&self, stream: &mut TcpStream) -> Result<(), WireFault> {
+    fn register<S: Source>(&self, stream: &mut S) -> Result<(), WireFault> {
         let token = Token(self.lines.next_slot());
         made(&self.poll)?
             .registry()
@@ -263,6 +353,18 @@ impl<R: Net + Clock + Drop> Sockets<R> {
         Ok(())
     }
 
+    // Who waits to be accepted is tried again.
+    fn try_again(&mut self)
+        ensures stands { HasRoomForHappening self.old.lines.queue → StandsIn self.new.lines.queue Seen.Listener }
+        ensures places { self.new.lines.places ≡ self.old.lines.places }
+    {
+        self.again_at = None;
+        self.lines.try_listener();
+        if self.door.is_some() {
+            self.lines.try_door();
+        }
+    }
+
     // What comes by time: the listener is tried again, and connections that leave have to be gone.
     fn do_what_is_due(&mut self)
         ensures { self.new.lines.places ≡ self.old.lines.places }
@@ -272,8 +374,7 @@ impl<R: Net + Clock + Drop> Sockets<R> {
         }
         let now = self.now();
         if self.again_at.is_some_and(|at| at <= now) {
-            self.again_at = None;
-            self.lines.try_listener();
+            self.try_again();
         }
         self.lines.let_go_by(now);
     }
@@ -329,8 +430,7 @@ impl<R: Net + Clock + Drop> Sockets<R> {
         self.lines.close(number, now);
         if self.is_held_back || self.again_at.is_some() {
             self.is_held_back = false;
-            self.again_at = None;
-            self.lines.try_listener();
+            self.try_again();
         }
     }
 
@@ -341,6 +441,7 @@ impl<R: Net + Clock + Drop> Sockets<R> {
         let begun = self.now();
         let last = begun.saturating_add(most);
         self.listener = None;
+        self.remove_door();
         self.lines.close_all(begun);
         for _ in 0..MOST_HEARD {
             let left = last.saturating_sub(self.now());

@@ -6,12 +6,13 @@ ghost use Rattle.mio_wires.specs.Counting.{unused};
 ghost use Rattle.mio_wires.specs.Telling.{told_as_happening};
 
 use crate::faults::WireFault;
-use crate::lines::{MOST_CONNECTIONS, MOST_PAIRED};
+use crate::lines::{APPLICATION, MOST_CONNECTIONS, MOST_PAIRED};
 use crate::queue::Seen;
 use crate::sockets::Sockets;
 use er_base::NoMemory;
 use link_trait::{Conn, Failed, Happening, ReadAnswer, Wires, WriteAnswer};
 use std::alloc::Global;
+use std::fs::Files;
 use std::marker::Model;
 use std::net::{Net, SocketAddr};
 use std::rt::Clock;
@@ -22,7 +23,7 @@ use std::rt::Clock;
 /// looked up. What happened stands in a queue, each happening once, and a turn answers the first. Where none stands there it
 /// polls before, until the given moment; where one does it polls only behind sixteen answers and behind an accepted
 /// connection, and doesn't wait. At most 257 connections are open at once, 513 where they are [`paired`](MioWires::paired): while
-/// they are, nothing is accepted, and a dial fails. Only the two calls that make it take memory.
+/// they are, nothing is accepted, and a dial fails. Only the calls that make it take memory.
 ///
 /// A connection is writable once it was dialled and is made, and once there is room behind a write that took less than the
 /// whole piece. Other room isn't told.
@@ -34,9 +35,14 @@ use std::rt::Clock;
 /// arrives: until its peer has closed too, at most 40 seconds, and at most 262,144 octets. A turn may be Quiet before its
 /// moment.
 ///
+/// Wires that are made [`with_application`](MioWires::with_application) listen at `unix:` and a file name, too, for the application of a loop, which is
+/// connection 0 and none of those that are counted. Where one comes, it is accepted and told as writable; behind that it is as any other connection, but that
+/// it is closed at once where it is closed, with all that was written to it. While one is there, another that comes is closed at once. The file has the mode
+/// 0600. What is left at its name by a process that is gone is replaced; any other file there, or one at which somebody listens, is a listen that fails.
+///
 /// It tells nothing of its calls and of what a socket holds. It never answers Ended.
 #[derive(Drop)]
-pub struct MioWires<R: Net + Clock + Drop> {
+pub struct MioWires<R: Net + Clock + Files + Drop> {
     sockets: Sockets<R>,
     opened: u64,
     listening: bool,
@@ -45,7 +51,7 @@ pub struct MioWires<R: Net + Clock + Drop> {
     fault: Option<WireFault>,
 }
 
-impl<R: Net + Clock + Drop> Model for MioWires<R> {
+impl<R: Net + Clock + Files + Drop> Model for MioWires<R> {
     ghost use Rattle.std.specs.Prelude.{◌≤◌, ◌-◌, ◌^◌};
     ghost use Rattle.mio_wires.specs.Counting.{Counting};
 
@@ -56,30 +62,37 @@ impl<R: Net + Clock + Drop> Model for MioWires<R> {
     ghost invariant = { λ w. (w.faults ≤ 2 ^ 64 - 1) × (w.turn_faults ≤ 2 ^ 64 - 1) };
 }
 
-impl<R: Net + Clock + Drop> MioWires<R> {
+impl<R: Net + Clock + Files + Drop> MioWires<R> {
     /// Wires without a connection.
     ///
     /// Where the system refuses what tells of happenings, each listen, dial and turn fails.
     pub fn new(alloc: Global, rt: R) -> Result<MioWires<R>, NoMemory>
         ensures { IfOk result (λ wires. wires ≡ unused) }
     {
-        MioWires::with_most(alloc, rt, MOST_CONNECTIONS)
+        MioWires::with_most(alloc, rt, MOST_CONNECTIONS, false)
     }
 
     /// The same where each connection that is accepted has another one dialled for it: at most 513 are open at once.
     pub fn paired(alloc: Global, rt: R) -> Result<MioWires<R>, NoMemory>
         ensures { IfOk result (λ wires. wires ≡ unused) }
     {
-        MioWires::with_most(alloc, rt, MOST_PAIRED)
+        MioWires::with_most(alloc, rt, MOST_PAIRED, false)
     }
 
-    // Wires without a connection, of which at most so many are open at once.
-    fn with_most(alloc: Global, rt: R, most: usize) -> Result<MioWires<R>, NoMemory>
+    /// The same as new ones, over which an application may come, too.
+    pub fn with_application(alloc: Global, rt: R) -> Result<MioWires<R>, NoMemory>
+        ensures { IfOk result (λ wires. wires ≡ unused) }
+    {
+        MioWires::with_most(alloc, rt, MOST_CONNECTIONS, true)
+    }
+
+    // Wires without a connection, of which at most so many are open at once, and whether an application may come.
+    fn with_most(alloc: Global, rt: R, most: usize, has_door: bool) -> Result<MioWires<R>, NoMemory>
         requires { most ≤ 513 }
         ensures { IfOk result (λ wires. wires ≡ unused) }
     {
         Ok(MioWires {
-            sockets: Sockets::new(alloc, rt, most)?,
+            sockets: Sockets::new(alloc, rt, most, has_door)?,
             opened: 0,
             listening: false,
             faults: 0,
@@ -113,7 +126,7 @@ impl<R: Net + Clock + Drop> MioWires<R> {
         self.fault
     }
 
-    /// Closes each connection, and waits at most so many milliseconds until the peers of all that were closed have closed
+    /// Closes each connection, removes the application's file, and waits at most so many milliseconds until the peers of all that were closed have closed
     /// too: for the end of a program, so that what was said last arrives. Nothing is to be asked of the wires behind it.
     pub fn finish(&mut self, most: u64)
         ensures { self.new ≡ self.old }
@@ -130,13 +143,13 @@ fn told_as(seen: Seen) -> Happening
     ensures opened { (n : ℕ) → opened_by_turn result n ≡ n }
 {
     match seen {
-        Seen::Listener => Happening::Quiet,
+        Seen::Listener | Seen::Door => Happening::Quiet,
         Seen::Readable(number) => Happening::Readable(Conn(number)),
         Seen::Writable(number) => Happening::Writable(Conn(number)),
     }
 }
 
-impl<R: Net + Clock + Drop> Wires for MioWires<R> {
+impl<R: Net + Clock + Files + Drop> Wires for MioWires<R> {
     ghost state = { λ w. record {
       calls = None;
       lines = None;
@@ -185,6 +198,13 @@ impl<R: Net + Clock + Drop> Wires for MioWires<R> {
                 }
                 None => Happening::Quiet,
             },
+            Ok(Some(Seen::Door)) => {
+                if self.sockets.attach() {
+                    Happening::Writable(Conn(APPLICATION))
+                } else {
+                    Happening::Quiet
+                }
+            }
             Ok(Some(seen)) => told_as(seen),
             Ok(None) => Happening::Quiet,
             Err(fault) => {

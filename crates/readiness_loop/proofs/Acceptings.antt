@@ -1,7 +1,7 @@
 -- A connection that was accepted gets a session, or is turned away; and what is handled whole behind a turn.
 use Rattle.er_end.specs.KeptEnds.{KEnd}
 use Rattle.loop_session.specs.Keeping.{kept_ends}
-use Rattle.std.proofs.Common.{◌≡◌, ℕ, ◌-◌, ◌^◌, ◌<◌, ◌≤◌, nat_lt, true, false, List, [], ◌∷◌, ◌++◌, Option, Some, None, Result, Ok, Err, OnOk, length, take, zero, suc, slice_get, refl, sym, ◌∙◌, ap, subst, arith, append-nil, length-append}
+use Rattle.std.proofs.Common.{◌≡◌, ℕ, ◌-◌, ◌^◌, ◌<◌, ◌≤◌, nat_lt, Bool, true, false, List, [], ◌∷◌, ◌++◌, Option, Some, None, Result, Ok, Err, OnOk, length, map, take, zero, suc, slice_get, refl, sym, ◌∙◌, ap, subst, arith, length-append}
 use Rattle.std.proofs.lemmas.Bool.Decides.{nat_tests}
 use Rattle.rand_core.specs.Stream.{Stream, next_u64}
 use Rattle.slab.specs.Slab.{Slab, get}
@@ -20,40 +20,28 @@ use Rattle.loop_model.specs.Journals.{JournalEntry}
 use Rattle.loop_model.specs.Deeds.{LoopDeed, Printing, Calling}
 use Rattle.loop_model.specs.Outs.{Out, prints, makes}
 use Rattle.loop_model.specs.Sessions.{Session}
-use Rattle.loop_model.specs.Loops.{Plan, Loop, plain_event, turned_away, next_user, other_users, answered_by, accepted}
+use Rattle.loop_model.specs.Loops.{Plan, Loop, plain_event, turned_away, next_user, other_users, one_word_less, answered_by, accepted}
 use Rattle.loop_session.specs.Parts.{writes_of_entries, Breaks, Puts}
 use Rattle.loop_session.specs.declared.loop_fault.LoopFault.{LoopFault}
 use Rattle.loop_session.specs.declared.loop_fault.LoopFault.TheVariants.{NoMemory}
-use Rattle.loop_io.specs.Acting.{Acted, BreaksAt}
+use Rattle.loop_io.specs.Acting.{Acted, BreaksAt, DoesLoopPart}
 use Rattle.loop_io.specs.Seeing.{Seen, seen}
 use Rattle.loop_io.specs.Sequels.{acted_next, acted_prints, acted_makes, breaks_lines}
 use Rattle.readiness_loop.specs.Books.{seat, seats, sessions, sessions_at, IsSeat, AreSeated}
 use Rattle.std.specs.BTreeMap.{BTreeMap}
-use Rattle.readiness_loop.specs.Courses.{Acts, answer_event, answering_session, loop_of}
-use Rattle.readiness_loop.proofs.Quiets.{drew_word, acts_behind_drawn}
+use Rattle.readiness_loop.specs.Courses.{Acts, answer_event, answering_session, answer_of_next_user, loop_of}
+use Rattle.readiness_loop.specs.Lives.{TakesSeat}
+use Rattle.readiness_loop.specs.declared.book.Book.{Book}
+use Rattle.readiness_loop.proofs.Quiets.{drew_word, part_behind_drawn}
 
 -- a line that wasn't written whole, before what follows it
 pub line_breaks : {S : Type 0} (a b : Told) (o : Out S) (x : JournalEntry) (more : List LoopDeed) (fault : LoopFault)
     → o.order ≡ Printing x ∷ more → Breaks a b (writes_of_entries (x ∷ [])) fault → BreaksAt (seen a) (seen b) o fault
 line_breaks a b o x more fault is p = breaks_lines a b o (x ∷ []) more fault is p
 
--- memory ran out before a line was written, and behind it
+-- memory ran out before a line was written
 pub line_wanted : (a : Told) (all : List Act) (want : Want) → Breaks a a all (NoMemory want)
 line_wanted a all want = record { acts = []; did = did_nothing a; begun = record { done = []; left = all; is = refl; breaks = refl } }
-
-pub puts_wanted : {T : Type 0} (a : Told) (all : List Act) (r : Result T LoopFault) (fault : LoopFault) (want : Want)
-    → r ≡ Err fault → fault ≡ NoMemory want → Puts a a all r
-puts_wanted a all (Ok done) fault want p q = absurd cc
-puts_wanted a all (Err other) fault want p q =
-    let same : other ≡ NoMemory want = cc in
-    subst (λ z. Breaks a a all z) (sym same) (line_wanted a all want)
-
-pub puts_behind : {T : Type 0} (a b : Told) (all : List Act) (r : Result T LoopFault) (fault : LoopFault) (want : Want)
-    → Did a b all → r ≡ Err fault → fault ≡ NoMemory want → Puts a b all r
-puts_behind a b all (Ok done) fault want put p q = absurd cc
-puts_behind a b all (Err other) fault want put p q =
-    let same : other ≡ NoMemory want = cc in
-    subst (λ z. Breaks a b all z) (sym same) (record { acts = all; did = put; begun = record { done = all; left = []; is = append-nil all; breaks = refl } })
 
 -- an event without an outcome, in its ranges
 pub opens_so : (m conn : ℕ) (event : Event) → m ≤ 1000000000000000 → conn < 2 ^ 64 → IsInRange event
@@ -100,14 +88,26 @@ not_below n p = grind (arith, nat_tests, p)
 is_below : (n : ℕ) → n < 256 → nat_lt n 256 ≡ true
 is_below n p = grind (arith, nat_tests, p)
 
-acts_as : {T : Type 0} (a b : Seen) (x y : Loop KEnd) (o p : Out (Loop KEnd)) (r : Result T LoopFault) → y ≡ x → o ≡ p → Acts a b x o r → Acts a b y p r
-acts_as a b x y o p r same is q = subst (λ z. Acts a b z p r) (sym same) (subst (λ z. Acts a b x z r) is q)
+-- parts that give the same for each answer
+pub part_as : {T S A : Type 0} (a b : Seen) (x y : S) (f g : A → Out S) (r : Result T LoopFault) → y ≡ x → ((answer : A) → f answer ≡ g answer)
+    → DoesLoopPart a b x f r → DoesLoopPart a b y g r
+part_as a b x y f g (Ok done) same is p = record {
+  answers = p.answers;
+  is = subst (λ z. Acted a b z (g p.answers)) (sym same) (subst (λ z. Acted a b x z) (is p.answers) p.is);
+}
+part_as a b x y f g (Err fault) same is p = record { answers = p.answers; breaks = subst (λ z. BreaksAt a b z fault) (is p.answers) p.breaks }
+
+-- whether there is memory makes no difference
+any_memory : {T S : Type 0} (a b : Seen) (x : S) (o : Out S) (r : Result T LoopFault) → Acts a b x o r → DoesLoopPart {A = Bool} a b x (λ memory. o) r
+any_memory a b x o (Ok done) p = record { answers = true; is = p }
+any_memory a b x o (Err fault) p = record { answers = true; breaks = p }
 
 pub accept_full : {T : Type 0} (a b : Seen) (plan : Plan) (l new : Loop KEnd) (conn : ℕ) (r : Result T LoopFault)
-    → 256 ≤ length l.sessions → new ≡ l → Acts a b l (turned_away l conn (event.Full 256)) r → Acts a b new (accepted kept_ends plan l conn) r
+    → 256 ≤ length l.sessions → new ≡ l → Acts a b l (turned_away l conn (event.Full 256)) r → DoesLoopPart a b new (accepted kept_ends plan l conn) r
 unfolding accepted
 accept_full a b plan l new conn r many same p =
-    acts_as a b l new (turned_away l conn (event.Full 256)) _ r same (sym (rw (not_below (length l.sessions) many) refl)) p
+    part_as a b l new (λ memory. turned_away l conn (event.Full 256)) (accepted kept_ends plan l conn) r same
+    (λ memory. sym (rw (not_below (length l.sessions) many) refl)) (any_memory a b l (turned_away l conn (event.Full 256)) r p)
 
 pub last_user : (ms : List Mind) (m : Mind) → next_user (ms ++ m ∷ []) ≡ Some m
 last_user ms m = at_end ms (length (ms ++ m ∷ []) - 1) (let h = length-append ms (m ∷ []) in omega (arith, h))
@@ -129,55 +129,116 @@ other_ones ms m = up_to ms (length (ms ++ m ∷ []) - 1) (let h = length-append 
 
 pub accept_unserved : {T : Type 0} (a b : Seen) (plan : Plan) (l new : Loop KEnd) (conn : ℕ) (r : Result T LoopFault)
     → length l.sessions < 256 → l.users ≡ [] → new ≡ l → Acts a b l (turned_away l conn (event.Unserved plan.handed)) r
-    → Acts a b new (accepted kept_ends plan l conn) r
+    → DoesLoopPart a b new (accepted kept_ends plan l conn) r
 unfolding accepted
 accept_unserved a b plan l new conn r few none same p =
-    acts_as a b l new (turned_away l conn (event.Unserved plan.handed)) _ r same
-    (sym (rw (is_below (length l.sessions) few) (ap (λ z. answered_by kept_ends z plan l conn) (ap next_user none)))) p
+    part_as a b l new (λ memory. turned_away l conn (event.Unserved plan.handed)) (accepted kept_ends plan l conn) r same
+    (λ memory. sym (rw (is_below (length l.sessions) few) (ap (λ z. answered_by kept_ends z memory plan l conn) (ap next_user none))))
+    (any_memory a b l (turned_away l conn (event.Unserved plan.handed)) r p)
 
--- the loop behind it
-abbrev pub answered_loop : Plan → Loop KEnd → List Mind → Mind → ℕ → Loop KEnd
-answered_loop plan l users mind conn = record {
+-- one that finds a user
+pub accept_answered : {T : Type 0} (a b : Seen) (plan : Plan) (l new : Loop KEnd) (conn : ℕ) (r : Result T LoopFault)
+    → length l.sessions < 256 → DoesLoopPart a b new (answer_of_next_user plan l conn) r → DoesLoopPart a b new (accepted kept_ends plan l conn) r
+unfolding accepted
+accept_answered a b plan l new conn r few p =
+    part_as a b new new (answer_of_next_user plan l conn) (accepted kept_ends plan l conn) r refl
+    (λ memory. sym (rw (is_below (length l.sessions) few) refl)) p
+
+-- ---- with a user
+
+slice_get_some : (ms : List Mind) (i : ℕ) → i < length ms → (m : Mind) × (slice_get ms i ≡ Some m)
+slice_get_some [] i p = absurd (let q : i < 0 = p in omega (arith, q))
+slice_get_some (m ∷ ms) zero p = (m, refl)
+slice_get_some (m ∷ ms) (suc i) p = slice_get_some ms i (omega (arith, p))
+
+pub some_user : (ms : List Mind) → 0 < length ms → (m : Mind) × (next_user ms ≡ Some m)
+some_user ms p = slice_get_some ms (length ms - 1) (omega (arith, p))
+
+-- the loop behind an answer
+abbrev pub answered_loop : Plan → Loop KEnd → Mind → ℕ → Loop KEnd
+answered_loop plan l mind conn = record {
   sessions = l.sessions ++ answering_session (next_u64 l.words).0 plan.settings plan.rbc l.moment conn mind ∷ [];
-  users = users;
+  users = other_users l.users;
   moment = l.moment;
   words = (next_u64 l.words).1;
 }
 
 -- by the result of writing the line
-answered_by_result : {T : Type 0} (a b : Told) (plan : Plan) (l new : Loop KEnd) (users : List Mind) (mind : Mind) (conn : ℕ) (r : Result T LoopFault)
-    → l.users ≡ users ++ mind ∷ [] → answered_by kept_ends (Some mind) plan l conn ≡ accepted kept_ends plan l conn
+answered_by_result : {T : Type 0} (a b : Told) (plan : Plan) (l new : Loop KEnd) (mind : Mind) (conn : ℕ) (r : Result T LoopFault)
+    → next_user l.users ≡ Some mind
     → OnOk r (IsInGrammar (answer_event (next_u64 l.words).0 plan.rbc l.moment conn))
     → Puts a b (writes_of_entries (answer_event (next_u64 l.words).0 plan.rbc l.moment conn ∷ [])) r
-    → OnOk r (new ≡ answered_loop plan l users mind conn)
-    → Acts (seen a) (seen b) new (accepted kept_ends plan l conn) r
-answered_by_result a b plan l new users mind conn (Ok done) has same grammar p is =
-    subst (λ z. Acted (seen a) (seen b) new z) same
-    (acted_prints a b new (answered_loop plan l (other_users l.users) mind conn, answer_event (next_u64 l.words).0 plan.rbc l.moment conn ∷ []) (record {
-      state = is ∙ ap (λ (z : List Mind). answered_loop plan l z mind conn) (sym (ap other_users has ∙ other_ones users mind));
-      did = p;
-      in_grammar = (grammar, tt);
-    }))
-answered_by_result a b plan l new users mind conn (Err fault) has same grammar p is =
-    subst (λ z. BreaksAt (seen a) (seen b) z fault) same
-    (line_breaks a b (answered_by kept_ends (Some mind) plan l conn) (answer_event (next_u64 l.words).0 plan.rbc l.moment conn) [] fault refl p)
+    → new ≡ answered_loop plan l mind conn
+    → DoesLoopPart (seen a) (seen b) new (answer_of_next_user plan l conn) r
+answered_by_result a b plan l new mind conn (Ok done) next grammar p is = record {
+  answers = true;
+  is =
+      subst (λ (z : Option Mind). Acted (seen a) (seen b) new (answered_by kept_ends z true plan l conn)) (sym next)
+      (acted_prints a b new (answered_loop plan l mind conn, answer_event (next_u64 l.words).0 plan.rbc l.moment conn ∷ []) (record {
+        state = is;
+        did = p;
+        in_grammar = (grammar, tt);
+      }));
+}
+answered_by_result a b plan l new mind conn (Err fault) next grammar p is = record {
+  answers = true;
+  breaks =
+      subst (λ (z : Option Mind). BreaksAt (seen a) (seen b) (answered_by kept_ends z true plan l conn) fault) (sym next)
+      (line_breaks a b (answered_by kept_ends (Some mind) true plan l conn) (answer_event (next_u64 l.words).0 plan.rbc l.moment conn) [] fault refl p);
+}
 
 -- behind the draw of the random word
-pub accept_answered : {T : Type 0} (a mid b : Told) (ra : ℕ) (plan : Plan) (l new : Loop KEnd) (users : List Mind) (mind : Mind) (conn : ℕ) (r : Result T LoopFault)
-    → Did a mid (Drew ra ∷ []) → l.words ≡ a.words → length l.sessions < 256 → l.users ≡ users ++ mind ∷ []
+pub answer_seated : {T : Type 0} (a mid b : Told) (ra : ℕ) (plan : Plan) (l new : Loop KEnd) (mind : Mind) (conn : ℕ) (r : Result T LoopFault)
+    → Did a mid (Drew ra ∷ []) → l.words ≡ a.words → next_user l.users ≡ Some mind
     → OnOk r (IsInGrammar (answer_event ra plan.rbc l.moment conn))
     → Puts mid b (writes_of_entries (answer_event ra plan.rbc l.moment conn ∷ [])) r
-    → OnOk r (new ≡ answered_loop plan l users mind conn)
-    → Acts (seen a) (seen b) new (accepted kept_ends plan l conn) r
-unfolding accepted
-accept_answered a mid b ra plan l new users mind conn r drew words few has grammar p is =
-    let o : Out (Loop KEnd) = answered_by kept_ends (Some mind) plan l conn in
-    let same : o ≡ accepted kept_ends plan l conn = sym (rw (is_below (length l.sessions) few) (ap (λ z. answered_by kept_ends z plan l conn) (ap next_user has ∙ last_user users mind))) in
+    → new ≡ answered_loop plan l mind conn
+    → DoesLoopPart (seen a) (seen b) new (answer_of_next_user plan l conn) r
+answer_seated a mid b ra plan l new mind conn r drew words next grammar p is =
     let word : ra ≡ (next_u64 l.words).0 = drew_word a mid ra drew ∙ ap (λ (z : Stream). (next_u64 z).0) (sym words) in
-    acts_behind_drawn a mid (seen b) ra new (accepted kept_ends plan l conn) r drew
-    (answered_by_result mid b plan l new users mind conn r has same
+    part_behind_drawn a mid (seen b) ra new (answer_of_next_user plan l conn) r drew
+    (answered_by_result mid b plan l new mind conn r next
     (subst (λ z. OnOk r (IsInGrammar (answer_event z plan.rbc l.moment conn))) word grammar)
     (subst (λ z. Puts mid b (writes_of_entries (answer_event z plan.rbc l.moment conn ∷ [])) r) word p) is)
+
+-- the loop that this leaves
+pub seated_loop : (plan : Plan) (l : Loop KEnd) (slots : Slab (Session KEnd)) (places : BTreeMap ℕ ℕ) (users : List Mind) (m : ℕ) (words : Stream) (ra : ℕ) (mind : Mind) (conn : ℕ)
+    → sessions slots places ≡ l.sessions ++ answering_session ra plan.settings plan.rbc l.moment conn mind ∷ [] → ra ≡ (next_u64 l.words).0 → words ≡ (next_u64 l.words).1
+    → users ≡ other_users l.users → m ≡ l.moment → loop_of slots places users m words ≡ answered_loop plan l mind conn
+seated_loop plan l slots places users m words ra mind conn p w q r s = rw (p, w, q, r, s) refl
+
+-- ---- with a user, and without memory
+
+wanted_by_result : {T : Type 0} (a b : Seen) (plan : Plan) (l new : Loop KEnd) (mind : Mind) (conn live : ℕ) (r : Result T LoopFault)
+    → next_user l.users ≡ Some mind → live ≡ length l.sessions → new ≡ one_word_less l
+    → Acts a b (one_word_less l) (turned_away (one_word_less l) conn (event.Full live)) r
+    → DoesLoopPart a b new (answer_of_next_user plan l conn) r
+wanted_by_result a b plan l new mind conn live (Ok done) next count same p = record {
+  answers = false;
+  is =
+      subst (λ (z : Option Mind). Acted a b new (answered_by kept_ends z false plan l conn)) (sym next)
+      (subst (λ (z : ℕ). Acted a b new (turned_away (one_word_less l) conn (event.Full z))) count
+      (subst (λ (z : Loop KEnd). Acted a b z (turned_away (one_word_less l) conn (event.Full live))) (sym same) p));
+}
+wanted_by_result a b plan l new mind conn live (Err fault) next count same p = record {
+  answers = false;
+  breaks =
+      subst (λ (z : Option Mind). BreaksAt a b (answered_by kept_ends z false plan l conn) fault) (sym next)
+      (subst (λ (z : ℕ). BreaksAt a b (turned_away (one_word_less l) conn (event.Full z)) fault) count p);
+}
+
+pub answer_wanted : {T : Type 0} (a mid b : Told) (ra : ℕ) (plan : Plan) (l new : Loop KEnd) (conn live : ℕ) (r : Result T LoopFault)
+    → Did a mid (Drew ra ∷ []) → 0 < length l.users → live ≡ length l.sessions → new ≡ one_word_less l
+    → Acts (seen mid) (seen b) (one_word_less l) (turned_away (one_word_less l) conn (event.Full live)) r
+    → DoesLoopPart (seen a) (seen b) new (answer_of_next_user plan l conn) r
+answer_wanted a mid b ra plan l new conn live r drew some count same p =
+    let user = some_user l.users some in
+    part_behind_drawn a mid (seen b) ra new (answer_of_next_user plan l conn) r drew (wanted_by_result (seen mid) (seen b) plan l new user.0 conn live r user.1 count same p)
+
+-- the loop that this leaves
+pub wanted_loop : (l : Loop KEnd) (slots : Slab (Session KEnd)) (places : BTreeMap ℕ ℕ) (users : List Mind) (m : ℕ) (words : Stream)
+    → sessions slots places ≡ l.sessions → words ≡ (next_u64 l.words).1 → users ≡ l.users → m ≡ l.moment → loop_of slots places users m words ≡ one_word_less l
+wanted_loop l slots places users m words p w r s = rw (p, w, r, s) refl
 
 -- ---- what a function's other clauses say
 
@@ -190,17 +251,9 @@ unfolding AreSeated
 seated_up low top slots [] p q = tt
 seated_up low top slots (e ∷ es) p q = (let h : e.0 ≤ low = q.0 in omega (arith, h, p), q.1, q.2, seated_up low top slots es p q.3)
 
-pub away_seated : {T : Type 0} (conn : ℕ) (slots slots' : Slab (Session KEnd)) (places places' : BTreeMap ℕ ℕ) (r : Result T LoopFault)
-    → slots' ≡ slots → places' ≡ places → AreSeated (conn - 1) slots places.entries → OnOk r (AreSeated conn slots' places'.entries)
-away_seated conn slots slots' places places' (Ok done) p q s =
-    rw (p, q) (seated_up (conn - 1) conn slots places.entries (omega arith) s)
-away_seated conn slots slots' places places' (Err fault) p q s = tt
-
-pub answered_state : {T : Type 0} (plan : Plan) (l : Loop KEnd) (slots : Slab (Session KEnd)) (places : BTreeMap ℕ ℕ) (users users' : List Mind) (m : ℕ) (words : Stream) (ra : ℕ) (mind : Mind) (conn : ℕ) (r : Result T LoopFault)
-    → OnOk r (sessions slots places ≡ l.sessions ++ answering_session ra plan.settings plan.rbc l.moment conn mind ∷ []) → ra ≡ (next_u64 l.words).0 → words ≡ (next_u64 l.words).1
-    → users' ≡ users → m ≡ l.moment → OnOk r (loop_of slots places users' m words ≡ answered_loop plan l users mind conn)
-answered_state plan l slots places users users' m words ra mind conn (Ok done) p w q r s = rw (p, w, q, r, s) refl
-answered_state plan l slots places users users' m words ra mind conn (Err fault) p w q r s = tt
+pub away_seated : (conn : ℕ) (slots slots' : Slab (Session KEnd)) (places places' : BTreeMap ℕ ℕ)
+    → slots' ≡ slots → places' ≡ places → AreSeated (conn - 1) slots places.entries → AreSeated conn slots' places'.entries
+away_seated conn slots slots' places places' p q s = rw (p, q) (seated_up (conn - 1) conn slots places.entries (omega arith) s)
 
 pub few_sessions : (newest n : ℕ) (slots : Slab (Session KEnd)) (es : List (ℕ × ℕ)) → AreSeated newest slots es → n ≡ length es → n < 256 → length (sessions_at slots es) < 256
 few_sessions newest n slots es p q r = (let h = length_sessions newest slots es p in omega (arith, h, q, r))
@@ -211,6 +264,20 @@ many_sessions newest n slots es p q r = (let h = length_sessions newest slots es
 pub empty_list : {A : Type 0} (xs : List A) → length xs ≡ 0 → xs ≡ []
 empty_list [] p = refl
 empty_list (x ∷ xs) p = absurd (let q : length (x ∷ xs) ≡ 0 = p in omega (arith, q))
+
+pub mapped_length : {A B : Type 0} (f : A → B) (xs : List A) → length (map f xs) ≡ length xs
+mapped_length f [] = refl
+mapped_length f (x ∷ xs) = ap (λ z. suc z) (mapped_length f xs)
+
+-- as many connections live as have a place
+pub sessions_count : (newest n : ℕ) (slots : Slab (Session KEnd)) (places : BTreeMap ℕ ℕ) (were : Slab (Session KEnd)) (at : BTreeMap ℕ ℕ) → AreSeated newest slots places.entries
+    → n ≡ length places.entries → sessions slots places ≡ sessions were at → n ≡ length (sessions were at)
+sessions_count newest n slots places were at seated is same = is ∙ sym (length_sessions newest slots places.entries seated) ∙ ap length same
+
+-- an end that is this one
+pub seats_end : {T U E : Type 0} (old new : Book U) (users left : List Mind) (r : Result T E) (number : ℕ) (end is : KEnd) → end ≡ is
+    → OnOk r (TakesSeat old new users left number end) → OnOk r (TakesSeat old new users left number is)
+seats_end old new users left r number end is same p = subst (λ z. OnOk r (TakesSeat old new users left number z)) same p
 
 -- ---- the book of a loop that begins
 

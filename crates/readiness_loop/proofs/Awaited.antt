@@ -5,12 +5,14 @@ use Rattle.std.proofs.Common.{◌≡◌, ◌≢◌, ℕ, ◌-◌, ◌<◌, ◌�
 use Rattle.std.specs.Prelude.{◌==◌, if◌then◌else◌}
 use Rattle.std.specs.Ordering.{nat_cmp, is_eq}
 use Rattle.std.specs.List.Sorted.{IsStrictlySortedBy}
+use Rattle.std.specs.Map.{keys_of}
 use Rattle.std.specs.BTreeMap.{BTreeMap, is_at, IsOrdered, UpdatesBy}
 use Rattle.std.specs.BTreeSet.{BTreeSet}
 use Rattle.std.proofs.lemmas.Bool.{cases_Bool}
 use Rattle.std.proofs.lemmas.Bool.Decides.{nat_tests}
 use Rattle.slab.specs.Slab.{Slab, get, with_value, Updates}
 use Rattle.slab.proofs.SlabLemmas.{Updates-with_value}
+use Rattle.er_end_model.specs.Steps.{earlier_of_moments}
 use Rattle.loop_model.specs.Sessions.{Session}
 use Rattle.loop_model.specs.Visits.{wakes}
 use Rattle.readiness_loop.specs.WakeTimes.{has_wake_time, is_moment}
@@ -155,3 +157,34 @@ awaited_joins n k room slots mid now places more pairs new s wake seated p mid_i
     (others_wake n k slots now places more (λ j away. u.others j away ∙ same j)
     (λ j i away at is_k. taken_slot (s.number - 1) j k slots places.entries seated empty (at ∙ ap Some is_k))
     (λ j away. joined.2 j (away_test n j away)))
+
+-- where the slot is the next one
+pub awaited_joined : (n k slot room : ℕ) (slots mid now : Slab (Session KEnd)) (places more : BTreeMap ℕ ℕ) (pairs new : BTreeSet (ℕ × ℕ)) (s : Session KEnd) (wake : Option ℕ)
+    → AreSeated (s.number - 1) slots places.entries → AreAwaited slots places pairs → mid ≡ record slots { capacity = room }
+    → slot ≡ k → get mid slot ≡ None → Updates mid now slot (Some s)
+    → UpdatesBy nat_cmp (nat_cmp n) places more (Some k) → IsOrdered nat_cmp more → wake ≡ wakes kept_ends s
+    → ((m j : ℕ) → has_wake_time new m j ≡ (if j == n then is_moment m wake else has_wake_time pairs m j))
+    → AreAwaited now more new
+awaited_joined n k slot room slots mid now places more pairs new s wake seated p mid_is is_k free u joined rise is h =
+    awaited_joins n k room slots mid now places more pairs new s wake seated p mid_is (subst (λ z. get mid z ≡ None) is_k free)
+    (subst (λ z. Updates mid now z (Some s)) is_k u) joined rise is h
+
+-- room was made, and nothing more
+pub room_awaited : (room : ℕ) (slots mid : Slab (Session KEnd)) (places same : BTreeMap ℕ ℕ) (pairs new : BTreeSet (ℕ × ℕ)) → mid ≡ record slots { capacity = room }
+    → same.entries ≡ places.entries → ((m n : ℕ) → has_wake_time new m n ≡ has_wake_time pairs m n) → AreAwaited slots places pairs → AreAwaited mid same new
+unfolding wake_at
+room_awaited room slots mid places same pairs new is e h p = record {
+  rise = subst (λ es. IsStrictlySortedBy nat_cmp (keys_of es)) (sym e) p.rise;
+  kept = λ m n.
+      h m n ∙ p.kept m n
+      ∙ ap (is_moment m) (sym (in_room (place_of n same.entries) ∙ ap (λ es. wake_in slots (place_of n es)) e));
+}
+  where
+    in_room : (o : Option ℕ) → wake_in mid o ≡ wake_in slots o
+    in_room None = refl
+    in_room (Some k) = ap (λ (z : Slab (Session KEnd)). wake_of (get z k)) is
+
+-- the moment of a session that begins is the deadline of its end
+pub first_alone : (at : Option ℕ) → earlier_of_moments at None ≡ at
+first_alone None = refl
+first_alone (Some at) = refl

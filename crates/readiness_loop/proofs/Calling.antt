@@ -17,7 +17,7 @@ use Rattle.loop_model.specs.Ends.{EndOps}
 use Rattle.loop_model.specs.Outs.{Out, changed}
 use Rattle.loop_model.specs.Sessions.{Session, Begins}
 use Rattle.loop_model.specs.Visits.{Met, nothing_met, served}
-use Rattle.loop_model.specs.Loops.{Plan, Loop, rules_of, Course, asks, halt_by, opens, begun, Caller, calling, called_by, called, with_sessions, one_less, next_user, other_users, turned_away}
+use Rattle.loop_model.specs.Loops.{Plan, Loop, rules_of, Course, asks, halt_by, opens, begun_dial, Caller, calling, called_by, called, with_sessions, one_less, next_user, other_users, turned_away}
 use Rattle.loop_model.specs.Parts.{opened_in, Rises, newest}
 use Rattle.loop_model.specs.Laws.{turns_of}
 use Rattle.safety_automaton.specs.Keys as keys
@@ -86,11 +86,11 @@ called_loop l ss users = record { sessions = ss; users = users; moment = l.momen
 
 pub open_called : (a b : Seen) (plan : Plan) (caller : Caller) (l new : Loop KEnd) (ss : List (Session KEnd)) (users : List Mind) (mind : Mind) (conn : ℕ) (r : Result Bool LoopFault)
     → l.users ≡ users ++ mind ∷ [] → OnOk r (new ≡ called_loop l ss users)
-    → DoesLoopPart a b ss (served kept_ends (rules_of plan) l.moment (begun conn (calling kept_ends plan caller l) mind) (Begins caller.engine plan.rbc (next_u64 l.words).0)) r
+    → DoesLoopPart a b ss (served kept_ends (rules_of plan) l.moment (begun_dial conn (calling kept_ends plan caller l) mind) (Begins caller.engine plan.rbc (next_u64 l.words).0)) r
     → DoesLoopPart a b new (called kept_ends plan caller l conn) r
 unfolding called
 open_called a b plan caller l new ss users mind conn (Ok stays) has is did =
-    let o = served kept_ends (rules_of plan) l.moment (begun conn (calling kept_ends plan caller l) mind) (Begins caller.engine plan.rbc (next_u64 l.words).0) did.answers in
+    let o = served kept_ends (rules_of plan) l.moment (begun_dial conn (calling kept_ends plan caller l) mind) (Begins caller.engine plan.rbc (next_u64 l.words).0) did.answers in
     let next_is : next_user l.users ≡ Some mind = ap next_user has ∙ last_user users mind in
     let others : other_users l.users ≡ users = ap other_users has ∙ other_ones users mind in
     let acted : Acted a b new (changed (with_sessions (one_less l)) o) =
@@ -98,7 +98,7 @@ open_called a b plan caller l new ss users mind conn (Ok stays) has is did =
     (is ∙ ap (λ z. called_loop l ss z) (sym others) ∙ ap (with_sessions (one_less l)) did.is.state) did.is in
     record { answers = did.answers; is = subst (λ (z : Option Mind). Acted a b new (called_by kept_ends z plan caller l conn did.answers)) (sym next_is) acted }
 open_called a b plan caller l new ss users mind conn (Err fault) has is did =
-    let o = served kept_ends (rules_of plan) l.moment (begun conn (calling kept_ends plan caller l) mind) (Begins caller.engine plan.rbc (next_u64 l.words).0) did.answers in
+    let o = served kept_ends (rules_of plan) l.moment (begun_dial conn (calling kept_ends plan caller l) mind) (Begins caller.engine plan.rbc (next_u64 l.words).0) did.answers in
     let next_is : next_user l.users ≡ Some mind = ap next_user has ∙ last_user users mind in
     let breaks : BreaksAt a b (changed (with_sessions (one_less l)) o) fault =
     breaks_as a b o (changed (with_sessions (one_less l)) o) fault (record { entries = refl; calls = refl; order = refl }) did.breaks in

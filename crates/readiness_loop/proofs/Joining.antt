@@ -61,6 +61,27 @@ seated_more newest n k slots now (e ∷ es) s p free h at is low = (
 same_slots : (slots mid : Slab (Session KEnd)) (room : ℕ) → mid ≡ record slots { capacity = room } → (j : ℕ) → get mid j ≡ get slots j
 same_slots slots mid room p j = ap (λ (z : Slab (Session KEnd)). get z j) p
 
+-- room was made, and nothing more: the sessions are as they were
+room_seats : (slots : Slab (Session KEnd)) (room : ℕ) (es : List (ℕ × ℕ)) → sessions_at (record slots { capacity = room }) es ≡ sessions_at slots es
+unfolding seats
+room_seats slots room [] = refl
+room_seats slots room (e ∷ es) = ap (λ z. seat (get slots e.1) z) (room_seats slots room es)
+
+pub room_sessions : (room : ℕ) (slots mid : Slab (Session KEnd)) (places same : BTreeMap ℕ ℕ) → mid ≡ record slots { capacity = room } → same.entries ≡ places.entries
+    → sessions mid same ≡ sessions slots places
+room_sessions room slots mid places same m e = ap (λ z. sessions_at z same.entries) m ∙ ap (sessions_at (record slots { capacity = room })) e ∙ room_seats slots room places.entries
+
+room_seated_by : (slots : Slab (Session KEnd)) (room low top : ℕ) (es : List (ℕ × ℕ)) → low ≤ top → AreSeated low slots es → AreSeated top (record slots { capacity = room }) es
+unfolding AreSeated
+room_seated_by slots room low top [] le p = tt
+room_seated_by slots room low top (e ∷ es) le p = (let h : e.0 ≤ low = p.0 in omega (arith, h, le), p.1, p.2, room_seated_by slots room low top es le p.3)
+
+pub room_seated : (room n : ℕ) (slots mid : Slab (Session KEnd)) (places same : BTreeMap ℕ ℕ) → mid ≡ record slots { capacity = room } → same.entries ≡ places.entries
+    → AreSeated (n - 1) slots places.entries → AreSeated n mid same.entries
+room_seated room n slots mid places same m e p =
+    subst (λ z. AreSeated n z same.entries) (sym m)
+    (subst (λ z. AreSeated n (record slots { capacity = room }) z) (sym e) (room_seated_by slots room (n - 1) n places.entries (omega arith) p))
+
 pub add_sessions : (n k room : ℕ) (slots mid now : Slab (Session KEnd)) (places more : BTreeMap ℕ ℕ) (s : Session KEnd)
     → AreSeated (s.number - 1) slots places.entries → 0 < s.number → mid ≡ record slots { capacity = room } → get mid k ≡ None → Updates mid now k (Some s)
     → n ≡ s.number → more.entries ≡ insert_entry nat_cmp places.entries n k
@@ -86,3 +107,18 @@ add_seated n k room slots mid now places more s p pos m free u is e =
     subst (λ z. AreSeated z now more.entries) is
     (subst (λ z. AreSeated n now z) (sym (e ∙ insert_last (s.number - 1) n k slots places.entries p low))
     (seated_more (s.number - 1) n k slots now places.entries s p apart stays u.changed (sym is) (omega (arith, low))))
+
+-- where the slot is the next one
+pub joined_sessions : (n k slot room : ℕ) (slots mid now : Slab (Session KEnd)) (places more : BTreeMap ℕ ℕ) (s : Session KEnd)
+    → AreSeated (s.number - 1) slots places.entries → 0 < s.number → mid ≡ record slots { capacity = room } → slot ≡ k → get mid slot ≡ None → Updates mid now slot (Some s)
+    → n ≡ s.number → more.entries ≡ insert_entry nat_cmp places.entries n k
+    → sessions now more ≡ sessions slots places ++ s ∷ []
+joined_sessions n k slot room slots mid now places more s p pos m is_k free u is e =
+    add_sessions n k room slots mid now places more s p pos m (subst (λ z. get mid z ≡ None) is_k free) (subst (λ z. Updates mid now z (Some s)) is_k u) is e
+
+pub joined_seated : (n k slot room : ℕ) (slots mid now : Slab (Session KEnd)) (places more : BTreeMap ℕ ℕ) (s : Session KEnd)
+    → AreSeated (s.number - 1) slots places.entries → 0 < s.number → mid ≡ record slots { capacity = room } → slot ≡ k → get mid slot ≡ None → Updates mid now slot (Some s)
+    → n ≡ s.number → more.entries ≡ insert_entry nat_cmp places.entries n k
+    → AreSeated s.number now more.entries
+joined_seated n k slot room slots mid now places more s p pos m is_k free u is e =
+    add_seated n k room slots mid now places more s p pos m (subst (λ z. get mid z ≡ None) is_k free) (subst (λ z. Updates mid now z (Some s)) is_k u) is e

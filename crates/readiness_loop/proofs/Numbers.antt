@@ -1,7 +1,7 @@
 -- A tick or a closing leaves a session of the same number, or none; and one whose moment hasn't come stays as it is.
 use Rattle.loop_session.specs.Keeping.{kept_ends}
 use Rattle.std.proofs.Common.{◌≡◌, ℕ, ◌+◌, nat_lt, Bool, true, false, inl, inr, List, [], ◌∷◌, Option, Some, None, length, refl, ◌∙◌, subst}
-use Rattle.std.specs.Prelude.{◌==◌, ◌||◌, ◌&&◌}
+use Rattle.std.specs.Prelude.{◌==◌, ◌||◌}
 use Rattle.std.proofs.lemmas.Bool.{cases_Bool}
 use Rattle.er_base.specs.declared.release.Release.{Release}
 use Rattle.er_end.specs.KeptEnds.{KEnd, deadline_of}
@@ -10,7 +10,7 @@ use Rattle.link_trait.specs.declared.wires.WriteAnswer.{WriteAnswer}
 use Rattle.link_trait.specs.declared.wires.WriteAnswer.TheVariants as write
 use Rattle.loop_model.specs.Journals.{JournalEntry}
 use Rattle.loop_model.specs.Outs.{Out, still, part_for_each_answer, acts}
-use Rattle.loop_model.specs.Sessions.{Rules, Session, GivenToSession, Begins, Hears, Sends, Takes, Leaves as Departs, Ticks, Ends, Faults, Stalls, Says, most_output, joined, fed, replied, user_after_hearing, heard_by_user, outcomes_of_given_event, octets_in, dealt, takes_all, parts, parted, handled, is_released}
+use Rattle.loop_model.specs.Sessions.{Rules, Session, GivenToSession, Begins, Hears, Sends, Takes, Leaves as Departs, Ticks, Ends, Faults, Stalls, Says, most_output, joined, fed, replied, user_after_hearing, heard_by_user, outcomes_of_given_event, octets_in, dealt, takes_all, parts, parted, handled, is_released, owes_nothing}
 use Rattle.loop_model.specs.Visits.{WritingState, Going, PutOff, Failing, Wrote, Met, Visit, Tick, Read, Write, Expire, after_write, writes_if, writes_once, writes, fault_unless, flowed, written_unless, session_behind_writing, session_kept_or_closed, rests, served, visited, is_due, wakes}
 use Rattle.readiness_loop.specs.Books.{IsTimedVisit}
 use Rattle.readiness_loop.proofs.Befores.{not_due_first, not_due_second}
@@ -128,7 +128,7 @@ Leaves n (s ∷ t ∷ ss) = ⊥
 settled_leaves : (s : Session KEnd) → Leaves s.number (session_kept_or_closed kept_ends s).state
 unfolding session_kept_or_closed
 settled_leaves s =
-    elim (cases_Bool (s.broken || (is_released kept_ends s && (length s.output == 0)))) [
+    elim (cases_Bool (s.broken || owes_nothing kept_ends s)) [
       | inl t ↦ rw t tt
       | inr t ↦ rw t refl
     ]

@@ -1,11 +1,11 @@
 -- No visit of a session opens a connection, and none makes a turn.
 use Rattle.std.proofs.Common.{◌≡◌, ℕ, List, [], ◌∷◌, ◌++◌, inl, inr, drop, length, refl, sym, ◌∙◌, ap, subst, append_assoc}
-use Rattle.std.specs.Prelude.{◌==◌, ◌&&◌, ◌||◌}
+use Rattle.std.specs.Prelude.{◌==◌, ◌||◌}
 use Rattle.std.proofs.lemmas.Bool.{cases_Bool}
 use Rattle.link_trait.specs.Wires.{Call, Reading, Gave, NotNow, End, Failed}
 use Rattle.link_trait.specs.declared.wires.WriteAnswer.{WriteAnswer}
 use Rattle.loop_model.specs.Outs.{Out, next, acts, first_answer_of}
-use Rattle.loop_model.specs.Sessions.{Rules, Session, GivenToSession, is_released}
+use Rattle.loop_model.specs.Sessions.{Rules, Session, GivenToSession, is_released, owes_nothing, made}
 use Rattle.loop_model.specs.Visits.{WritingState, Going, PutOff, Failing, writes_once, writes_if, writes, flowed, session_behind_writing, written_unless, session_kept_or_closed, rests, rests_behind, read_once, served, visited, Visit, Tick, Read, Write, Expire, Met, nothing_met, Wrote, is_due}
 use Rattle.loop_model.specs.Loops.{visit_at, swept, before, Sweeps, numbers}
 use Rattle.loop_model.specs.Parts.{opened_in, connections_opened_by_call}
@@ -67,7 +67,7 @@ module _ {E : Type 0} (o : EndOps E) where
   settled_opens : (s : Session E) → OpensNone (session_kept_or_closed o s)
   unfolding session_kept_or_closed opened_in turns_of
   settled_opens s =
-      elim (cases_Bool (s.broken || (is_released o s && (length s.output == 0)))) [
+      elim (cases_Bool (s.broken || owes_nothing o s)) [
         | inl p ↦ rw p (refl, refl)
         | inr p ↦ rw p (refl, refl)
       ]
@@ -97,9 +97,9 @@ module _ {E : Type 0} (o : EndOps E) where
   visited_opens r m Read s a =
       elim (cases_Bool (is_released o s)) [
         | inl p ↦ rw p (refl, refl)
-        | inr p ↦ rw p (next_opens (read_once o r m s a) (λ t. rests_behind o a.reading r m t a.wrote) (refl, refl) (behind_opens a.reading r m _ a.wrote))
+        | inr p ↦ rw p (next_opens (read_once o r m (made s) a) (λ t. rests_behind o a.reading r m t a.wrote) (refl, refl) (behind_opens a.reading r m _ a.wrote))
       ]
-  visited_opens r m Write s a = rests_opens r m s a.wrote
+  visited_opens r m Write s a = rests_opens r m (made s) a.wrote
   visited_opens r m Expire s a =
       elim (cases_Bool (is_due m s.closing)) [
         | inl p ↦ rw p (refl, refl)

@@ -1,5 +1,5 @@
 -- What a loop does is the same however many turns are planned, but for how many it does.
-use Rattle.std.proofs.Common.{◌≡◌, ℕ, zero, suc, ◌<◌, nat_lt, List, [], ◌∷◌, Option, Some, None, length, refl, sym, ◌∙◌, ap, subst, arith}
+use Rattle.std.proofs.Common.{◌≡◌, ℕ, zero, suc, ◌<◌, nat_lt, Bool, true, false, List, [], ◌∷◌, Option, Some, None, length, refl, sym, ◌∙◌, ap, subst, arith}
 use Rattle.trace_model.specs.Checks.{most_live}
 use Rattle.std.specs.Prelude.{if◌then◌else◌}
 use Rattle.er_trace.specs.declared.event.Event.TheVariants as event
@@ -25,21 +25,22 @@ abbrev pub many : Plan → ℕ → Plan
 many plan n = record plan { turns = n }
 
 module _ {E : Type 0} (o : EndOps E) where
-  answered_many : (user : Option Mind) (plan : Plan) (n : ℕ) (l : Loop E) (conn : ℕ) → answered_by o user (many plan n) l conn ≡ answered_by o user plan l conn
-  answered_many None plan n l conn = refl
-  answered_many (Some mind) plan n l conn = refl
+  answered_many : (user : Option Mind) (memory : Bool) (plan : Plan) (n : ℕ) (l : Loop E) (conn : ℕ) → answered_by o user memory (many plan n) l conn ≡ answered_by o user memory plan l conn
+  answered_many None memory plan n l conn = refl
+  answered_many (Some mind) true plan n l conn = refl
+  answered_many (Some mind) false plan n l conn = refl
 
-  accepted_many : (plan : Plan) (n : ℕ) (l : Loop E) (conn : ℕ) → accepted o (many plan n) l conn ≡ accepted o plan l conn
+  accepted_many : (plan : Plan) (n : ℕ) (l : Loop E) (conn : ℕ) (memory : Bool) → accepted o (many plan n) l conn memory ≡ accepted o plan l conn memory
   unfolding accepted
-  accepted_many plan n l conn =
-      ap (λ (z : Out (Loop E)). if nat_lt (length l.sessions) most_live then z else turned_away l conn (event.Full most_live)) (answered_many (next_user l.users) plan n l conn)
+  accepted_many plan n l conn memory =
+      ap (λ (z : Out (Loop E)). if nat_lt (length l.sessions) most_live then z else turned_away l conn (event.Full most_live)) (answered_many (next_user l.users) memory plan n l conn)
 
   followed_many : (what : Happening) (plan : Plan) (n : ℕ) (c : Course E) (a : Met)
       → changed (λ (l : Loop E). let d : Course E = record c { loop = l; halt = halt_behind (many plan n) what l.sessions } in d) (happened o (many plan n) c.loop what a)
       ≡ changed (λ (l : Loop E). let d : Course E = record c { loop = l; halt = halt_behind plan what l.sessions } in d) (happened o plan c.loop what a)
   unfolding happened
   followed_many (happening.Accepted conn) plan n c a =
-      ap (λ (z : Out (Loop E)). changed (λ (l : Loop E). let d : Course E = record c { loop = l; halt = halt_by plan l.sessions } in d) z) (accepted_many plan n c.loop conn.0)
+      ap (λ (z : Out (Loop E)). changed (λ (l : Loop E). let d : Course E = record c { loop = l; halt = halt_by plan l.sessions } in d) z) (accepted_many plan n c.loop conn.0 a.memory)
   followed_many (happening.Readable conn) plan n c a = refl
   followed_many (happening.Writable conn) plan n c a = refl
   followed_many happening.Quiet plan n c a = refl

@@ -36,7 +36,7 @@ use Rattle.rand_core.specs.Stream.{Stream}
 use Rattle.std.specs.BTreeMap.{BTreeMap}
 use Rattle.readiness_loop.specs.Books.{AreSeated, sessions}
 use Rattle.readiness_loop.specs.Cuts.{cut_behind_part}
-use Rattle.readiness_loop.specs.Courses.{around, Went, WentOff, LiesBehind, Turned, halt_of, halt_after, HaltsSo, course_of, loop_of, Acts, IsReadyFor}
+use Rattle.readiness_loop.specs.Courses.{around, Went, WentOff, LiesBehind, Turned, halt_of, halt_after, HaltsSo, course_of, loop_of, IsReadyFor}
 use Rattle.readiness_loop.proofs.Sequences.{acted_as, acted_still, acted_then, breaks_as}
 use Rattle.readiness_loop.proofs.Openings.{visit_opens}
 use Rattle.readiness_loop.proofs.Cutting.{cut_of, cut_lies, cut_broke, broke_behind}
@@ -44,10 +44,10 @@ use Rattle.readiness_loop.proofs.Cutting.{cut_of, cut_lies, cut_broke, broke_beh
 -- ---- what happened
 
 pub react_accept : {T : Type 0} (a b : Seen) (plan : Plan) (l new : Loop KEnd) (conn : Conn) (r : Result T LoopFault)
-    → Acts a b new (accepted kept_ends plan l conn.0) r → DoesLoopPart a b new (happened kept_ends plan l (happening.Accepted conn)) r
+    → DoesLoopPart a b new (accepted kept_ends plan l conn.0) r → DoesLoopPart a b new (happened kept_ends plan l (happening.Accepted conn)) r
 unfolding happened
-react_accept a b plan l new conn (Ok done) p = record { answers = nothing_met; is = p }
-react_accept a b plan l new conn (Err fault) p = record { answers = nothing_met; breaks = p }
+react_accept a b plan l new conn (Ok done) p = record { answers = record nothing_met { memory = p.answers }; is = p.is }
+react_accept a b plan l new conn (Err fault) p = record { answers = record nothing_met { memory = p.answers }; breaks = p.breaks }
 
 pub react_read : {T : Type 0} (a b : Seen) (plan : Plan) (l new : Loop KEnd) (ss : List (Session KEnd)) (conn : Conn) (r : Result T LoopFault)
     → new ≡ with_sessions l ss → DoesLoopPart a b ss (visit_at (visited kept_ends (rules_of plan) l.moment Read) conn.0 l.sessions) r
@@ -103,16 +103,17 @@ ready_for happening.Failed before now slots es p number q = subst (λ z. AreSeat
 
 -- ---- nothing that happens opens a connection, but the turn itself
 
-answered_opens : (o : Option Mind) (plan : Plan) (l : Loop KEnd) (conn : ℕ) → opened_in (answered_by kept_ends o plan l conn).calls ≡ []
+answered_opens : (o : Option Mind) (memory : Bool) (plan : Plan) (l : Loop KEnd) (conn : ℕ) → opened_in (answered_by kept_ends o memory plan l conn).calls ≡ []
 unfolding opened_in
-answered_opens None plan l conn = refl
-answered_opens (Some mind) plan l conn = refl
+answered_opens None memory plan l conn = refl
+answered_opens (Some mind) true plan l conn = refl
+answered_opens (Some mind) false plan l conn = refl
 
 pub happened_opens : (plan : Plan) (l : Loop KEnd) (what : Happening) (a : Met) → opened_in (happened kept_ends plan l what a).calls ≡ []
 unfolding happened accepted opened_in
 happened_opens plan l (happening.Accepted conn) a =
     elim (cases_Bool (nat_lt (length l.sessions) most_live)) [
-      | inl p ↦ rw p (answered_opens (next_user l.users) plan l conn.0)
+      | inl p ↦ rw p (answered_opens (next_user l.users) a.memory plan l conn.0)
       | inr p ↦ rw p refl
     ]
 happened_opens plan l (happening.Readable conn) a = visit_opens kept_ends (rules_of plan) l.moment Read conn.0 l.sessions a
@@ -270,7 +271,7 @@ halts_as plan happening.Failed ss why r p q = q
 -- ---- the same, by the facts as a function has them
 
 pub accept_does : {T : Type 0} (a b : Seen) (plan : Plan) (l new : Loop KEnd) (what : Happening) (conn : Conn) (r : Result T LoopFault)
-    → what ≡ happening.Accepted conn → Acts a b new (accepted kept_ends plan l conn.0) r → DoesLoopPart a b new (happened kept_ends plan l what) r
+    → what ≡ happening.Accepted conn → DoesLoopPart a b new (accepted kept_ends plan l conn.0) r → DoesLoopPart a b new (happened kept_ends plan l what) r
 accept_does a b plan l new what conn r is p = subst (λ w. DoesLoopPart a b new (happened kept_ends plan l w) r) (sym is) (react_accept a b plan l new conn r p)
 
 -- a visit by the moment of a loop and the set-up time of its plan

@@ -28,8 +28,8 @@ use Rattle.loop_io.specs.Seeing.{AreAnsweredSo, Counts}
 use Rattle.readiness_loop.specs.Cuts.{Cut, LiesIn, cut_behind_part, IsToldFirst, with_turns, LiesInRun}
 use Rattle.readiness_loop.specs.declared.line_plan.LinePlan.{LinePlan}
 use Rattle.readiness_loop.specs.declared.line_plan.Served.{Served}
-use Rattle.readiness_loop.specs.declared.line_plan.Stop.{Stop}
-use Rattle.readiness_loop.specs.declared.line_plan.Stop.TheVariants as stop
+use Rattle.readiness_loop.specs.declared.line_plan.LoopStop.{LoopStop}
+use Rattle.readiness_loop.specs.declared.line_plan.LoopStop.TheVariants as stop
 
 -- ---- the two plans
 
@@ -117,7 +117,7 @@ pub record HasTurns (plan : Plan) (o : Out (Course ModelEnd)) (count : ℕ) (why
   pub moment : o.state.loop.moment ≡ greatest 0 o.state.asked
 
 -- why it stopped, as the model says it
-abbrev pub halt_for : Stop → Option Halt
+abbrev pub halt_for : LoopStop → Option Halt
 halt_for stop.Turns = None
 halt_for stop.Ended = Some OnEnded
 halt_for stop.Closed = Some OnClosed

@@ -19,7 +19,7 @@ use Rattle.loop_model.specs.Outs.{Out}
 use Rattle.loop_model.specs.Sessions.{Session}
 use Rattle.loop_model.specs.Visits.{Met}
 use Rattle.loop_model.specs.Loops.{Plan, Loop, Halt, OnEnded, OnClosed, OnFailed, Course, Turn, turn, follows, went, turned_unless, run, asks, opens, begun}
-use Rattle.loop_model.specs.Loops.{Caller}
+use Rattle.loop_model.specs.Loops.{Caller, next_user, answered_by}
 use Rattle.loop_model.specs.Parts.{opened_in, opened_by, Rises, newest}
 use Rattle.loop_session.specs.declared.loop_fault.LoopFault.{LoopFault}
 use Rattle.loop_session.specs.declared.loop_fault.LoopFault.TheVariants.{Wires, Sink, NoMemory}
@@ -159,6 +159,10 @@ answer_event ra rbc moment conn = record { moment = moment; conn = conn; event =
 
 abbrev pub answering_session : (ra : ℕ) → Settings → (rbc moment conn : ℕ) → Mind → Session KEnd
 answering_session ra settings rbc moment conn mind = begun conn (kept_opened (AnswersWith settings rbc ra moment)) mind
+
+-- a connection that is accepted and finds a user, with memory for its session or none
+abbrev pub answer_of_next_user : Plan → Loop KEnd → ℕ → Bool → Out (Loop KEnd)
+answer_of_next_user plan l conn memory = answered_by kept_ends (next_user l.users) memory plan l conn
 
 -- why the loop halts behind a happening, where it halts for this reason else
 abbrev pub halt_after : Happening → Option Halt → Option Halt

@@ -1,6 +1,6 @@
 -- Representation: the loop's code as a loop of the model, over the objects of the outside; what its parts stand on and leave alone; no claim
 -- rests on it.
-use Rattle.std.specs.Prelude.{◌≡◌, ◌<◌, ℕ, Bool, List, [], map, Result}
+use Rattle.std.specs.Prelude.{◌≡◌, ◌<◌, ℕ, Bool, List, [], ◌∷◌, ◌++◌, Some, map, Result}
 use Rattle.rand_core.specs.Stream.{Stream, next_u64}
 use Rattle.safety_automaton.specs.Pairs.{PairWithKmac, pair_entries}
 use Rattle.er_end_model.specs.Ends.{Call as CallsWith}
@@ -11,7 +11,7 @@ use Rattle.outside.specs.Doings.{Told}
 use Rattle.loop_model.specs.Outs.{Out}
 use Rattle.loop_model.specs.Sessions.{Session, Begins}
 use Rattle.loop_model.specs.Visits.{Met, served}
-use Rattle.loop_model.specs.Loops.{Loop, Plan, Course, Caller, begun}
+use Rattle.loop_model.specs.Loops.{Loop, Plan, Course, Caller, begun, begun_dial, next_user, other_users}
 use Rattle.loop_session.specs.Keeping.{kept_ends}
 use Rattle.loop_session.specs.Parts.{rules_of_session}
 use Rattle.loop_session.specs.declared.loop_fault.LoopFault.{LoopFault}
@@ -42,6 +42,13 @@ HasAllWakeTimes book = AreAwaited book.slots book.places book.wake_times.pairs
 pub record IsBookInOrder {U : Type 0} (newest : ℕ) (book : Book U) : Type 0 where
   pub seated : IsSeated newest book
   pub awaited : HasAllWakeTimes book
+
+-- the session of a connection joins the others, with this end and the user that comes next
+pub record TakesSeat {U : Type 0} (old new : Book U) (users left : List Mind) (number : ℕ) (end : KEnd) : Type 0 where
+  pub mind : Mind
+  pub next : next_user users ≡ Some mind
+  pub rest : left ≡ other_users users
+  pub sessions : sessions_in new ≡ sessions_in old ++ begun number end mind ∷ []
 
 -- ---- a loop
 
@@ -107,5 +114,5 @@ pair_caller pair = caller_of pair.engine pair.kmac
 abbrev pub dialled_call_outcome : PairWithKmac → LoopPlan → Stream → (moment conn : ℕ) → Mind → Met → Out (List (Session KEnd))
 dialled_call_outcome pair plan words moment conn mind =
     served kept_ends (rules_of_session (pair_entries pair) plan.settings.setup) moment
-    (begun conn (kept_opened (CallsWith plan.settings pair.engine plan.rbc pair.kmac (next_u64 words).0 moment)) mind)
+    (begun_dial conn (kept_opened (CallsWith plan.settings pair.engine plan.rbc pair.kmac (next_u64 words).0 moment)) mind)
     (Begins pair.engine plan.rbc (next_u64 words).0)

@@ -1,14 +1,19 @@
 //! The sessions of the live connections.
 
-ghost use Rattle.std.specs.Prelude.{◌≡◌, ◌≤◌, ◌<◌, ◌+◌, ◌-◌, ◌++◌, ◌∷◌, [], ℕ, length, IfOk, OnOk};
+ghost use Rattle.std.specs.Prelude.{◌≡◌, ◌≤◌, ◌<◌, ◌+◌, ◌-◌, ◌++◌, ◌∷◌, ◌==◌, if◌then◌else◌, [], ℕ, Some, length, vec_len, map, IfOk, OnOk, OnErr};
+ghost use Rattle.std.specs.Ordering.{nat_cmp};
+ghost use Rattle.std.specs.BTreeMap.{insert_entry, IsOrdered, UpdatesBy};
+ghost use Rattle.slab.specs.Slab.{HasRoomFor};
 ghost use Rattle.loop_model.specs.Loops.{visit_at, swept, numbers, until};
 ghost use Rattle.loop_session.specs.Keeping.{kept_ends};
 ghost use Rattle.loop_io.specs.Visiting.{visit_by, visit_of, DoesOn, Keep};
 ghost use Rattle.readiness_loop.specs.Books.{IsTimedVisit};
-ghost use Rattle.readiness_loop.specs.Lives.{sessions_in, IsSeated, HasAllWakeTimes, IsBookInOrder};
+ghost use Rattle.readiness_loop.specs.Lives.{sessions_in, IsSeated, HasAllWakeTimes, IsBookInOrder, TakesSeat};
+ghost use Rattle.readiness_loop.specs.WakeTimes.{has_wake_time, is_moment};
 
 use crate::wake_times::WakeTimes;
 use er_base::NoMemory;
+use er_end::End;
 use er_users::SafeUser;
 use journal::Journal;
 use loop_io::{Visit, Workspace, visit_session};
@@ -58,6 +63,33 @@ impl<U: SafeUser> Book<U> {
         self.wake_times.first()
     }
 
+    // Room for a session of this number, above those of the others, that is to be visited first at this moment: its place stands already, and its slot is
+    // the next. Where there is no memory for it the places are as they were.
+    fn make_room(&mut self, number: u64, wake: Option<u64>) -> Result<(), NoMemory>
+        requires order { IsBookInOrder (number - 1) self.old }
+        requires number { 0 < number }
+        ensures room { OnOk result (HasRoomFor self.new.slots 1) }
+        ensures slots { self.new.slots ≡ record self.old.slots { capacity = self.new.slots.capacity } }
+        ensures entries { OnOk result (self.new.places.entries ≡ insert_entry nat_cmp self.old.places.entries number self.new.slots.vacant_key) }
+        ensures updates { OnOk result (UpdatesBy nat_cmp (nat_cmp number) self.old.places self.new.places (Some self.new.slots.vacant_key)) }
+        ensures ordered { IsOrdered nat_cmp self.new.places }
+        ensures wakes { OnOk result ((m n : ℕ) → has_wake_time self.new.wake_times.pairs m n
+            ≡ (if n == number then is_moment m wake else has_wake_time self.old.wake_times.pairs m n)) }
+        ensures same_places { OnErr result (self.new.places.entries ≡ self.old.places.entries) }
+        ensures same_wakes { OnErr result ((m n : ℕ) → has_wake_time self.new.wake_times.pairs m n ≡ has_wake_time self.old.wake_times.pairs m n) }
+    {
+        self.slots.reserve(1)?;
+        let slot = self.slots.vacant_key();
+        self.wake_times.change(number, None, wake)?;
+        match self.places.insert(number, slot) {
+            Ok(_) => Ok(()),
+            Err(failed) => {
+                self.wake_times.forget(number, wake);
+                Err(NoMemory::from(failed))
+            }
+        }
+    }
+
     // A session joins the others; its number is above theirs.
     pub(crate) fn add(&mut self, session: Session<U>) -> Result<(), NoMemory>
         requires order { IsBookInOrder (session.number - 1) self.old }
@@ -68,11 +100,38 @@ impl<U: SafeUser> Book<U> {
     {
         let number = session.number();
         let wake = session.wakes();
-        self.slots.reserve(1)?;
-        let slot = self.slots.insert_reserved(session);
-        self.places.insert(number, slot)?;
-        self.wake_times.change(number, None, wake)?;
+        self.make_room(number, wake)?;
+        self.slots.insert_reserved(session);
         Ok(())
+    }
+
+    // The session of a connection begins, with this end and the last of the users; its number is above those of the others. Where there is no memory for it
+    // the others and the users are as they were.
+    pub(crate) fn seat(
+        &mut self,
+        alloc: Global,
+        number: u64,
+        end: Box<End>,
+        users: &mut Vec<U>,
+    ) -> Result<(), NoMemory>
+        requires order { IsBookInOrder (number - 1) self.old }
+        requires number { 0 < number }
+        requires users { 0 < vec_len users.old }
+        ensures seats { OnOk result (TakesSeat self.old self.new (map U.mind users.old.items) (map U.mind users.new.items) number end.value) }
+        ensures sessions { OnErr result (sessions_in self.new ≡ sessions_in self.old) }
+        ensures users { OnErr result (users.new ≡ users.old) }
+        ensures seated { IsSeated number self.new }
+        ensures awaited { HasAllWakeTimes self.new }
+    {
+        self.make_room(number, end.deadline())?;
+        match users.pop() {
+            Some(user) => {
+                let session = Session::begin(alloc, number, end, user);
+                self.slots.insert_reserved(session);
+                Ok(())
+            }
+            None => Ok(()),
+        }
     }
 
     // The session of this number is visited, where there is one.

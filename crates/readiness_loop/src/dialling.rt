@@ -7,7 +7,7 @@ ghost use Rattle.readiness_loop.specs.Courses.{around, Dials};
 ghost use Rattle.readiness_loop.specs.Lives.{pair_plan, pair_caller};
 ghost use Rattle.readiness_loop.specs.Recorded.{IsRecordedFirst};
 
-use crate::line_plan::{LinePlan, Served, Stop};
+use crate::line_plan::{LinePlan, LoopStop, Served};
 use crate::live_loop::LiveLoop;
 use crate::loop_plan::{LoopPlan, see_settings};
 use crate::serving::write_header;
@@ -54,7 +54,7 @@ fn dial_users<U: SafeUser, O: Journal>(
     if !live.open(alloc, conn, pair, plan, outside)? {
         return Ok(Served {
             turns: 0,
-            why: Stop::Closed,
+            why: LoopStop::Closed,
         });
     }
     live.run(alloc, pair, plan, outside)

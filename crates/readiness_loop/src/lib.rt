@@ -16,6 +16,6 @@ mod wake_times;
 
 pub use book::MOST_LIVE;
 pub use dialling::dial;
-pub use line_plan::{LinePlan, Served, Stop};
+pub use line_plan::{LinePlan, LoopStop, Served};
 pub use loop_session::LoopFault;
 pub use serving::serve;

@@ -13,7 +13,7 @@ pub struct LinePlan {
 
 /// Why a loop stopped.
 #[derive(Clone, Copy, Debug, PartialEq, Eq)]
-pub enum Stop {
+pub enum LoopStop {
     /// All turns were done.
     Turns,
     /// The wires ended.
@@ -28,5 +28,5 @@ pub struct Served {
     /// The number of turns that were done.
     pub turns: u64,
     /// Why it stopped.
-    pub why: Stop,
+    pub why: LoopStop,
 }

@@ -1,6 +1,6 @@
 //! A loop with its sessions, turn by turn.
 
-ghost use Rattle.std.specs.Prelude.{◌≡◌, ◌≤◌, ◌<◌, ◌+◌, ◌++◌, ◌-◌, ◌^◌, ◌&&◌, ◌==◌, if◌then◌else◌, List, [], ◌∷◌, length, IfOk, OnOk, Option, None, Some};
+ghost use Rattle.std.specs.Prelude.{◌≡◌, ◌≤◌, ◌<◌, ◌+◌, ◌++◌, ◌-◌, ◌^◌, ◌&&◌, ◌==◌, if◌then◌else◌, List, [], ◌∷◌, length, vec_len, map, IfOk, OnOk, OnErr, Option, None, Some};
 ghost use Rattle.safety_automaton.specs.Keys as keys;
 ghost use Rattle.outside.specs.Acts.{Asked};
 ghost use Rattle.outside.specs.Doings.{Did};
@@ -11,22 +11,22 @@ ghost use Rattle.loop_model.specs.Grammar.{IsInGrammar};
 ghost use Rattle.loop_model.specs.Visits.{is_due};
 ghost use Rattle.loop_model.specs.Loops.{Loop, before, until, until as first, turned_away, accepted, happened, Halt, OnClosed};
 ghost use Rattle.loop_session.specs.Keeping.{kept_ends};
-ghost use Rattle.loop_session.specs.Parts.{rules_of_session, writes_of_entries, Puts};
+ghost use Rattle.loop_session.specs.Parts.{rules_of_session, writes_of_entries, OnlyPrints, Puts};
 ghost use Rattle.loop_io.specs.Visiting.{DoesOn, Keep};
-ghost use Rattle.readiness_loop.specs.Courses.{plan_of_loop, answer_event, answering_session, IsReadyFor, halt_after, HaltsSo};
-ghost use Rattle.readiness_loop.specs.Lives.{sessions_in, IsSeated, HasAllWakeTimes, loop_at, ActsOn, IsBookInOrder, KeepsLoopMomentAndTurns, LeavesTurns, TurnedOn, TurnsOn, RunsOn};
+ghost use Rattle.readiness_loop.specs.Courses.{plan_of_loop, answer_event, answer_of_next_user, IsReadyFor, halt_after, HaltsSo};
+ghost use Rattle.readiness_loop.specs.Lives.{sessions_in, IsSeated, HasAllWakeTimes, loop_at, ActsOn, IsBookInOrder, TakesSeat, KeepsLoopMomentAndTurns, LeavesTurns, TurnedOn, TurnsOn, RunsOn};
 
 use crate::book::{Book, MOST_LIVE};
-use crate::line_plan::{Served, Stop};
+use crate::line_plan::{LoopStop, Served};
 use crate::loop_plan::{LoopPlan, see_settings};
-use er_base::{Moment, NoMemory};
+use er_base::{EtcsNumber, Moment, NoMemory};
 use er_end::End;
 use er_trace::Event;
 use er_users::SafeUser;
 use journal::Journal;
 use link_trait::{Conn, Happening};
 use loop_io::{Visit, Workspace};
-use loop_session::{LoopFault, Session, When, write_event};
+use loop_session::{LoopFault, When, write_event};
 use outside::Outside;
 use safety_automaton::KeyFinder;
 use std::alloc::Global;
@@ -79,6 +79,11 @@ fn see_count(count: u64)
     ensures { count < 2 ^ 64 }
 {}
 
+// An ETCS number has three octets, by its type: this call does nothing.
+fn see_number(number: EtcsNumber)
+    ensures { number < 2 ^ 24 }
+{}
+
 // What follows a happening.
 fn next_behind(happening: Happening, has_closed: bool) -> Result<Next, LoopFault>
     ensures { (why : Option Halt) → why ≡ (if has_closed then Some OnClosed else None) → HaltsSo result (halt_after happening why) }
@@ -107,7 +112,7 @@ fn answering_end(
     ensures { IfOk result (λ end. end.value ≡ kept_opened (AnswersWith plan.now.settings plan.now.rbc ra now)) }
 {
     see_settings(&plan.settings);
-    let end = End::answer(alloc, &plan.settings, plan.rbc.get(), ra, now.get())?;
+    let end = End::answer(alloc, &plan.settings, plan.rbc, ra, now)?;
     match workspace.take_place() {
         Some(mut place) => {
             *place = end;
@@ -206,44 +211,75 @@ impl<U: SafeUser> LiveLoop<U> {
         Ok(())
     }
 
-    // A connection gets a session, with this user and this random word.
-    #[tactic(auto, using(crate::proofs::Quiets::keeps_all, crate::proofs::Quiets::keeps_printed))]
-    fn answer<O: Journal>(
+    // A connection gets a session, with the user that comes next and this random word. Where there is no memory for it, nothing changed.
+    fn seat(&mut self, alloc: Global, number: u64, ra: u64, plan: &LoopPlan) -> Result<(), NoMemory>
+        requires order { IsBookInOrder (number - 1) self.old.book }
+        requires number { 0 < number }
+        requires users { 0 < vec_len self.old.users }
+        ensures seats { OnOk result (TakesSeat self.old.book self.new.book (map U.mind self.old.users.items) (map U.mind self.new.users.items) number
+            (kept_opened (AnswersWith plan.now.settings plan.now.rbc ra self.old.moment))) }
+        ensures sessions { OnErr result (sessions_in self.new.book ≡ sessions_in self.old.book) }
+        ensures users { OnErr result (self.new.users ≡ self.old.users) }
+        ensures seated { IsSeated number self.new.book }
+        ensures awaited { HasAllWakeTimes self.new.book }
+        ensures rests { KeepsLoopMomentAndTurns self.old self.new }
+    {
+        let end = answering_end(alloc, plan, ra, self.moment, &mut self.workspace)?;
+        self.book.seat(alloc, number, end, &mut self.users)
+    }
+
+    // The line of a connection that got a session.
+    fn tell_answer<O: Journal>(
         &mut self,
-        alloc: Global,
         conn: Conn,
-        user: U,
         ra: u64,
         plan: &LoopPlan,
         outside: &mut O,
     ) -> Result<(), LoopFault>
-        requires order { IsBookInOrder (conn.0 - 1) self.old.book }
-        requires number { 0 < conn.0 }
         ensures puts { Puts (O.told outside.old) (O.told outside.new) (writes_of_entries (answer_event ra plan.now.rbc self.old.moment conn.0 ∷ [])) result }
         ensures grammar { OnOk result (IsInGrammar (answer_event ra plan.now.rbc self.old.moment conn.0)) }
-        ensures sessions { OnOk result (sessions_in self.new.book ≡ sessions_in self.old.book
-            ++ answering_session ra plan.now.settings plan.now.rbc self.old.moment conn.0 (U.mind user) ∷ []) }
-        ensures seated { OnOk result (IsSeated conn.0 self.new.book) }
-        ensures awaited { OnOk result (HasAllWakeTimes self.new.book) }
+        ensures book { self.new.book ≡ self.old.book }
         ensures users { self.new.users ≡ self.old.users }
         ensures rests { KeepsLoopMomentAndTurns self.old self.new }
-        ensures keep { Keep (O.told outside.old) (O.told outside.new) }
+        ensures only { OnlyPrints (O.told outside.old) (O.told outside.new) }
     {
-        let end = answering_end(alloc, plan, ra, self.moment, &mut self.workspace)?;
-        let session = Session::begin(alloc, conn.0, end, user);
-        let event = Event::Answer {
-            rbc: plan.rbc.get(),
-            ra,
-        };
+        see_number(plan.rbc);
+        let event = Event::Answer { rbc: plan.rbc, ra };
         write_event(
             self.moment,
             conn.0,
             event,
             &mut self.workspace.scratch,
             outside,
-        )?;
-        self.book.add(session)?;
-        Ok(())
+        )
+    }
+
+    // A connection was accepted that finds a user: it gets a session, or is turned away where there is no memory for one.
+    fn answer<O: Journal>(
+        &mut self,
+        alloc: Global,
+        conn: Conn,
+        plan: &LoopPlan,
+        outside: &mut O,
+    ) -> Result<(), LoopFault>
+        requires order { IsBookInOrder (conn.0 - 1) self.old.book }
+        requires number { 0 < conn.0 }
+        requires users { 0 < vec_len self.old.users }
+        ensures does { (entries : List keys.KmacEntry) → DoesOn (O.told outside.old) (O.told outside.new) (loop_at U.SafeUser self.new (O.told outside.new))
+            (answer_of_next_user (plan_of_loop entries plan.now) (loop_at U.SafeUser self.old (O.told outside.old)) conn.0) result }
+        ensures seated { IsSeated conn.0 self.new.book }
+        ensures awaited { HasAllWakeTimes self.new.book }
+        ensures rests { KeepsLoopMomentAndTurns self.old self.new }
+        ensures leaves { LeavesTurns (O.told outside.old) (O.told outside.new) }
+    {
+        let ra = outside.word();
+        match self.seat(alloc, conn.0, ra, plan) {
+            Ok(()) => self.tell_answer(conn, ra, plan, outside),
+            Err(_want) => {
+                let live = self.book.len() as u64;
+                self.turn_away(conn, Event::Full(live), outside)
+            }
+        }
     }
 
     // A connection was accepted.
@@ -257,26 +293,21 @@ impl<U: SafeUser> LiveLoop<U> {
     ) -> Result<(), LoopFault>
         requires order { IsBookInOrder (conn.0 - 1) self.old.book }
         requires number { 0 < conn.0 }
-        ensures does { (entries : List keys.KmacEntry) → ActsOn (O.told outside.old) (O.told outside.new) (loop_at U.SafeUser self.new (O.told outside.new))
+        ensures does { (entries : List keys.KmacEntry) → DoesOn (O.told outside.old) (O.told outside.new) (loop_at U.SafeUser self.new (O.told outside.new))
             (accepted kept_ends (plan_of_loop entries plan.now) (loop_at U.SafeUser self.old (O.told outside.old)) conn.0) result }
-        ensures seated { OnOk result (IsSeated conn.0 self.new.book) }
-        ensures awaited { OnOk result (HasAllWakeTimes self.new.book) }
+        ensures seated { IsSeated conn.0 self.new.book }
+        ensures awaited { HasAllWakeTimes self.new.book }
         ensures rests { KeepsLoopMomentAndTurns self.old self.new }
         ensures leaves { LeavesTurns (O.told outside.old) (O.told outside.new) }
     {
         if self.book.len() >= MOST_LIVE {
             return self.turn_away(conn, Event::Full(MOST_LIVE as u64), outside);
         }
-        match self.users.pop() {
-            Some(user) => {
-                let ra = outside.word();
-                self.answer(alloc, conn, user, ra, plan, outside)
-            }
-            None => {
-                see_count(plan.handed);
-                self.turn_away(conn, Event::Unserved(plan.handed), outside)
-            }
+        if self.users.is_empty() {
+            see_count(plan.handed);
+            return self.turn_away(conn, Event::Unserved(plan.handed), outside);
         }
+        self.answer(alloc, conn, plan, outside)
     }
 
     // What happened is handled whole.
@@ -399,20 +430,20 @@ impl<U: SafeUser> LiveLoop<U> {
                 Next::Ended => {
                     return Ok(Served {
                         turns: self.turns,
-                        why: Stop::Ended,
+                        why: LoopStop::Ended,
                     });
                 }
                 Next::Closed => {
                     return Ok(Served {
                         turns: self.turns,
-                        why: Stop::Closed,
+                        why: LoopStop::Closed,
                     });
                 }
             }
         }
         Ok(Served {
             turns: self.turns,
-            why: Stop::Turns,
+            why: LoopStop::Turns,
         })
     }
 }

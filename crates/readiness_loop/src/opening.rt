@@ -2,7 +2,7 @@
 
 ghost use Rattle.std.specs.Prelude.{◌≡◌, ◌≤◌, ◌==◌, if◌then◌else◌, true, false, length, IfOk, OnOk};
 ghost use Rattle.rand_core.specs.Stream.{next_u64};
-ghost use Rattle.loop_model.specs.Loops.{begun};
+ghost use Rattle.loop_model.specs.Loops.{begun_dial};
 ghost use Rattle.loop_io.specs.Visiting.{DoesOn, Keep};
 ghost use Rattle.readiness_loop.specs.Lives.{sessions_in, IsSeated, HasAllWakeTimes, HasFirstConnection, KeepsLoopMomentAndTurns, LeavesTurns, dialled_call_outcome, pair_plan, pair_caller, OpensOn};
 
@@ -26,10 +26,10 @@ fn begun_session<U: SafeUser>(
     end: End,
     user: U,
 ) -> Result<Session<U>, NoMemory>
-    ensures { IfOk result (λ session. session ≡ begun number end (U.mind user)) }
+    ensures { IfOk result (λ session. session ≡ begun_dial number end (U.mind user)) }
 {
     let end = Box::new(alloc, end)?;
-    Ok(Session::begin(alloc, number, end, user))
+    Ok(Session::begin_dial(alloc, number, end, user))
 }
 
 impl<U: SafeUser> LiveLoop<U> {
@@ -62,11 +62,11 @@ impl<U: SafeUser> LiveLoop<U> {
         let end = End::call(
             alloc,
             &plan.settings,
-            engine.get(),
-            rbc.get(),
-            pair.kmac().key(),
+            engine,
+            rbc,
+            pair.kmac().copied(),
             rb,
-            self.moment.get(),
+            self.moment,
         )?;
         let mut session = begun_session(alloc, conn.0, end, user)?;
         let call = Called { engine, rbc, rb };

@@ -78,18 +78,17 @@ pub fn serve<O: Journal>(
     keys: &KeyStore,
     plan: &LinePlan,
     address: &str,
-    rbc: u32,
+    rbc: EtcsNumber,
     users: Vec<Box<dyn SafeUser>>,
     outside: &mut O,
 ) -> Result<Served, LoopFault>
-    requires rbc { rbc < 2 ^ 24 }
     ensures ends { ServesOn (O.told outside.old) (O.told outside.new) (serving keys.now plan.now rbc (length users.items)) address.now (map mind users.items) result }
     // Nothing goes to a connection, and none is closed, before the lines that tell of it are written.
     ensures recorded { IsRecordedFirst (trace_header plan.now.settings) (O.told outside.old) (O.told outside.new) }
 {
     let loop_plan = LoopPlan {
         settings: plan.settings,
-        rbc: EtcsNumber::new(rbc),
+        rbc,
         handed: users.len() as u64,
         turns: plan.turns,
         dials: false,

@@ -1,6 +1,6 @@
 //! The moments at which the sessions are to be visited next.
 
-ghost use Rattle.std.specs.Prelude.{◌≡◌, ◌<◌, ◌-◌, ◌^◌, ◌==◌, ◌&&◌, if◌then◌else◌, true, false, [], ℕ, OnOk};
+ghost use Rattle.std.specs.Prelude.{◌≡◌, ◌<◌, ◌-◌, ◌^◌, ◌==◌, ◌&&◌, if◌then◌else◌, true, false, [], ℕ, None, OnOk, OnErr};
 ghost use Rattle.std.specs.Ordering.{nat_cmp};
 ghost use Rattle.std.specs.List.Sorted.{IsPermutation, IsSorted};
 ghost use Rattle.std.specs.BTreeSet.{IsOrdered};
@@ -58,7 +58,9 @@ impl WakeTimes {
         now: Option<u64>,
     ) -> Result<(), NoMemory>
         requires { (m : ℕ) → has_wake_time self.old.pairs m number ≡ is_moment m before }
-        ensures { OnOk result ((m n : ℕ) → has_wake_time self.new.pairs m n ≡ (if n == number then is_moment m now else has_wake_time self.old.pairs m n)) }
+        ensures changed { OnOk result ((m n : ℕ) → has_wake_time self.new.pairs m n
+            ≡ (if n == number then is_moment m now else has_wake_time self.old.pairs m n)) }
+        ensures same { OnErr result (before ≡ None → (m n : ℕ) → has_wake_time self.new.pairs m n ≡ has_wake_time self.old.pairs m n) }
     {
         // A moment that stays costs nothing.
         if before == now {
@@ -69,7 +71,7 @@ impl WakeTimes {
     }
 
     // A session is no more to be visited at this moment.
-    fn forget(&mut self, number: u64, at: Option<u64>)
+    pub(crate) fn forget(&mut self, number: u64, at: Option<u64>)
         ensures { (m n : ℕ) → has_wake_time self.new.pairs m n ≡ (if is_moment m at && (n == number) then false else has_wake_time self.old.pairs m n) }
     {
         if let Some(at) = at {
@@ -79,7 +81,9 @@ impl WakeTimes {
 
     // A session is to be visited at this moment.
     fn keep(&mut self, number: u64, at: Option<u64>) -> Result<(), NoMemory>
-        ensures { OnOk result ((m n : ℕ) → has_wake_time self.new.pairs m n ≡ (if is_moment m at && (n == number) then true else has_wake_time self.old.pairs m n)) }
+        ensures kept { OnOk result ((m n : ℕ) → has_wake_time self.new.pairs m n
+            ≡ (if is_moment m at && (n == number) then true else has_wake_time self.old.pairs m n)) }
+        ensures same { OnErr result ((m n : ℕ) → has_wake_time self.new.pairs m n ≡ has_wake_time self.old.pairs m n) }
     {
         if let Some(at) = at {
             self.pairs.insert((at, number))?;

@@ -5,8 +5,8 @@ use Rattle.std.proofs.lemmas.List.{take_more, length-take-le, get_or-take}
 use Rattle.memchr.specs.Find.{Nowhere, Passes, is_byte}
 use Rattle.hdlc_frames.specs.Framing.{flag}
 use Rattle.relay_model.specs.Units.{Part, Outside, Standing, Unbegun, Holding, Overlong, UnitTurn, turn_to, unit_turn, standing_from, parts_from, octets_in_parts}
-use Rattle.relay_carrier.specs.declared.came.Came.{Came}
-use Rattle.relay_carrier.specs.declared.came.Came.TheVariants as brought
+use Rattle.relay_carrier.specs.declared.came.CutOutcome.{CutOutcome}
+use Rattle.relay_carrier.specs.declared.came.CutOutcome.TheVariants as brought
 use Rattle.relay_carrier.specs.Told.{AreOutside, parts_told, TellsParts}
 
 pub parts_append : (s : Standing) (came more : List ℕ) → parts_from s (came ++ more) ≡ parts_from s came ++ parts_from (standing_from s came) more
@@ -163,7 +163,7 @@ first_taken (x ∷ octets) (suc n) some at moves =
 
 -- ---- what the code tells of one octet, it tells of all
 
-pub tells_told : (what : Came) (octets : List ℕ) (parts : List Part) → (what ≡ brought.Held → octets ≡ []) → parts ≡ parts_told what octets
+pub tells_told : (what : CutOutcome) (octets : List ℕ) (parts : List Part) → (what ≡ brought.Held → octets ≡ []) → parts ≡ parts_told what octets
     → TellsParts what octets parts
 unfolding octets_in_parts
 tells_told brought.Held octets parts none is = (is, none refl)

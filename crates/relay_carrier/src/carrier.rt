@@ -10,7 +10,7 @@ ghost use Rattle.relay_carrier.specs.Prompt.{NoneDelays};
 ghost use Rattle.relay_carrier.specs.Counting.{within_64_bits};
 ghost use Rattle.relay_model.specs.Carried.{due_behind};
 
-use crate::came::Came;
+use crate::came::CutOutcome;
 use crate::counts::Counts;
 use crate::cutter::{Cutter, MOST_OCTETS};
 use crate::naming::load_of;
@@ -24,11 +24,11 @@ const FLAG: u8 = 0x7e;
 
 /// What octets of a side came to, and when what is given for them is due.
 #[derive(Clone, Copy, Debug, PartialEq, Eq)]
-pub struct Taken {
+pub struct CarriedOctets {
     /// How many octets were taken.
     pub used: usize,
     /// What they came to.
-    pub came: Came,
+    pub came: CutOutcome,
     /// The moment in milliseconds at which what is given for them is due; 2^64 - 1 where it would be later.
     pub due: u64,
 }
@@ -117,7 +117,7 @@ impl Carrier {
         octets: &[u8],
         came: &mut Room,
         given: &mut Vec<u8>,
-    ) -> Result<Taken, NoMemory>
+    ) -> Result<CarriedOctets, NoMemory>
         requires range { IsScriptInRange script.now }
         requires unclosed { self.old.closed ≡ false }
         requires room { came.old.capacity ≡ 4096 }
@@ -139,26 +139,26 @@ impl Carrier {
         let piece = at_most(octets);
         let (used, what) = self.cutter.take(piece, came);
         match what {
-            Came::Held => {
+            CutOutcome::Held => {
                 let due = self.newest;
-                Ok(Taken {
+                Ok(CarriedOctets {
                     used,
                     came: what,
                     due,
                 })
             }
-            Came::Outside => {
+            CutOutcome::Outside => {
                 given.extend_from_slice(came.held())?;
                 let due = self.due_at(moment, 0);
-                Ok(Taken {
+                Ok(CarriedOctets {
                     used,
                     came: what,
                     due,
                 })
             }
-            Came::Unit => {
+            CutOutcome::Unit => {
                 let due = self.unit(alloc, script, moment, came.held(), given)?;
-                Ok(Taken {
+                Ok(CarriedOctets {
                     used,
                     came: what,
                     due,

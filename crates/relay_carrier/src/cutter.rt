@@ -1,12 +1,12 @@
 //! Cuts what comes from a side into units and other octets.
 
 ghost use Rattle.std.specs.Prelude.{◌≡◌, ◌<◌, ◌≤◌, ◌++◌, true, [], length, take, IfOk};
-ghost use Rattle.relay_carrier.specs.declared.came.Came.TheVariants as brought;
+ghost use Rattle.relay_carrier.specs.declared.came.CutOutcome.TheVariants as brought;
 ghost use Rattle.relay_model.specs.Units.{Unbegun, Overlong, turn_to, unit_turn, standing_from, parts_from, held_in_standing};
 ghost use Rattle.relay_carrier.specs.Cutting.{is_holding};
 ghost use Rattle.relay_carrier.specs.Told.{parts_told, TellsParts};
 
-use crate::came::Came;
+use crate::came::CutOutcome;
 use crate::stage::Stage;
 use er_base::{NoMemory, Room};
 use memchr::memchr;
@@ -65,7 +65,7 @@ impl Cutter {
 
     /// Takes octets up to and with the first that ends a unit, or a run of octets of no unit: how many, and what they came to. The octets that are held
     /// no longer are added to `came`.
-    pub fn take(&mut self, octets: &[u8], came: &mut Room) -> (usize, Came)
+    pub fn take(&mut self, octets: &[u8], came: &mut Room) -> (usize, CutOutcome)
         requires room { came.old.capacity ≡ 4096 }
         requires empty { came.old.items ≡ [] }
         requires few { length octets.now ≤ 4096 }
@@ -83,7 +83,7 @@ impl Cutter {
     }
 
     // Before the first flag.
-    fn take_before(&mut self, octets: &[u8], came: &mut Room) -> (usize, Came)
+    fn take_before(&mut self, octets: &[u8], came: &mut Room) -> (usize, CutOutcome)
         requires stage { self.old ≡ Unbegun }
         requires room { came.old.capacity ≡ 4096 }
         requires empty { came.old.items ≡ [] }
@@ -96,18 +96,18 @@ impl Cutter {
     {
         let Some(place) = memchr(FLAG, octets) else {
             came.put(octets);
-            return (octets.len(), Came::Outside);
+            return (octets.len(), CutOutcome::Outside);
         };
         if place == 0 {
             self.stage = Stage::Holding;
             return self.take_held(octets, came);
         }
         came.put(&octets[..place]);
-        (place, Came::Outside)
+        (place, CutOutcome::Outside)
     }
 
     // Where octets are held.
-    fn take_held(&mut self, octets: &[u8], came: &mut Room) -> (usize, Came)
+    fn take_held(&mut self, octets: &[u8], came: &mut Room) -> (usize, CutOutcome)
         requires stage { is_holding self.old ≡ true }
         requires room { came.old.capacity ≡ 4096 }
         requires empty { came.old.items ≡ [] }
@@ -119,15 +119,15 @@ impl Cutter {
     {
         for (place, octet) in octets.iter().enumerate() {
             match self.hold(*octet, came) {
-                Came::Held => {}
+                CutOutcome::Held => {}
                 other => return (place + 1, other),
             }
         }
-        (octets.len(), Came::Held)
+        (octets.len(), CutOutcome::Held)
     }
 
     // Behind too many octets, up to the next flag.
-    fn take_behind(&mut self, octets: &[u8], came: &mut Room) -> (usize, Came)
+    fn take_behind(&mut self, octets: &[u8], came: &mut Room) -> (usize, CutOutcome)
         requires stage { self.old ≡ Overlong }
         requires room { came.old.capacity ≡ 4096 }
         requires empty { came.old.items ≡ [] }
@@ -140,15 +140,15 @@ impl Cutter {
     {
         let Some(place) = memchr(FLAG, octets) else {
             came.put(octets);
-            return (octets.len(), Came::Outside);
+            return (octets.len(), CutOutcome::Outside);
         };
         came.put(&octets[..place + 1]);
         self.stage = Stage::Holding;
-        (place + 1, Came::Outside)
+        (place + 1, CutOutcome::Outside)
     }
 
     // An octet more, where octets are held.
-    fn hold(&mut self, octet: u8, came: &mut Room) -> Came
+    fn hold(&mut self, octet: u8, came: &mut Room) -> CutOutcome
         requires stage { is_holding self.old ≡ true }
         requires room { came.old.capacity ≡ 4096 }
         requires empty { came.old.items ≡ [] }
@@ -161,16 +161,16 @@ impl Cutter {
         if octet == FLAG && self.begun {
             pass(&mut self.held, came);
             self.begun = false;
-            return Came::Unit;
+            return CutOutcome::Unit;
         }
         if self.held.free() == 0 {
             pass(&mut self.held, came);
             self.begun = false;
             self.stage = Stage::Overlong;
-            return Came::Outside;
+            return CutOutcome::Outside;
         }
         self.begun = octet != FLAG;
-        Came::Held
+        CutOutcome::Held
     }
 
     /// The side ended: what is held is added to `came`.

@@ -13,5 +13,5 @@ mod naming;
 mod stage;
 mod unit_kinds;
 
-pub use came::Came;
-pub use carrier::{Carrier, Taken};
+pub use came::CutOutcome;
+pub use carrier::{CarriedOctets, Carrier};

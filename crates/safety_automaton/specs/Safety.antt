@@ -89,6 +89,16 @@ session_in (WaitAr connection) = Some connection.session
 session_in (Connected peer session) = Some session
 session_in (Released release session) = session
 
+-- the peer that was authenticated, while the safe connection stands
+abbrev pub authenticated_peer : Phase → Option ℕ
+authenticated_peer (Ready peer kmac rb) = None
+authenticated_peer (WaitAu1 ra) = None
+authenticated_peer (WaitAu2 peer kmac rb) = None
+authenticated_peer (WaitAu3 connection) = None
+authenticated_peer (WaitAr connection) = None
+authenticated_peer (Connected peer session) = Some peer
+authenticated_peer (Released release session) = None
+
 -- what is given to a side
 pub data SafetyEvent : Type 0 where
   -- Sa-CONNECT.request: an initiator is to begin

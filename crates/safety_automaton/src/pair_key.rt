@@ -4,8 +4,7 @@ ghost use Rattle.std.specs.Prelude.{◌≡◌};
 ghost use Rattle.safety_automaton.specs.Pairs.{pair_entries};
 
 use crate::key_finder::KeyFinder;
-use des_block::TripleKey;
-use er_base::EtcsNumber;
+use er_base::{EtcsNumber, Moment};
 use session_keys::Kmac;
 use std::marker::Model;
 
@@ -60,9 +59,9 @@ impl PairKey {
 impl KeyFinder for PairKey {
     ghost entries = { pair_entries };
 
-    fn find(&self, engine: u32, rbc: u32, now: u64) -> Option<TripleKey> {
-        if self.engine.get() == engine && self.rbc.get() == rbc {
-            Some(self.kmac.key())
+    fn find(&self, engine: EtcsNumber, rbc: EtcsNumber, now: Moment) -> Option<Kmac> {
+        if self.engine.get() == engine.get() && self.rbc.get() == rbc.get() {
+            Some(self.kmac.copied())
         } else {
             None
         }

@@ -1,13 +1,12 @@
 //! Where a side stands, and what it waits for.
 
-ghost use Rattle.std.specs.Prelude.{ℕ, ◌≡◌, ◌==◌, List, Option};
+ghost use Rattle.std.specs.Prelude.{ℕ, ◌≡◌, ◌==◌, List, Option, option_map};
 ghost use Rattle.cbc_mac.specs.Mac.{mac_of};
-ghost use Rattle.safety_automaton.specs.Safety.{session_in};
+ghost use Rattle.safety_automaton.specs.Safety.{session_in, authenticated_peer};
 ghost use Rattle.safety_automaton.specs.Views.{state_of};
 ghost use Rattle.safety_automaton.specs.Kept.{phase_view, connected_of, HasNoTexts};
 
 use crate::safe_state::SafeState;
-use des_block::TripleKey;
 use er_base::{EtcsNumber, Release};
 use sapdu::SealedText;
 use session_keys::{Kmac, SessionKeys};
@@ -107,15 +106,29 @@ impl Phase {
         }
     }
 
-    /// The session keys, as soon as they are known.
-    pub fn session(&self) -> Option<TripleKey>
-        ensures { (me : ℕ) → result ≡ session_in (phase_view me self.now) }
+    /// The peer, once both sides have authenticated each other, until the release.
+    pub fn peer(&self) -> Option<EtcsNumber>
+        ensures { (me : ℕ) → result ≡ authenticated_peer (phase_view me self.now) }
     {
         match self {
             Phase::Ready { .. } | Phase::WaitAu1 { .. } | Phase::WaitAu2 { .. } => None,
-            Phase::Keyed(session) => Some(session.keys.key()),
+            Phase::Keyed(session) => match session.stage {
+                Stage::WaitAu3 { .. } | Stage::WaitAr { .. } => None,
+                Stage::Connected => Some(session.peer),
+            },
+            Phase::Released { .. } => None,
+        }
+    }
+
+    /// The session keys, as soon as they are known.
+    pub fn session(&self) -> Option<&SessionKeys>
+        ensures { (me : ℕ) → option_map (λ k. k.now) result ≡ session_in (phase_view me self.now) }
+    {
+        match self {
+            Phase::Ready { .. } | Phase::WaitAu1 { .. } | Phase::WaitAu2 { .. } => None,
+            Phase::Keyed(session) => Some(&session.keys),
             Phase::Released { session, .. } => match session {
-                Some(keys) => Some(keys.key()),
+                Some(keys) => Some(keys),
                 None => None,
             },
         }

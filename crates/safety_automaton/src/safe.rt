@@ -1,10 +1,9 @@
 //! One side of a safe connection: its calls.
 
-ghost use Rattle.std.specs.Prelude.{◌≡◌, ◌+◌, ◌≤◌, ◌<◌, ◌^◌, length, option_map, None, OnOk, OnErr};
+ghost use Rattle.std.specs.Prelude.{◌≡◌, ◌+◌, ◌≤◌, length, option_map, None, OnOk, OnErr};
 ghost use Rattle.sapdu.specs.Rooms.{HasRoomForSapdu};
-ghost use Rattle.des_block.specs.declared.triple_key.TripleKey.{TripleKey};
 ghost use Rattle.safety_automaton.specs.Keys.{key_at};
-ghost use Rattle.safety_automaton.specs.Safety.{no_keys, flag_of, initiator, responder, fixed, ConnectRequest, Received, DataRequest, DisconnectRequest, Released, step, sealed_by, verified_by, octets_sent_in_outcome, session_in, releases};
+ghost use Rattle.safety_automaton.specs.Safety.{no_keys, flag_of, initiator, responder, fixed, ConnectRequest, Received, DataRequest, DisconnectRequest, Released, step, sealed_by, verified_by, octets_sent_in_outcome, session_in, authenticated_peer, releases};
 ghost use Rattle.safety_automaton.specs.Reports.{kept_side_without_texts, report_of};
 ghost use Rattle.safety_automaton.specs.Views.{state_of, report_view, SendsAs, IfAccepted};
 ghost use Rattle.safety_automaton.specs.Laws.{IsValid};
@@ -24,8 +23,7 @@ use crate::phase::{Phase, Session, Stage};
 use crate::reaction::Reaction;
 use crate::role::Role;
 use crate::safe_state::SafeState;
-use des_block::TripleKey;
-use er_base::{Cause, EtcsNumber, Release, Room};
+use er_base::{Cause, EtcsNumber, Moment, Release, Room};
 use sapdu::{SaPdu, SealedText};
 use session_keys::{Kmac, SessionKeys};
 use std::marker::Model;
@@ -60,43 +58,33 @@ impl Model for Safe {
 }
 
 impl Safe {
-    /// An initiator that is to call a peer: its own ETCS number, the peer's, both below 2^24, their KMAC, and its random number.
-    pub fn initiator(me: u32, peer: u32, kmac: TripleKey, rb: u64) -> Safe
-        requires me { me < 2 ^ 24 }
-        requires peer { peer < 2 ^ 24 }
+    /// An initiator that is to call a peer: its own ETCS number, the peer's, their KMAC, and its random number.
+    pub fn initiator(me: EtcsNumber, peer: EtcsNumber, kmac: Kmac, rb: u64) -> Safe
         ensures made { result ≡ kept_side_without_texts (initiator me peer kmac rb) }
         ensures valid { IsValid result.safety }
     {
-        let phase = Phase::Ready {
-            peer: EtcsNumber::new(peer),
-            kmac: Kmac::new(kmac),
-            rb,
-        };
-        Safe::with_phase(EtcsNumber::new(me), Role::Initiator, phase)
+        Safe::with_phase(me, Role::Initiator, Phase::Ready { peer, kmac, rb })
     }
 
-    /// A responder that waits to be called: its ETCS number, below 2^24, and its random number.
-    pub fn responder(me: u32, ra: u64) -> Safe
-        requires { me < 2 ^ 24 }
+    /// A responder that waits to be called: its ETCS number and its random number.
+    pub fn responder(me: EtcsNumber, ra: u64) -> Safe
         ensures made { result ≡ kept_side_without_texts (responder me ra) }
         ensures valid { IsValid result.safety }
     {
-        Safe::with_phase(EtcsNumber::new(me), Role::Responder, Phase::WaitAu1 { ra })
+        Safe::with_phase(me, Role::Responder, Phase::WaitAu1 { ra })
     }
 
-    /// A side with fixed session keys, which is connected from the start: its ETCS number and the peer's, both below 2^24.
-    pub fn fixed(me: u32, peer: u32, role: Role, session: TripleKey) -> Safe
-        requires me { me < 2 ^ 24 }
-        requires peer { peer < 2 ^ 24 }
+    /// A side with fixed session keys, which is connected from the start: its ETCS number and the peer's.
+    pub fn fixed(me: EtcsNumber, peer: EtcsNumber, role: Role, session: SessionKeys) -> Safe
         ensures made { result ≡ kept_side_without_texts (fixed me peer role session) }
         ensures valid { IsValid result.safety }
     {
         let session = Session {
-            peer: EtcsNumber::new(peer),
-            keys: SessionKeys::new(session),
+            peer,
+            keys: session,
             stage: Stage::Connected,
         };
-        Safe::with_phase(EtcsNumber::new(me), role, Phase::Keyed(session))
+        Safe::with_phase(me, role, Phase::Keyed(session))
     }
 
     /// An initiator begins: writes an AU1 to `out`.
@@ -114,12 +102,12 @@ impl Safe {
         self.write(&au1, out);
     }
 
-    /// Takes octets from the peer at a moment in milliseconds: tells what they did, and writes the answering SaPDU to `out`, where
+    /// Takes octets from the peer at a moment: tells what they did, and writes the answering SaPDU to `out`, where
     /// there is one; for a local release that is the DI. An answer has at most 21 octets.
     pub fn receive<'o, K: KeyFinder>(
         &mut self,
         keys: &K,
-        now: u64,
+        now: Moment,
         octets: &'o [u8],
         out: &mut Room,
     ) -> SafeDeed<'o>
@@ -192,12 +180,11 @@ impl Safe {
         self.role
     }
 
-    /// The own ETCS number, below 2^24.
-    pub fn me(&self) -> u32
-        ensures me { result ≡ self.now.safety.me }
-        ensures below { result < 2 ^ 24 }
+    /// The own ETCS number.
+    pub fn me(&self) -> EtcsNumber
+        ensures { result ≡ self.now.safety.me }
     {
-        self.me.get()
+        self.me
     }
 
     /// What this side waits for.
@@ -207,9 +194,16 @@ impl Safe {
         self.phase.state()
     }
 
+    /// The peer, once both sides have authenticated each other, until the release.
+    pub fn peer(&self) -> Option<EtcsNumber>
+        ensures { result ≡ authenticated_peer self.now.safety.phase }
+    {
+        self.phase.peer()
+    }
+
     /// The session keys, as soon as they are known, also after a release.
-    pub fn session(&self) -> Option<TripleKey>
-        ensures { result ≡ session_in self.now.safety.phase }
+    pub fn session(&self) -> Option<&SessionKeys>
+        ensures { option_map (λ k. k.now) result ≡ session_in self.now.safety.phase }
     {
         self.phase.session()
     }

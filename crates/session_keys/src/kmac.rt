@@ -39,6 +39,13 @@ impl Kmac {
         self.key
     }
 
+    /// The same KMAC once more.
+    pub fn copied(&self) -> Kmac
+        ensures { result ≡ self.now }
+    {
+        Kmac { key: self.key }
+    }
+
     /// The session keys of a connection, from the random number `ra` of the end that was called and the random number `rb` of
     /// the end that calls.
     pub fn session_keys(&self, ra: u64, rb: u64) -> SessionKeys

@@ -1,4 +1,4 @@
--- Representation: hearing one frame at a time; no claim rests on it.
+-- Contract: hearing one frame at a time.
 use Rattle.std.specs.Prelude.{ℕ, ◌≡◌, ◌+◌, ◌%◌, ◌==◌, nat_lt, Bool, true, false, not, if◌then◌else◌, List, [], ◌∷◌, ◌++◌, length, Some, None, Result, Ok, Err}
 use Rattle.er_base.specs.declared.side.Side.{Side}
 use Rattle.hdlc_frames.specs.Framing.{frames_of}

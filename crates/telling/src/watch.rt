@@ -1,7 +1,7 @@
 //! What a run over wires tells while it goes on: at most a line a second of what isn't as usual, and counts every ten minutes.
 
 use crate::held::KeysHeld;
-use counted::Counts;
+use counted::JournalCounts;
 use er_base::{NoMemory, Release};
 use journal::{Began, EventTally};
 use std::alloc::Global;
@@ -139,7 +139,7 @@ impl Watch {
     }
 
     /// Whether counts are to be told now: ten minutes behind those before, where something happened.
-    pub fn has_counts(&mut self, now: Duration, counts: &Counts) -> bool {
+    pub fn has_counts(&mut self, now: Duration, counts: &JournalCounts) -> bool {
         if self.rbc.is_none() {
             return false;
         }
@@ -162,7 +162,7 @@ impl Watch {
 }
 
 /// The line of counts.
-pub fn counts_line(alloc: Global, counts: &Counts) -> Result<String, NoMemory> {
+pub fn counts_line(alloc: Global, counts: &JournalCounts) -> Result<String, NoMemory> {
     let mut line = String::new(alloc);
     write!(
         line,
@@ -218,7 +218,7 @@ fn put_news(line: &mut String, news: &News) -> Result<(), NoMemory> {
                 release.reason, release.sub
             )?;
         }
-        Uncommon::Full => line.push_str(": turned away, since 256 are live")?,
+        Uncommon::Full => line.push_str(": turned away, since 256 are live or memory is wanting")?,
         Uncommon::Unserved => line.push_str(": turned away, since 65536 were served")?,
     }
     Ok(())

@@ -1,6 +1,7 @@
 //! Key files and the keys that are found in them.
 
 use des_block::TripleKey;
+use er_base::{EtcsNumber, Moment};
 use key_store::KeyStore;
 use safety_automaton::KeyFinder;
 use std::test::Fail;
@@ -49,7 +50,10 @@ to = 1000000000000000
 fn prints_entries_one_by_one_and_shows_no_key(rt: HostRuntime) -> Result<(), Fail> {
     let store = KeyStore::from_bytes(rt.alloc(), WRITTEN.as_bytes())?;
     assert!(rt; store.to_text(rt.alloc())?.as_slice() == PRINTED.as_bytes());
-    assert!(rt; store.find(5, 9, 1_000) == Some(KEYS) && store.find(9, 5, 1_000).is_none());
+    let (engine, rbc) = (EtcsNumber::new(5), EtcsNumber::new(9));
+    let now = Moment::new(1_000);
+    let found = store.find(engine, rbc, now).map(|kmac| kmac.key());
+    assert!(rt; found == Some(KEYS) && store.find(rbc, engine, now).is_none());
     let shown = format!(in rt.alloc(); "{store:?}")?;
     let has_key = shown.as_str().contains("0123") || shown.as_str().contains("81985529216486895");
     assert!(rt; !has_key);

@@ -1,15 +1,15 @@
 //! Stations with go-back: rows worked out by hand. Stations with selective reject begin.
 
-ghost use Rattle.std.specs.Prelude.{◌≤◌, IfOk};
+ghost use Rattle.std.specs.Prelude.{◌≡◌, ◌≤◌, false, IfOk};
 ghost use Rattle.er_base.specs.Stored.{HasRoom};
 ghost use Rattle.er_settings.specs.Ranges.{AllAllowed};
+ghost use Rattle.hdlc_station.specs.Stations.{is_selective};
 
-use er_base::{Release, Room, decimal, decimal_word, hex_word, octets_of};
+use er_base::{Moment, Release, Room, decimal, decimal_word, hex_word, octets_of};
 use er_settings::Settings;
 use er_settings::laws::allowed_are_bounded;
-use hdlc_balanced::{Counts, Full, LinkDeed, Station};
 use hdlc_frames::{Found, Frame};
-use hdlc_selective::SelectiveStation;
+use hdlc_station::{Counts, Full, LinkDeed, Reject, Station};
 use std::alloc::Global;
 use std::test::Fail;
 
@@ -76,7 +76,8 @@ fn settings_of(modulo: &str, window: &str) -> Result<Settings, Fail>
 #[derive(Drop)]
 struct Played {
     station: Station,
-    ghost small: { station.window ≤ 31 },
+    ghost small: { station.core.window ≤ 31 },
+    ghost way: { is_selective station ≡ false },
 }
 
 // A station made as the words say.
@@ -86,9 +87,9 @@ fn made(alloc: Global, making: &str) -> Result<Played, Fail> {
     let (modulo, window) = numbers.split_once(' ').ok_or("modulo")?;
     let settings = settings_of(modulo, window)?;
     let station = if role == "calling" {
-        Station::calling(alloc, &settings)?
+        Station::calling(alloc, &settings, Reject::GoBack)?
     } else {
-        Station::called(alloc, &settings)?
+        Station::called(alloc, &settings, Reject::GoBack)?
     };
     Ok(Played { station })
 }
@@ -119,7 +120,7 @@ impl Played {
         let (kind, rest) = word.split_first().ok_or("event")?;
         match *kind {
             b's' => {
-                self.station.start(0, out);
+                self.station.start(Moment::new(0), out);
                 Ok(())
             }
             b'c' => {
@@ -131,15 +132,18 @@ impl Played {
             b'n' => tell_counts(&self.station.counts(), told),
             b'd' => tell_deadline(self.station.deadline(), told),
             b'f' => self.frame(alloc, rest, out, told),
-            kind => tell(&self.station.receive(0, &nothing(kind), out), told),
+            kind => tell(
+                &self.station.receive(Moment::new(0), &nothing(kind), out),
+                told,
+            ),
         }
     }
 
     fn tick(&mut self, word: &[u8], out: &mut Room, told: &mut Vec<u8>) -> Result<(), Fail>
         requires { HasRoom out.old 130032 }
     {
-        let now = decimal(word).ok_or("moment")?.min(60_000);
-        match self.station.tick(now, out) {
+        let now = decimal(word).ok_or("moment")?;
+        match self.station.tick(Moment::capped(now), out) {
             Some(release) => tell_release(release, told),
             None => Ok(()),
         }
@@ -161,7 +165,7 @@ impl Played {
         if payload.len() > 1026 {
             return Err("a payload")?;
         }
-        match self.station.hand(0, payload, out) {
+        match self.station.hand(Moment::new(0), payload, out) {
             Ok(()) => Ok(()),
             Err(Full { waiting }) => {
                 told.extend_from_slice(b"full ")?;
@@ -187,7 +191,7 @@ impl Played {
             address: *address,
             body,
         });
-        let deed = self.station.receive(0, &found, out);
+        let deed = self.station.receive(Moment::new(0), &found, out);
         tell(&deed, told)
     }
 }
@@ -289,9 +293,9 @@ fn rows(rt: HostRuntime) -> Result<(), Fail> {
 fn a_selective_station_begins(rt: HostRuntime) -> Result<(), Fail> {
     let settings = Settings::new(4, 15, 128, 1_000, 5, 40_000)?;
     let mut out = Room::with_capacity(rt.alloc(), 2064)?;
-    SelectiveStation::called(rt.alloc(), &settings)?.start(0, &mut out);
+    Station::called(rt.alloc(), &settings, Reject::Selective)?.start(Moment::new(0), &mut out);
     assert!(rt; out.held().is_empty());
-    SelectiveStation::calling(rt.alloc(), &settings)?.start(0, &mut out);
+    Station::calling(rt.alloc(), &settings, Reject::Selective)?.start(Moment::new(0), &mut out);
     assert!(rt; out.held() == b"\x7E\x01\x3F\xEB\xDF\x7E".as_slice());
     Ok(())
 }

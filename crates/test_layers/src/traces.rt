@@ -2,7 +2,7 @@
 
 ghost use Rattle.er_settings.specs.Ranges.{AllAllowed};
 
-use er_base::Release;
+use er_base::{Moment, Release};
 use er_trace::{
     Outcome, Trace, laws, print_entry, print_header, print_octets, print_outcome, print_send, read,
 };
@@ -137,8 +137,8 @@ const LENT: &str = "\
 #[test]
 fn prints_outcomes_and_what_is_lent(rt: HostRuntime) -> Result<(), Fail> {
     let mut out = Vec::new(rt.alloc());
-    print_octets(7, 1, b"", &mut out)?;
-    print_send(8, 2, SENT, &mut out)?;
+    print_octets(Moment::new(7), 1, b"", &mut out)?;
+    print_send(Moment::new(8), 2, SENT, &mut out)?;
     for outcome in &OUTCOMES {
         print_outcome(1, outcome, &mut out)?;
     }

@@ -1,12 +1,12 @@
 //! Calls: what comes of them before anything is heard, a frame that waits for room, and T1 that expires before a turn.
 
 use crate::serving::{HEADER, SET_UP, clock, clock_at_0, plan, randoms_behind};
-use crate::train::{CENTRE, KMAC};
+use crate::train::{KMAC, centre};
 use er_base::{EtcsNumber, NoMemory};
 use er_users::{SafeUser, Silent};
 use link_memory::{Act, MemoryCabinet, MemoryClock, MemorySink, MemoryWires};
 use outside::Parts;
-use readiness_loop::{LoopFault, Served, Stop, dial};
+use readiness_loop::{LoopFault, LoopStop, Served, dial};
 use safety_automaton::PairKey;
 use session_keys::Kmac;
 use std::alloc::Global;
@@ -40,6 +40,16 @@ fn clock_to_t1(alloc: Global) -> Result<MemoryClock, NoMemory> {
     Ok(MemoryClock::new(moments))
 }
 
+// A connection is told as writable, though there is no room in it, before the set-up time of its end runs out, or not; how many turns are done then.
+// Where it never was, nothing is owed to a peer that was never reached; else the octets that wait are kept until the closing moment.
+const RELEASES: [(bool, u64); 2] = [(false, 1), (true, 3)];
+
+// A clock at which the set-up time of the end runs out behind the first turn, and the closing moment comes later.
+fn clock_past_set_up(alloc: Global) -> Result<MemoryClock, NoMemory> {
+    let moments = Vec::from_slice(alloc, &[0, 0, 0, 40_000])?;
+    Ok(MemoryClock::new(moments))
+}
+
 // How a call ended, what it printed, and what was given to its peer.
 #[derive(Drop)]
 struct Called {
@@ -63,7 +73,7 @@ fn play_call(
     let mut randoms = randoms_behind(0);
     let mut users: Vec<Box<dyn SafeUser>> = Vec::new(alloc);
     users.push(Box::new(alloc, Silent::new())?)?;
-    let pair = PairKey::new(EtcsNumber::new(5), EtcsNumber::new(CENTRE), Kmac::new(KMAC));
+    let pair = PairKey::new(EtcsNumber::new(5), centre(), Kmac::new(KMAC));
     let mut cabinet = MemoryCabinet::new(alloc);
     let mut outside = Parts::new(
         &mut cabinet,
@@ -100,7 +110,7 @@ fn are_frames(given: &[u8], frames: usize) -> bool {
 
 fn is_given_so(alloc: Global, room: usize, octets: usize) -> Result<bool, NoMemory> {
     let called = play_call(alloc, Vec::new(alloc), room, clock(alloc)?, 1, 0)?;
-    let why = Stop::Ended;
+    let why = LoopStop::Ended;
     Ok(
         called.end == Ok(Served { turns: 1, why })
             && is_printed(called.sink.held(), 0)
@@ -140,6 +150,33 @@ fn is_sent_again(
             && is_printed(called.sink.held(), ticks)
             && are_frames(called.given.as_slice(), frames),
     )
+}
+
+// Whether a call into a wire without room, whose end is released as its set-up time runs out, is closed at once, or still waits.
+fn is_released_so(alloc: Global, made: bool, turns: u64) -> Result<bool, NoMemory> {
+    let mut acts = Vec::new(alloc);
+    acts.push(if made {
+        Act::Room { conn: 1, room: 0 }
+    } else {
+        Act::Quiet
+    })?;
+    acts.push(Act::Quiet)?;
+    acts.push(Act::Quiet)?;
+    let called = play_call(alloc, acts, 0, clock_past_set_up(alloc)?, 3, 0)?;
+    let why = if made {
+        LoopStop::Turns
+    } else {
+        LoopStop::Closed
+    };
+    Ok(called.end == Ok(Served { turns, why }) && called.given.is_empty())
+}
+
+#[test]
+fn a_dial_that_was_never_made_ends_at_its_release(rt: HostRuntime) -> Result<(), Fail> {
+    for (made, turns) in RELEASES {
+        assert!(rt; is_released_so(rt.alloc(), made, turns)?, "{made}");
+    }
+    Ok(())
 }
 
 #[test]

@@ -1,7 +1,7 @@
 //! Peers: one that closes in mid-frame, one too many, one for whom no user is left, and one that takes nothing.
 
 use crate::serving::{HEADER, SET_UP, bring, clock_at_0, plan, randoms_behind, served};
-use crate::train::{CENTRE, keys};
+use crate::train::{centre, keys};
 use er_base::NoMemory;
 use er_users::{SafeUser, Silent};
 use link_memory::{Act, MemoryCabinet, MemorySink, MemoryWires};
@@ -140,7 +140,7 @@ fn stalled(alloc: Global) -> Result<MemorySink, Fail> {
         &keys,
         &plan(1_000),
         "here",
-        CENTRE,
+        centre(),
         users,
         &mut outside,
     )?;

@@ -6,7 +6,7 @@ ghost use Rattle.er_users.specs.Users.{Callers, mind_of};
 use crate::lines::lines_of;
 use crate::script::Script;
 use crate::serving::{plan, randoms_behind};
-use crate::train::{CENTRE, keys, put, trains};
+use crate::train::{centre, keys, put, trains};
 use arrayvec::ArrayVec;
 use er_base::NoMemory;
 use er_end::SendRefused;
@@ -186,7 +186,7 @@ fn printed(
         keys,
         &plan(1_000),
         "here",
-        CENTRE,
+        centre(),
         users,
         &mut outside,
     )?;

@@ -3,7 +3,7 @@
 ghost use Rattle.er_settings.specs.Ranges.{AllAllowed};
 
 use crate::script::Script;
-use crate::train::CENTRE;
+use crate::train::centre;
 use er_base::{NoMemory, Octets};
 use er_settings::Settings;
 use er_users::{Echo, SafeUser};
@@ -96,7 +96,7 @@ pub(crate) fn served(
         keys,
         &plan(1_000),
         "here",
-        CENTRE,
+        centre(),
         users,
         &mut outside,
     );
@@ -123,7 +123,7 @@ pub(crate) fn serve_in_memory(
         keys,
         &plan(1_000),
         "here",
-        CENTRE,
+        centre(),
         users,
         &mut outside,
     )?;

@@ -1,11 +1,12 @@
 //! The smallest loops that serve.
 
 use crate::serving::{HEADER, Ran, clock_at_0, plan, randoms_behind};
+use crate::train::centre;
 use er_users::{SafeUser, Silent};
 use key_store::KeyStore;
 use link_memory::{Act, MemoryCabinet, MemorySink, MemoryWires};
 use outside::Parts;
-use readiness_loop::{Served, Stop, serve};
+use readiness_loop::{LoopStop, Served, serve};
 use std::alloc::Global;
 use std::test::Fail;
 
@@ -42,14 +43,22 @@ fn smallest(alloc: Global, users: u8, turns: u64) -> Result<Ran, Fail> {
         &mut clock,
         &mut randoms,
     );
-    let end = serve(alloc, &keys, &plan(turns), "here", 9, minds, &mut outside);
+    let end = serve(
+        alloc,
+        &keys,
+        &plan(turns),
+        "here",
+        centre(),
+        minds,
+        &mut outside,
+    );
     Ok(Ran { end, sink })
 }
 
 // Whether a run does its turns, and prints the header and that.
 fn prints(alloc: Global, users: u8, turns: u64, behind: &str) -> Result<bool, Fail> {
     let ran = smallest(alloc, users, turns)?;
-    let why = Stop::Turns;
+    let why = LoopStop::Turns;
     let is_done = ran.end == Ok(Served { turns, why });
     Ok(is_done && ran.sink.held().strip_prefix(HEADER) == Some(behind.as_bytes()))
 }

@@ -3,18 +3,26 @@
 use crate::serving::randoms_behind;
 use arrayvec::ArrayVec;
 use des_block::TripleKey;
-use er_base::NoMemory;
+use er_base::{EtcsNumber, Moment, NoMemory};
 use er_end::End;
 use er_settings::Settings;
 use key_store::{KeyFileFault, KeyStore};
 use rand_core::Rng;
+use session_keys::Kmac;
 use std::alloc::Global;
 
 /// Octets that are read, or written, at once.
 pub(crate) type Piece = ArrayVec<u8, 512>;
 
 /// The radio block centre that is called.
-pub(crate) const CENTRE: u32 = 9;
+pub(crate) fn centre() -> EtcsNumber {
+    EtcsNumber::new(9)
+}
+
+// The moment of every event.
+fn moment() -> Moment {
+    Moment::new(0)
+}
 
 /// The KMAC of every train.
 pub(crate) const KMAC: TripleKey = TripleKey {
@@ -77,12 +85,12 @@ fn report(number: u8) -> [u8; 24] {
 fn take_all(end: &mut End, is_echo: bool, out: &mut Piece) {
     for _ in 0..end.waiting() {
         let mut text = Piece::new();
-        if let Some(taken) = end.take(0) {
+        if let Some(taken) = end.take(moment()) {
             put(&mut text, taken.text);
             put(out, taken.out);
         }
         if is_echo {
-            if let Ok(deeds) = end.send(0, text.as_slice()) {
+            if let Ok(deeds) = end.send(moment(), text.as_slice()) {
                 put(out, deeds.out);
             }
         }
@@ -94,7 +102,7 @@ fn hear(end: &mut End, keys: &KeyStore, is_echo: bool, octets: &[u8], out: &mut 
     let mut rest = octets;
     let mut is_connected = false;
     for _ in 0..octets.len() {
-        let (used, deeds) = end.octets(keys, 0, rest);
+        let (used, deeds) = end.octets(keys, moment(), rest);
         put(out, deeds.out);
         is_connected |= deeds.connected.is_some();
         take_all(end, is_echo, out);
@@ -130,14 +138,15 @@ impl Train {
     /// The train of this engine, whose call is answered with this random number.
     fn begin(alloc: Global, engine: u8, ra: u64, reports: u8) -> Result<Train, NoMemory> {
         let settings = Settings::usual();
-        let engine = u32::from(engine);
         let rb = u64::from(engine);
-        let mut end = End::call(alloc, &settings, engine, CENTRE, KMAC, rb, 0)?;
+        let engine = EtcsNumber::new(u32::from(engine));
+        let kmac = Kmac::new(KMAC);
+        let mut end = End::call(alloc, &settings, engine, centre(), kmac, rb, moment())?;
         let mut next = Piece::new();
-        put(&mut next, end.start(0).out);
+        put(&mut next, end.start(moment()).out);
         Ok(Train {
             end,
-            centre: End::answer(alloc, &settings, CENTRE, ra, 0)?,
+            centre: End::answer(alloc, &settings, centre(), ra, moment())?,
             next,
             is_connected: false,
             reports,
@@ -163,7 +172,7 @@ impl Train {
     fn report(&mut self) {
         if self.is_connected && self.reported < self.reports {
             self.reported += 1;
-            if let Ok(deeds) = self.end.send(0, &report(self.reported)) {
+            if let Ok(deeds) = self.end.send(moment(), &report(self.reported)) {
                 put(&mut self.next, deeds.out);
             }
         }
@@ -171,6 +180,6 @@ impl Train {
 
     /// It leaves with this sub-reason, when it speaks next.
     pub(crate) fn leave(&mut self, sub: u8) {
-        put(&mut self.next, self.end.release(0, sub).out);
+        put(&mut self.next, self.end.release(moment(), sub).out);
     }
 }

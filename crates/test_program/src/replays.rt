@@ -3,9 +3,10 @@
 ghost use Rattle.std.specs.Prelude.{[], ◌∷◌};
 
 use des_block::TripleKey;
-use er_base::{NoMemory, decimal_word};
+use er_base::{EtcsNumber, Moment, NoMemory, decimal_word};
 use er_trace::read;
 use safety_automaton::KeyFinder;
+use session_keys::Kmac;
 use std::alloc::Global;
 use std::test::Fail;
 use trace_replay::{ReplayFault, replay};
@@ -22,11 +23,11 @@ struct OneKey;
 impl KeyFinder for OneKey {
     ghost entries = { λ k. record { engine = 5; rbc = 9; kmac = record { first = 0x0123456789abcdef; second = 0x23456789abcdef01; third = 0x456789abcdef0123 }; first = 0; last = 999 } ∷ [] };
 
-    fn find(&self, engine: u32, rbc: u32, now: u64) -> Option<TripleKey> {
-        if engine == 5 {
-            if rbc == 9 {
-                if now <= 999 {
-                    return Some(KEY);
+    fn find(&self, engine: EtcsNumber, rbc: EtcsNumber, now: Moment) -> Option<Kmac> {
+        if engine.get() == 5 {
+            if rbc.get() == 9 {
+                if now.get() <= 999 {
+                    return Some(Kmac::new(KEY));
                 }
             }
         }

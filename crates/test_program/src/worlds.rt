@@ -2,11 +2,10 @@
 
 ghost use Rattle.std.specs.Prelude.{◌≡◌, false, IfOk};
 ghost use Rattle.er_scenario.specs.declared.level.Level.TheVariants as level;
-ghost use Rattle.drill_model.specs.Steps.{HasEtcsNumbers};
-ghost use Rattle.drill_model.specs.StepLevels.{IsOfLevel, HasMoment};
+ghost use Rattle.drill_model.specs.StepLevels.{IsOfLevel};
 
 use des_block::TripleKey;
-use er_base::{NoMemory, Octets, Side, decimal_word};
+use er_base::{EtcsNumber, Moment, NoMemory, Octets, Side, decimal_word};
 use er_scenario::{Level, Step};
 use er_settings::Settings;
 use er_world::{World, WorldFault};
@@ -49,21 +48,19 @@ fn put_count(word: &[u8], number: u64, line: &mut Vec<u8>) -> Result<(), NoMemor
 /// The step of a move on a link.
 fn step_of(alloc: Global, link: u8, made: &Move) -> Result<Step, NoMemory>
     ensures level { IfOk result (λ step. IsOfLevel level.Safe step) }
-    ensures numbers { IfOk result HasEtcsNumbers }
-    ensures moment { IfOk result HasMoment }
 {
     match made {
         Move::Fixed => Ok(Step::Fixed {
             link,
-            engine: 5,
-            rbc: 9,
+            engine: EtcsNumber::new(5),
+            rbc: EtcsNumber::new(9),
             ke: K,
             kr: K,
         }),
         Move::Called(ra) => Ok(Step::Link {
             link,
-            engine: 5,
-            rbc: 9,
+            engine: EtcsNumber::new(5),
+            rbc: EtcsNumber::new(9),
             ke: K,
             kr: Some(K),
             ra: *ra,
@@ -112,8 +109,6 @@ fn step_of(alloc: Global, link: u8, made: &Move) -> Result<Step, NoMemory>
 /// Does a step; what came of it is printed, or the fault's name.
 fn take(alloc: Global, world: &mut World, step: &Step, out: &mut Vec<u8>) -> Result<(), NoMemory>
     requires level { IsOfLevel world.old.plan.level step.now }
-    requires numbers { HasEtcsNumbers step.now }
-    requires moment { HasMoment step.now }
     ensures { world.new.plan ≡ world.old.plan }
 {
     if world.spent() {
@@ -219,8 +214,6 @@ enum WireMove<'a> {
 fn wire_step_of(alloc: Global, made: &WireMove) -> Result<Step, NoMemory>
     ensures level { IfOk result (λ step. IsOfLevel level.Link step) }
     ensures selective { IfOk result (λ step. IsOfLevel level.LinkSr step) }
-    ensures numbers { IfOk result HasEtcsNumbers }
-    ensures moment { IfOk result HasMoment }
 {
     let link = 1;
     match made {
@@ -249,7 +242,7 @@ fn wire_step_of(alloc: Global, made: &WireMove) -> Result<Step, NoMemory>
             sub: *sub,
         }),
         WireMove::Tick(moment) => Ok(Step::Tick {
-            moment: *moment as u64,
+            moment: Moment::new(*moment as u64),
         }),
         WireMove::Drain => Ok(Step::Drain { link, most: 20 }),
     }

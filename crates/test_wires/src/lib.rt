@@ -4,6 +4,8 @@
 #![tactic(auto)]
 
 #[cfg(test)]
+mod application;
+#[cfg(test)]
 mod options;
 #[cfg(test)]
 mod peers;

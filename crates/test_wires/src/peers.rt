@@ -149,9 +149,16 @@ fn is_refused<W: Wires>(rt: HostRuntime, wires: &mut W, address: &str) -> io::Re
     }
 }
 
-// Whether nothing is listened at, an address that is taken and texts that are none, and no name is dialled.
+// Whether nothing is listened at, an address that is taken, texts that are none and where an application would come, and no name is dialled.
 fn listens_nowhere<W: Wires>(wires: &mut W, taken: &str) -> bool {
-    for address in [taken, "", "localhost:4711", "127.0.0.1", "127.0.0.1:65536"] {
+    for address in [
+        taken,
+        "",
+        "localhost:4711",
+        "127.0.0.1",
+        "127.0.0.1:65536",
+        "unix:here",
+    ] {
         if wires.listen(address).is_ok() {
             return false;
         }
@@ -186,7 +193,7 @@ fn holds_one_back<W: Wires>(
 }
 
 // What the newest fault says.
-fn told(rt: HostRuntime, wires: &MioWires<HostRuntime>) -> Result<String, Fail> {
+pub fn told(rt: HostRuntime, wires: &MioWires<HostRuntime>) -> Result<String, Fail> {
     match wires.fault() {
         Some(fault) => Ok(format!(in rt.alloc(); "{fault}")?),
         None => Ok(String::new(rt.alloc())),

@@ -1,19 +1,22 @@
-//! One table of scripts over wires in memory and over sockets on this machine: the answers are the same, but for what the
+//! One table of scripts over wires in memory, over sockets on this machine and of an application: the answers are the same, but for what the
 //! trait leaves free, as in how many pieces octets come and how many turns are quiet.
 
+use crate::application::{application_address, name_of};
 use crate::peers::{accepted, address_of, listener, read_soon, soon};
 use er_base::Octets;
 use link_memory::{Act, MemoryWires};
 use link_trait::{Conn, Happening, ReadAnswer, Wires, WriteAnswer};
 use mio_wires::MioWires;
 use std::io::{Read, Write};
+use std::os::fd::OwnedFd;
+use std::os::unix::net::UnixStream;
 use std::test::Fail;
 use std::{io, net};
 
-// What the peer of connection 1 does, and what is done at the wires and must be answered.
+// What the peer of a connection does, and what is done at the wires and must be answered.
 #[derive(Clone, Copy)]
 enum Step {
-    // The peer connects, and is accepted.
+    // The peer connects, and is accepted; an application is told as writable.
     Connect,
     // So many octets come.
     Bring(usize),
@@ -108,9 +111,10 @@ fn sent_octets(rt: HostRuntime) -> Result<Vec<u8>, Fail> {
     Ok(octets)
 }
 
-// The peer of connection 1 on this machine, or nobody, where what it does stands in the script of wires in memory.
+// The peer of connection 1, or of 0 where it is an application, on this machine, or nobody, where what it does stands in the script of wires in memory.
 #[derive(Drop)]
 struct Peer<'a> {
+    conn: Conn,
     address: Option<&'a str>,
     stream: Option<net::TcpStream>,
     // What it sends, what of that was read at the wires, and how many octets were written to it.
@@ -122,7 +126,9 @@ struct Peer<'a> {
 
 impl<'a> Peer<'a> {
     fn new(rt: HostRuntime, address: Option<&'a str>) -> Result<Peer<'a>, Fail> {
+        let is_application = address.is_some_and(|address| address.starts_with("unix:"));
         Ok(Peer {
+            conn: Conn(if is_application { 0 } else { 1 }),
             address,
             stream: None,
             octets: sent_octets(rt)?,
@@ -133,9 +139,15 @@ impl<'a> Peer<'a> {
     }
 
     fn connect(&mut self, rt: HostRuntime) -> io::Result<()> {
-        if let Some(address) = self.address {
-            self.stream = Some(net::TcpStream::connect(&rt, address)?);
-        }
+        let Some(address) = self.address else {
+            return Ok(());
+        };
+        // What is called at a socket of either domain is the same.
+        self.stream = Some(if self.conn == Conn(0) {
+            net::TcpStream::from(OwnedFd::from(UnixStream::connect(&rt, name_of(address))?))
+        } else {
+            net::TcpStream::connect(&rt, address)?
+        });
         Ok(())
     }
 
@@ -207,10 +219,10 @@ fn takes<W: Wires>(wires: &mut W, peer: &mut Peer<'_>, count: usize) -> bool {
         if peer.taken >= until {
             return peer.taken == until;
         }
-        if wires.turn(None) != Happening::Readable(Conn(1)) {
+        if wires.turn(None) != Happening::Readable(peer.conn) {
             continue;
         }
-        match wires.read(Conn(1), &mut read) {
+        match wires.read(peer.conn, &mut read) {
             ReadAnswer::Some(n) => {
                 let Some(octets) = read.get(..n) else {
                     return false;
@@ -230,7 +242,7 @@ fn takes<W: Wires>(wires: &mut W, peer: &mut Peer<'_>, count: usize) -> bool {
 fn fills<W: Wires>(wires: &mut W, peer: &mut Peer<'_>) -> bool {
     let piece = [7; 4096];
     for _ in 0..100_000 {
-        match wires.write(Conn(1), &piece) {
+        match wires.write(peer.conn, &piece) {
             WriteAnswer::Some(n) => peer.given = peer.given.saturating_add(n),
             WriteAnswer::NotNow => return peer.given > 0,
             WriteAnswer::Failed => return false,
@@ -240,7 +252,7 @@ fn fills<W: Wires>(wires: &mut W, peer: &mut Peer<'_>) -> bool {
 }
 
 // Whether this happens in a hundred turns.
-fn happens<W: Wires>(rt: HostRuntime, wires: &mut W, what: Happening) -> io::Result<bool> {
+pub fn happens<W: Wires>(rt: HostRuntime, wires: &mut W, what: Happening) -> io::Result<bool> {
     for _ in 0..100 {
         if wires.turn(Some(soon(rt)?)) == what {
             return Ok(true);
@@ -249,11 +261,19 @@ fn happens<W: Wires>(rt: HostRuntime, wires: &mut W, what: Happening) -> io::Res
     Ok(false)
 }
 
+// Whether the peer is accepted.
+fn comes<W: Wires>(rt: HostRuntime, wires: &mut W, conn: Conn) -> io::Result<bool> {
+    if conn == Conn(0) {
+        return happens(rt, wires, Happening::Writable(conn));
+    }
+    Ok(accepted(rt, wires)? == Some(conn))
+}
+
 // Whether behind the close nothing happens and nothing is done.
-fn closes<W: Wires>(rt: HostRuntime, wires: &mut W) -> io::Result<bool> {
-    wires.close(Conn(1));
-    let is_gone = wires.read(Conn(1), &mut [0; 6]) == ReadAnswer::Failed
-        && wires.write(Conn(1), b"answer") == WriteAnswer::Failed;
+fn closes<W: Wires>(rt: HostRuntime, wires: &mut W, conn: Conn) -> io::Result<bool> {
+    wires.close(conn);
+    let is_gone = wires.read(conn, &mut [0; 6]) == ReadAnswer::Failed
+        && wires.write(conn, b"answer") == WriteAnswer::Failed;
     let happening = wires.turn(Some(soon(rt)?));
     Ok(is_gone && matches!(happening, Happening::Quiet | Happening::Ended))
 }
@@ -265,30 +285,31 @@ fn is_done<W: Wires>(
     peer: &mut Peer<'_>,
     step: Step,
 ) -> io::Result<bool> {
+    let conn = peer.conn;
     match step {
         Step::Connect => {
             peer.connect(rt)?;
-            return Ok(accepted(rt, wires)? == Some(Conn(1)));
+            return comes(rt, wires, conn);
         }
         Step::Bring(count) => peer.send(count)?,
         Step::Shut => peer.shut()?,
         Step::Reset(_) => peer.stream = None,
         Step::Drain => peer.drain()?,
         Step::Take(count) => return Ok(takes(wires, peer, count)),
-        Step::Seen => return happens(rt, wires, Happening::Readable(Conn(1))),
+        Step::Seen => return happens(rt, wires, Happening::Readable(conn)),
         Step::End => {
-            return Ok(read_soon(rt, wires, Conn(1), &mut [0; 6])? == ReadAnswer::End);
+            return Ok(read_soon(rt, wires, conn, &mut [0; 6])? == ReadAnswer::End);
         }
         Step::Fails => {
-            return Ok(read_soon(rt, wires, Conn(1), &mut [0; 6])? == ReadAnswer::Failed);
+            return Ok(read_soon(rt, wires, conn, &mut [0; 6])? == ReadAnswer::Failed);
         }
-        Step::Say => return Ok(wires.write(Conn(1), b"answer") == WriteAnswer::Some(6)),
+        Step::Say => return Ok(wires.write(conn, b"answer") == WriteAnswer::Some(6)),
         Step::Heard => return peer.hears(),
         Step::Over => return peer.is_over(),
         Step::Fill => return Ok(fills(wires, peer)),
-        Step::Room => return happens(rt, wires, Happening::Writable(Conn(1))),
+        Step::Room => return happens(rt, wires, Happening::Writable(conn)),
         Step::Quiet => return happens(rt, wires, Happening::Quiet),
-        Step::Close => return closes(rt, wires),
+        Step::Close => return closes(rt, wires, conn),
     }
     Ok(true)
 }
@@ -371,12 +392,11 @@ fn plays_in_memory(rt: HostRuntime, steps: &[Step]) -> Result<bool, Fail> {
     played
 }
 
-// Whether it is by new wires over sockets.
-fn plays_over_sockets(rt: HostRuntime, steps: &[Step]) -> Result<bool, Fail> {
-    let address = address_of(rt, &listener(rt)?)?;
-    let mut wires = MioWires::new(rt.alloc(), rt)?;
-    let address = address.as_str();
+// Whether it is by new wires over sockets at this address.
+fn plays_over_sockets(rt: HostRuntime, address: &str, steps: &[Step]) -> Result<bool, Fail> {
+    let mut wires = MioWires::with_application(rt.alloc(), rt)?;
     let played = is_answered(rt, &mut wires, address, Some(address), steps);
+    wires.finish(0);
     drop(wires);
     played
 }
@@ -392,7 +412,17 @@ fn each_script_is_answered_in_memory(rt: HostRuntime) -> Result<(), Fail> {
 #[test]
 fn each_script_is_answered_over_sockets(rt: HostRuntime) -> Result<(), Fail> {
     for steps in SCRIPTS {
-        assert!(rt; plays_over_sockets(rt, steps)?);
+        let address = address_of(rt, &listener(rt)?)?;
+        assert!(rt; plays_over_sockets(rt, address.as_str(), steps)?);
+    }
+    Ok(())
+}
+
+#[test]
+fn each_script_of_an_application_is_answered(rt: HostRuntime) -> Result<(), Fail> {
+    let address = application_address(rt, "scripts")?;
+    for steps in SCRIPTS {
+        assert!(rt; plays_over_sockets(rt, address.as_str(), steps)?);
     }
     Ok(())
 }

@@ -9,7 +9,7 @@ use Rattle.er_base.specs.declared.release.Release.{Release}
 use Rattle.er_base.specs.LineTexts.{line_text}
 use Rattle.er_settings.specs.Values.{Settings}
 use Rattle.er_trace.specs.declared.entry.Entry.{Entry}
-use Rattle.er_trace.specs.Texts.{header_words, AreReadableEntries, IsReadableEntry}
+use Rattle.er_trace.specs.Texts.{header_words}
 use Rattle.er_end_model.specs.Steps.{Finds}
 use Rattle.er_end.specs.KeptEnds.{KEnd}
 use Rattle.trace_model.specs.declared.replay_fault.ReplayFault.{ReplayFault}
@@ -128,11 +128,6 @@ some_is x y p = ap (λ (o : Option Entry). or o) p
     or : Option Entry → Entry
     or None = x
     or (Some z) = z
-
-pub readable_at : (xs : List Entry) (n : ℕ) (x : Entry) → AreReadableEntries xs → slice_get xs n ≡ Some x → IsReadableEntry x
-readable_at [] n x r p = absurd (let u : ⊥ = cc in u)
-readable_at (y ∷ ys) zero x r p = subst (λ (z : Entry). IsReadableEntry z) (some_is y x p) r.0
-readable_at (y ∷ ys) (suc n) x r p = readable_at ys n x r.1 p
 
 -- ---- all events
 

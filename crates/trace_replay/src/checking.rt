@@ -1,7 +1,6 @@
 //! The check of a recording.
 
 ghost use Rattle.safety_automaton.specs.Keys.{key_at};
-ghost use Rattle.er_trace.specs.Texts.{CanBeRead};
 ghost use Rattle.trace_model.specs.Recordings.{IsChecked};
 
 use crate::comparing::verdict_on;
@@ -21,7 +20,6 @@ pub fn check<K: KeyFinder>(
     file: &[u8],
     trace: &Trace,
 ) -> Result<CheckVerdict, ReplayFault>
-    requires { CanBeRead trace.now }
     ensures { IsChecked trace.now.settings (key_at (K.entries keys.now)) trace.now.entries file.now result }
 {
     let mut printed = Vec::new(alloc);

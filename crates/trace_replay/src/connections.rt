@@ -7,7 +7,6 @@ ghost use Rattle.er_settings.specs.Ranges.{AllAllowed};
 ghost use Rattle.safety_automaton.specs.Keys.{key_at};
 ghost use Rattle.er_trace.specs.declared.entry.Entry.{Entry as TraceEntry};
 ghost use Rattle.er_trace.specs.declared.event.Event.TheVariants as event;
-ghost use Rattle.er_trace.specs.Texts.{IsReadableEntry};
 ghost use Rattle.er_settings.specs.Values.{Settings as TraceSettings};
 ghost use Rattle.er_end_model.specs.Steps.{Finds};
 ghost use Rattle.er_end.specs.KeptEnds.{KEnd};
@@ -17,7 +16,6 @@ ghost use Rattle.trace_replay.specs.Places.{Places, place_of_connection, place_f
 ghost use Rattle.trace_replay.specs.Takings.{GivesIfLive, TakesTraceEvent};
 
 use crate::gives::{give, give_start, tell_over};
-use crate::timed::Timed;
 use er_base::{EtcsNumber, NoMemory, Release};
 use er_end::End;
 use er_settings::Settings;
@@ -162,38 +160,36 @@ impl Connections {
         &mut self,
         settings: &Settings,
         keys: &K,
-        timed: &Timed<'_>,
+        entry: &Entry,
         call: &Calling,
         out: &mut Vec<u8>,
     ) -> Result<(), ReplayFault>
-        requires { timed.now.entry.now.event ≡ event.Call call.now.engine call.now.rbc call.now.rb }
-        ensures { (before : List TraceEntry) → HoldsOfAllConnections settings.now (key_at (K.entries keys.now)) before self.old → last_moment before ≤ timed.now.entry.now.moment
-            → TakesTraceEvent settings.now (key_at (K.entries keys.now)) before timed.now.entry.now self.new out.old.items out.new.items result }
+        requires { entry.now.event ≡ event.Call call.now.engine call.now.rbc call.now.rb }
+        ensures { (before : List TraceEntry) → HoldsOfAllConnections settings.now (key_at (K.entries keys.now)) before self.old → last_moment before ≤ entry.now.moment
+            → TakesTraceEvent settings.now (key_at (K.entries keys.now)) before entry.now self.new out.old.items out.new.items result }
     {
         er_end::laws::standing();
         see_settings(settings);
-        let entry = timed.entry;
-        let (engine, rbc) = (call.engine.get(), call.rbc.get());
         self.check_new(entry)?;
-        let Some(kmac) = keys.find(engine, rbc, entry.moment) else {
+        let Some(kmac) = keys.find(call.engine, call.rbc, entry.moment) else {
             return Err(ReplayFault::NoKey {
                 line: entry.line,
-                engine,
-                rbc,
+                engine: call.engine.get(),
+                rbc: call.rbc.get(),
             });
         };
         self.check_room(entry)?;
         let mut end = End::call(
             self.alloc,
             settings,
-            engine,
-            rbc,
+            call.engine,
+            call.rbc,
             kmac,
             call.rb,
             entry.moment,
         )?;
         print_entry(entry, out)?;
-        give_start(&mut end, keys, timed.moment(), entry.conn, out)?;
+        give_start(&mut end, keys, entry.moment, entry.conn, out)?;
         self.open(entry.conn, end)?;
         Ok(())
     }
@@ -202,21 +198,20 @@ impl Connections {
     fn answer(
         &mut self,
         settings: &Settings,
-        timed: &Timed<'_>,
+        entry: &Entry,
         rbc: EtcsNumber,
         ra: u64,
         out: &mut Vec<u8>,
     ) -> Result<(), ReplayFault>
-        requires { timed.now.entry.now.event ≡ event.Answer rbc ra }
-        ensures { (finds : Finds) (before : List TraceEntry) → HoldsOfAllConnections settings.now finds before self.old → last_moment before ≤ timed.now.entry.now.moment
-            → TakesTraceEvent settings.now finds before timed.now.entry.now self.new out.old.items out.new.items result }
+        requires { entry.now.event ≡ event.Answer rbc ra }
+        ensures { (finds : Finds) (before : List TraceEntry) → HoldsOfAllConnections settings.now finds before self.old → last_moment before ≤ entry.now.moment
+            → TakesTraceEvent settings.now finds before entry.now self.new out.old.items out.new.items result }
     {
         er_end::laws::standing();
         see_settings(settings);
-        let entry = timed.entry;
         self.check_new(entry)?;
         self.check_room(entry)?;
-        let end = End::answer(self.alloc, settings, rbc.get(), ra, entry.moment)?;
+        let end = End::answer(self.alloc, settings, rbc, ra, entry.moment)?;
         print_entry(entry, out)?;
         self.open(entry.conn, end)?;
         Ok(())
@@ -238,18 +233,17 @@ impl Connections {
     fn give_live<K: KeyFinder>(
         &mut self,
         keys: &K,
-        timed: &Timed<'_>,
+        entry: &Entry,
         out: &mut Vec<u8>,
     ) -> Result<bool, NoMemory>
-        requires { role_of timed.now.entry.now.event ≡ Belongs }
-        ensures { GivesIfLive (key_at (K.entries keys.now)) timed.now.entry.now self.old self.new out.old.items out.new.items result }
+        requires { role_of entry.now.event ≡ Belongs }
+        ensures { GivesIfLive (key_at (K.entries keys.now)) entry.now self.old self.new out.old.items out.new.items result }
     {
-        let entry = timed.entry;
         let Some(end) = self.live.get_mut(&entry.conn) else {
             return Ok(false);
         };
         print_entry(entry, out)?;
-        give(end, keys, timed, out)?;
+        give(end, keys, entry, out)?;
         Ok(true)
     }
 
@@ -257,16 +251,15 @@ impl Connections {
     fn give<K: KeyFinder>(
         &mut self,
         keys: &K,
-        timed: &Timed<'_>,
+        entry: &Entry,
         out: &mut Vec<u8>,
     ) -> Result<(), ReplayFault>
-        requires { role_of timed.now.entry.now.event ≡ Belongs }
-        ensures { (settings : TraceSettings) (before : List TraceEntry) → HoldsOfAllConnections settings (key_at (K.entries keys.now)) before self.old → last_moment before ≤ timed.now.entry.now.moment
-            → TakesTraceEvent settings (key_at (K.entries keys.now)) before timed.now.entry.now self.new out.old.items out.new.items result }
+        requires { role_of entry.now.event ≡ Belongs }
+        ensures { (settings : TraceSettings) (before : List TraceEntry) → HoldsOfAllConnections settings (key_at (K.entries keys.now)) before self.old → last_moment before ≤ entry.now.moment
+            → TakesTraceEvent settings (key_at (K.entries keys.now)) before entry.now self.new out.old.items out.new.items result }
     {
         er_end::laws::standing();
-        let entry = timed.entry;
-        if self.give_live(keys, timed, out)? {
+        if self.give_live(keys, entry, out)? {
             self.settle(entry.conn)?;
             return Ok(());
         }
@@ -289,25 +282,21 @@ impl Connections {
         entry: &Entry,
         out: &mut Vec<u8>,
     ) -> Result<(), ReplayFault>
-        requires { IsReadableEntry entry.now }
         ensures { (before : List TraceEntry) → HoldsOfAllConnections settings.now (key_at (K.entries keys.now)) before self.old → last_moment before ≤ entry.now.moment
             → TakesTraceEvent settings.now (key_at (K.entries keys.now)) before entry.now self.new out.old.items out.new.items result }
     {
-        let timed = Timed { entry };
         match &entry.event {
             Event::Call { engine, rbc, rb } => {
                 let call = Calling {
-                    engine: EtcsNumber::new(*engine),
-                    rbc: EtcsNumber::new(*rbc),
+                    engine: *engine,
+                    rbc: *rbc,
                     rb: *rb,
                 };
-                self.call(settings, keys, &timed, &call, out)
+                self.call(settings, keys, entry, &call, out)
             }
-            Event::Answer { rbc, ra } => {
-                self.answer(settings, &timed, EtcsNumber::new(*rbc), *ra, out)
-            }
+            Event::Answer { rbc, ra } => self.answer(settings, entry, *rbc, *ra, out),
             Event::Full(_) | Event::Unserved(_) => self.decline(entry, out),
-            _ => self.give(keys, &timed, out),
+            _ => self.give(keys, entry, out),
         }
     }
 }

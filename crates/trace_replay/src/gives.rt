@@ -11,7 +11,6 @@ ghost use Rattle.trace_model.specs.Printed.{outcomes_text};
 ghost use Rattle.trace_replay.specs.Places.{StandsForAlikeEnd};
 ghost use Rattle.trace_replay.specs.Takings.{IsOfEnd, IsOfNoEnd, GivesEventToEnd, GivesOctetsToEnd, told_over};
 
-use crate::timed::Timed;
 use er_base::{Moment, NoMemory, Release};
 use er_end::{End, Event as EndEvent, SendRefused};
 use er_trace::{Entry, Event};
@@ -39,7 +38,7 @@ fn give_event<K: KeyFinder>(
     ensures text { OnOk result (out.new.items ≡ out.old.items ++ outcomes_text conn (tells now (model_event_of (key_at (K.entries keys.now)) event.now) end.old)) }
     ensures used { IfOk result (λ used. used ≡ used_by end.old event.now) }
 {
-    let effects = end.apply(keys, now.get(), event);
+    let effects = end.apply(keys, now, event);
     tell_effects(conn, &effects, out)?;
     Ok(effects.used)
 }
@@ -104,16 +103,16 @@ pub fn give_start<K: KeyFinder>(
 pub fn give<K: KeyFinder>(
     end: &mut End,
     keys: &K,
-    timed: &Timed<'_>,
+    entry: &Entry,
     out: &mut Vec<u8>,
 ) -> Result<(), NoMemory>
-    requires { is_opening_role (role_of timed.now.entry.now.event) ≡ false }
-    ensures { (settings : TraceSettings) (last : ℕ) (m : of.End) → StandsForAlikeEnd last end.old m → last ≤ timed.now.entry.now.moment
-        → OnOk result (GivesEventToEnd settings (key_at (K.entries keys.now)) timed.now.entry.now (Some m) end.new out.old.items out.new.items) }
+    requires { is_opening_role (role_of entry.now.event) ≡ false }
+    ensures { (settings : TraceSettings) (last : ℕ) (m : of.End) → StandsForAlikeEnd last end.old m → last ≤ entry.now.moment
+        → OnOk result (GivesEventToEnd settings (key_at (K.entries keys.now)) entry.now (Some m) end.new out.old.items out.new.items) }
 {
     er_end::laws::standing();
-    let (now, conn) = (timed.moment(), timed.entry.conn);
-    let Some(event) = at_end(&timed.entry.event) else {
+    let (now, conn) = (entry.moment, entry.conn);
+    let Some(event) = at_end(&entry.event) else {
         return Ok(());
     };
     if let EndEvent::Octets(octets) = event {

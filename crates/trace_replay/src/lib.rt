@@ -12,7 +12,6 @@ mod gives;
 pub mod laws;
 mod run;
 mod text_lines;
-mod timed;
 
 pub use checking::check;
 pub use run::{Replaying, replay};

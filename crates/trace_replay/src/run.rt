@@ -6,12 +6,12 @@ ghost use Rattle.safety_automaton.specs.Keys.{key_at};
 ghost use Rattle.er_settings.specs.Values.{Settings as TraceSettings};
 ghost use Rattle.er_end_model.specs.Steps.{Finds};
 ghost use Rattle.er_trace.specs.declared.entry.Entry.{Entry as TraceEntry};
-ghost use Rattle.er_trace.specs.Texts.{CanBeRead, IsReadableEntry, header_words};
+ghost use Rattle.er_trace.specs.Texts.{header_words};
 ghost use Rattle.trace_replay.specs.Standing.{StandsBehind};
 ghost use Rattle.trace_replay.specs.Replays.{ReplaysNext, ReplaysAll};
 
 use crate::connections::Connections;
-use er_base::NoMemory;
+use er_base::{Moment, NoMemory};
 use er_settings::Settings;
 use er_trace::{Entry, Trace, print_header};
 use safety_automaton::KeyFinder;
@@ -22,7 +22,7 @@ use trace_model::ReplayFault;
 #[derive(Drop)]
 pub struct Replaying {
     connections: Connections,
-    last: u64,
+    last: Moment,
 }
 
 impl Replaying {
@@ -32,7 +32,7 @@ impl Replaying {
     {
         Replaying {
             connections: Connections::new(alloc),
-            last: 0,
+            last: Moment::new(0),
         }
     }
 
@@ -46,15 +46,14 @@ impl Replaying {
         entry: &Entry,
         out: &mut Vec<u8>,
     ) -> Result<(), ReplayFault>
-        requires { IsReadableEntry entry.now }
         ensures { (before : List TraceEntry) → StandsBehind settings.now (key_at (K.entries keys.now)) before self.old
             → ReplaysNext settings.now (key_at (K.entries keys.now)) before entry.now self.new out.old.items out.new.items result }
     {
-        if entry.moment < self.last {
+        if entry.moment.get() < self.last.get() {
             return Err(ReplayFault::MomentBack {
                 line: entry.line,
-                was: self.last,
-                now: entry.moment,
+                was: self.last.get(),
+                now: entry.moment.get(),
             });
         }
         self.connections.take(settings, keys, entry, out)?;
@@ -79,8 +78,7 @@ fn replay_entries<K: KeyFinder>(
     text: &mut Vec<u8>,
     out: &mut Vec<u8>,
 ) -> Result<(), ReplayFault>
-    requires read { CanBeRead trace.now }
-    requires begins { StandsBehind trace.now.settings (key_at (K.entries keys.now)) [] replaying.old }
+    requires { StandsBehind trace.now.settings (key_at (K.entries keys.now)) [] replaying.old }
     ensures { (start : List ℕ) → out.old.items ≡ start ++ line_text (header_words trace.now.settings)
         → ReplaysAll trace.now.settings (key_at (K.entries keys.now)) trace.now.entries start out.new.items result }
 {
@@ -102,7 +100,6 @@ pub fn replay<K: KeyFinder>(
     trace: &Trace,
     out: &mut Vec<u8>,
 ) -> Result<(), ReplayFault>
-    requires { CanBeRead trace.now }
     ensures { ReplaysAll trace.now.settings (key_at (K.entries keys.now)) trace.now.entries out.old.items out.new.items result }
 {
     print_header(&trace.settings, out)?;

@@ -374,6 +374,7 @@ impl Transport {
     pub fn waiting(&self) -> usize
         ensures kept { result ≡ length self.now.waiting }
         ensures shown { Shown self.now (λ t. result ≡ waiting_count t) }
+        ensures most { result ≤ 16 }
     {
         self.outgoing.len()
     }

@@ -24,13 +24,13 @@ impl Side {
 
     /// The end begins.
     pub fn start(&mut self) {
-        let deeds = self.end.start(0);
+        let deeds = self.end.start(Moment::new(0));
         put(deeds.out, &mut self.sent);
     }
 
     /// The end's user sends a message.
     pub fn send(&mut self, now: Moment, message: &[u8]) {
-        if let Ok(deeds) = self.end.send(now.get(), message) {
+        if let Ok(deeds) = self.end.send(now, message) {
             put(deeds.out, &mut self.sent);
         }
     }
@@ -49,7 +49,7 @@ impl Side {
 
     // Reads octets up to the first that closes a frame: how many they are.
     fn read_frame(&mut self, now: Moment, octets: &[u8], tally: &mut Tally) -> usize {
-        let (used, deeds) = self.end.octets(&self.keys, now.get(), octets);
+        let (used, deeds) = self.end.octets(&self.keys, now, octets);
         tally.read(used);
         put(deeds.out, &mut self.sent);
         if deeds.connected.is_some() {
@@ -63,7 +63,7 @@ impl Side {
 
     // The end's user takes a message.
     fn take(&mut self, now: Moment, tally: &mut Tally) {
-        if let Some(taken) = self.end.take(now.get()) {
+        if let Some(taken) = self.end.take(now) {
             tally.taken(taken.text.len());
             put(taken.out, &mut self.sent);
         }

@@ -46,8 +46,18 @@ impl Wire {
     pub fn new(alloc: Global, settings: &Settings) -> Result<Wire, NoMemory> {
         let forth = Room::with_capacity(alloc, ROOM)?;
         let back = Room::with_capacity(alloc, ROOM)?;
-        let engine = End::call(alloc, settings, ENGINE, CENTRE, KMAC, 0x0102030405060708, 0)?;
-        match End::answer(alloc, settings, CENTRE, 0x1122334455667788, 0) {
+        let (caller, called) = (EtcsNumber::new(ENGINE), EtcsNumber::new(CENTRE));
+        let (kmac, now) = (Kmac::new(KMAC), Moment::new(0));
+        let engine = End::call(
+            alloc,
+            settings,
+            caller,
+            called,
+            kmac,
+            0x0102030405060708,
+            now,
+        )?;
+        match End::answer(alloc, settings, called, 0x1122334455667788, now) {
             Ok(centre) => Ok(Wire {
                 engine: Side::new(engine, keys(), forth),
                 centre: Side::new(centre, keys(), back),

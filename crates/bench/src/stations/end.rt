@@ -1,22 +1,22 @@
 //! One end of the wire: a station, its deframer, and what is lost on the way to it.
 
-use crate::stations::kind::Kind;
 use crate::stations::loss::Loss;
+use crate::stations::measured::Measured;
 use er_base::Room;
 use hdlc_frames::Deframer;
 
 /// A station, its deframer, and what is lost on the way to it.
 #[derive(Drop)]
-pub struct End<S> {
-    pub station: S,
+pub struct End {
+    pub station: Measured,
     deframer: Deframer,
     pub loss: Loss,
     taken: u64,
 }
 
-impl<S: Kind> End<S> {
+impl End {
     /// An end with this station.
-    pub fn new(station: S, loss: Loss) -> End<S> {
+    pub fn new(station: Measured, loss: Loss) -> End {
         End {
             station,
             deframer: Deframer::new(),

@@ -1,8 +1,8 @@
 //! Two ends and the octets on the way between them.
 
 use crate::stations::end::End;
-use crate::stations::kind::{Kind, ROOM};
 use crate::stations::loss::Loss;
+use crate::stations::measured::{Measured, ROOM};
 use er_base::{NoMemory, Room};
 use std::alloc::Global;
 
@@ -14,9 +14,9 @@ pub const T1: u64 = 1_000;
 
 /// Two ends wired to each other.
 #[derive(Drop)]
-pub struct Wire<S> {
-    calling: End<S>,
-    called: End<S>,
+pub struct Wire {
+    calling: End,
+    called: End,
     forth: Room,
     back: Room,
     now: u64,
@@ -38,15 +38,15 @@ pub struct Totals {
     pub waits: u64,
 }
 
-impl<S: Kind> Wire<S> {
+impl Wire {
     /// Both ends, of which the calling one has begun the set-up, and a line that loses so many frames of a hundred.
     pub fn new(
         alloc: Global,
-        calling: S,
-        called: S,
+        calling: Measured,
+        called: Measured,
         seed: u64,
         of_hundred: u64,
-    ) -> Result<Wire<S>, NoMemory> {
+    ) -> Result<Wire, NoMemory> {
         let mut forth = Room::with_capacity(alloc, 32 * ROOM)?;
         let back = Room::with_capacity(alloc, 32 * ROOM)?;
         let mut calling = End::new(calling, Loss::new(seed, 2, of_hundred));

@@ -2,7 +2,7 @@
 
 ghost use Rattle.std.specs.Prelude.{None, ◌-◌, ◌^◌};
 
-use crate::trains::train::MOMENT;
+use crate::trains::train::moment;
 use link_trait::{Cabinet, Clock, Failed, FetchFault, Sink};
 use std::alloc::Global;
 
@@ -14,7 +14,7 @@ impl Clock for LoopClock {
     ghost state = { λ _. record { answers = None } };
 
     fn now(&mut self) -> u64 {
-        MOMENT
+        moment().get()
     }
 }
 

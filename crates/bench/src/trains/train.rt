@@ -1,17 +1,22 @@
 //! A train: an end that calls, whose user sends reports.
 
 use des_block::TripleKey;
-use er_base::{NoMemory, Room};
+use er_base::{EtcsNumber, Moment, NoMemory, Room};
 use er_end::End;
 use er_settings::Settings;
 use safety_automaton::PairKey;
+use session_keys::Kmac;
 use std::alloc::Global;
 
 /// The moment of every event.
-pub const MOMENT: u64 = 0;
+pub fn moment() -> Moment {
+    Moment::new(0)
+}
 
 /// The ETCS number of the radio block centre.
-pub const CENTRE: u32 = 9;
+pub fn centre() -> EtcsNumber {
+    EtcsNumber::new(9)
+}
 
 // The ETCS number of the engine of every train, its KMAC and its random number.
 const ENGINE: u32 = 5;
@@ -45,13 +50,23 @@ impl Train {
     pub fn new(alloc: Global, reports: u64) -> Result<Train, NoMemory> {
         let settings = Settings::usual();
         let sent = Room::with_capacity(alloc, ROOM)?;
+        let engine = EtcsNumber::new(ENGINE);
+        let kmac = Kmac::new(KMAC);
         let mut train = Train {
-            end: End::call(alloc, &settings, ENGINE, CENTRE, KMAC, ENGINES_WORD, MOMENT)?,
+            end: End::call(
+                alloc,
+                &settings,
+                engine,
+                centre(),
+                kmac,
+                ENGINES_WORD,
+                moment(),
+            )?,
             sent,
             left: reports,
             heard: 0,
         };
-        let deeds = train.end.start(MOMENT);
+        let deeds = train.end.start(moment());
         put(deeds.out, &mut train.sent);
         Ok(train)
     }
@@ -71,7 +86,7 @@ impl Train {
     // Reads octets up to the first that closes a frame: how many they are.
     fn hear_frame(&mut self, octets: &[u8]) -> usize {
         // An end that calls looks no key up.
-        let (used, deeds) = self.end.octets(&None::<PairKey>, MOMENT, octets);
+        let (used, deeds) = self.end.octets(&None::<PairKey>, moment(), octets);
         put(deeds.out, &mut self.sent);
         let is_connected = deeds.connected.is_some();
         if deeds.accepted.is_some() {
@@ -85,7 +100,7 @@ impl Train {
 
     // The user takes a message.
     fn take(&mut self) {
-        if let Some(taken) = self.end.take(MOMENT) {
+        if let Some(taken) = self.end.take(moment()) {
             put(taken.out, &mut self.sent);
             self.heard = self.heard.saturating_add(1);
             self.report();
@@ -96,7 +111,7 @@ impl Train {
     fn report(&mut self) {
         if let Some(left) = self.left.checked_sub(1) {
             self.left = left;
-            if let Ok(deeds) = self.end.send(MOMENT, REPORT) {
+            if let Ok(deeds) = self.end.send(moment(), REPORT) {
                 put(deeds.out, &mut self.sent);
             }
         }

@@ -3,7 +3,7 @@
 ghost use Rattle.std.specs.Prelude.{◌≡◌, Some};
 ghost use Rattle.er_base.specs.Causes.{by_this_end};
 ghost use Rattle.safety_automaton.specs.Keys.{key_at};
-ghost use Rattle.hdlc_balanced.specs.Told.{deed_of};
+ghost use Rattle.hdlc_station.specs.Told.{deed_of};
 ghost use Rattle.er_end_model.specs.Steps.{why_of, hand_answer, on_block, on_link_up, on_link_deed};
 ghost use Rattle.er_end.specs.KeptLayers.{kept};
 ghost use Rattle.er_end.specs.Coming.{carrier_of, comes_to, CanCome, IsCalledBy};
@@ -13,7 +13,7 @@ use crate::layers::Layers;
 use crate::sapdu_room::SapduRoom;
 use crate::short_sapdu::ShortSapdu;
 use er_base::{Cause, Release};
-use hdlc_balanced::LinkDeed;
+use hdlc_station::LinkDeed;
 use safety_automaton::{KeyFinder, SafeState};
 use sapdu::peers_di;
 use x224_class2::TransportDeed;

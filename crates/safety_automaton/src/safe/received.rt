@@ -17,7 +17,7 @@ use crate::key_finder::KeyFinder;
 use crate::phase::{Phase, Session, Stage};
 use crate::reaction::Reaction;
 use crate::text::{FEATURE, ar_text, au2_text, au3_text, message_text};
-use er_base::{Cause, EtcsNumber, Release};
+use er_base::{Cause, EtcsNumber, Moment, Release};
 use sapdu::SaPdu;
 use session_keys::Kmac;
 
@@ -26,7 +26,7 @@ impl Safe {
     pub(super) fn receive_octets<'o, K: KeyFinder>(
         &mut self,
         keys: &K,
-        now: u64,
+        now: Moment,
         octets: &'o [u8],
     ) -> Reaction<'o>
         requires { IsOpen self.old.safety.phase }
@@ -42,7 +42,12 @@ impl Safe {
     }
 
     // A readable SaPDU with the peer's flag, at a side that isn't released.
-    fn receive_pdu<'o, K: KeyFinder>(&mut self, keys: &K, now: u64, pdu: &SaPdu<'o>) -> Reaction<'o>
+    fn receive_pdu<'o, K: KeyFinder>(
+        &mut self,
+        keys: &K,
+        now: Moment,
+        pdu: &SaPdu<'o>,
+    ) -> Reaction<'o>
         requires { Fits (view pdu.now) }
         ensures { DoesSafetyStep (row (key_at (K.entries keys.now) now) self.old.safety self.old.safety.phase (view pdu.now)) self.new result }
     {
@@ -50,7 +55,7 @@ impl Safe {
             SaPdu::Di { reason, sub } => self.receive_di(reason, sub),
             SaPdu::Au1 { id, feature, rb } => {
                 let id = EtcsNumber::new(id);
-                self.receive_au1(self.find_kmac(keys, id, now), id, feature, rb)
+                self.receive_au1(keys.find(id, self.me, now), id, feature, rb)
             }
             SaPdu::Au2 {
                 id,
@@ -61,16 +66,6 @@ impl Safe {
             SaPdu::Au3 { mac } => self.receive_au3(mac),
             SaPdu::Ar { mac } => self.receive_ar(mac),
             SaPdu::Dt { user, mac } => self.receive_dt(user, mac),
-        }
-    }
-
-    // The KMAC of an engine and this radio block centre at a moment.
-    fn find_kmac<K: KeyFinder>(&self, keys: &K, engine: EtcsNumber, now: u64) -> Option<Kmac>
-        ensures { result ≡ key_at (K.entries keys.now) now engine self.now.safety.me }
-    {
-        match keys.find(engine.get(), self.me.get(), now) {
-            Some(kmac) => Some(Kmac::new(kmac)),
-            None => None,
         }
     }
 

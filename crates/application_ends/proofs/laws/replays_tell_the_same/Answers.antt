@@ -1,6 +1,6 @@
 -- No event that is taken opens an end twice.
 use Rattle.application_ends.proofs.Replaying.{replays_same}
-use Rattle.application_ends.proofs.Recording.{replays_print}
+use Rattle.application_ends.proofs.Replayed.{replays_print}
 use Rattle.application_ends.proofs.laws.replays_tell_the_same.Goals as goal
 
 pub returns-clause-event : goal.returns-clause-event

@@ -1,5 +1,5 @@
 -- A send that was refused, and all else.
-use Rattle.std.proofs.Common.{◌∙◌}
+use Rattle.std.proofs.Common.{◌∙◌, refl}
 use Rattle.safety_automaton.specs.Keys.{key_at}
 use Rattle.drill_ends.specs.Events.{event_of}
 use Rattle.drill_ends.proofs.StackCalls.{used_within, used_moves, call_refused, call_done}
@@ -8,7 +8,7 @@ use Rattle.drill_ends.proofs.stack_end.tell_one.Goals as goal
 pub returns-in-Some-clause-tells : goal.returns-in-Some-clause-tells
 returns-in-Some-clause-tells c =
     call_refused c.standing.ensures.steps c.stacks_report.ensures.calls c.goes_on.ensures c.kept_stands_for_stream.ensures c.args.keys.now c.is_steady.ensures
-    c.args.end.now c.apply.follows.lender-at-none c.get.result c.args.now c.get.ensures.same c.get.ensures.within c.apply.result (event_of c.args.event.now)
+    c.args.end.now c.apply.follows.lender-at-none c.args.now c.args.now refl (rw c.get-within.ensures.same at c.get-within.ensures.within) c.apply.result (event_of c.args.event.now)
     _ (c.given_at.ensures.event (key_at c.args.keys.now)) c.apply.follows.holds-at-none c.apply.ensures.told
     c.in-Some.refused c.in-Some.is c.of_stack.result c.of_stack.ensures c.args.told.now.items c.push_back.new.self.items c.in_ok-push_back.ensures.items
 
@@ -23,7 +23,7 @@ returns-in-Some-clause-moves c =
 pub returns-clause-tells : goal.returns-clause-tells
 returns-clause-tells c =
     call_done c.standing.ensures.steps c.stacks_report.ensures.calls c.goes_on.ensures c.kept_stands_for_stream.ensures c.args.keys.now c.is_steady.ensures
-    c.args.end.now c.apply.follows.lender-at-none c.get.result c.args.now c.get.ensures.same c.get.ensures.within c.apply.result (event_of c.args.event.now)
+    c.args.end.now c.apply.follows.lender-at-none c.args.now c.args.now refl (rw c.get-within.ensures.same at c.get-within.ensures.within) c.apply.result (event_of c.args.event.now)
     _ (c.given_at.ensures.event (key_at c.args.keys.now)) c.apply.follows.holds-at-none c.apply.ensures.told
     c.args.told.now.items c.tell_taken.new.told.items c.tell_call.new.told.items c.in_ok-tell_taken.ensures c.in_ok-tell_call.ensures
     (c.apply.ensures.used ∙ c.given_at.ensures.used c.args.end.now) c.in_default.not-Some

@@ -1,6 +1,6 @@
 use Rattle.std.proofs.Common.{◌≡◌, Bool, List, length}
 use Rattle.hdlc_station_model.specs.Frames.{Frame}
-use Rattle.hdlc_balanced.specs.Kept.{octets_of_sent_frames}
+use Rattle.hdlc_station.specs.Kept.{octets_of_sent_frames}
 use Rattle.drill_ends.specs.StationEnds.{TellingFrames}
 use Rattle.drill_ends.proofs.telling.tell_frames.Given as goal
 

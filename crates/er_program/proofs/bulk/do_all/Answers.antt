@@ -18,17 +18,7 @@ loop-step-init c = did_none _ _ _ refl c.requires.ran c.requires.unspent
 pub do_unseen-requires-clause-level : goal.do_unseen-requires-clause-level
 do_unseen-requires-clause-level c =
     let doable = doable_at _ _ _ _ c.requires.doable (item_at _ _ _ c.loop-step-test.true c.step-item.is) in
-    subst (λ (l : Level). IsOfLevel l c.step-item.result) (sym (ap (λ (p : DrillPlan). p.level) c.loop-step.invariant.plan_is)) doable.of_level
-
-pub do_unseen-requires-clause-numbers : goal.do_unseen-requires-clause-numbers
-do_unseen-requires-clause-numbers c =
-    let doable = doable_at _ _ _ _ c.requires.doable (item_at _ _ _ c.loop-step-test.true c.step-item.is) in
-    doable.numbers
-
-pub do_unseen-requires-clause-moment : goal.do_unseen-requires-clause-moment
-do_unseen-requires-clause-moment c =
-    let doable = doable_at _ _ _ _ c.requires.doable (item_at _ _ _ c.loop-step-test.true c.step-item.is) in
-    doable.moment
+    subst (λ (l : Level). IsOfLevel l c.step-item.result) (sym (ap (λ (p : DrillPlan). p.level) c.loop-step.invariant.plan_is)) doable
 
 pub do_unseen-requires-clause-unspent : goal.do_unseen-requires-clause-unspent
 do_unseen-requires-clause-unspent c = c.loop-step.invariant.unspent

@@ -5,7 +5,7 @@ use Rattle.er_scenario.specs.declared.level.Level.{Level}
 use Rattle.er_scenario.specs.declared.numbered.Numbered.{Numbered}
 use Rattle.drill_model.specs.StepLevels.{IsOfLevel}
 use Rattle.drill_model.specs.Worlds.{DrillPlan, plan_of}
-use Rattle.er_program.proofs.DrillSteps.{of_level, etcs_numbers, has_moment, readable_at}
+use Rattle.er_program.proofs.DrillSteps.{of_level, readable_at}
 use Rattle.er_program.proofs.Drilling.{went_none, went_more, went_sink, went_halt, went_end}
 use Rattle.er_program.proofs.drill.drill_steps.Goals as goal
 
@@ -22,18 +22,6 @@ step_once-requires-clause-level g c =
     (item_at _ _ _ _ c.as_slice-numbered-items.ensures c.loop-numbered-test.true c.numbered-item.is) in
     subst (λ (l : Level). IsOfLevel l c.numbered-item.result.step) (sym (ap (λ (p : DrillPlan). p.level) c.loop-numbered.invariant.plan_is))
     (of_level c.args.scenario.now.level c.numbered-item.result.step readable.of_level)
-
-pub step_once-requires-clause-numbers : goal.step_once-requires-clause-numbers
-step_once-requires-clause-numbers g c =
-    let readable = readable_at c.args.scenario.now.level c.args.scenario.now.steps c.loop-numbered.numbered-index c.numbered-item.result c.requires.steps
-    (item_at _ _ _ _ c.as_slice-numbered-items.ensures c.loop-numbered-test.true c.numbered-item.is) in
-    etcs_numbers c.numbered-item.result.step readable.range
-
-pub step_once-requires-clause-moment : goal.step_once-requires-clause-moment
-step_once-requires-clause-moment g c =
-    let readable = readable_at c.args.scenario.now.level c.args.scenario.now.steps c.loop-numbered.numbered-index c.numbered-item.result c.requires.steps
-    (item_at _ _ _ _ c.as_slice-numbered-items.ensures c.loop-numbered-test.true c.numbered-item.is) in
-    has_moment c.numbered-item.result.step readable.range
 
 pub returns-in-Err-Sink : goal.returns-in-Err-Sink
 returns-in-Err-Sink g c = record {

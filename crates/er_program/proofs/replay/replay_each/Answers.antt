@@ -3,7 +3,7 @@ use Rattle.std.proofs.Common.{◌≡◌, ◌<◌, ◌≤◌, List, ℕ, length, 
 use Rattle.std.proofs.lemmas.Option.{slice_get_read}
 use Rattle.std.proofs.lemmas.Result.{err_from_is_err_and}
 use Rattle.er_trace.specs.declared.entry.Entry.{Entry}
-use Rattle.er_program.proofs.Replaying.{readable_at, went_none, went_more, went_err, went_end}
+use Rattle.er_program.proofs.Replaying.{went_none, went_more, went_err, went_end}
 use Rattle.er_program.proofs.replay.replay_each.Goals as goal
 
 -- the event at an index
@@ -11,12 +11,7 @@ item_at : (xs ys : List Entry) (i : ℕ) (x : Entry) → xs ≡ ys → i < lengt
 item_at xs ys i x same inside is = subst (λ (zs : List Entry). slice_get zs i ≡ Some x) same (slice_get_read xs (length xs) i x refl inside is)
 
 pub loop-entry-init : goal.loop-entry-init
-loop-entry-init g c = went_none c.args.trace.now.settings _ c.args.trace.now.entries _ _ c.requires.begins
-
-pub replay_once-requires : goal.replay_once-requires
-replay_once-requires g c =
-    readable_at c.args.trace.now.entries c.loop-entry.entry-index c.entry-item.result c.requires.read.entries
-    (item_at _ _ _ _ c.as_slice-entry-items.ensures c.loop-entry-test.true c.entry-item.is)
+loop-entry-init g c = went_none c.args.trace.now.settings _ c.args.trace.now.entries _ _ c.requires
 
 pub loop-entry-preserved : goal.loop-entry-preserved
 loop-entry-preserved g c =

@@ -4,7 +4,7 @@ use Rattle.er_serving.proofs.looping.dial_with.Goals as goal
 
 pub returns-clause-ends : goal.returns-clause-ends
 returns-clause-ends g c = λ keys entries moment before asked holds.
-    let does = rw (c.usual.ensures.value, c.new-pair.ensures, c.new.ensures) at c.dial-served.ensures.ends in
+    let does = rw (c.usual.ensures.value, c.new-pair.ensures) at c.dial-served.ensures.ends in
     dial_ends keys c.args.address.now c.args.pair.engine c.args.pair.rbc c.args.turns entries _ _ before (g.O.Outside.told c.args.outside.now) (g.O.Outside.told c.dial-served.new.outside) (g.O.Outside.told c.ended.new.outside) moment c.args.kmac c.dial-served.result c.ended.result asked holds does c.ended.ensures
 
 pub returns-clause-keeps : goal.returns-clause-keeps

@@ -7,7 +7,7 @@ use Rattle.er_serving.proofs.looping.serve_with.Goals as goal
 
 pub returns-clause-ends : goal.returns-clause-ends
 returns-clause-ends g c = λ keys.
-    let does = rw (c.usual.ensures.value, c.get.ensures.same) at c.serve-served.ensures.ends in
+    let does = rw c.usual.ensures.value at c.serve-served.ensures.ends in
     loop_ends (Serve keys c.args.address.now c.args.rbc c.args.turns) _ _ (traffic_at (g.O.Outside.told c.args.outside.now)) (g.O.Outside.told c.serve-served.new.outside) (g.O.Outside.told c.ended.new.outside) c.serve-served.result c.ended.result
     (IfOk-weaker c.serve-served.result _ _ (λ s has. record { turns = s.turns; why = s.why; has = has }) does.served)
     (λ is. (_, does.wires is)) does.rose does.sink does.sunk does.memory does.sink_count c.ended.ensures

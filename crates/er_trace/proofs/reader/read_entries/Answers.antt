@@ -28,9 +28,9 @@ loop-row-preserved-in-Continue-1 c =
     let said = said_by_kept _ cut.words _ kept (rw (c.in-Ok-Happens.is, c.in-Ok-Happens.field-0-is) at c.read_line.ensures.said) in
     let range = rw (c.in-Ok-Happens.is, c.in-Ok-Happens.field-0-is) at c.read_line.ensures.range in
     record {
-      said = rw c.in_ok-push-in-Ok-Happens.ensures.items (sym (one_entry c.loop-row.entries.items _ _ _ _ _ said) ∙ all);
+      said = rw (c.in_ok-push-in-Ok-Happens.ensures.items, c.new-moment.ensures) (sym (one_entry c.loop-row.entries.items _ _ _ _ _ said) ∙ all);
       readable =
-          rw c.in_ok-push-in-Ok-Happens.ensures.items
+          rw (c.in_ok-push-in-Ok-Happens.ensures.items, c.new-moment.ensures)
           (readable_more _ _ c.loop-row.invariant.readable (record { moment = range.0; conn = range.1; event = range.2 }));
       room = omega (arith, count, room);
     }

@@ -1,4 +1,4 @@
-use Rattle.std.proofs.Common.{refl, sym, ap}
+use Rattle.std.proofs.Common.{refl, ap}
 use Rattle.std.proofs.lemmas.Result.{IfOk-weaker}
 use Rattle.er_base.specs.declared.side.Side.TheVariants.{E}
 use Rattle.er_world.proofs.LinkRows.{place_at}
@@ -9,8 +9,7 @@ pub returns : goal.returns
 returns c =
     IfOk-weaker c.begun.result _ _
     (λ link does is settings now at.
-    rw (sym c.get-engine.ensures.same, sym c.get-rbc.ensures.same)
-    (opens_called c.keys.ensures c.get-engine.result c.get-rbc.result c.args.ke c.args.kr c.args.ra c.args.rb _ _ _ c.args.moment _ link settings c.args.place c.args.place.show c.args.place.number
+    opens_called c.keys.ensures c.args.engine c.args.rbc c.args.ke c.args.kr c.args.ra c.args.rb _ _ _ c.args.moment _ link settings c.args.place c.args.place.show c.args.place.number
     c.args.out.now.items c.begun.new.out.items
-    refl (ap (λ k. k.safety) c.initiator.ensures.made) (ap (λ k. k.safety) c.responder.ensures.made) c.new.ensures (place_at c.args.place E is) does now at))
+    refl (ap (λ k. k.safety) (rw c.new.ensures at c.initiator.ensures.made)) (ap (λ k. k.safety) c.responder.ensures.made) (rw c.kmac_of.ensures at c.new-2.ensures) (place_at c.args.place E is) does now at)
     c.begun.ensures

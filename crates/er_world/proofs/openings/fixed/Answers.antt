@@ -1,10 +1,9 @@
-use Rattle.std.proofs.Common.{sym, ap}
+use Rattle.std.proofs.Common.{ap}
 use Rattle.er_world.proofs.Opening.{opens_fixed}
 use Rattle.er_world.proofs.openings.fixed.Goals as goal
 
 pub returns : goal.returns
 returns c =
     λ settings now show number text at.
-    rw (sym c.get-engine.ensures.same, sym c.get-rbc.ensures.same)
-    (opens_fixed c.get-engine.result c.get-rbc.result c.args.ke c.args.kr _ _ _ _ c.new-2.result settings show number text
-    c.new-2.ensures (ap (λ k. k.safety) c.fixed.ensures.made) (ap (λ k. k.safety) c.fixed-2.ensures.made) c.new.ensures now at)
+    opens_fixed c.args.engine c.args.rbc c.args.ke c.args.kr _ _ _ _ c.new-4.result settings show number text
+    c.new-4.ensures (ap (λ k. k.safety) (rw c.new.ensures at c.fixed.ensures.made)) (ap (λ k. k.safety) (rw c.new-2.ensures at c.fixed-2.ensures.made)) c.new-3.ensures now at

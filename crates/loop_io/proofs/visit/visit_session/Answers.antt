@@ -12,11 +12,11 @@ returns-then-is_released-clause-does g c = rw c.in-Read.is (visit_not_read (seen
 
 pub returns-else-is_released-clause-does : goal.returns-else-is_released-clause-does
 returns-else-is_released-clause-does g c =
-    rw c.in-Read.is (visit_read (seen (g.O.Outside.told c.args.outside.now)) (seen (g.O.Outside.told c.read.new.outside)) (rules_of_session (g.K.KeyFinder.entries c.args.keys.now) c.args.when.now.setup) c.args.when.now.moment c.args.session.now c.read.new.session c.read.result (sym c.is_released.ensures ∙ c.if-is_released.false) c.read.ensures.does)
+    rw c.in-Read.is (visit_read (seen (g.O.Outside.told c.args.outside.now)) (seen (g.O.Outside.told c.read.new.outside)) (rules_of_session (g.K.KeyFinder.entries c.args.keys.now) c.args.when.now.setup) c.args.when.now.moment c.args.session.now c.note_made.new.self c.read.new.session c.read.result (sym c.is_released.ensures ∙ c.if-is_released.false) c.note_made.ensures c.read.ensures.does)
 
 pub returns-in-Write-clause-does : goal.returns-in-Write-clause-does
 returns-in-Write-clause-does g c =
-    rw c.in-Write.is (visit_write (seen (g.O.Outside.told c.args.outside.now)) (seen (g.O.Outside.told c.rest.new.outside)) (rules_of_session (g.K.KeyFinder.entries c.args.keys.now) c.args.when.now.setup) c.args.when.now.moment c.args.session.now c.rest.new.session c.rest.result (c.rest.ensures.does (g.K.KeyFinder.entries c.args.keys.now)))
+    rw c.in-Write.is (visit_write (seen (g.O.Outside.told c.args.outside.now)) (seen (g.O.Outside.told c.rest.new.outside)) (rules_of_session (g.K.KeyFinder.entries c.args.keys.now) c.args.when.now.setup) c.args.when.now.moment c.args.session.now c.note_made-in-Write.new.self c.rest.new.session c.rest.result c.note_made-in-Write.ensures (c.rest.ensures.does (g.K.KeyFinder.entries c.args.keys.now)))
 
 pub returns-in-Expire-clause-does : goal.returns-in-Expire-clause-does
 returns-in-Expire-clause-does g c =

@@ -9,4 +9,4 @@ returns-clause-ends g c =
     serves_on (g.O.Outside.told c.args.outside.now) (g.O.Outside.told c.serve_users.new.outside)
     (serving c.args.keys.now c.args.plan.now c.args.rbc c.len.result) (serving c.args.keys.now c.args.plan.now c.args.rbc (length c.args.users.items))
     c.args.address.now _ c.serve_users.result
-    (ap (λ z. serving c.args.keys.now c.args.plan.now c.args.rbc z) many) (rw c.new.ensures at c.serve_users.ensures.does) c.serve_users.ensures.recorded.did.sink.faults.later
+    (ap (λ z. serving c.args.keys.now c.args.plan.now c.args.rbc z) many) c.serve_users.ensures.does c.serve_users.ensures.recorded.did.sink.faults.later

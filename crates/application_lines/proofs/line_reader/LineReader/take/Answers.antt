@@ -109,4 +109,4 @@ returns-clause-says c =
     (ends c.args.self.now _ held piece some cut (omega (arith, long, free, room, few))).says
     ∙ ap (λ (n : ℕ). request_line_told n (request_said (words_of (held ++ piece))) ∷ []) (sym number)
     ∙ ap (λ (t : List ℕ). request_line_told c.self.inside.number (request_said (words_of t)) ∷ []) (sym line)
-    ∙ ap (λ (told : ApplicationLine). told ∷ []) (sym c.in_ok-line.ensures)
+    ∙ ap (λ (told : ApplicationLine). told ∷ []) (sym c.in_ok-line.ensures.told)

@@ -1,10 +1,10 @@
 use Rattle.er_world.proofs.world.World.go.Goals as goal
 
 pub returns-in-Fixed-clause-does : goal.returns-in-Fixed-clause-does
-returns-in-Fixed-clause-does c = rw c.in-Fixed.is (rw (c.new-engine.ensures, c.new-rbc.ensures) at c.open_fixed.ensures.does)
+returns-in-Fixed-clause-does c = rw c.in-Fixed.is c.open_fixed.ensures.does
 
 pub returns-in-Link-clause-does : goal.returns-in-Link-clause-does
-returns-in-Link-clause-does c = rw c.in-Link.is (rw (c.new-engine-in-Link.ensures, c.new-rbc-in-Link.ensures) at c.open_called.ensures.does)
+returns-in-Link-clause-does c = rw c.in-Link.is c.open_called.ensures.does
 
 pub returns-in-Wire-clause-does : goal.returns-in-Wire-clause-does
 returns-in-Wire-clause-does c = rw c.in-Wire.is c.open_wire.ensures.does
@@ -37,7 +37,7 @@ pub returns-in-Release-clause-does : goal.returns-in-Release-clause-does
 returns-in-Release-clause-does c = rw c.in-Release.is c.at-in-Release.ensures.does
 
 pub returns-in-Tick-clause-does : goal.returns-in-Tick-clause-does
-returns-in-Tick-clause-does c = rw c.in-Tick.is (rw c.new.ensures at c.tick.ensures.does)
+returns-in-Tick-clause-does c = rw c.in-Tick.is c.tick.ensures.does
 
 pub returns-in-Drain-clause-does : goal.returns-in-Drain-clause-does
 returns-in-Drain-clause-does c = rw c.in-Drain.is c.drain.ensures.does

@@ -77,10 +77,10 @@ pub returns-in_ok-change-in-Ok-true-clause-awaited : goal.returns-in_ok-change-i
 returns-in_ok-change-in-Ok-true-clause-awaited g c =
     awaited_stays (g.O.Outside.told c.args.outside.now).wires.opened c.args.number c.in-Some.slot c.args.self.now.slots c.args.self.now.places c.args.self.now.wake_times.pairs c.change.new.self.pairs
     c.in-Some-get_mut.session.now c.visit_session.new.session c.wakes-now.result c.requires.seated c.requires.awaited
-    (sym c.get.ensures.value ∙ sym c.in-Some.ensures) (sym c.in-Some-get_mut.ensures.value) c.wakes-now.ensures c.in_ok-change-in-Ok-true.ensures
+    (sym c.get.ensures.value ∙ sym c.in-Some.ensures) (sym c.in-Some-get_mut.ensures.value) c.wakes-now.ensures c.in_ok-change-in-Ok-true.ensures.changed
 
 pub returns-in_ok-change-in-Ok-false-clause-awaited : goal.returns-in_ok-change-in-Ok-false-clause-awaited
 returns-in_ok-change-in-Ok-false-clause-awaited g c =
     awaited_closes (g.O.Outside.told c.args.outside.now).wires.opened c.args.number c.in-Some.slot c.args.self.now.slots c.try_remove.new.self c.args.self.now.places c.remove.new.self
     c.args.self.now.wake_times.pairs c.change-in-Ok-false.new.self.pairs c.in-Some-get_mut.session.now c.visit_session.new.session c.requires.seated c.requires.awaited
-    (sym c.get.ensures.value ∙ sym c.in-Some.ensures) (sym c.in-Some-get_mut.ensures.value) c.try_remove.ensures.updates c.remove.ensures.updates c.remove.ensures.ordered c.in_ok-change-in-Ok-false.ensures
+    (sym c.get.ensures.value ∙ sym c.in-Some.ensures) (sym c.in-Some-get_mut.ensures.value) c.try_remove.ensures.updates c.remove.ensures.updates c.remove.ensures.ordered c.in_ok-change-in-Ok-false.ensures.changed

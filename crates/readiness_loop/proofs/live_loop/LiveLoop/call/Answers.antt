@@ -7,7 +7,7 @@ use Rattle.er_end_model.specs.Ends.{Call as CallsWith}
 use Rattle.er_end.specs.KeptEnds.{kept_opened}
 use Rattle.loop_model.specs.Sessions.{Begins}
 use Rattle.loop_model.specs.Visits.{served}
-use Rattle.loop_model.specs.Loops.{begun}
+use Rattle.loop_model.specs.Loops.{begun_dial}
 use Rattle.loop_session.specs.Parts.{rules_of_session}
 use Rattle.loop_io.specs.Seeing.{seen}
 use Rattle.readiness_loop.proofs.Acceptings.{no_seats}
@@ -28,25 +28,25 @@ returns-in_err-session-clause-does g c =
 pub returns-then-not-stays-clause-does : goal.returns-then-not-stays-clause-does
 returns-then-not-stays-clause-does g c =
     let rb : c.word-rb.result ≡ (next_u64 (g.O.Outside.told c.args.outside.now).words).0 = drew_word (g.O.Outside.told c.args.outside.now) (g.O.Outside.told c.word-rb.new.self) c.word-rb.result c.word-rb.ensures.does in
-    let end : c.in_ok-end.end ≡ (kept_opened (CallsWith c.args.plan.now.settings c.args.pair.now.engine c.args.plan.now.rbc c.args.pair.now.kmac (next_u64 (g.O.Outside.told c.args.outside.now).words).0 c.args.self.now.moment)) = (rw (c.get.ensures.same, c.engine-engine.ensures, c.get-2.ensures.same, c.key.ensures, c.kmac.ensures, c.get-3.ensures.same) at c.in_ok-end.ensures) ∙ ap (λ z. (kept_opened (CallsWith c.args.plan.now.settings c.args.pair.now.engine c.args.plan.now.rbc c.args.pair.now.kmac z c.args.self.now.moment))) rb in
-    let session : c.in_ok-session.session ≡ (begun c.args.conn.0 (kept_opened (CallsWith c.args.plan.now.settings c.args.pair.now.engine c.args.plan.now.rbc c.args.pair.now.kmac (next_u64 (g.O.Outside.told c.args.outside.now).words).0 c.args.self.now.moment)) (g.U.SafeUser.mind c.args.user)) = c.in_ok-session.ensures ∙ ap (λ z. begun c.args.conn.0 z (g.U.SafeUser.mind c.args.user)) end in
-    let same : (served kept_ends (rules_of_session (pair_entries c.args.pair.now) c.of-when.result.setup) c.of-when.result.moment c.in_ok-session.session (Begins c.args.pair.now.engine c.args.plan.now.rbc c.word-rb.result)) ≡ (served kept_ends (rules_of_session (pair_entries c.args.pair.now) c.args.plan.now.settings.setup) c.args.self.now.moment (begun c.args.conn.0 (kept_opened (CallsWith c.args.plan.now.settings c.args.pair.now.engine c.args.plan.now.rbc c.args.pair.now.kmac (next_u64 (g.O.Outside.told c.args.outside.now).words).0 c.args.self.now.moment)) (g.U.SafeUser.mind c.args.user)) (Begins c.args.pair.now.engine c.args.plan.now.rbc (next_u64 (g.O.Outside.told c.args.outside.now).words).0)) =
-    call_model (pair_entries c.args.pair.now) c.of-when.result.setup c.args.plan.now.settings.setup c.of-when.result.moment c.args.self.now.moment c.in_ok-session.session (begun c.args.conn.0 (kept_opened (CallsWith c.args.plan.now.settings c.args.pair.now.engine c.args.plan.now.rbc c.args.pair.now.kmac (next_u64 (g.O.Outside.told c.args.outside.now).words).0 c.args.self.now.moment)) (g.U.SafeUser.mind c.args.user))
+    let end : c.in_ok-end.end ≡ (kept_opened (CallsWith c.args.plan.now.settings c.args.pair.now.engine c.args.plan.now.rbc c.args.pair.now.kmac (next_u64 (g.O.Outside.told c.args.outside.now).words).0 c.args.self.now.moment)) = (rw (c.engine-engine.ensures, c.copied.ensures, c.kmac.ensures) at c.in_ok-end.ensures) ∙ ap (λ z. (kept_opened (CallsWith c.args.plan.now.settings c.args.pair.now.engine c.args.plan.now.rbc c.args.pair.now.kmac z c.args.self.now.moment))) rb in
+    let session : c.in_ok-session.session ≡ (begun_dial c.args.conn.0 (kept_opened (CallsWith c.args.plan.now.settings c.args.pair.now.engine c.args.plan.now.rbc c.args.pair.now.kmac (next_u64 (g.O.Outside.told c.args.outside.now).words).0 c.args.self.now.moment)) (g.U.SafeUser.mind c.args.user)) = c.in_ok-session.ensures ∙ ap (λ z. begun_dial c.args.conn.0 z (g.U.SafeUser.mind c.args.user)) end in
+    let same : (served kept_ends (rules_of_session (pair_entries c.args.pair.now) c.of-when.result.setup) c.of-when.result.moment c.in_ok-session.session (Begins c.args.pair.now.engine c.args.plan.now.rbc c.word-rb.result)) ≡ (served kept_ends (rules_of_session (pair_entries c.args.pair.now) c.args.plan.now.settings.setup) c.args.self.now.moment (begun_dial c.args.conn.0 (kept_opened (CallsWith c.args.plan.now.settings c.args.pair.now.engine c.args.plan.now.rbc c.args.pair.now.kmac (next_u64 (g.O.Outside.told c.args.outside.now).words).0 c.args.self.now.moment)) (g.U.SafeUser.mind c.args.user)) (Begins c.args.pair.now.engine c.args.plan.now.rbc (next_u64 (g.O.Outside.told c.args.outside.now).words).0)) =
+    call_model (pair_entries c.args.pair.now) c.of-when.result.setup c.args.plan.now.settings.setup c.of-when.result.moment c.args.self.now.moment c.in_ok-session.session (begun_dial c.args.conn.0 (kept_opened (CallsWith c.args.plan.now.settings c.args.pair.now.engine c.args.plan.now.rbc c.args.pair.now.kmac (next_u64 (g.O.Outside.told c.args.outside.now).words).0 c.args.self.now.moment)) (g.U.SafeUser.mind c.args.user))
     c.args.pair.now.engine c.args.plan.now.rbc c.word-rb.result ((next_u64 (g.O.Outside.told c.args.outside.now).words).0) c.of-when.ensures.setup c.of-when.ensures.moment session rb in
     done_behind_drawn (g.O.Outside.told c.args.outside.now) (g.O.Outside.told c.word-rb.new.self) (seen (g.O.Outside.told c.begin_call.new.outside)) c.word-rb.result _ _ c.word-rb.ensures.does
     (call_leaves
     (seen (g.O.Outside.told c.word-rb.new.self))
     (seen (g.O.Outside.told c.begin_call.new.outside))
-    c.args.self.now.book.slots c.args.self.now.book.places c.begin_call.new.session c.in_ok-stays.stays (served kept_ends (rules_of_session (pair_entries c.args.pair.now) c.of-when.result.setup) c.of-when.result.moment c.in_ok-session.session (Begins c.args.pair.now.engine c.args.plan.now.rbc c.word-rb.result)) (served kept_ends (rules_of_session (pair_entries c.args.pair.now) c.args.plan.now.settings.setup) c.args.self.now.moment (begun c.args.conn.0 (kept_opened (CallsWith c.args.plan.now.settings c.args.pair.now.engine c.args.plan.now.rbc c.args.pair.now.kmac (next_u64 (g.O.Outside.told c.args.outside.now).words).0 c.args.self.now.moment)) (g.U.SafeUser.mind c.args.user)) (Begins c.args.pair.now.engine c.args.plan.now.rbc (next_u64 (g.O.Outside.told c.args.outside.now).words).0))
+    c.args.self.now.book.slots c.args.self.now.book.places c.begin_call.new.session c.in_ok-stays.stays (served kept_ends (rules_of_session (pair_entries c.args.pair.now) c.of-when.result.setup) c.of-when.result.moment c.in_ok-session.session (Begins c.args.pair.now.engine c.args.plan.now.rbc c.word-rb.result)) (served kept_ends (rules_of_session (pair_entries c.args.pair.now) c.args.plan.now.settings.setup) c.args.self.now.moment (begun_dial c.args.conn.0 (kept_opened (CallsWith c.args.plan.now.settings c.args.pair.now.engine c.args.plan.now.rbc c.args.pair.now.kmac (next_u64 (g.O.Outside.told c.args.outside.now).words).0 c.args.self.now.moment)) (g.U.SafeUser.mind c.args.user)) (Begins c.args.pair.now.engine c.args.plan.now.rbc (next_u64 (g.O.Outside.told c.args.outside.now).words).0))
     same c.requires.first.empty c.if-not-stays.true (rw c.engine-engine.ensures at c.in_ok-stays.ensures.does))
 
 pub returns-in_err-stays-clause-does : goal.returns-in_err-stays-clause-does
 returns-in_err-stays-clause-does g c =
     let rb : c.word-rb.result ≡ (next_u64 (g.O.Outside.told c.args.outside.now).words).0 = drew_word (g.O.Outside.told c.args.outside.now) (g.O.Outside.told c.word-rb.new.self) c.word-rb.result c.word-rb.ensures.does in
-    let end : c.in_ok-end.end ≡ (kept_opened (CallsWith c.args.plan.now.settings c.args.pair.now.engine c.args.plan.now.rbc c.args.pair.now.kmac (next_u64 (g.O.Outside.told c.args.outside.now).words).0 c.args.self.now.moment)) = (rw (c.get.ensures.same, c.engine-engine.ensures, c.get-2.ensures.same, c.key.ensures, c.kmac.ensures, c.get-3.ensures.same) at c.in_ok-end.ensures) ∙ ap (λ z. (kept_opened (CallsWith c.args.plan.now.settings c.args.pair.now.engine c.args.plan.now.rbc c.args.pair.now.kmac z c.args.self.now.moment))) rb in
-    let session : c.in_ok-session.session ≡ (begun c.args.conn.0 (kept_opened (CallsWith c.args.plan.now.settings c.args.pair.now.engine c.args.plan.now.rbc c.args.pair.now.kmac (next_u64 (g.O.Outside.told c.args.outside.now).words).0 c.args.self.now.moment)) (g.U.SafeUser.mind c.args.user)) = c.in_ok-session.ensures ∙ ap (λ z. begun c.args.conn.0 z (g.U.SafeUser.mind c.args.user)) end in
-    let same : (served kept_ends (rules_of_session (pair_entries c.args.pair.now) c.of-when.result.setup) c.of-when.result.moment c.in_ok-session.session (Begins c.args.pair.now.engine c.args.plan.now.rbc c.word-rb.result)) ≡ (served kept_ends (rules_of_session (pair_entries c.args.pair.now) c.args.plan.now.settings.setup) c.args.self.now.moment (begun c.args.conn.0 (kept_opened (CallsWith c.args.plan.now.settings c.args.pair.now.engine c.args.plan.now.rbc c.args.pair.now.kmac (next_u64 (g.O.Outside.told c.args.outside.now).words).0 c.args.self.now.moment)) (g.U.SafeUser.mind c.args.user)) (Begins c.args.pair.now.engine c.args.plan.now.rbc (next_u64 (g.O.Outside.told c.args.outside.now).words).0)) =
-    call_model (pair_entries c.args.pair.now) c.of-when.result.setup c.args.plan.now.settings.setup c.of-when.result.moment c.args.self.now.moment c.in_ok-session.session (begun c.args.conn.0 (kept_opened (CallsWith c.args.plan.now.settings c.args.pair.now.engine c.args.plan.now.rbc c.args.pair.now.kmac (next_u64 (g.O.Outside.told c.args.outside.now).words).0 c.args.self.now.moment)) (g.U.SafeUser.mind c.args.user))
+    let end : c.in_ok-end.end ≡ (kept_opened (CallsWith c.args.plan.now.settings c.args.pair.now.engine c.args.plan.now.rbc c.args.pair.now.kmac (next_u64 (g.O.Outside.told c.args.outside.now).words).0 c.args.self.now.moment)) = (rw (c.engine-engine.ensures, c.copied.ensures, c.kmac.ensures) at c.in_ok-end.ensures) ∙ ap (λ z. (kept_opened (CallsWith c.args.plan.now.settings c.args.pair.now.engine c.args.plan.now.rbc c.args.pair.now.kmac z c.args.self.now.moment))) rb in
+    let session : c.in_ok-session.session ≡ (begun_dial c.args.conn.0 (kept_opened (CallsWith c.args.plan.now.settings c.args.pair.now.engine c.args.plan.now.rbc c.args.pair.now.kmac (next_u64 (g.O.Outside.told c.args.outside.now).words).0 c.args.self.now.moment)) (g.U.SafeUser.mind c.args.user)) = c.in_ok-session.ensures ∙ ap (λ z. begun_dial c.args.conn.0 z (g.U.SafeUser.mind c.args.user)) end in
+    let same : (served kept_ends (rules_of_session (pair_entries c.args.pair.now) c.of-when.result.setup) c.of-when.result.moment c.in_ok-session.session (Begins c.args.pair.now.engine c.args.plan.now.rbc c.word-rb.result)) ≡ (served kept_ends (rules_of_session (pair_entries c.args.pair.now) c.args.plan.now.settings.setup) c.args.self.now.moment (begun_dial c.args.conn.0 (kept_opened (CallsWith c.args.plan.now.settings c.args.pair.now.engine c.args.plan.now.rbc c.args.pair.now.kmac (next_u64 (g.O.Outside.told c.args.outside.now).words).0 c.args.self.now.moment)) (g.U.SafeUser.mind c.args.user)) (Begins c.args.pair.now.engine c.args.plan.now.rbc (next_u64 (g.O.Outside.told c.args.outside.now).words).0)) =
+    call_model (pair_entries c.args.pair.now) c.of-when.result.setup c.args.plan.now.settings.setup c.of-when.result.moment c.args.self.now.moment c.in_ok-session.session (begun_dial c.args.conn.0 (kept_opened (CallsWith c.args.plan.now.settings c.args.pair.now.engine c.args.plan.now.rbc c.args.pair.now.kmac (next_u64 (g.O.Outside.told c.args.outside.now).words).0 c.args.self.now.moment)) (g.U.SafeUser.mind c.args.user))
     c.args.pair.now.engine c.args.plan.now.rbc c.word-rb.result ((next_u64 (g.O.Outside.told c.args.outside.now).words).0) c.of-when.ensures.setup c.of-when.ensures.moment session rb in
     let p = err_from_is_err_and c.from_residual-in_err-stays.result c.from_residual-in_err-stays.ensures.1 in
     rw (p.1, p.2)
@@ -66,25 +66,25 @@ add-requires-clause-order g c = record {
 pub returns-clause-does : goal.returns-clause-does
 returns-clause-does g c =
     let rb : c.word-rb.result ≡ (next_u64 (g.O.Outside.told c.args.outside.now).words).0 = drew_word (g.O.Outside.told c.args.outside.now) (g.O.Outside.told c.word-rb.new.self) c.word-rb.result c.word-rb.ensures.does in
-    let end : c.in_ok-end.end ≡ (kept_opened (CallsWith c.args.plan.now.settings c.args.pair.now.engine c.args.plan.now.rbc c.args.pair.now.kmac (next_u64 (g.O.Outside.told c.args.outside.now).words).0 c.args.self.now.moment)) = (rw (c.get.ensures.same, c.engine-engine.ensures, c.get-2.ensures.same, c.key.ensures, c.kmac.ensures, c.get-3.ensures.same) at c.in_ok-end.ensures) ∙ ap (λ z. (kept_opened (CallsWith c.args.plan.now.settings c.args.pair.now.engine c.args.plan.now.rbc c.args.pair.now.kmac z c.args.self.now.moment))) rb in
-    let session : c.in_ok-session.session ≡ (begun c.args.conn.0 (kept_opened (CallsWith c.args.plan.now.settings c.args.pair.now.engine c.args.plan.now.rbc c.args.pair.now.kmac (next_u64 (g.O.Outside.told c.args.outside.now).words).0 c.args.self.now.moment)) (g.U.SafeUser.mind c.args.user)) = c.in_ok-session.ensures ∙ ap (λ z. begun c.args.conn.0 z (g.U.SafeUser.mind c.args.user)) end in
-    let same : (served kept_ends (rules_of_session (pair_entries c.args.pair.now) c.of-when.result.setup) c.of-when.result.moment c.in_ok-session.session (Begins c.args.pair.now.engine c.args.plan.now.rbc c.word-rb.result)) ≡ (served kept_ends (rules_of_session (pair_entries c.args.pair.now) c.args.plan.now.settings.setup) c.args.self.now.moment (begun c.args.conn.0 (kept_opened (CallsWith c.args.plan.now.settings c.args.pair.now.engine c.args.plan.now.rbc c.args.pair.now.kmac (next_u64 (g.O.Outside.told c.args.outside.now).words).0 c.args.self.now.moment)) (g.U.SafeUser.mind c.args.user)) (Begins c.args.pair.now.engine c.args.plan.now.rbc (next_u64 (g.O.Outside.told c.args.outside.now).words).0)) =
-    call_model (pair_entries c.args.pair.now) c.of-when.result.setup c.args.plan.now.settings.setup c.of-when.result.moment c.args.self.now.moment c.in_ok-session.session (begun c.args.conn.0 (kept_opened (CallsWith c.args.plan.now.settings c.args.pair.now.engine c.args.plan.now.rbc c.args.pair.now.kmac (next_u64 (g.O.Outside.told c.args.outside.now).words).0 c.args.self.now.moment)) (g.U.SafeUser.mind c.args.user))
+    let end : c.in_ok-end.end ≡ (kept_opened (CallsWith c.args.plan.now.settings c.args.pair.now.engine c.args.plan.now.rbc c.args.pair.now.kmac (next_u64 (g.O.Outside.told c.args.outside.now).words).0 c.args.self.now.moment)) = (rw (c.engine-engine.ensures, c.copied.ensures, c.kmac.ensures) at c.in_ok-end.ensures) ∙ ap (λ z. (kept_opened (CallsWith c.args.plan.now.settings c.args.pair.now.engine c.args.plan.now.rbc c.args.pair.now.kmac z c.args.self.now.moment))) rb in
+    let session : c.in_ok-session.session ≡ (begun_dial c.args.conn.0 (kept_opened (CallsWith c.args.plan.now.settings c.args.pair.now.engine c.args.plan.now.rbc c.args.pair.now.kmac (next_u64 (g.O.Outside.told c.args.outside.now).words).0 c.args.self.now.moment)) (g.U.SafeUser.mind c.args.user)) = c.in_ok-session.ensures ∙ ap (λ z. begun_dial c.args.conn.0 z (g.U.SafeUser.mind c.args.user)) end in
+    let same : (served kept_ends (rules_of_session (pair_entries c.args.pair.now) c.of-when.result.setup) c.of-when.result.moment c.in_ok-session.session (Begins c.args.pair.now.engine c.args.plan.now.rbc c.word-rb.result)) ≡ (served kept_ends (rules_of_session (pair_entries c.args.pair.now) c.args.plan.now.settings.setup) c.args.self.now.moment (begun_dial c.args.conn.0 (kept_opened (CallsWith c.args.plan.now.settings c.args.pair.now.engine c.args.plan.now.rbc c.args.pair.now.kmac (next_u64 (g.O.Outside.told c.args.outside.now).words).0 c.args.self.now.moment)) (g.U.SafeUser.mind c.args.user)) (Begins c.args.pair.now.engine c.args.plan.now.rbc (next_u64 (g.O.Outside.told c.args.outside.now).words).0)) =
+    call_model (pair_entries c.args.pair.now) c.of-when.result.setup c.args.plan.now.settings.setup c.of-when.result.moment c.args.self.now.moment c.in_ok-session.session (begun_dial c.args.conn.0 (kept_opened (CallsWith c.args.plan.now.settings c.args.pair.now.engine c.args.plan.now.rbc c.args.pair.now.kmac (next_u64 (g.O.Outside.told c.args.outside.now).words).0 c.args.self.now.moment)) (g.U.SafeUser.mind c.args.user))
     c.args.pair.now.engine c.args.plan.now.rbc c.word-rb.result ((next_u64 (g.O.Outside.told c.args.outside.now).words).0) c.of-when.ensures.setup c.of-when.ensures.moment session rb in
     done_behind_drawn (g.O.Outside.told c.args.outside.now) (g.O.Outside.told c.word-rb.new.self) (seen (g.O.Outside.told c.begin_call.new.outside)) c.word-rb.result _ _ c.word-rb.ensures.does
     (call_stays
     (seen (g.O.Outside.told c.word-rb.new.self))
     (seen (g.O.Outside.told c.begin_call.new.outside))
-    c.args.self.now.book.slots c.add.new.self.slots c.args.self.now.book.places c.add.new.self.places c.begin_call.new.session c.in_ok-stays.stays (served kept_ends (rules_of_session (pair_entries c.args.pair.now) c.of-when.result.setup) c.of-when.result.moment c.in_ok-session.session (Begins c.args.pair.now.engine c.args.plan.now.rbc c.word-rb.result)) (served kept_ends (rules_of_session (pair_entries c.args.pair.now) c.args.plan.now.settings.setup) c.args.self.now.moment (begun c.args.conn.0 (kept_opened (CallsWith c.args.plan.now.settings c.args.pair.now.engine c.args.plan.now.rbc c.args.pair.now.kmac (next_u64 (g.O.Outside.told c.args.outside.now).words).0 c.args.self.now.moment)) (g.U.SafeUser.mind c.args.user)) (Begins c.args.pair.now.engine c.args.plan.now.rbc (next_u64 (g.O.Outside.told c.args.outside.now).words).0))
+    c.args.self.now.book.slots c.add.new.self.slots c.args.self.now.book.places c.add.new.self.places c.begin_call.new.session c.in_ok-stays.stays (served kept_ends (rules_of_session (pair_entries c.args.pair.now) c.of-when.result.setup) c.of-when.result.moment c.in_ok-session.session (Begins c.args.pair.now.engine c.args.plan.now.rbc c.word-rb.result)) (served kept_ends (rules_of_session (pair_entries c.args.pair.now) c.args.plan.now.settings.setup) c.args.self.now.moment (begun_dial c.args.conn.0 (kept_opened (CallsWith c.args.plan.now.settings c.args.pair.now.engine c.args.plan.now.rbc c.args.pair.now.kmac (next_u64 (g.O.Outside.told c.args.outside.now).words).0 c.args.self.now.moment)) (g.U.SafeUser.mind c.args.user)) (Begins c.args.pair.now.engine c.args.plan.now.rbc (next_u64 (g.O.Outside.told c.args.outside.now).words).0))
     same c.requires.first.empty c.if-not-stays.false c.in_ok-add.ensures.sessions (rw c.engine-engine.ensures at c.in_ok-stays.ensures.does))
 
 pub returns-in_err-add-clause-does : goal.returns-in_err-add-clause-does
 returns-in_err-add-clause-does g c =
     let rb : c.word-rb.result ≡ (next_u64 (g.O.Outside.told c.args.outside.now).words).0 = drew_word (g.O.Outside.told c.args.outside.now) (g.O.Outside.told c.word-rb.new.self) c.word-rb.result c.word-rb.ensures.does in
-    let end : c.in_ok-end.end ≡ (kept_opened (CallsWith c.args.plan.now.settings c.args.pair.now.engine c.args.plan.now.rbc c.args.pair.now.kmac (next_u64 (g.O.Outside.told c.args.outside.now).words).0 c.args.self.now.moment)) = (rw (c.get.ensures.same, c.engine-engine.ensures, c.get-2.ensures.same, c.key.ensures, c.kmac.ensures, c.get-3.ensures.same) at c.in_ok-end.ensures) ∙ ap (λ z. (kept_opened (CallsWith c.args.plan.now.settings c.args.pair.now.engine c.args.plan.now.rbc c.args.pair.now.kmac z c.args.self.now.moment))) rb in
-    let session : c.in_ok-session.session ≡ (begun c.args.conn.0 (kept_opened (CallsWith c.args.plan.now.settings c.args.pair.now.engine c.args.plan.now.rbc c.args.pair.now.kmac (next_u64 (g.O.Outside.told c.args.outside.now).words).0 c.args.self.now.moment)) (g.U.SafeUser.mind c.args.user)) = c.in_ok-session.ensures ∙ ap (λ z. begun c.args.conn.0 z (g.U.SafeUser.mind c.args.user)) end in
-    let same : (served kept_ends (rules_of_session (pair_entries c.args.pair.now) c.of-when.result.setup) c.of-when.result.moment c.in_ok-session.session (Begins c.args.pair.now.engine c.args.plan.now.rbc c.word-rb.result)) ≡ (served kept_ends (rules_of_session (pair_entries c.args.pair.now) c.args.plan.now.settings.setup) c.args.self.now.moment (begun c.args.conn.0 (kept_opened (CallsWith c.args.plan.now.settings c.args.pair.now.engine c.args.plan.now.rbc c.args.pair.now.kmac (next_u64 (g.O.Outside.told c.args.outside.now).words).0 c.args.self.now.moment)) (g.U.SafeUser.mind c.args.user)) (Begins c.args.pair.now.engine c.args.plan.now.rbc (next_u64 (g.O.Outside.told c.args.outside.now).words).0)) =
-    call_model (pair_entries c.args.pair.now) c.of-when.result.setup c.args.plan.now.settings.setup c.of-when.result.moment c.args.self.now.moment c.in_ok-session.session (begun c.args.conn.0 (kept_opened (CallsWith c.args.plan.now.settings c.args.pair.now.engine c.args.plan.now.rbc c.args.pair.now.kmac (next_u64 (g.O.Outside.told c.args.outside.now).words).0 c.args.self.now.moment)) (g.U.SafeUser.mind c.args.user))
+    let end : c.in_ok-end.end ≡ (kept_opened (CallsWith c.args.plan.now.settings c.args.pair.now.engine c.args.plan.now.rbc c.args.pair.now.kmac (next_u64 (g.O.Outside.told c.args.outside.now).words).0 c.args.self.now.moment)) = (rw (c.engine-engine.ensures, c.copied.ensures, c.kmac.ensures) at c.in_ok-end.ensures) ∙ ap (λ z. (kept_opened (CallsWith c.args.plan.now.settings c.args.pair.now.engine c.args.plan.now.rbc c.args.pair.now.kmac z c.args.self.now.moment))) rb in
+    let session : c.in_ok-session.session ≡ (begun_dial c.args.conn.0 (kept_opened (CallsWith c.args.plan.now.settings c.args.pair.now.engine c.args.plan.now.rbc c.args.pair.now.kmac (next_u64 (g.O.Outside.told c.args.outside.now).words).0 c.args.self.now.moment)) (g.U.SafeUser.mind c.args.user)) = c.in_ok-session.ensures ∙ ap (λ z. begun_dial c.args.conn.0 z (g.U.SafeUser.mind c.args.user)) end in
+    let same : (served kept_ends (rules_of_session (pair_entries c.args.pair.now) c.of-when.result.setup) c.of-when.result.moment c.in_ok-session.session (Begins c.args.pair.now.engine c.args.plan.now.rbc c.word-rb.result)) ≡ (served kept_ends (rules_of_session (pair_entries c.args.pair.now) c.args.plan.now.settings.setup) c.args.self.now.moment (begun_dial c.args.conn.0 (kept_opened (CallsWith c.args.plan.now.settings c.args.pair.now.engine c.args.plan.now.rbc c.args.pair.now.kmac (next_u64 (g.O.Outside.told c.args.outside.now).words).0 c.args.self.now.moment)) (g.U.SafeUser.mind c.args.user)) (Begins c.args.pair.now.engine c.args.plan.now.rbc (next_u64 (g.O.Outside.told c.args.outside.now).words).0)) =
+    call_model (pair_entries c.args.pair.now) c.of-when.result.setup c.args.plan.now.settings.setup c.of-when.result.moment c.args.self.now.moment c.in_ok-session.session (begun_dial c.args.conn.0 (kept_opened (CallsWith c.args.plan.now.settings c.args.pair.now.engine c.args.plan.now.rbc c.args.pair.now.kmac (next_u64 (g.O.Outside.told c.args.outside.now).words).0 c.args.self.now.moment)) (g.U.SafeUser.mind c.args.user))
     c.args.pair.now.engine c.args.plan.now.rbc c.word-rb.result ((next_u64 (g.O.Outside.told c.args.outside.now).words).0) c.of-when.ensures.setup c.of-when.ensures.moment session rb in
     let p = err_from_is_err_and c.from_residual-in_err-add.result c.from_residual-in_err-add.ensures.1 in
     rw (p.1, p.2)

@@ -1,8 +1,0 @@
-use Rattle.std.specs.Prelude.{◌≡◌, ◌++◌, map, take}
-use Rattle.hdlc_selective.specs.Places.{lent}
-use Rattle.drill_ends.specs.declared.told.Told.TheVariants as told
-use Rattle.drill_ends.proofs.either_station.tell_run.Given as goal
-
--- the first ones are told
-abbrev pub invariant-loop-k : goal.invariant-loop-k
-invariant-loop-k l = l.told.items ≡ l.fn.told.items ++ map told.Arrived (take l.k (lent l.taken l.station.places))

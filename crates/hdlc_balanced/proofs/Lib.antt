@@ -1,3 +1,0 @@
-pub mod Takes
-pub mod Alikes
-pub mod Brings

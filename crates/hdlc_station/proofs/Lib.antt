@@ -1,0 +1,16 @@
+pub mod Follow
+pub mod Following
+pub mod Saying
+pub mod Sends
+pub mod Alikes
+pub mod Brings
+pub mod Takes
+pub mod Rings
+pub mod Runs
+pub mod Behind
+pub mod Asking
+pub mod Keeping
+pub mod Moving
+pub mod Repeats
+pub mod Reading
+pub mod Ways
