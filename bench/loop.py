@@ -10,6 +10,11 @@ import subprocess
 import sys
 import time
 
+sys.dont_write_bytecode = True
+sys.path.insert(0, os.path.join(os.path.dirname(os.path.abspath(__file__)), "..", "tests"))
+
+from serving import free_port  # noqa: E402
+
 bench, program, floor, work = sys.argv[1:5]
 socket_rounds = int(sys.argv[5])
 REPORTS = 1000
@@ -114,12 +119,6 @@ def in_memory():
     # By how much 64 trains more raise the most that the program takes.
     few, many = (min(took(trains) for _ in range(3)) for trains in (192, 256))
     print(f"in memory, a connection that carried a message, with the end of its train: {(many - few) / 64:.0f} KiB", flush=True)
-
-
-def free_port():
-    with socket.socket() as s:
-        s.bind(("127.0.0.1", 0))
-        return s.getsockname()[1]
 
 
 def begun(words, recording):

@@ -12,6 +12,7 @@ sys.dont_write_bytecode = True
 TOP = os.path.join(os.path.dirname(os.path.abspath(__file__)), "..")
 sys.path.insert(0, os.path.join(TOP, "tests"))
 from minutes import speed  # noqa: E402
+from serving import free_port  # noqa: E402
 
 OLD, NEW = (os.path.abspath(program) for program in sys.argv[1:3])
 ENDS = [os.path.abspath(program) for program in sys.argv[3:]]
@@ -51,12 +52,6 @@ def processor_seconds(words, out):
     if status:
         sys.exit(f"turns: {words[0]} {words[1]}: status {os.waitstatus_to_exitcode(status)}")
     return usage.ru_utime + usage.ru_stime
-
-
-def free_port():
-    with socket.socket() as it:
-        it.bind(("127.0.0.1", 0))
-        return it.getsockname()[1]
 
 
 def listens(port):

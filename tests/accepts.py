@@ -9,6 +9,10 @@ import sys
 import tempfile
 import time
 
+sys.dont_write_bytecode = True
+
+from serving import free_port  # noqa: E402
+
 program = sys.argv[1]
 KEYS = 'version = 1\n\n[[key]]\nengine = 5\nrbc = 9\nkmac = "0123456789abcdef23456789abcdef01456789abcdef0123"\n'
 SABM, UA, DISC = bytes.fromhex("7e013febdf7e"), bytes.fromhex("7e017383577e"), bytes.fromhex("7e015381767e")
@@ -21,12 +25,6 @@ def check(holds, what):
     if not holds:
         failed += 1
         print("failed:", what)
-
-
-def free_port():
-    with socket.socket() as s:
-        s.bind(("127.0.0.1", 0))
-        return s.getsockname()[1]
 
 
 def is_answered(client, within):

@@ -300,10 +300,7 @@ traces_of_drills() {
 # ---- over sockets
 
 free_port() {
-  python3 -c 'import socket
-with socket.socket() as it:
-    it.bind(("127.0.0.1", 0))
-    print(it.getsockname()[1])'
+  PYTHONPATH=$top/tests python3 -Bc 'import serving; print(serving.free_port())'
 }
 
 same_again() {

@@ -8,6 +8,10 @@ import subprocess
 import sys
 import time
 
+sys.dont_write_bytecode = True
+
+from serving import free_port  # noqa: E402
+
 program, shim, work, which = sys.argv[1:]
 KEYS = """version = 1
 
@@ -27,12 +31,6 @@ mark = os.path.join(work, "refused")
 trace = os.path.join(work, "trace")
 with open(keys, "w") as f:
     f.write(KEYS)
-
-
-def free_port():
-    with socket.socket() as s:
-        s.bind(("127.0.0.1", 0))
-        return s.getsockname()[1]
 
 
 def is_listening(port):

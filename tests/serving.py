@@ -1,7 +1,9 @@
 """What the tests over loopback sockets share: the key file, a free port, and what a recording tells of a connection."""
+import random
 import socket
 import subprocess
 import sys
+import threading
 import time
 
 REPORTS = [f"position-report-{n:08}".encode().hex() for n in (1, 2, 3)]
@@ -14,19 +16,28 @@ kmac = "0123456789abcdef23456789abcdef01456789abcdef0123"
 """
 
 
-def free_ports(count):
-    """Ports of the loopback address that nobody has."""
-    sockets = [socket.socket() for _ in range(count)]
-    for s in sockets:
-        s.bind(("127.0.0.1", 0))
-    ports = [s.getsockname()[1] for s in sockets]
-    for s in sockets:
-        s.close()
-    return ports
+# Below those that a system gives to whoever connects: between a choice and the listener's bind no connection takes one, and who calls one at which nobody listens doesn't meet itself.
+PORTS = range(10_000, 32_000)
+_given, _giving = set(), threading.Lock()
 
 
 def free_port():
-    return free_ports(1)[0]
+    """A port of the loopback address that nobody has, and that this process was given never before: its lanes meet at none."""
+    with _giving:
+        while True:
+            port = random.SystemRandom().choice(PORTS)
+            with socket.socket() as tried:
+                try:
+                    tried.bind(("127.0.0.1", port))
+                except OSError:
+                    continue
+            if port not in _given:
+                _given.add(port)
+                return port
+
+
+def free_ports(count):
+    return [free_port() for _ in range(count)]
 
 
 def connected(port):

@@ -1,7 +1,6 @@
 """For application.py beside it: fakes of several loops with trains, and the programs between them: a broker, a bridge for each loop, and one centre for all."""
 import collections
 import os
-import random
 import re
 import select
 import shutil
@@ -9,6 +8,8 @@ import socket
 import subprocess
 import sys
 import time
+
+from serving import free_port
 
 REQUESTS = re.compile(r"(send [0-9]+ (-|([0-9a-fA-F]{2})+)|release [0-9]+ [0-9]{1,3}|drain|keys|counts)")
 MOST_FOR_APPLICATION = 262_144
@@ -35,18 +36,6 @@ def found():
         if mosquitto and os.access(python, os.X_OK) and subprocess.run(words, stderr=subprocess.DEVNULL).returncode == 0:
             return mosquitto, python
     return None
-
-
-def free_port():
-    """A port of the loopback address which the system gives nobody: who calls a port of those meets itself there now and then, while nobody listens."""
-    while True:
-        port = random.randrange(20_000, 32_000)
-        with socket.socket() as tried:
-            try:
-                tried.bind(("127.0.0.1", port))
-                return port
-            except OSError:
-                continue
 
 
 def hexadecimal(text):

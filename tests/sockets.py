@@ -11,7 +11,7 @@ import time
 
 sys.dont_write_bytecode = True
 
-from serving import parts_of, replays_to_itself  # noqa: E402
+from serving import free_port, parts_of, replays_to_itself  # noqa: E402
 
 program = sys.argv[1]
 REPORTS = [f"position-report-{n:08}".encode().hex() for n in (1, 2, 3)]
@@ -31,12 +31,6 @@ def check(holds, what):
     if not holds:
         failed += 1
         print("failed:", what)
-
-
-def free_port():
-    with socket.socket() as s:
-        s.bind(("127.0.0.1", 0))
-        return s.getsockname()[1]
 
 
 def connected(port):
