@@ -4,6 +4,7 @@
 //! where something comes is defined in `application_model`: behind each event the messages that wait are taken, where the application is there and has room.
 #![tactic(auto)]
 
+mod agenda;
 mod desk;
 mod due;
 mod flow;

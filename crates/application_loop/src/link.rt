@@ -206,6 +206,11 @@ impl Link {
         }
     }
 
+    // Whether messages wait to be taken.
+    pub(crate) fn waits(&self) -> bool {
+        self.end.waiting() > 0
+    }
+
     // The messages that wait are taken, while the application is there and has room.
     pub(crate) fn take_all<O: Journal>(
         &mut self,

@@ -19,6 +19,7 @@ ghost use Rattle.application_model.specs.Ends.{is_known};
 ghost use Rattle.application_loop.specs.Standing.{known_of_link};
 ghost use Rattle.application_loop.specs.Staying.{LinksStay};
 
+use crate::agenda::{Agenda, earlier};
 use crate::desk::Desk;
 use crate::laws::events_serve;
 use crate::link::Link;
@@ -41,15 +42,8 @@ pub(crate) struct Links {
     // Places on the heap of ends that are over, which the next ones take. Were each of them freed and asked for again, others would come to stand in
     // them in between, and memory would grow.
     places: Vec<Box<End>>,
-}
-
-// The earlier of two moments, where they are.
-fn earlier(one: Option<u64>, other: Option<u64>) -> Option<u64> {
-    match (one, other) {
-        (Some(one), Some(other)) => Some(one.min(other)),
-        (one, None) => one,
-        (None, other) => other,
-    }
+    // Where something may be to do: with many connections they aren't all looked at for what happens at one.
+    agenda: Agenda,
 }
 
 // What of a slice stands behind so many octets.
@@ -67,6 +61,7 @@ impl Links {
         Ok(Links {
             list: Vec::with_capacity(alloc, MOST_LIVE)?,
             places: Vec::with_capacity(alloc, MOST_LIVE)?,
+            agenda: Agenda::new(),
         })
     }
 
@@ -94,6 +89,8 @@ impl Links {
     pub(crate) fn add(&mut self, link: Link) -> Result<(), NoMemory>
         ensures { OnOk result (self.new.list.items ≡ self.old.list.items ++ link ∷ []) }
     {
+        let place = self.list.len();
+        self.agenda.note(place, link.wakes());
         self.list.push(link)?;
         Ok(())
     }
@@ -113,7 +110,7 @@ impl Links {
     }
 
     // The first moment at which one of them is to be visited.
-    pub(crate) fn until(&self) -> Option<u64> {
+    fn first_wake(&self) -> Option<u64> {
         let mut first = None;
         for link in self.list.iter() {
             first = earlier(first, link.wakes());
@@ -121,11 +118,22 @@ impl Links {
         first
     }
 
+    // A moment before which none of them is to be visited, but now.
+    pub(crate) fn until(&self) -> Option<u64> {
+        self.agenda.wakes()
+    }
+
     // Whether there is something to do at one of them now.
     pub(crate) fn is_restless(&self) -> bool {
-        for link in self.list.iter() {
-            if link.is_restless() {
-                return true;
+        let (first, behind) = self.agenda.places();
+        for place in first..behind {
+            match self.list.get(place) {
+                Some(link) => {
+                    if link.is_restless() {
+                        return true;
+                    }
+                }
+                None => {}
             }
         }
         false
@@ -160,7 +168,11 @@ impl Links {
             let Some(link) = self.list.get_mut(place) else {
                 return Ok(());
             };
+            let waits = link.waits();
             link.take_all(when, desk, outside)?;
+            if waits {
+                self.agenda.note(place, link.wakes());
+            }
         }
         Ok(())
     }
@@ -184,6 +196,7 @@ impl Links {
         crate::laws::events_serve();
         if let Some(link) = self.list.get_mut(place) {
             link.occur(event, &None::<PairKey>, when, desk, outside)?;
+            self.agenda.note(place, link.wakes());
         }
         Ok(())
     }
@@ -235,6 +248,7 @@ impl Links {
             return Ok(None);
         }
         let used = link.occur(&SessionEvent::Octets(octets), keys, when, desk, outside)?;
+        self.agenda.note(place, link.wakes());
         self.take_waiting(when, desk, outside)?;
         Ok(Some(used))
     }
@@ -280,6 +294,7 @@ impl Links {
     {
         if let Some(link) = self.list.get_mut(place) {
             link.has_room_again();
+            self.agenda.note(place, link.wakes());
         }
     }
 
@@ -334,6 +349,7 @@ impl Links {
             return;
         }
         let link = self.list.remove(place);
+        self.agenda.removed(place);
         outside.close(Conn(link.number));
         self.keep_place(link.into_end());
     }
@@ -369,6 +385,8 @@ impl Links {
                 place += 1;
             }
         }
+        let wakes = self.first_wake();
+        self.agenda.wakes_at(wakes);
     }
 
     // Whether the connection at this place is to be closed at once.
@@ -417,7 +435,7 @@ impl Links {
         self.befall(place, &SessionEvent::Fault, when, desk, outside)
     }
 
-    // What waits is written at each connection, and those are closed that are to be closed at once.
+    // What waits is written at each connection where something may be to do, and those are closed that are to be closed at once.
     pub(crate) fn settle<O: Journal>(
         &mut self,
         when: &When,
@@ -426,8 +444,9 @@ impl Links {
     ) -> Result<(), LoopFault>
         ensures serves { ServesWhole when.now.moment (scene (O.told outside.old) self.old.list.items desk.old) (scene (O.told outside.new) self.new.list.items desk.new) result }
     {
-        let mut place = 0;
-        for _ in 0..self.list.len() {
+        let (mut place, behind) = self.agenda.places();
+        self.agenda.done();
+        for _ in place..behind {
             self.stall(place, when, desk, outside)?;
             self.write(place, when, desk, outside)?;
             if self.is_done(place) {

@@ -11,6 +11,7 @@ use Rattle.application_loop.specs.Standing.{scene, number_of_link}
 use Rattle.application_loop.proofs.QuietEvents.{numbers_at}
 use Rattle.application_loop.proofs.TakingMessages.{serves_err, serving_of_ok, occurred_of}
 use Rattle.application_loop.proofs.TakingAll.{takes_begin, none_to_take, no_room_to_take, takes_at_place, rests_at_place, WaitsNot}
+use Rattle.application_loop.proofs.links.Links.take_waiting.Goals.{then-waits, else-waits}
 use Rattle.application_loop.proofs.links.Links.take_waiting.Goals as goal
 
 pub loop-place-init : goal.loop-place-init
@@ -58,25 +59,48 @@ loop-place-preserved g c =
     let found : slice_get c.loop-place.self.list.items c.loop-place.place ≡ Some c.in-Some.link.now =
     slice_get-get_or c.loop-place.self.list.items c.loop-place.place c.take_all.new.self c.in-Some.ensures.item.3.0
     ∙ ap Some (sym (c.in-Some.ensures.item.3.1 c.take_all.new.self)) in
-    record {
-      takes = λ run beside rest at serving.
-          serving_of_ok run beside
-          (and_then (λ kind s. takes_at kind c.args.when.now.moment (map number_of_link
-          (drop (c.loop-place.place + 1) (slice_set c.loop-place.self.list.items c.loop-place.place c.take_all.new.self))) s) rest)
-          (scene (g.O.Outside.told c.take_all.new.outside) (slice_set c.loop-place.self.list.items c.loop-place.place c.take_all.new.self) c.take_all.new.desk) c.take_all.result c.in_ok-take_all.field-0 c.in_ok-take_all.was
-          (takes_at_place run beside rest c.args.when.now.moment (g.O.Outside.told c.loop-place.outside) c.loop-place.desk c.loop-place.self.list.items
-          c.loop-place.place c.in-Some.link.now c.take_all.new.self (g.O.Outside.told c.take_all.new.outside) c.take_all.new.desk c.take_all.result found
-          (c.take_all.ensures.takes (take c.loop-place.place c.loop-place.self.list.items) (drop (c.loop-place.place + 1) c.loop-place.self.list.items)) at
-          (c.loop-place.invariant.takes run beside rest at serving));
-      rests = λ room.
-          let before = occurred_of c.take_all.result c.in_ok-take_all.field-0 c.in_ok-take_all.was c.take_all.ensures.room room in
-          rests_at_place c.loop-place.self.list.items c.loop-place.place c.in-Some.link.now c.take_all.new.self found (c.loop-place.invariant.rests before)
-          (occurred_of c.take_all.result c.in_ok-take_all.field-0 c.in_ok-take_all.was c.take_all.ensures.none room);
-      numbers =
-          numbers_at c.events_serve.ensures.on c.events_serve.ensures.model c.events_serve.ensures.stages c.loop-place.self.list.items c.loop-place.place
-          c.in-Some.link.now c.take_all.new.self found c.take_all.ensures.number
-          ∙ c.loop-place.invariant.numbers;
-    }
+    elim c.if-waits.branch [
+      | then-waits w ↦
+          rw (w.self-is) record {
+            takes = λ run beside rest at serving.
+                serving_of_ok run beside
+                (and_then (λ kind s. takes_at kind c.args.when.now.moment (map number_of_link
+                (drop (c.loop-place.place + 1) (slice_set c.loop-place.self.list.items c.loop-place.place c.take_all.new.self))) s) rest)
+                (scene (g.O.Outside.told c.take_all.new.outside) (slice_set c.loop-place.self.list.items c.loop-place.place c.take_all.new.self) c.take_all.new.desk) c.take_all.result c.in_ok-take_all.field-0 c.in_ok-take_all.was
+                (takes_at_place run beside rest c.args.when.now.moment (g.O.Outside.told c.loop-place.outside) c.loop-place.desk c.loop-place.self.list.items
+                c.loop-place.place c.in-Some.link.now c.take_all.new.self (g.O.Outside.told c.take_all.new.outside) c.take_all.new.desk c.take_all.result found
+                (c.take_all.ensures.takes (take c.loop-place.place c.loop-place.self.list.items) (drop (c.loop-place.place + 1) c.loop-place.self.list.items)) at
+                (c.loop-place.invariant.takes run beside rest at serving));
+            rests = λ room.
+                let before = occurred_of c.take_all.result c.in_ok-take_all.field-0 c.in_ok-take_all.was c.take_all.ensures.room room in
+                rests_at_place c.loop-place.self.list.items c.loop-place.place c.in-Some.link.now c.take_all.new.self found (c.loop-place.invariant.rests before)
+                (occurred_of c.take_all.result c.in_ok-take_all.field-0 c.in_ok-take_all.was c.take_all.ensures.none room);
+            numbers =
+                numbers_at c.events_serve.ensures.on c.events_serve.ensures.model c.events_serve.ensures.stages c.loop-place.self.list.items c.loop-place.place
+                c.in-Some.link.now c.take_all.new.self found c.take_all.ensures.number
+                ∙ c.loop-place.invariant.numbers;
+          }
+      | else-waits w ↦
+          rw (w.self-is) record {
+            takes = λ run beside rest at serving.
+                serving_of_ok run beside
+                (and_then (λ kind s. takes_at kind c.args.when.now.moment (map number_of_link
+                (drop (c.loop-place.place + 1) (slice_set c.loop-place.self.list.items c.loop-place.place c.take_all.new.self))) s) rest)
+                (scene (g.O.Outside.told c.take_all.new.outside) (slice_set c.loop-place.self.list.items c.loop-place.place c.take_all.new.self) c.take_all.new.desk) c.take_all.result c.in_ok-take_all.field-0 c.in_ok-take_all.was
+                (takes_at_place run beside rest c.args.when.now.moment (g.O.Outside.told c.loop-place.outside) c.loop-place.desk c.loop-place.self.list.items
+                c.loop-place.place c.in-Some.link.now c.take_all.new.self (g.O.Outside.told c.take_all.new.outside) c.take_all.new.desk c.take_all.result found
+                (c.take_all.ensures.takes (take c.loop-place.place c.loop-place.self.list.items) (drop (c.loop-place.place + 1) c.loop-place.self.list.items)) at
+                (c.loop-place.invariant.takes run beside rest at serving));
+            rests = λ room.
+                let before = occurred_of c.take_all.result c.in_ok-take_all.field-0 c.in_ok-take_all.was c.take_all.ensures.room room in
+                rests_at_place c.loop-place.self.list.items c.loop-place.place c.in-Some.link.now c.take_all.new.self found (c.loop-place.invariant.rests before)
+                (occurred_of c.take_all.result c.in_ok-take_all.field-0 c.in_ok-take_all.was c.take_all.ensures.none room);
+            numbers =
+                numbers_at c.events_serve.ensures.on c.events_serve.ensures.model c.events_serve.ensures.stages c.loop-place.self.list.items c.loop-place.place
+                c.in-Some.link.now c.take_all.new.self found c.take_all.ensures.number
+                ∙ c.loop-place.invariant.numbers;
+          }
+    ]
 
 pub returns-clause-takes : goal.returns-clause-takes
 returns-clause-takes g c run beside rest at serving =
