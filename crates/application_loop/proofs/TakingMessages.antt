@@ -7,7 +7,7 @@ use Rattle.er_trace.specs.declared.event.Event.TheVariants as event
 use Rattle.er_end_model.specs.Ends.{Take}
 use Rattle.er_end.specs.KeptEnds.{KEnd, waiting_in}
 use Rattle.er_end.specs.Keeping.{WaitsMove, OctetsBring}
-use Rattle.loop_model.specs.Sessions.{Rules, Takes, end_after}
+use Rattle.loop_model.specs.Sessions.{Rules, GivenToSession, Takes, end_after}
 use Rattle.loop_session.specs.declared.loop_fault.LoopFault.{LoopFault}
 use Rattle.outside.specs.Doings.{Told}
 use Rattle.application_model.specs.Ends.{EventAt}
@@ -112,9 +112,9 @@ room_before text (Talking standing output) room =
           | inr there ↦ ap not there
         ]
 
-pub room_before_event : (r : Rules) (m : ℕ) (old now : Link) (desk after : Desk) → Occurs r m Takes old now desk after
+pub room_before_event : (r : Rules) (m : ℕ) (g : GivenToSession) (old now : Link) (desk after : Desk) → Occurs r m g old now desk after
     → has_room (attendance_of after.port) ≡ true → has_room (attendance_of desk.port) ≡ true
-room_before_event r m old now desk after occurred room = room_before _ desk.port (ap (λ (p : PortState). has_room (attendance_of p)) (sym occurred.told) ∙ room)
+room_before_event r m g old now desk after occurred room = room_before _ desk.port (ap (λ (p : PortState). has_room (attendance_of p)) (sym occurred.told) ∙ room)
 
 pub serving_of_ok : {T : Type 0} (run : ServiceRun) (beside : Beside) (rest : ToDo) (x : Scene) (result : Result T LoopFault) (done : T) → result ≡ Ok done
     → ServesOn run beside rest x result → Serving run beside rest x

@@ -1,5 +1,5 @@
 -- Representation: the connections and the desk of a loop, by what was done so far; no claim rests on it.
-use Rattle.std.specs.Prelude.{ℕ, ◌≡◌, ◌<◌, ◌==◌, if◌then◌else◌, Bool, false, true, List, [], ◌++◌, map, Option, Some, None}
+use Rattle.std.specs.Prelude.{ℕ, ◌≡◌, ◌<◌, ◌==◌, if◌then◌else◌, Bool, false, true, List, [], ◌++◌, ◌+◌, map, take, drop, Option, Some, None}
 use Rattle.std.specs.List.{All}
 use Rattle.er_base.specs.LineTexts.{line_text}
 use Rattle.er_base.specs.declared.release.Release.{Release}
@@ -125,6 +125,11 @@ pub record Serving (run : ServiceRun) (beside : Beside) (rest : ToDo) (x : Scene
 -- no message waits that could be taken
 abbrev pub Rested : Scene → Type 0
 Rested x = has_room (attendance_of x.desk.port) ≡ true → All (λ (l : Link). waiting_in l.end.value ≡ []) x.links
+
+-- none but at this connection
+abbrev pub RestedBut : ℕ → Scene → Type 0
+RestedBut place x = has_room (attendance_of x.desk.port) ≡ true
+    → All (λ (l : Link). waiting_in l.end.value ≡ []) (take place x.links) × All (λ (l : Link). waiting_in l.end.value ≡ []) (drop (place + 1) x.links)
 
 -- all that came is done
 pub record AtRest (run : ServiceRun) (beside : Beside) (x : Scene) : Type 0 where

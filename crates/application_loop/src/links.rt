@@ -12,7 +12,7 @@ ghost use Rattle.application_model.specs.Ends.{numbers_unparted};
 ghost use Rattle.application_model.specs.Lines.{connected_lines};
 ghost use Rattle.application_model.specs.Services.{informs, occurs, takes_waiting, releases_all};
 ghost use Rattle.application_serving.specs.Going.{ServiceRun};
-ghost use Rattle.application_loop.specs.Standing.{Beside, scene, AtRest, Rested, number_of_link, pouring, none_left};
+ghost use Rattle.application_loop.specs.Standing.{Beside, scene, AtRest, Rested, RestedBut, number_of_link, pouring, none_left};
 ghost use Rattle.application_loop.specs.ServingParts.{DoesPart, RestsOr, ServesWhole, IsOfClock, IsWithoutOctets, HearsSome};
 ghost use Rattle.std.specs.Prelude.{◌≢◌, Ok, List, [], ◌∷◌, ◌++◌, None, false, drop, not, is_some};
 ghost use Rattle.application_model.specs.Ends.{is_known};
@@ -177,6 +177,29 @@ impl Links {
         Ok(())
     }
 
+    // The messages that wait at this connection are taken, where none wait at the others, while the application is there and has room.
+    fn take_at<O: Journal>(
+        &mut self,
+        place: usize,
+        when: &When,
+        desk: &mut Desk,
+        outside: &mut O,
+    ) -> Result<(), LoopFault>
+        ensures takes { RestedBut place (scene (O.told outside.old) self.old.list.items desk.old) → DoesPart (λ kind s. takes_waiting kind when.now.moment s) when.now.moment (scene (O.told outside.old) self.old.list.items desk.old) (scene (O.told outside.new) self.new.list.items desk.new) result }
+        ensures rests { RestedBut place (scene (O.told outside.old) self.old.list.items desk.old) → OnOk result (Rested (scene (O.told outside.new) self.new.list.items desk.new)) }
+        ensures numbers { map number_of_link self.new.list.items ≡ map number_of_link self.old.list.items }
+    {
+        if !desk.port.has_room() {
+            return Ok(());
+        }
+        let Some(link) = self.list.get_mut(place) else {
+            return Ok(());
+        };
+        link.take_all(when, desk, outside)?;
+        self.agenda.note(place, link.wakes());
+        Ok(())
+    }
+
     // An event at which no key is looked up.
     pub(crate) fn occur<O: Journal>(
         &mut self,
@@ -192,6 +215,7 @@ impl Links {
             (scene (O.told outside.old) self.old.list.items desk.old) (scene (O.told outside.new) self.new.list.items desk.new) result }
         ensures numbers { map number_of_link self.new.list.items ≡ map number_of_link self.old.list.items }
         ensures others { (at : ℕ) → at ≢ place → slice_get self.new.list.items at ≡ slice_get self.old.list.items at }
+        ensures rests { OnOk result (Rested (scene (O.told outside.old) self.old.list.items desk.old) → RestedBut place (scene (O.told outside.new) self.new.list.items desk.new)) }
     {
         crate::laws::events_serve();
         if let Some(link) = self.list.get_mut(place) {
@@ -216,7 +240,7 @@ impl Links {
         ensures numbers { map number_of_link self.new.list.items ≡ map number_of_link self.old.list.items }
     {
         self.occur(place, event, when, desk, outside)?;
-        self.take_waiting(when, desk, outside)
+        self.take_at(place, when, desk, outside)
     }
 
     // Octets come from the line, and the end uses them up to the first closed frame. How many octets it used; None where none are left, or nothing more is
@@ -249,7 +273,7 @@ impl Links {
         }
         let used = link.occur(&SessionEvent::Octets(octets), keys, when, desk, outside)?;
         self.agenda.note(place, link.wakes());
-        self.take_waiting(when, desk, outside)?;
+        self.take_at(place, when, desk, outside)?;
         Ok(Some(used))
     }
 

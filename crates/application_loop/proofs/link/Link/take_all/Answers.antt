@@ -2,6 +2,7 @@
 use Rattle.std.proofs.Common.{arith, rules, ◌≡◌, ◌∙◌, ◌+◌, ◌-◌, [], ◌∷◌, ◌++◌, length, refl, sym, ap}
 use Rattle.std.proofs.lemmas.Result.{err_from_is_err_and}
 use Rattle.er_end.specs.KeptEnds.{waiting_in}
+use Rattle.loop_model.specs.Sessions.{Takes}
 use Rattle.application_model.specs.Services.{takes_most}
 use Rattle.application_serving.specs.Going.{and_then}
 use Rattle.application_loop.specs.Standing.{scene}
@@ -75,7 +76,7 @@ loop-preserved g c =
           (c.loop.invariant.takes front back run beside rest at serving);
       waits = omega (arith, waits, many, fewer);
       room = λ room.
-          c.loop.invariant.room (room_before_event any_rules c.args.when.now.moment c.loop.self c.occur.new.self c.loop.desk c.occur.new.desk occurred room);
+          c.loop.invariant.room (room_before_event any_rules c.args.when.now.moment Takes c.loop.self c.occur.new.self c.loop.desk c.occur.new.desk occurred room);
       number = c.occur.ensures.number ∙ c.loop.invariant.number;
       only = search rules;
     }

@@ -23,6 +23,6 @@ returns-clause-serves g c link is clock run beside moment at_rest =
     (clock_is_outside link.end.value given clock) at_rest in
     let on =
     c.in_ok-occur.ensures.occurs link is (clock_without_octets given clock) run beside (and_then (takes_then c.args.when.now.moment) nothing_to_do) moment begun in
-    befell run beside _ c.take_waiting.result
-    (c.take_waiting.ensures.takes run beside nothing_to_do moment (record { deeds = on.deeds; going = on.going; stands = on.leaves }))
-    c.take_waiting.ensures.rests
+    befell run beside _ c.take_at.result
+    (c.take_at.ensures.takes (c.in_ok-occur.ensures.rests at_rest.rested) run beside nothing_to_do moment (record { deeds = on.deeds; going = on.going; stands = on.leaves }))
+    (c.take_at.ensures.rests (c.in_ok-occur.ensures.rests at_rest.rested))

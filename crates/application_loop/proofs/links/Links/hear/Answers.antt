@@ -3,10 +3,13 @@ use Rattle.std.proofs.Common.{◌≡◌, ◌∙◌, inl, inr, ◌<◌, ◌≤◌
 use Rattle.er_trace.specs.declared.event.Event.TheVariants as event
 use Rattle.er_end.specs.KeptEnds.{used_of}
 use Rattle.application_serving.specs.Going.{and_then, nothing_to_do}
-use Rattle.application_loop.specs.Standing.{scene, pouring, AtRest}
+use Rattle.application_loop.specs.Standing.{scene, pouring, AtRest, RestedBut}
 use Rattle.application_loop.specs.declared.link.Link.{Link}
 use Rattle.application_loop.proofs.Happenings.{takes_then, befalls_begins, went_on, went_to_rest}
 use Rattle.application_loop.proofs.Pouring.{octets_serve, hears_broke, none_came, some_octet, lent_found, lent_is, set_itself, numbers_behind}
+use Rattle.loop_model.specs.Sessions.{Rules, Hears}
+use Rattle.application_loop.proofs.TakingMessages.{room_before_event}
+use Rattle.application_loop.proofs.TakingAll.{rest_but_this}
 use Rattle.application_loop.proofs.links.Links.hear.Goals.{then-is_empty-via-then-is_empty, then-is_empty-via-else-is_empty+then-is_broken}
 use Rattle.application_loop.proofs.links.Links.hear.Goals as goal
 
@@ -64,8 +67,8 @@ returns-in_err-used-clause-numbers g c =
     numbers_behind c.args.self.now.list.items c.args.place lent c.occur.new.self
     (lent_found c.args.self.now.list.items c.args.place lent at.0 (at.1 lent)) c.occur.ensures.number
 
-pub returns-in_err-take_waiting-clause-hears : goal.returns-in_err-take_waiting-clause-hears
-returns-in_err-take_waiting-clause-hears g c link run beside is moment finds at_rest =
+pub returns-in_err-take_at-clause-hears : goal.returns-in_err-take_at-clause-hears
+returns-in_err-take_at-clause-hears g c link run beside is moment finds at_rest =
     let links = c.args.self.now.list.items in
     let octets = c.args.octets.now in
     let lent = c.in-Some.link.now in
@@ -85,16 +88,22 @@ returns-in_err-take_waiting-clause-hears g c link run beside is moment finds at_
     c.args.desk.now (g.O.Outside.told c.args.outside.now) found whole moment finds c.occur.new.self c.occur.new.desk (g.O.Outside.told c.occur.new.outside)
     (Ok c.in_ok-used.used)
     (record { records = c.in_ok-used.ensures.records; occurs = c.in_ok-used.ensures.occurs; only = c.in_ok-used.ensures.only }) begun in
+    let rules : Rules = record { keys = g.K.KeyFinder.entries c.args.keys.now; setup = 0 } in
+    let but : RestedBut c.args.place (scene (g.O.Outside.told c.occur.new.outside) (slice_set links c.args.place c.occur.new.self) c.occur.new.desk) =
+    λ room. rest_but_this links c.args.place lent c.occur.new.self found
+    (here.rested
+    (room_before_event rules c.args.when.now.moment (Hears octets) lent c.occur.new.self c.args.desk.now c.occur.new.desk (c.in_ok-used.ensures.occurs rules refl)
+    room)) in
     let left = pouring beside lent.number (drop (used_of lent.end.value octets) octets) in
     let serving = went_on run left rest (scene (g.O.Outside.told c.occur.new.outside) (slice_set links c.args.place c.occur.new.self) c.occur.new.desk) on in
-    hears_broke _ run beside link octets _ c.from_residual-in_err-take_waiting.result c.from_residual-in_err-take_waiting.ensures.1
-    (c.in_err-take_waiting.ensures.takes run left nothing_to_do moment serving)
+    hears_broke _ run beside link octets _ c.from_residual-in_err-take_at.result c.from_residual-in_err-take_at.ensures.1
+    (c.in_err-take_at.ensures.takes but run left nothing_to_do moment serving)
 
-pub returns-in_err-take_waiting-clause-numbers : goal.returns-in_err-take_waiting-clause-numbers
-returns-in_err-take_waiting-clause-numbers g c =
+pub returns-in_err-take_at-clause-numbers : goal.returns-in_err-take_at-clause-numbers
+returns-in_err-take_at-clause-numbers g c =
     let at = c.in-Some.ensures.item.3 in
     let lent = c.in-Some.link.now in
-    c.take_waiting.ensures.numbers
+    c.take_at.ensures.numbers
     ∙ numbers_behind c.args.self.now.list.items c.args.place lent c.occur.new.self
     (lent_found c.args.self.now.list.items c.args.place lent at.0 (at.1 lent)) c.occur.ensures.number
 
@@ -119,11 +128,17 @@ returns-clause-hears g c link run beside is moment finds at_rest =
     c.args.desk.now (g.O.Outside.told c.args.outside.now) found whole moment finds c.occur.new.self c.occur.new.desk (g.O.Outside.told c.occur.new.outside)
     (Ok c.in_ok-used.used)
     (record { records = c.in_ok-used.ensures.records; occurs = c.in_ok-used.ensures.occurs; only = c.in_ok-used.ensures.only }) begun in
+    let rules : Rules = record { keys = g.K.KeyFinder.entries c.args.keys.now; setup = 0 } in
+    let but : RestedBut c.args.place (scene (g.O.Outside.told c.occur.new.outside) (slice_set links c.args.place c.occur.new.self) c.occur.new.desk) =
+    λ room. rest_but_this links c.args.place lent c.occur.new.self found
+    (here.rested
+    (room_before_event rules c.args.when.now.moment (Hears octets) lent c.occur.new.self c.args.desk.now c.occur.new.desk (c.in_ok-used.ensures.occurs rules refl)
+    room)) in
     let left = pouring beside lent.number (drop (used_of lent.end.value octets) octets) in
     let serving = went_on run left rest (scene (g.O.Outside.told c.occur.new.outside) (slice_set links c.args.place c.occur.new.self) c.occur.new.desk) on in
-    let went = c.in_ok-take_waiting.ensures.takes run left nothing_to_do moment serving in
-    let x = scene (g.O.Outside.told c.take_waiting.new.outside) c.take_waiting.new.self.list.items c.take_waiting.new.desk in
-    let rested = went_to_rest run left x went c.in_ok-take_waiting.ensures.rests in
+    let went = c.in_ok-take_at.ensures.takes but run left nothing_to_do moment serving in
+    let x = scene (g.O.Outside.told c.take_at.new.outside) c.take_at.new.self.list.items c.take_at.new.desk in
+    let rested = went_to_rest run left x went (c.in_ok-take_at.ensures.rests but) in
     subst (λ (used : ℕ). AtRest run (pouring beside link.number (drop used octets)) x) (sym c.in_ok-used.ensures.used)
     (subst (λ (l : Link). AtRest run (pouring beside l.number (drop (used_of lent.end.value octets) octets)) x) same rested)
 
@@ -137,6 +152,6 @@ pub returns-clause-numbers : goal.returns-clause-numbers
 returns-clause-numbers g c =
     let at = c.in-Some.ensures.item.3 in
     let lent = c.in-Some.link.now in
-    c.take_waiting.ensures.numbers
+    c.take_at.ensures.numbers
     ∙ numbers_behind c.args.self.now.list.items c.args.place lent c.occur.new.self
     (lent_found c.args.self.now.list.items c.args.place lent at.0 (at.1 lent)) c.occur.ensures.number

@@ -1,14 +1,17 @@
 -- An event at a place is a step of what is served; where there is no link, there is none at the place.
-use Rattle.std.proofs.Common.{ℕ, ◌≡◌, ◌∙◌, ap, sym, subst, [], slice_set, Some, length, ◌<◌, vec_len, rules}
+use Rattle.std.proofs.Common.{ℕ, ◌≡◌, ◌∙◌, ap, sym, subst, [], slice_set, Some, length, ◌<◌, vec_len, rules, refl}
 use Rattle.application_loop.specs.declared.link.Link.{Link}
 use Rattle.std.proofs.lemmas.Option.{slice_get_within, slice_get-get_or, get_or_from_slice_get}
 use Rattle.std.proofs.lemmas.Result.{err_from_is_err_and}
-use Rattle.loop_model.specs.Sessions.{journal_event_of_given}
+use Rattle.loop_model.specs.Sessions.{Rules, journal_event_of_given}
 use Rattle.loop_session.specs.Giving.{event_given_to_session}
 use Rattle.loop_session.specs.Keeping.{kept_ends}
 use Rattle.application_model.specs.Services.{occurs}
 use Rattle.application_loop.specs.Standing.{scene}
 use Rattle.application_loop.proofs.QuietEvents.{Happened, quiet_serves_at, numbers_at, does_err, does_ok, none_there}
+use Rattle.application_loop.proofs.Pouring.{lent_found}
+use Rattle.application_loop.proofs.TakingMessages.{room_before_event, occurred_of}
+use Rattle.application_loop.proofs.TakingAll.{rest_but_this, rest_but_none}
 use Rattle.application_loop.proofs.links.Links.occur.Goals as goal
 
 pub returns-in_err-occur-clause-occurs : goal.returns-in_err-occur-clause-occurs
@@ -64,3 +67,17 @@ returns-in_default-clause-occurs g c = λ link found quiet.
     let within = subst (λ (n : ℕ). c.args.place < n) all (slice_get_within c.args.self.now.list.items c.args.place link found) in
     let some = c.get_mut.ensures.variant.1 within in
     absurd (none_there c.get_mut.result c.in_default.not-Some some)
+
+pub returns-in_ok-occur-clause-rests : goal.returns-in_ok-occur-clause-rests
+returns-in_ok-occur-clause-rests g c = λ rested room.
+    let links = c.args.self.now.list.items in
+    let lent = c.in-Some.link.now in
+    let place = c.in-Some.ensures.item.3 in
+    let rules : Rules = record { keys = []; setup = 0 } in
+    rest_but_this links c.args.place lent c.occur.new.self (lent_found links c.args.place lent place.0 (place.1 lent))
+    (rested
+    (room_before_event rules c.args.when.now.moment (event_given_to_session c.args.event.now) lent c.occur.new.self c.args.desk.now c.occur.new.desk
+    (occurred_of c.occur.result c.in_ok-occur.field-0 c.in_ok-occur.was (c.occur.ensures.occurs rules refl)) room))
+
+pub returns-in_default-clause-rests : goal.returns-in_default-clause-rests
+returns-in_default-clause-rests g c = λ rested room. rest_but_none c.args.self.now.list.items c.args.place (rested room)
