@@ -217,10 +217,11 @@ rests_but_this links place old now found front back this =
 -- what happens at one place leaves the others
 pub rest_but_this : (links : List Link) (place : ℕ) (old now : Link) → slice_get links place ≡ Some old → All WaitsNot links
     → All WaitsNot (take place (slice_set links place now)) × All WaitsNot (drop (place + 1) (slice_set links place now))
-rest_but_this links place old now found none =
-    (All-same WaitsNot (take place (slice_set links place now)) (take place links) (take-set links place now) (All-take WaitsNot place links none),
-    All-same WaitsNot (drop (place + 1) (slice_set links place now)) (drop (place + 1) links) (dropped_is links place old now found)
-    (All-drop WaitsNot (place + 1) links none))
+rest_but_this links place old now found none = (
+  All-same WaitsNot (take place (slice_set links place now)) (take place links) (take-set links place now) (All-take WaitsNot place links none),
+  All-same WaitsNot (drop (place + 1) (slice_set links place now)) (drop (place + 1) links) (dropped_is links place old now found)
+      (All-drop WaitsNot (place + 1) links none),
+)
 
 pub rest_but_none : (links : List Link) (place : ℕ) → All WaitsNot links → All WaitsNot (take place links) × All WaitsNot (drop (place + 1) links)
 rest_but_none links place none = (All-take WaitsNot place links none, All-drop WaitsNot (place + 1) links none)

@@ -3,9 +3,9 @@
 // Where something may be to do now, and when else: too many places and too early a moment do no harm.
 #[derive(Clone, Copy)]
 pub(crate) struct Agenda {
-    // At no connection anything is to do before, but at those places.
+    // Before this moment nothing is to do at any connection but those at the places.
     wakes: Option<u64>,
-    // The places at which something may be to do: from the first on, before the last.
+    // The first of the places at which something may be to do now, and the one behind the last.
     first: usize,
     behind: usize,
 }
@@ -60,12 +60,12 @@ impl Agenda {
         self.behind = 0;
     }
 
-    // Nothing is to do before this moment, but now.
+    // Before this moment nothing is to do but at the places.
     pub(crate) fn wakes_at(&mut self, wakes: Option<u64>) {
         self.wakes = wakes;
     }
 
-    // The moment before which nothing is to do, but now.
+    // Before this moment nothing is to do but at the places.
     pub(crate) fn wakes(&self) -> Option<u64> {
         self.wakes
     }
