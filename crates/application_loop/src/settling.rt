@@ -50,6 +50,7 @@ impl LiveService {
         ensures writes { (run : ServiceRun) → (output_of self.old.desk.port ≡ [] → ⊥) → Resting run (O.told outside.old) self.old
             → Living run (O.told outside.new) (and_then (λ kind s. takes_waiting kind self.old.moment s) nothing_to_do) self.new }
         ensures moment { self.new.moment ≡ self.old.moment }
+        ensures links { self.new.links ≡ self.old.links }
     {
         match write_all(&mut self.desk.port, outside) {
             Flow::Going => {}
@@ -72,7 +73,12 @@ impl LiveService {
         if self.desk.port.output().is_empty() {
             return Ok(());
         }
+        // While there is room no message waits, so none is left for the room that comes of writing.
+        let had_room = self.desk.port.has_room();
         self.write_out(outside);
+        if had_room {
+            return Ok(());
+        }
         self.links.take_waiting(when, &mut self.desk, outside)
     }
 

@@ -9,6 +9,7 @@ returns-in-Going g c = record {
   writes = λ run some rests.
       lives_written (g.O.Outside.told c.write_all.new.outside) _ c.write_all.new.port rests some c.write_all.ensures.writes c.write_all.ensures.port refl refl;
   moment = refl;
+  links = refl;
 }
 
 pub returns-in-PutOff : goal.returns-in-PutOff
@@ -16,6 +17,7 @@ returns-in-PutOff g c = record {
   writes = λ run some rests.
       lives_written (g.O.Outside.told c.write_all.new.outside) _ c.write_all.new.port rests some c.write_all.ensures.writes c.write_all.ensures.port refl refl;
   moment = refl;
+  links = refl;
 }
 
 pub returns-in-Failing : goal.returns-in-Failing
@@ -24,4 +26,5 @@ returns-in-Failing g c = record {
       lives_departed (g.O.Outside.told c.write_all.new.outside) (g.O.Outside.told c.depart.new.outside) c.depart.new.self c.write_all.new.port rests some
       c.write_all.ensures.writes c.write_all.ensures.port c.depart.ensures.closes c.depart.ensures.departs;
   moment = ap (λ (l : LiveService). l.moment) c.depart.ensures.departs;
+  links = ap (λ (l : LiveService). l.links) c.depart.ensures.departs;
 }
