@@ -52,11 +52,6 @@ LivingOr run told rest live (Err fault) = ServesBy run told
 abbrev pub RestsAgain : {T E : Type 0} → (told : Told) → LiveService → (told' : Told) → LiveService → Result T E → Type 0
 RestsAgain told live told' live' result = (run : ServiceRun) → Resting run told live → RestingOr run told' live' result
 
--- a part that does this of the model
-abbrev pub LivesBy : {T E : Type 0} → ToDo → (told : Told) → LiveService → (told' : Told) → LiveService → Result T E → Type 0
-LivesBy what told live told' live' result =
-    (run : ServiceRun) (rest : ToDo) → Living run told (and_then what rest) live → LivingOr run told' rest live' result
-
 -- the key file is fetched, and then the messages that wait are taken
 abbrev pub fetch_then : (moment : ℕ) → ToDo
 fetch_then moment = and_then (λ kind s. KeysFetched ∷ []) (λ kind s. takes_waiting kind moment s)

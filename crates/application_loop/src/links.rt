@@ -178,7 +178,7 @@ impl Links {
     }
 
     // The messages that wait at this connection are taken, where none wait at the others, while the application is there and has room.
-    fn take_at<O: Journal>(
+    pub(crate) fn take_at<O: Journal>(
         &mut self,
         place: usize,
         when: &When,

@@ -15,7 +15,7 @@ ghost use Rattle.application_port.specs.Ports.{attendance_of};
 ghost use Rattle.application_serving.specs.Going.{ServiceRun, ToDo, and_then};
 ghost use Rattle.application_loop.specs.Standing.{Rested};
 ghost use Rattle.application_loop.specs.ServingParts.{IsWithoutOctets};
-ghost use Rattle.application_loop.specs.Living.{fetch_then, scene_of_live, Living, RestingOr, LivingOr, LivesBy};
+ghost use Rattle.application_loop.specs.Living.{fetch_then, scene_of_live, Living, RestingOr, LivingOr};
 ghost use Rattle.application_loop.specs.KeysFetching.{UsesKeys, ReadsFile};
 
 use crate::key_answers::{tell_key_fault, tell_no_key_file};
@@ -30,7 +30,7 @@ use loop_session::{LoopFault, SessionEvent, When};
 use std::alloc::Global;
 
 impl LiveService {
-    // An event of the application at a connection, or one `gone`.
+    // An event of the application at a connection, or one `gone`, and behind it the messages that wait are taken.
     fn occur_at<O: Journal>(
         &mut self,
         connection: u64,
@@ -40,17 +40,17 @@ impl LiveService {
     ) -> Result<(), LoopFault>
         requires { HasFewOctets (event_given_to_session event.now) }
         ensures occurs { (what : Event) → ((k : KEnd) → journal_event_of_given kept_ends k (event_given_to_session event.now) ≡ what) → when.now.moment ≡ self.old.moment
-            → IsWithoutOctets (event_given_to_session event.now)
-            → LivesBy (λ kind s. at_live kind self.old.moment connection what s) (O.told outside.old) self.old (O.told outside.new) self.new result }
-        ensures moment { self.new.moment ≡ self.old.moment }
+            → IsWithoutOctets (event_given_to_session event.now) → (run : ServiceRun)
+            → Living run (O.told outside.old) (and_then (λ kind s. at_live kind self.old.moment connection what s) (λ kind s. takes_waiting kind self.old.moment s)) self.old
+            → Rested (scene_of_live (O.told outside.old) self.old) → RestingOr run (O.told outside.new) self.new result }
     {
-        match self.links.place_of(connection) {
-            Some(place) => {
-                let desk = &mut self.desk;
-                self.links.occur(place, event, when, desk, outside)
-            }
-            None => Ok(self.desk.tell_gone(connection)?),
-        }
+        let desk = &mut self.desk;
+        let Some(place) = self.links.place_of(connection) else {
+            desk.tell_gone(connection)?;
+            return self.links.take_waiting(when, desk, outside);
+        };
+        self.links.occur(place, event, when, desk, outside)?;
+        self.links.take_at(place, when, desk, outside)
     }
 
     // Nothing more is accepted, and all connections are released.
@@ -104,7 +104,7 @@ impl LiveService {
         }
     }
 
-    // What a line asks for is done.
+    // What a line asks for is done, and behind it the messages that wait are taken.
     fn do_request<O: Journal>(
         &mut self,
         alloc: Global,
@@ -116,22 +116,22 @@ impl LiveService {
         ensures does { (run : ServiceRun)
             → Living run (O.told outside.old) (and_then (λ kind s. reads_line kind self.old.moment (Asks request) s) (λ kind s. takes_waiting kind self.old.moment s)) self.old
             → Rested (scene_of_live (O.told outside.old) self.old) → is_attached (attendance_of self.old.desk.port) ≡ true
-            → LivingOr run (O.told outside.new) (λ kind s. takes_waiting kind self.old.moment s) self.new result }
-        ensures moment { self.new.moment ≡ self.old.moment }
+            → RestingOr run (O.told outside.new) self.new result }
     {
         let when = self.when(plan);
         match request {
             Request::Send { connection, text } => {
                 let event = SessionEvent::Send(text.as_slice());
-                self.occur_at(connection, &event, &when, outside)
+                return self.occur_at(connection, &event, &when, outside);
             }
             Request::Release { connection, sub } => {
-                self.occur_at(connection, &SessionEvent::Release(sub), &when, outside)
+                return self.occur_at(connection, &SessionEvent::Release(sub), &when, outside);
             }
-            Request::Drain => self.drain(&when, outside),
-            Request::Keys => self.fetch_keys(alloc, plan.key_file, outside),
-            Request::Counts => Ok(self.desk.tell_counts(self.links.len())?),
+            Request::Drain => self.drain(&when, outside)?,
+            Request::Keys => self.fetch_keys(alloc, plan.key_file, outside)?,
+            Request::Counts => self.desk.tell_counts(self.links.len())?,
         }
+        self.links.take_waiting(&when, &mut self.desk, outside)
     }
 
     // A line of the application is answered, and behind it the messages that wait are taken.
@@ -148,12 +148,12 @@ impl LiveService {
             → RestingOr run (O.told outside.new) self.new result }
     {
         match line {
-            ApplicationLine::Asks(request) => self.do_request(alloc, request, plan, outside)?,
+            ApplicationLine::Asks(request) => self.do_request(alloc, request, plan, outside),
             ApplicationLine::Faulty { line, why } => {
-                self.desk.port.tell(&Notice::Fault { line, why })?
+                self.desk.port.tell(&Notice::Fault { line, why })?;
+                let when = self.when(plan);
+                self.links.take_waiting(&when, &mut self.desk, outside)
             }
         }
-        let when = self.when(plan);
-        self.links.take_waiting(&when, &mut self.desk, outside)
     }
 }
