@@ -475,6 +475,37 @@ class Cases:
             assert all(rider.state == "connected" for rider in riders)
             serve.checked()
 
+    def day_of_a_silent_train(self):
+        """Who acknowledges nothing any more hears the acknowledgement of its message again each T1, and is let go behind the last of N2."""
+        with self.serving("silent") as serve:
+            application = Application(serve.path)
+            rider = Rider(serve.port, 5)
+            serve.connected(application, rider)
+            pause(2, application, rider)
+            rider.line.setblocking(True)
+            rider.line.sendall(rider.train.say(b"report"))
+            began = time.monotonic()
+            run(lambda: application.told("released"), application, seconds=30)
+            lasted = time.monotonic() - began
+            assert application.lines[-1] == "released 1 1 2 local" and 5 < lasted < 15, f"{application.lines[-1]} after {lasted:.1f} s"
+            serve.checked()
+
+    def day_of_a_train_that_reads_late(self, count=33_000):
+        """What has no room at a peer that doesn't read waits for it, and is given once there is room."""
+        with self.serving("late") as serve, socket.socket() as line:
+            line.setsockopt(socket.SOL_SOCKET, socket.SO_RCVBUF, 4096)
+            line.settimeout(20)
+            line.connect(("127.0.0.1", serve.port))
+            line.sendall(bytes.fromhex("7e013febdf7e") * count)
+            time.sleep(2)
+            came = b""
+            while len(came) < 6 * count:
+                octets = line.recv(65536)
+                assert octets, f"ended behind {len(came)} octets"
+                came += octets
+            assert came == bytes.fromhex("7e017383577e") * count, came[:20].hex()
+            serve.checked()
+
     def day_of_many_messages(self, count=2_000):
         """So many messages each way, as quickly as credit and room let: each arrives, once."""
         with self.serving("many") as serve:
